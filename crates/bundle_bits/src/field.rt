@@ -1,0 +1,40 @@
+//! Bit fields of a word.
+
+ghost use Rattle.std.specs.Prelude.{◌≡◌, ℕ, ◌+◌, ◌*◌, ◌/◌, ◌%◌, ◌^◌, ◌<◌, ◌≤◌};
+ghost use Rattle.bundle_bits.specs.Bits.{bits_of, IsField, AreDisjoint};
+
+/// The `W` bits of a 64-bit word from bit `LO` up, where bit 0 is the lowest.
+///
+/// `W` is at least 1, and `LO + W` at most 64. The type names a field of an instruction's word,
+/// as `Field<37, 4>` its major opcode, bits 40:37 (volume 3, chapter 4, format summary). No value
+/// of it is needed.
+pub struct Field<const LO: u32, const W: u32>;
+
+impl<const LO: u32, const W: u32> Field<LO, W> {
+    /// The number in the field, its lowest bit counting 1.
+    pub fn get(word: u64) -> u64
+        requires { IsField LO W }
+        ensures value { result ≡ bits_of word LO W }
+        ensures within { result < 2 ^ W }
+    {
+        (word >> LO) & (u64::MAX >> (64 - W))
+    }
+
+    /// The word with this number in the field, whatever stood there, and with each other bit as
+    /// it was.
+    pub fn put(word: u64, value: u64) -> u64
+        requires field { IsField LO W }
+        requires fits { value < 2 ^ W }
+        ensures same { bits_of result LO W ≡ value }
+
+        // Each field that shares no bit with this one keeps its number, be it a single bit.
+        ensures others { (low width : ℕ) → AreDisjoint LO W low width → bits_of result low width ≡ bits_of word low width }
+
+        // As numbers: the field's old share goes, and its new one comes.
+        ensures sum { result + bits_of word LO W * 2 ^ LO ≡ word + value * 2 ^ LO }
+    {
+        let old = Self::get(word) << LO;
+        let new = value << LO;
+        word - old + new
+    }
+}

@@ -1,0 +1,12 @@
+-- Words and A instructions correspond one to one.
+use Rattle.std.specs.Prelude.{◌≡◌, ℕ}
+use Rattle.ia_insn.specs.FormatsA.{CodeA}
+use Rattle.ia_insn.specs.declared.insn.Insn.{Insn}
+
+-- a word is that of at most one instruction
+abbrev pub OneInstruction : Type 0
+OneInstruction = (word : ℕ) (i j : Insn) → CodeA i word → CodeA j word → i ≡ j
+
+-- an instruction has at most one word
+abbrev pub OneWord : Type 0
+OneWord = (i : Insn) (v w : ℕ) → CodeA i v → CodeA i w → v ≡ w

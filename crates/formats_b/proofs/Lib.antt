@@ -1,0 +1,4 @@
+pub mod Parts
+pub mod RowsB
+pub mod RowsF
+pub mod RowsX

@@ -1,0 +1,54 @@
+-- The stated output, where a source tells its bytes.
+use Rattle.std.proofs.Common.{◌≡◌, ℕ, ◌+◌, ◌<◌, ◌≤◌, List, [], length, take, Option, Some, None, refl, sym, ◌∙◌, subst, arith}
+use Rattle.std.specs.Prelude.{◌↔◌, IfSome}
+use Rattle.std.specs.Io.KnownBytes.{Appends}
+use Rattle.std.proofs.KnownBytes.{Appends-nil}
+use Rattle.std.proofs.lemmas.Bool.{lt-ltb, le-ltb}
+use Rattle.io_seam.specs.Bytes.{LosesFirst}
+use Rattle.ia64_top.specs.declared.words.Command.{Command}
+use Rattle.ia64_top.specs.declared.words.Command.TheVariants.{Check}
+use Rattle.ia64_top.specs.declared.status.Status.{Status}
+use Rattle.ia64_top.specs.declared.status.Status.TheVariants.{Done, TooLong}
+use Rattle.ia64_top.specs.Words.{command_of}
+use Rattle.ia64_top.specs.Programs.{Program}
+use Rattle.ia64_top.specs.Images.{Spells}
+use Rattle.ia64_top.specs.Violations.{IsFree}
+use Rattle.ia64_top.specs.Output.{input_limit, IsCommandOutput, IsOutput, GivesOutput, GivesPart}
+use Rattle.ia64_top.proofs.Heads.{head_of_spelled}
+
+-- the output of a command for an input within the limit
+output_within : (words : List (List ℕ)) (command : Command) (input bytes : List ℕ) (status : Status) → command_of words ≡ Some command → length input ≤ input_limit → IsCommandOutput command input bytes status → IsOutput words input bytes status
+output_within words command input bytes status e within o = rw (e, le-ltb input_limit (length input) within) o
+
+-- and for a longer one
+output_beyond : (words : List (List ℕ)) (command : Command) (input : List ℕ) → command_of words ≡ Some command → input_limit < length input → IsOutput words input [] TooLong
+output_beyond words command input e beyond = rw (e, lt-ltb input_limit (length input) beyond) (refl, refl)
+
+pub too_long : (words : List (List ℕ)) (command : Command) (left given : Option (List ℕ)) → command_of words ≡ Some command → IfSome left (λ l. input_limit < length l) → IfSome left (λ input. GivesOutput words input given given TooLong)
+too_long words command None given e h = tt
+too_long words command (Some input) given e h = ([], output_beyond words command input e h, Appends-nil given)
+
+pub answered : (words : List (List ℕ)) (command : Command) (left given new : Option (List ℕ)) (input bytes : List ℕ) (status : Status) → command_of words ≡ Some command → IfSome left (λ l. input ≡ l) → length input ≤ input_limit → IsCommandOutput command input bytes status → Appends given new bytes → IfSome left (λ i. GivesOutput words i given new status)
+answered words command None given new input bytes status e whole within o appended = tt
+answered words command (Some l) given new input bytes status e whole within o appended = (bytes, subst (λ (i : List ℕ). IsOutput words i bytes status) whole (output_within words command input bytes status e within o), appended)
+
+pub given_in_part : (words : List (List ℕ)) (command : Command) (left given new : Option (List ℕ)) (input bytes : List ℕ) (status : Status) → command_of words ≡ Some command → IfSome left (λ l. input ≡ l) → length input ≤ input_limit → IsCommandOutput command input bytes status → ((count : ℕ) × (count < length bytes) × Appends given new (take count bytes)) → IfSome left (λ i. GivesPart words i given new)
+given_in_part words command None given new input bytes status e whole within o part = tt
+given_in_part words command (Some l) given new input bytes status e whole within o part = (bytes, status, subst (λ (i : List ℕ). IsOutput words i bytes status) whole (output_within words command input bytes status e within o), part)
+
+-- the image of a plain program is short
+short_image : (p : Program) (input : List ℕ) → Spells p input → length input ≤ input_limit
+short_image p input s = let h = head_of_spelled p input s in let m = s.most in omega (arith, h.size)
+
+pub accepted_beyond : (words : List (List ℕ)) (left : Option (List ℕ)) → IfSome left (λ l. input_limit < length l) → IfSome left (λ input. command_of words ≡ Some Check → (p : Program) → Spells p input → ((TooLong ≡ Done) ↔ IsFree p))
+accepted_beyond words None h = tt
+accepted_beyond words (Some input) h = λ e p s. absurd (let m = short_image p input s in omega arith)
+
+pub accepted_within : (words : List (List ℕ)) (command : Command) (left : Option (List ℕ)) (input : List ℕ) (status : Status) → command_of words ≡ Some command → IfSome left (λ l. input ≡ l) → (command ≡ Check → (p : Program) → Spells p input → ((status ≡ Done) ↔ IsFree p)) → IfSome left (λ i. command_of words ≡ Some Check → (p : Program) → Spells p i → ((status ≡ Done) ↔ IsFree p))
+accepted_within words command None input status e whole h = tt
+accepted_within words command (Some l) input status e whole h = λ f p s. h (let g : Some command ≡ Some Check = sym e ∙ f in cc) p (subst (Spells p) (sym whole) s)
+
+-- more bytes than the limit were there where more were taken
+pub beyond : (P : Type 0) (left new : Option (List ℕ)) → P → IfSome left (λ l. P ↔ LosesFirst (input_limit + 1) l new) → IfSome left (λ l. input_limit < length l)
+beyond P None new p h = tt
+beyond P (Some l) new p h = let t = (h.0 p).0 in omega arith

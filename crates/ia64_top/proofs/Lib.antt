@@ -1,0 +1,9 @@
+mod Runs
+mod Rising
+mod Reporting
+mod Slots
+mod Bundles
+mod Heads
+mod Printing
+mod Outputs
+mod Answering

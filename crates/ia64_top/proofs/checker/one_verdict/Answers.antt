@@ -1,0 +1,5 @@
+use Rattle.ia64_top.proofs.Reporting.{same_verdict}
+use Rattle.ia64_top.proofs.checker.one_verdict.Goals as goal
+
+pub returns : goal.returns
+returns c = same_verdict

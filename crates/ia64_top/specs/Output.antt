@@ -1,0 +1,49 @@
+-- The stated output: what the words and the input give. Each command has a table of its own, a row for each status.
+use Rattle.std.specs.Prelude.{◌≡◌, ℕ, ◌<◌, ◌⊎◌, nat_lt, List, [], length, take, Option, MatchOption, MatchBool}
+use Rattle.std.specs.Io.KnownBytes.{Appends}
+use Rattle.ia64_top.specs.declared.words.Command.{Command}
+use Rattle.ia64_top.specs.declared.words.Command.TheVariants.{Check}
+use Rattle.ia64_top.specs.declared.status.Status.{Status}
+use Rattle.ia64_top.specs.declared.status.Status.TheVariants.{Done, Violated, Words, Refused, TooLong, NotYet}
+use Rattle.ia64_top.specs.declared.image.ImageFault.{ImageFault}
+use Rattle.ia64_top.specs.Words.{command_of}
+use Rattle.ia64_top.specs.Programs.{Program}
+use Rattle.ia64_top.specs.Images.{BeginsWithMagic, HasFault, Spells, IsSoundHead, IsPlainImage}
+use Rattle.ia64_top.specs.Judgements.{IsJudgement}
+use Rattle.ia64_top.specs.Texts.{refusal_text}
+
+-- the longest input that is taken, in bytes
+abbrev pub input_limit : ℕ
+input_limit = 4194304
+
+-- an input that isn't judged yet: no image, or an image without a fault in its head that isn't plain
+abbrev pub IsUnjudged : List ℕ → Type 0
+IsUnjudged input = ¬ BeginsWithMagic input ⊎ (IsSoundHead input × ¬ IsPlainImage input)
+
+-- What `check` writes and answers: a row for each status, with where it comes.
+abbrev pub IsCheckOutput : List ℕ → List ℕ → Status → Type 0
+IsCheckOutput input bytes Done = (program : Program) × Spells program input × IsJudgement program bytes Done
+IsCheckOutput input bytes Violated = (program : Program) × Spells program input × IsJudgement program bytes Violated
+IsCheckOutput input bytes Refused = BeginsWithMagic input × ((fault : ImageFault) × HasFault input fault × (bytes ≡ refusal_text fault))
+IsCheckOutput input bytes NotYet = IsUnjudged input × (bytes ≡ [])
+IsCheckOutput input bytes status = ⊥
+
+-- a status that prints nothing
+abbrev pub IsSilent : Status → List ℕ → Status → Type 0
+IsSilent status bytes answer = (bytes ≡ []) × (answer ≡ status)
+
+abbrev pub IsCommandOutput : Command → List ℕ → List ℕ → Status → Type 0
+IsCommandOutput Check input bytes status = IsCheckOutput input bytes status
+
+-- The bytes that are written and the status that is answered, for these words and this input.
+abbrev pub IsOutput : List (List ℕ) → List ℕ → List ℕ → Status → Type 0
+IsOutput words input bytes status = MatchOption (command_of words) (IsSilent Words bytes status)
+    (λ command. MatchBool (nat_lt input_limit (length input)) (IsSilent TooLong bytes status) (IsCommandOutput command input bytes status))
+
+-- The sink got the bytes of the output of this status.
+abbrev pub GivesOutput : List (List ℕ) → List ℕ → Option (List ℕ) → Option (List ℕ) → Status → Type 0
+GivesOutput words input old new status = (bytes : List ℕ) × IsOutput words input bytes status × Appends old new bytes
+
+-- The sink got a proper prefix of the bytes of some output.
+abbrev pub GivesPart : List (List ℕ) → List ℕ → Option (List ℕ) → Option (List ℕ) → Type 0
+GivesPart words input old new = (bytes : List ℕ) × (status : Status) × IsOutput words input bytes status × ((count : ℕ) × (count < length bytes) × Appends old new (take count bytes))

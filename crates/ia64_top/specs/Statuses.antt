@@ -1,0 +1,25 @@
+-- How a call of the top call may end.
+use Rattle.std.specs.Prelude.{ℕ}
+use Rattle.ia64_top.specs.declared.status.Status.{Status}
+use Rattle.ia64_top.specs.declared.status.Status.TheVariants.{Done, Violated, Words, Refused, TooLong, ReadFault, WriteFault, NoMemory, Limit, Faulted, NotYet}
+
+-- the exit status
+abbrev pub status_number : Status → ℕ
+status_number Done = 0
+status_number Violated = 1
+status_number Words = 2
+status_number Refused = 3
+status_number TooLong = 4
+status_number ReadFault = 5
+status_number WriteFault = 6
+status_number NoMemory = 7
+status_number Limit = 8
+status_number Faulted = 9
+status_number NotYet = 10
+
+-- The call gave an answer: no fault of the source or the sink and no want of memory came in its place.
+abbrev pub IsAnswer : Status → Type 0
+IsAnswer ReadFault = ⊥
+IsAnswer WriteFault = ⊥
+IsAnswer NoMemory = ⊥
+IsAnswer status = Unit {0}

@@ -1,0 +1,24 @@
+//! The top call.
+#![tactic(auto)]
+
+mod answer;
+mod checker;
+mod image;
+mod program;
+mod slot;
+mod status;
+mod text;
+mod top;
+mod violation;
+mod words;
+
+pub use checker::one_verdict;
+pub use image::ImageFault;
+pub use program::Bundle;
+pub use status::Status;
+pub use top::ia64;
+pub use violation::{Report, Rule, Violation};
+pub use words::{Command, Words};
+
+#[cfg(test)]
+mod tests;

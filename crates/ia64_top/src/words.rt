@@ -1,0 +1,59 @@
+//! The words that a call is given, and the table of commands.
+
+ghost use Rattle.std.specs.Prelude.{◌≡◌, [], ◌∷◌, ◌++◌, List, ℕ, OnOk, OnErr};
+ghost use Rattle.ia64_top.specs.Words.{command_of};
+
+use std::alloc::{AllocError, Global};
+use std::marker::Model;
+
+/// What the program is asked to do.
+#[derive(Clone, Copy, Debug, PartialEq, Eq)]
+pub enum Command {
+    /// Checks the groups of a program.
+    Check,
+}
+
+/// The words of a call, in order, without the program's own name. Contracts see a list of byte lists.
+#[derive(Debug, Drop)]
+pub struct Words {
+    words: Vec<Vec<u8>>,
+}
+
+impl Model for Words {
+    ghost use Rattle.std.specs.Prelude.{List, ℕ, map};
+
+    ghost Value = { List (List ℕ) };
+
+    ghost view = { λ w. map (λ v. v.items) w.words.items };
+}
+
+impl Words {
+    /// No words. Takes no memory.
+    pub fn new(alloc: Global) -> Words
+        ensures { result ≡ [] }
+    {
+        Words {
+            words: Vec::new(alloc),
+        }
+    }
+
+    /// Adds a word at the end. After an `Err`, which is want of memory, the words are as before.
+    pub fn push(&mut self, word: &[u8]) -> Result<(), AllocError>
+        ensures ok { OnOk result (self.new ≡ self.old ++ word.now ∷ []) }
+        ensures err { OnErr result (self.new ≡ self.old) }
+    {
+        let word = Vec::from_slice(*self.words.allocator(), word)?;
+        self.words.push(word)?;
+        Ok(())
+    }
+
+    /// The command that the words are, by the table: `check` alone, in lower case.
+    pub fn command(&self) -> Option<Command>
+        ensures { result ≡ command_of self.now }
+    {
+        match self.words.as_slice() {
+            [word] if word.as_slice() == b"check".as_slice() => Some(Command::Check),
+            _ => None,
+        }
+    }
+}

@@ -1,0 +1,4 @@
+pub mod Words
+pub mod Numbers
+mod Examples
+mod TemplateCodes

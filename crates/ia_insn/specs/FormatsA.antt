@@ -1,0 +1,140 @@
+-- The A formats, of M and I slots: the fields of each instruction, and when it is listed
+-- (volume 3, chapter 4, instruction formats, A1 to A8).
+use Rattle.std.specs.Prelude.{◌≡◌, ◌≢◌, ℕ, ◌+◌, ◌-◌, ◌≤◌, List, [], ◌∷◌, Option, Some, None, IsSome, unwrap_or}
+use Rattle.ia_insn.specs.Word.{Part, field, word_of, AllFit, bits, twos, FitsSigned, flag}
+use Rattle.ia_insn.specs.declared.insn.Insn.{Insn}
+use Rattle.ia_insn.specs.declared.insn.Op.{Op}
+use Rattle.ia_insn.specs.declared.insn.Op.TheVariants.{Alu, ShlAdd, AluImm8, AddImm14, AddImm22, Cmp, CmpZero, CmpImm}
+use Rattle.ia_insn.specs.declared.choices.AluFn.{AluFn}
+use Rattle.ia_insn.specs.declared.choices.AluFn.TheVariants.{Add, Add1, Sub, Sub1, Addp4, And, Andcm, Or, Xor}
+use Rattle.ia_insn.specs.declared.choices.Rel.{Rel}
+use Rattle.ia_insn.specs.declared.choices.Rel.TheVariants.{Eq, Ne, Lt, Ltu, Gt, Ge, Le}
+use Rattle.ia_insn.specs.declared.choices.CmpKind.{CmpKind}
+use Rattle.ia_insn.specs.declared.choices.CmpKind.TheVariants as kinds
+
+-- x4 and x2b of the operations on two registers, A1
+abbrev pub x4 : AluFn → ℕ
+x4 Add = 0
+x4 Add1 = 0
+x4 Sub = 1
+x4 Sub1 = 1
+x4 Addp4 = 2
+x4 And = 3
+x4 Andcm = 3
+x4 Or = 3
+x4 Xor = 3
+
+abbrev pub x2b : AluFn → ℕ
+x2b Add = 0
+x2b Add1 = 1
+x2b Sub = 1
+x2b Sub1 = 0
+x2b Addp4 = 0
+x2b And = 0
+x2b Andcm = 1
+x2b Or = 2
+x2b Xor = 3
+
+-- x4 and x2b of the operations on an immediate and a register, A3
+abbrev pub imm8_codes : AluFn → Option (ℕ × ℕ)
+imm8_codes Sub = Some (9, 1)
+imm8_codes And = Some (11, 0)
+imm8_codes Andcm = Some (11, 1)
+imm8_codes Or = Some (11, 2)
+imm8_codes Xor = Some (11, 3)
+imm8_codes f = None
+
+-- the major opcode, ta and c of a compare of two registers, A6, or of an immediate and a register, A8
+abbrev pub compare : CmpKind → Rel → Option (ℕ × ℕ × ℕ)
+compare kinds.Normal Lt = Some (12, 0, 0)
+compare kinds.Normal Ltu = Some (13, 0, 0)
+compare kinds.Normal Eq = Some (14, 0, 0)
+compare kinds.Unc Lt = Some (12, 0, 1)
+compare kinds.Unc Ltu = Some (13, 0, 1)
+compare kinds.Unc Eq = Some (14, 0, 1)
+compare kinds.And Eq = Some (12, 1, 0)
+compare kinds.And Ne = Some (12, 1, 1)
+compare kinds.Or Eq = Some (13, 1, 0)
+compare kinds.Or Ne = Some (13, 1, 1)
+compare kinds.OrAndcm Eq = Some (14, 1, 0)
+compare kinds.OrAndcm Ne = Some (14, 1, 1)
+compare kind rel = None
+
+-- the major opcode of a parallel compare of r0 and a register, A7
+abbrev pub parallel_op : CmpKind → Option ℕ
+parallel_op kinds.And = Some 12
+parallel_op kinds.Or = Some 13
+parallel_op kinds.OrAndcm = Some 14
+parallel_op kind = None
+
+-- ta and c of a compare of r0 and a register, A7
+abbrev pub zero_codes : Rel → Option (ℕ × ℕ)
+zero_codes Gt = Some (0, 0)
+zero_codes Le = Some (0, 1)
+zero_codes Ge = Some (1, 0)
+zero_codes Lt = Some (1, 1)
+zero_codes rel = None
+
+-- The fields, from the top bit down. In op 8 bit 33, ve, is zero. An instruction of another family
+-- has none.
+abbrev pub fields : ℕ → Op → List Part
+-- A1: two registers
+fields qp (Alu f r1 r2 r3) =
+    field 37 4 8 ∷ field 34 2 0 ∷ field 29 4 (x4 f) ∷ field 27 2 (x2b f) ∷ field 20 7 r3 ∷ field 13 7 r2 ∷ field 6 7 r1 ∷ field 0 6 qp ∷ []
+-- A2: shift left and add, where x4 is 4, and 6 for a pointer of 32 bits
+fields qp (ShlAdd p4 r1 r2 count r3) =
+    field 37 4 8 ∷ field 34 2 0 ∷ field 29 4 (4 + flag p4 + flag p4) ∷ field 27 2 (count - 1) ∷ field 20 7 r3 ∷ field 13 7 r2 ∷ field 6 7 r1 ∷ field 0 6 qp ∷ []
+-- A3: an immediate of 8 bits and a register
+fields qp (AluImm8 f r1 imm r3) =
+    let u = twos 8 imm in
+    let x = unwrap_or (imm8_codes f) (0, 0) in
+    field 37 4 8 ∷ field 36 1 (bits 7 1 u) ∷ field 34 2 0 ∷ field 29 4 x.0 ∷ field 27 2 x.1 ∷ field 20 7 r3 ∷ field 13 7 (bits 0 7 u) ∷ field 6 7 r1 ∷ field 0 6 qp ∷ []
+-- A4: an immediate of 14 bits and a register
+fields qp (AddImm14 p4 r1 imm r3) =
+    let u = twos 14 imm in
+    field 37 4 8 ∷ field 36 1 (bits 13 1 u) ∷ field 34 2 (2 + flag p4) ∷ field 27 6 (bits 7 6 u) ∷ field 20 7 r3 ∷ field 13 7 (bits 0 7 u) ∷ field 6 7 r1 ∷ field 0 6 qp ∷ []
+-- A5: an immediate of 22 bits and one of r0 to r3
+fields qp (AddImm22 r1 imm r3) =
+    let u = twos 22 imm in
+    field 37 4 9 ∷ field 36 1 (bits 21 1 u) ∷ field 27 9 (bits 7 9 u) ∷ field 22 5 (bits 16 5 u) ∷ field 20 2 r3 ∷ field 13 7 (bits 0 7 u) ∷ field 6 7 r1 ∷ field 0 6 qp ∷ []
+-- A6: a compare of two registers
+fields qp (Cmp four rel kind p1 p2 r2 r3) =
+    let x = unwrap_or (compare kind rel) (0, 0, 0) in
+    field 37 4 x.0 ∷ field 36 1 0 ∷ field 34 2 (flag four) ∷ field 33 1 x.1 ∷ field 27 6 p2 ∷ field 20 7 r3 ∷ field 13 7 r2 ∷ field 12 1 x.2 ∷ field 6 6 p1 ∷ field 0 6 qp ∷ []
+-- A7: a compare of r0 and a register
+fields qp (CmpZero four rel kind p1 p2 r3) =
+    let x = unwrap_or (zero_codes rel) (0, 0) in
+    field 37 4 (unwrap_or (parallel_op kind) 0) ∷ field 36 1 1 ∷ field 34 2 (flag four) ∷ field 33 1 x.0 ∷ field 27 6 p2 ∷ field 20 7 r3 ∷ field 12 1 x.1 ∷ field 6 6 p1 ∷ field 0 6 qp ∷ []
+-- A8: a compare of an immediate and a register
+fields qp (CmpImm four rel kind p1 p2 imm r3) =
+    let u = twos 8 imm in
+    let x = unwrap_or (compare kind rel) (0, 0, 0) in
+    field 37 4 x.0 ∷ field 36 1 (bits 7 1 u) ∷ field 34 2 (2 + flag four) ∷ field 33 1 x.1 ∷ field 27 6 p2 ∷ field 20 7 r3 ∷ field 13 7 (bits 0 7 u) ∷ field 12 1 x.2 ∷ field 6 6 p1 ∷ field 0 6 qp ∷ []
+fields qp op = []
+
+-- What of an instruction's range its fields' widths don't say: r0 is no target, two predicate
+-- targets differ, a count is 1 to 4, and the choices have codes.
+abbrev pub IsInRange : ℕ → Op → Type 0
+IsInRange qp (Alu f r1 r2 r3) = r1 ≢ 0
+IsInRange qp (ShlAdd p4 r1 r2 count r3) = (r1 ≢ 0) × (1 ≤ count)
+IsInRange qp (AluImm8 f r1 imm r3) = (r1 ≢ 0) × FitsSigned 8 imm × IsSome (imm8_codes f)
+IsInRange qp (AddImm14 p4 r1 imm r3) = (r1 ≢ 0) × FitsSigned 14 imm
+IsInRange qp (AddImm22 r1 imm r3) = (r1 ≢ 0) × FitsSigned 22 imm
+IsInRange qp (Cmp four rel kind p1 p2 r2 r3) = (p1 ≢ p2) × IsSome (compare kind rel)
+IsInRange qp (CmpZero four rel kind p1 p2 r3) = (p1 ≢ p2) × IsSome (parallel_op kind) × IsSome (zero_codes rel)
+IsInRange qp (CmpImm four rel kind p1 p2 imm r3) = (p1 ≢ p2) × FitsSigned 8 imm × IsSome (compare kind rel)
+IsInRange qp op = ⊥
+
+-- The instruction is an A instruction, in its range.
+pub record IsListedA (i : Insn) : Type 0 where
+  pub range : IsInRange i.qp i.op
+  pub fit : AllFit (fields i.qp i.op)
+
+-- The word of an A instruction.
+abbrev pub word_a : Insn → ℕ
+word_a i = word_of (fields i.qp i.op)
+
+-- The instruction has the word: the sum of its fields.
+pub record CodeA (i : Insn) (w : ℕ) : Type 0 where
+  pub listed : IsListedA i
+  pub sum : w ≡ word_a i

@@ -1,0 +1,85 @@
+-- The B formats, of B slots: the fields of each instruction, and when it is listed
+-- (volume 3, chapter 4, instruction formats, B1 to B9).
+use Rattle.std.specs.Prelude.{◌≡◌, ℕ, ◌+◌, ◌<◌, ◌^◌, List, [], ◌∷◌}
+use Rattle.ia_insn.specs.Word.{Part, field, word_of, AllFit, bits, twos, FitsSigned, flag}
+use Rattle.ia_insn.specs.declared.insn.Insn.{Insn}
+use Rattle.ia_insn.specs.declared.insn.Op.{Op}
+use Rattle.ia_insn.specs.declared.insn.Op.TheVariants.{Br, BrCall, BrInd, BrRet, BrCallInd, Clrrrb, Break, Nop, Hint}
+use Rattle.ia_insn.specs.declared.choices.BranchKind.{BranchKind}
+use Rattle.ia_insn.specs.declared.choices.BranchKind.TheVariants.{Cond, Wexit, Wtop, Cloop, Cexit, Ctop}
+use Rattle.ia_insn.specs.declared.choices.Unit.TheVariants as units
+
+-- btype of a direct branch
+abbrev pub btype : BranchKind → ℕ
+btype Cond = 0
+btype Wexit = 2
+btype Wtop = 3
+btype Cloop = 5
+btype Cexit = 6
+btype Ctop = 7
+
+-- The qualifying predicate of a branch: the counted loop branches, B2, have none.
+abbrev pub IsQualifier : BranchKind → ℕ → Type 0
+IsQualifier Cloop qp = qp ≡ 0
+IsQualifier Cexit qp = qp ≡ 0
+IsQualifier Ctop qp = qp ≡ 0
+IsQualifier kind qp = Unit {0}
+
+-- The fields, from the top bit down. A displacement counts bundles, and wh is 0 (sptk), 1 (spnt),
+-- 2 (dptk) or 3 (dpnt). An instruction of another family has none.
+abbrev pub fields : ℕ → Op → List Part
+-- B1: branch, and B2: counted branch
+fields qp (Br kind wh many clr disp) =
+    let u = twos 21 disp in
+    field 37 4 4 ∷ field 36 1 (bits 20 1 u) ∷ field 35 1 (flag clr) ∷ field 33 2 wh ∷ field 13 20 (bits 0 20 u) ∷ field 12 1 (flag many) ∷ field 6 3 (btype kind) ∷ field 0 6 qp ∷ []
+-- B3: call
+fields qp (BrCall b1 wh many clr disp) =
+    let u = twos 21 disp in
+    field 37 4 5 ∷ field 36 1 (bits 20 1 u) ∷ field 35 1 (flag clr) ∷ field 33 2 wh ∷ field 13 20 (bits 0 20 u) ∷ field 12 1 (flag many) ∷ field 6 3 b1 ∷ field 0 6 qp ∷ []
+-- B4: indirect branch and return
+fields qp (BrInd b2 wh many clr) =
+    field 37 4 0 ∷ field 35 1 (flag clr) ∷ field 33 2 wh ∷ field 27 6 0x20 ∷ field 13 3 b2 ∷ field 12 1 (flag many) ∷ field 6 3 0 ∷ field 0 6 qp ∷ []
+fields qp (BrRet b2 wh many clr) =
+    field 37 4 0 ∷ field 35 1 (flag clr) ∷ field 33 2 wh ∷ field 27 6 0x21 ∷ field 13 3 b2 ∷ field 12 1 (flag many) ∷ field 6 3 4 ∷ field 0 6 qp ∷ []
+-- B5: indirect call, whose wh has a lowest bit of 1 at bit 32
+fields qp (BrCallInd b1 b2 wh many clr) =
+    field 37 4 1 ∷ field 35 1 (flag clr) ∷ field 33 2 wh ∷ field 32 1 1 ∷ field 13 3 b2 ∷ field 12 1 (flag many) ∷ field 6 3 b1 ∷ field 0 6 qp ∷ []
+-- B8: clearing of the rotating register bases
+fields qp (Clrrrb pred_only) =
+    field 37 4 0 ∷ field 27 6 (4 + flag pred_only) ∷ field 0 6 qp ∷ []
+-- B9: break, nop and hint
+fields qp (Break units.B imm) =
+    field 37 4 0 ∷ field 36 1 (bits 20 1 imm) ∷ field 27 6 0 ∷ field 6 20 (bits 0 20 imm) ∷ field 0 6 qp ∷ []
+fields qp (Nop units.B imm) =
+    field 37 4 2 ∷ field 36 1 (bits 20 1 imm) ∷ field 27 6 0 ∷ field 6 20 (bits 0 20 imm) ∷ field 0 6 qp ∷ []
+fields qp (Hint units.B imm) =
+    field 37 4 2 ∷ field 36 1 (bits 20 1 imm) ∷ field 27 6 1 ∷ field 6 20 (bits 0 20 imm) ∷ field 0 6 qp ∷ []
+fields qp op = []
+
+-- What of an instruction's range its fields' widths don't say: a displacement has the width of its
+-- field, and neither a counted loop branch nor a clearing of the bases has a qualifying predicate.
+abbrev pub IsInRange : ℕ → Op → Type 0
+IsInRange qp (Br kind wh many clr disp) = IsQualifier kind qp × FitsSigned 21 disp
+IsInRange qp (BrCall b1 wh many clr disp) = FitsSigned 21 disp
+IsInRange qp (BrInd b2 wh many clr) = Unit {0}
+IsInRange qp (BrRet b2 wh many clr) = Unit {0}
+IsInRange qp (BrCallInd b1 b2 wh many clr) = Unit {0}
+IsInRange qp (Clrrrb pred_only) = qp ≡ 0
+IsInRange qp (Break units.B imm) = imm < 2 ^ 21
+IsInRange qp (Nop units.B imm) = imm < 2 ^ 21
+IsInRange qp (Hint units.B imm) = imm < 2 ^ 21
+IsInRange qp op = ⊥
+
+-- The instruction is a B instruction, in its range.
+pub record IsListedB (i : Insn) : Type 0 where
+  pub range : IsInRange i.qp i.op
+  pub fit : AllFit (fields i.qp i.op)
+
+-- The word of a B instruction.
+abbrev pub word_b : Insn → ℕ
+word_b i = word_of (fields i.qp i.op)
+
+-- The instruction has the word: the sum of its fields.
+pub record CodeB (i : Insn) (w : ℕ) : Type 0 where
+  pub listed : IsListedB i
+  pub sum : w ≡ word_b i

@@ -1,0 +1,38 @@
+-- The F formats, of F slots: the fields of each instruction, and when it is listed
+-- (volume 3, chapter 4, instruction formats, F15 and F16).
+use Rattle.std.specs.Prelude.{◌≡◌, ℕ, ◌<◌, ◌^◌, List, [], ◌∷◌}
+use Rattle.ia_insn.specs.Word.{Part, field, word_of, AllFit, bits}
+use Rattle.ia_insn.specs.declared.insn.Insn.{Insn}
+use Rattle.ia_insn.specs.declared.insn.Op.{Op}
+use Rattle.ia_insn.specs.declared.insn.Op.TheVariants.{Break, Nop}
+use Rattle.ia_insn.specs.declared.choices.Unit.TheVariants as units
+
+-- The fields, from the top bit down. An instruction of another family has none.
+abbrev pub fields : ℕ → Op → List Part
+-- F15: break
+fields qp (Break units.F imm) =
+    field 37 4 0 ∷ field 36 1 (bits 20 1 imm) ∷ field 33 1 0 ∷ field 27 6 0 ∷ field 6 20 (bits 0 20 imm) ∷ field 0 6 qp ∷ []
+-- F16: nop
+fields qp (Nop units.F imm) =
+    field 37 4 0 ∷ field 36 1 (bits 20 1 imm) ∷ field 33 1 0 ∷ field 27 6 1 ∷ field 26 1 0 ∷ field 6 20 (bits 0 20 imm) ∷ field 0 6 qp ∷ []
+fields qp op = []
+
+-- What of an instruction's range its fields' widths don't say.
+abbrev pub IsInRange : ℕ → Op → Type 0
+IsInRange qp (Break units.F imm) = imm < 2 ^ 21
+IsInRange qp (Nop units.F imm) = imm < 2 ^ 21
+IsInRange qp op = ⊥
+
+-- The instruction is an F instruction, in its range.
+pub record IsListedF (i : Insn) : Type 0 where
+  pub range : IsInRange i.qp i.op
+  pub fit : AllFit (fields i.qp i.op)
+
+-- The word of an F instruction.
+abbrev pub word_f : Insn → ℕ
+word_f i = word_of (fields i.qp i.op)
+
+-- The instruction has the word: the sum of its fields.
+pub record CodeF (i : Insn) (w : ℕ) : Type 0 where
+  pub listed : IsListedF i
+  pub sum : w ≡ word_f i

@@ -1,0 +1,9 @@
+pub mod Word
+pub mod FormatsA
+pub mod FormatsI
+pub mod FormatsM
+pub mod FormatsB
+pub mod FormatsF
+pub mod FormatsX
+pub mod Fits
+pub mod Templates

@@ -1,0 +1,35 @@
+//! The instructions of the IA-64 profile, the registers that they name, and the bundle templates.
+//!
+//! `specs/` holds the encoding relation: of each instruction its fields and its range, one file a
+//! family of formats (Intel Itanium Architecture Software Developer's Manual, volume 3, chapter 4),
+//! and which slots it fits. The functions here say which instructions are listed, and the formats
+//! crates go from instructions to words and back.
+#![tactic(auto)]
+
+mod choices;
+mod insn;
+mod listed_a;
+mod listed_b;
+mod listed_f;
+mod listed_i;
+mod listed_m;
+mod listed_x;
+mod place;
+mod registers;
+mod signed;
+mod slot_fitness;
+mod template;
+
+pub use choices::{AluFn, BranchKind, CmpKind, LoadKind, Rel, ShiftFn, StoreKind, Unit, Update};
+pub use insn::{Insn, Op};
+pub use listed_a::is_listed_a;
+pub use listed_b::is_listed_b;
+pub use listed_f::is_listed_f;
+pub use listed_i::is_listed_i;
+pub use listed_m::is_listed_m;
+pub use listed_x::is_listed_x;
+pub use place::Place;
+pub use registers::{Ar, Br, Gr, Pr};
+pub use signed::{fits_signed, sign_extended, twos_complement};
+pub use slot_fitness::fits;
+pub use template::{Template, one_template};

@@ -1,0 +1,79 @@
+//! Which instructions are B instructions, in their range (volume 3, chapter 4, formats B1 to B9).
+//!
+//! A call such as `has_seven_bits` does nothing: it tells the proof that a register's number fits its
+//! field.
+
+ghost use Rattle.std.specs.Prelude.{◌↔◌, IsTrue};
+ghost use Rattle.ia_insn.specs.FormatsB.{IsQualifier, IsListedB};
+
+use crate::choices::{BranchKind, Unit};
+use crate::insn::{Insn, Op};
+use crate::registers::Pr;
+use crate::signed::fits_signed;
+
+/// Whether a branch of this kind may have this qualifying predicate.
+fn is_qualifier(kind: BranchKind, qp: Pr) -> bool
+    ensures { IsTrue result ↔ IsQualifier kind qp }
+{
+    match kind {
+        BranchKind::Cond | BranchKind::Wexit | BranchKind::Wtop => true,
+        BranchKind::Cloop | BranchKind::Cexit | BranchKind::Ctop => qp.number() == 0,
+    }
+}
+
+/// Whether the instruction is a B instruction whose operands are in their ranges.
+pub fn is_listed_b(insn: &Insn) -> bool
+    ensures { IsTrue result ↔ IsListedB insn.now }
+{
+    insn.qp.has_six_bits();
+    match insn.op {
+        Op::Br {
+            kind,
+            wh,
+            many: _,
+            clr: _,
+            disp,
+        } => is_qualifier(kind, insn.qp) && wh < 4 && fits_signed::<21>(i64::from(disp)),
+        Op::BrCall {
+            b1,
+            wh,
+            many: _,
+            clr: _,
+            disp,
+        } => {
+            b1.has_three_bits();
+            wh < 4 && fits_signed::<21>(i64::from(disp))
+        }
+        Op::BrInd {
+            b2,
+            wh,
+            many: _,
+            clr: _,
+        }
+        | Op::BrRet {
+            b2,
+            wh,
+            many: _,
+            clr: _,
+        } => {
+            b2.has_three_bits();
+            wh < 4
+        }
+        Op::BrCallInd {
+            b1,
+            b2,
+            wh,
+            many: _,
+            clr: _,
+        } => {
+            b1.has_three_bits();
+            b2.has_three_bits();
+            wh < 4
+        }
+        Op::Clrrrb { pred_only: _ } => insn.qp.number() == 0,
+        Op::Break { unit, imm } | Op::Nop { unit, imm } | Op::Hint { unit, imm } => {
+            unit == Unit::B && imm < 0x20_0000
+        }
+        _ => false,
+    }
+}

@@ -1,0 +1,174 @@
+//! Which instructions are I instructions, in their range (volume 3, chapter 4, formats I5 to I29).
+//!
+//! A call such as `has_seven_bits` does nothing: it tells the proof that a register's number fits its
+//! field.
+
+ghost use Rattle.std.specs.Prelude.{◌≤◌, ◌↔◌, IsTrue, IsSome};
+ghost use Rattle.ia_insn.specs.FormatsI.{ext_code, IsListedI};
+
+use crate::choices::Unit;
+use crate::insn::{Insn, Op};
+use crate::registers::Ar;
+use crate::signed::{fits_signed, twos_complement};
+
+/// Whether values of this many bytes are extended.
+fn is_extended_size(signed: bool, size: u8) -> bool
+    ensures { IsTrue result ↔ IsSome (ext_code signed size) }
+{
+    size == 1 || size == 2 || size == 4
+}
+
+/// Whether the instruction is an I instruction whose operands are in their ranges.
+pub fn is_listed_i(insn: &Insn) -> bool
+    ensures { IsTrue result ↔ IsListedI insn.now }
+{
+    insn.qp.has_six_bits();
+    match insn.op {
+        Op::ShiftVar {
+            f: _,
+            r1,
+            value,
+            count,
+        } => {
+            value.has_seven_bits();
+            count.has_seven_bits();
+            r1.number() != 0
+        }
+        Op::Popcnt { r1, r3 } => {
+            r3.has_seven_bits();
+            r1.number() != 0
+        }
+        Op::Shrp { r1, r2, r3, count } => {
+            r2.has_seven_bits();
+            r3.has_seven_bits();
+            r1.number() != 0 && count <= 63
+        }
+        Op::Extr {
+            signed: _,
+            r1,
+            r3,
+            pos,
+            len,
+        } => {
+            r3.has_seven_bits();
+            r1.number() != 0 && is_bit_range(pos, len)
+        }
+        Op::DepZ { r1, r2, pos, len } => {
+            r2.has_seven_bits();
+            r1.number() != 0 && is_bit_range(pos, len)
+        }
+        Op::DepZImm { r1, imm, pos, len } => {
+            r1.number() != 0 && is_bit_range(pos, len) && fits_signed::<8>(imm)
+        }
+        Op::DepImm {
+            r1,
+            ones: _,
+            r3,
+            pos,
+            len,
+        } => {
+            r3.has_seven_bits();
+            r1.number() != 0 && is_bit_range(pos, len)
+        }
+        Op::Dep {
+            r1,
+            r2,
+            r3,
+            pos,
+            len,
+        } => {
+            r2.has_seven_bits();
+            r3.has_seven_bits();
+            r1.number() != 0 && is_bit_range(pos, len) && len <= 16
+        }
+        Op::Tbit {
+            unc: _,
+            p1,
+            p2,
+            r3,
+            pos,
+        } => {
+            r3.has_seven_bits();
+            p1.number() != p2.number() && pos <= 63
+        }
+        Op::Tnat { unc: _, p1, p2, r3 } => {
+            r3.has_seven_bits();
+            p1.number() != p2.number()
+        }
+        Op::Ext {
+            signed,
+            size,
+            r1,
+            r3,
+        } => {
+            r3.has_seven_bits();
+            r1.number() != 0 && is_extended_size(signed, size)
+        }
+        Op::ChkS { unit, r2, disp } => {
+            r2.has_seven_bits();
+            unit == Unit::I && fits_signed::<21>(i64::from(disp))
+        }
+        Op::MovToBr {
+            b1,
+            r2,
+            ret: _,
+            imp: _,
+            wh,
+            tag,
+        } => {
+            b1.has_three_bits();
+            r2.has_seven_bits();
+            wh < 3 && fits_signed::<9>(i64::from(tag))
+        }
+        Op::MovFromBr { r1, b2 } => {
+            b2.has_three_bits();
+            r1.number() != 0
+        }
+        Op::MovToPr { r2, mask } => {
+            r2.has_seven_bits();
+            mask < 0x2_0000 && mask % 2 == 0
+        }
+        Op::MovToPrRot { imm } => {
+            fits_signed::<44>(imm) && twos_complement::<44>(imm) % 0x1_0000 == 0
+        }
+        Op::MovFromIp { r1 } | Op::MovFromPr { r1 } => r1.number() != 0,
+        Op::MovToAr { ar, r2 } => {
+            r2.has_seven_bits();
+            ar != Ar::Unat
+        }
+        Op::MovToArImm { ar, imm } => ar != Ar::Unat && fits_signed::<8>(imm),
+        Op::MovFromAr { r1, ar } => r1.number() != 0 && ar != Ar::Unat,
+        Op::Break { unit, imm } | Op::Nop { unit, imm } | Op::Hint { unit, imm } => {
+            unit == Unit::I && imm < 0x20_0000
+        }
+        Op::Alu { .. }
+        | Op::ShlAdd { .. }
+        | Op::AluImm8 { .. }
+        | Op::AddImm14 { .. }
+        | Op::AddImm22 { .. }
+        | Op::Cmp { .. }
+        | Op::CmpZero { .. }
+        | Op::CmpImm { .. }
+        | Op::Load { .. }
+        | Op::Store { .. }
+        | Op::ChkA { .. }
+        | Op::Invala
+        | Op::InvalaE { .. }
+        | Op::Mf
+        | Op::Alloc { .. }
+        | Op::Br { .. }
+        | Op::BrCall { .. }
+        | Op::BrInd { .. }
+        | Op::BrRet { .. }
+        | Op::BrCallInd { .. }
+        | Op::Clrrrb { .. }
+        | Op::Movl { .. } => false,
+    }
+}
+
+/// Whether this is a position in a word of 64 bits, and a length that some field there has.
+fn is_bit_range(pos: u8, len: u8) -> bool
+    ensures { IsTrue result ↔ (pos ≤ 63) × (1 ≤ len) × (len ≤ 64) }
+{
+    pos <= 63 && len >= 1 && len <= 64
+}

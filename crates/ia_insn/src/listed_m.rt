@@ -1,0 +1,178 @@
+//! Which instructions are M instructions, in their range (volume 3, chapter 4, formats M1 to M5 and
+//! M20 to M48).
+//!
+//! A call such as `has_seven_bits` does nothing: it tells the proof that a register's number fits its
+//! field.
+
+ghost use Rattle.std.specs.Prelude.{◌≡◌, ◌≢◌, ◌<◌, ◌≤◌, ◌↔◌, IsTrue, IsSome};
+ghost use Rattle.ia_insn.specs.FormatsM.{log2_of, load_code, store_code, IsListedM};
+ghost use Rattle.ia_insn.specs.declared.insn.Op.TheVariants.{Load, Store};
+
+use crate::choices::{LoadKind, StoreKind, Unit, Update};
+use crate::insn::{Insn, Op};
+use crate::registers::{Ar, Gr, Pr};
+use crate::signed::fits_signed;
+
+/// Whether a load or a store reaches this many bytes.
+fn is_size(size: u8) -> bool
+    ensures { IsTrue result ↔ IsSome (log2_of size) }
+{
+    size == 1 || size == 2 || size == 4 || size == 8
+}
+
+/// Whether a load of this kind has this many bytes.
+fn is_load_size(kind: LoadKind, size: u8) -> bool
+    ensures { IsTrue result ↔ IsSome (load_code kind size) }
+{
+    match kind {
+        LoadKind::Fill => size == 8,
+        _ => is_size(size),
+    }
+}
+
+/// Whether a store of this kind has this many bytes.
+fn is_store_size(kind: StoreKind, size: u8) -> bool
+    ensures { IsTrue result ↔ IsSome (store_code kind size) }
+{
+    match kind {
+        StoreKind::Spill => size == 8,
+        StoreKind::Plain | StoreKind::Rel => is_size(size),
+    }
+}
+
+/// Whether a load into the target may update the base.
+fn is_load_base(target: Gr, base: Gr) -> bool
+    ensures { IsTrue result ↔ (base ≢ 0) × (target ≢ base) }
+{
+    base.number() != 0 && target.number() != base.number()
+}
+
+/// Whether a load with these operands is listed.
+fn is_listed_load(
+    qp: Pr,
+    size: u8,
+    kind: LoadKind,
+    hint: u8,
+    r1: Gr,
+    r3: Gr,
+    update: Update,
+) -> bool
+    ensures { IsTrue result ↔ IsListedM (record { qp = qp; op = Load size kind hint r1 r3 update }) }
+{
+    if r1.number() == 0 || hint > 3 || hint == 2 || !is_load_size(kind, size) {
+        return false;
+    }
+    match update {
+        Update::None => true,
+        Update::Reg(_) => is_load_base(r1, r3),
+        Update::Imm(imm) => is_load_base(r1, r3) && fits_signed::<9>(i64::from(imm)),
+    }
+}
+
+/// Whether a store with these operands is listed.
+fn is_listed_store(
+    qp: Pr,
+    size: u8,
+    kind: StoreKind,
+    hint: u8,
+    r3: Gr,
+    r2: Gr,
+    update: Update,
+) -> bool
+    ensures { IsTrue result ↔ IsListedM (record { qp = qp; op = Store size kind hint r3 r2 update }) }
+{
+    if (hint != 0 && hint != 3) || !is_store_size(kind, size) {
+        return false;
+    }
+    match update {
+        Update::None => true,
+        Update::Reg(_) => false,
+        Update::Imm(imm) => r3.number() != 0 && fits_signed::<9>(i64::from(imm)),
+    }
+}
+
+/// Whether the instruction is an M instruction whose operands are in their ranges.
+pub fn is_listed_m(insn: &Insn) -> bool
+    ensures { IsTrue result ↔ IsListedM insn.now }
+{
+    insn.qp.has_six_bits();
+    match insn.op {
+        Op::Load {
+            size,
+            kind,
+            hint,
+            r1,
+            r3,
+            update,
+        } => is_listed_load(insn.qp, size, kind, hint, r1, r3, update),
+        Op::Store {
+            size,
+            kind,
+            hint,
+            r3,
+            r2,
+            update,
+        } => is_listed_store(insn.qp, size, kind, hint, r3, r2, update),
+        Op::ChkS { unit, r2, disp } => {
+            r2.has_seven_bits();
+            unit == Unit::M && fits_signed::<21>(i64::from(disp))
+        }
+        Op::ChkA { clear: _, r1, disp } => {
+            r1.has_seven_bits();
+            fits_signed::<21>(i64::from(disp))
+        }
+        Op::Invala | Op::Mf => true,
+        Op::InvalaE { r1 } => {
+            r1.has_seven_bits();
+            true
+        }
+        Op::MovToAr { ar, r2 } => {
+            r2.has_seven_bits();
+            ar == Ar::Unat
+        }
+        Op::MovFromAr { r1, ar } => r1.number() != 0 && ar == Ar::Unat,
+        Op::MovToArImm { ar, imm } => ar == Ar::Unat && fits_signed::<8>(imm),
+        Op::Alloc { r1, sof, sol, sor } => {
+            r1.number() != 0
+                && sof <= 96
+                && sol <= sof
+                && 8 * u64::from(sor) <= u64::from(sof)
+                && insn.qp.number() == 0
+        }
+        Op::Break { unit, imm } | Op::Nop { unit, imm } | Op::Hint { unit, imm } => {
+            unit == Unit::M && imm < 0x20_0000
+        }
+        Op::Alu { .. }
+        | Op::ShlAdd { .. }
+        | Op::AluImm8 { .. }
+        | Op::AddImm14 { .. }
+        | Op::AddImm22 { .. }
+        | Op::Cmp { .. }
+        | Op::CmpZero { .. }
+        | Op::CmpImm { .. }
+        | Op::ShiftVar { .. }
+        | Op::Popcnt { .. }
+        | Op::Shrp { .. }
+        | Op::Extr { .. }
+        | Op::DepZ { .. }
+        | Op::DepZImm { .. }
+        | Op::DepImm { .. }
+        | Op::Dep { .. }
+        | Op::Tbit { .. }
+        | Op::Tnat { .. }
+        | Op::Ext { .. }
+        | Op::MovToBr { .. }
+        | Op::MovFromBr { .. }
+        | Op::MovToPr { .. }
+        | Op::MovToPrRot { .. }
+        | Op::MovFromIp { .. }
+        | Op::MovFromPr { .. }
+        | Op::Br { .. }
+        | Op::BrCall { .. }
+        | Op::BrInd { .. }
+        | Op::BrRet { .. }
+        | Op::BrCallInd { .. }
+        | Op::Clrrrb { .. }
+        | Op::Movl { .. } => false,
+    }
+}

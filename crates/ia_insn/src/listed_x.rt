@@ -1,0 +1,28 @@
+//! Which instructions are long instructions, in their range (volume 3, chapter 4, formats X1, X2
+//! and X5).
+//!
+//! A call such as `has_seven_bits` does nothing: it tells the proof that a register's number fits its
+//! field.
+
+ghost use Rattle.std.specs.Prelude.{◌↔◌, IsTrue};
+ghost use Rattle.ia_insn.specs.FormatsX.{IsListedX};
+
+use crate::choices::Unit;
+use crate::insn::{Insn, Op};
+
+/// Whether the instruction is a long instruction whose operands are in their ranges.
+pub fn is_listed_x(insn: &Insn) -> bool
+    ensures { IsTrue result ↔ IsListedX insn.now }
+{
+    insn.qp.has_six_bits();
+    match insn.op {
+        Op::Movl { r1, imm } => {
+            let _immediate = imm;
+            r1.number() != 0
+        }
+        Op::Break { unit, imm } | Op::Nop { unit, imm } => {
+            unit == Unit::X && imm < 0x4000_0000_0000_0000
+        }
+        _ => false,
+    }
+}

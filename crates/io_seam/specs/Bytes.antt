@@ -1,0 +1,6 @@
+-- What whole reads do to the bytes that a source tells.
+use Rattle.std.specs.Prelude.{◌≡◌, ℕ, ◌≤◌, List, Option, length, drop, Some}
+
+-- of the bytes that were left, the first so many are gone, and no others
+abbrev pub LosesFirst : ℕ → List ℕ → Option (List ℕ) → Type 0
+LosesFirst count old new = (count ≤ length old) × (new ≡ Some (drop count old))
