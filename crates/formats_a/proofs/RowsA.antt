@@ -1,9 +1,10 @@
 -- What is read of the word of an A instruction is the instruction.
-use Rattle.std.proofs.Common.{◌≡◌, ℕ, ◌+◌, ◌-◌, ◌*◌, ◌^◌, ◌<◌, Bool, true, false, ltb, eqb, sym, ◌∙◌, refl, arith}
+use Rattle.std.proofs.Common.{◌≡◌, ℕ, ◌+◌, ◌-◌, ◌*◌, ◌^◌, ◌<◌, ◌≤◌, Bool, true, false, leb, ltb, eqb, sym, ◌∙◌, refl, arith}
+use Rattle.std.proofs.lemmas.Bool.{leb-true}
 use Rattle.std.specs.Prelude.{IsSome, unwrap_or}
 use Rattle.ia_insn.specs.Word.{bits, flag}
-use Rattle.ia_insn.specs.FormatsA.{x4, x2b, imm8_codes, compare, parallel_op, zero_codes, fields, IsListedA, word_a, CodeA}
-use Rattle.ia_insn.proofs.Words.{reads, Reads, is_layout, word-fits}
+use Rattle.ia_insn.specs.FormatsA.{x4, x2b, imm8_codes, compare, parallel_op, zero_codes, fields, IsInRange, IsListedA, word_a, CodeA}
+use Rattle.ia_insn.proofs.Words.{reads, Reads, is_layout, word-fits, least_of, word-reaches}
 use Rattle.ia_insn.proofs.Numbers.{signed-twos, twos-fits, flag-back}
 use Rattle.ia_insn.specs.declared.insn.Insn.{Insn}
 use Rattle.ia_insn.specs.declared.insn.Op.{Op}
@@ -144,6 +145,42 @@ word_is_below i listed = word-fits (fields i.qp i.op) 41 (layout i.qp i.op) list
 
 pub code_is_below : (i : Insn) (w : ℕ) → CodeA i w → w < 2 ^ 41
 code_is_below i w code = omega (arith, code.sum, word_is_below i code.listed)
+
+-- The major opcode is 8 or more.
+compare-high : (kind : CmpKind) (rel : Rel) → IsSome (compare kind rel) → leb (2 ^ 40) ((unwrap_or (compare kind rel) (0, 0, 0)).0 * 2 ^ 37) ≡ true
+compare-high kinds.Normal Lt listed = refl
+compare-high kinds.Normal Ltu listed = refl
+compare-high kinds.Normal Eq listed = refl
+compare-high kinds.Unc Lt listed = refl
+compare-high kinds.Unc Ltu listed = refl
+compare-high kinds.Unc Eq listed = refl
+compare-high kinds.And Eq listed = refl
+compare-high kinds.And Ne listed = refl
+compare-high kinds.Or Eq listed = refl
+compare-high kinds.Or Ne listed = refl
+compare-high kinds.OrAndcm Eq listed = refl
+compare-high kinds.OrAndcm Ne listed = refl
+compare-high kind rel listed = absurd cc
+
+parallel-high : (kind : CmpKind) → IsSome (parallel_op kind) → leb (2 ^ 40) (unwrap_or (parallel_op kind) 0 * 2 ^ 37) ≡ true
+parallel-high kinds.And listed = refl
+parallel-high kinds.Or listed = refl
+parallel-high kinds.OrAndcm listed = refl
+parallel-high kind listed = absurd cc
+
+high-opcode : (qp : ℕ) (op : Op) → IsInRange qp op → leb (2 ^ 40) (least_of (fields qp op)) ≡ true
+high-opcode qp (Alu f r1 r2 r3) range = refl
+high-opcode qp (ShlAdd p4 r1 r2 count r3) range = refl
+high-opcode qp (AluImm8 f r1 imm r3) range = refl
+high-opcode qp (AddImm14 p4 r1 imm r3) range = refl
+high-opcode qp (AddImm22 r1 imm r3) range = refl
+high-opcode qp (Cmp four rel kind p1 p2 r2 r3) range = compare-high kind rel range.1
+high-opcode qp (CmpZero four rel kind p1 p2 r3) range = parallel-high kind range.1
+high-opcode qp (CmpImm four rel kind p1 p2 imm r3) range = compare-high kind rel range.2
+high-opcode qp op range = absurd range
+
+pub opcode_is_high : (i : Insn) (w : ℕ) → CodeA i w → 2 ^ 40 ≤ w
+opcode_is_high i w code = omega (arith, code.sum, word-reaches (fields i.qp i.op), leb-true _ _ (high-opcode i.qp i.op code.listed.range))
 
 -- A word is that of at most one instruction.
 pub only_instruction : (w : ℕ) (i j : Insn) → CodeA i w → CodeA j w → i ≡ j

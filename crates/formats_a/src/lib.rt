@@ -34,6 +34,10 @@ pub fn decode_a(word: u64) -> Option<Insn>
 
     // A slot has 41 bits, and no larger number is a word.
     ensures beyond { 2 ^ 41 ≤ word → IsNone result }
+
+    // The top four of them, the major opcode, are 8 or more, where an instruction of the M or the I
+    // unit alone has less.
+    ensures opcode { word < 2 ^ 40 → IsNone result }
 {
     let insn = reading::read(word);
     if has_word(&insn, word) {

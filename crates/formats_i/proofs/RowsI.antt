@@ -1,9 +1,10 @@
 -- What is read of the word of an I instruction is the instruction.
 use Rattle.std.proofs.Common.{◌≡◌, ℕ, ◌+◌, ◌-◌, ◌*◌, ◌^◌, ◌<◌, ◌≤◌, Bool, true, false, leb, eqb, sym, ◌∙◌, refl, arith, subst, inl, inr}
+use Rattle.std.proofs.lemmas.Bool.{leb-true}
 use Rattle.std.specs.Prelude.{◌⊎◌, IsSome, unwrap_or}
 use Rattle.ia_insn.specs.Word.{bits}
 use Rattle.ia_insn.specs.FormatsI.{ar_number, ext_code, fields, IsListedI, word_i, CodeI}
-use Rattle.ia_insn.proofs.Words.{reads, Reads, is_layout, word-fits}
+use Rattle.ia_insn.proofs.Words.{reads, Reads, is_layout, word-fits, limit_of, word-below-limit}
 use Rattle.ia_insn.proofs.Numbers.{signed-twos, twos-fits, flag-back}
 use Rattle.ia_insn.specs.declared.insn.Insn.{Insn}
 use Rattle.ia_insn.specs.declared.insn.Op.{Op}
@@ -178,8 +179,17 @@ read_back i w code = reads-op w i.qp i.op code
 pub word_is_below : (i : Insn) → IsListedI i → word_i i < 2 ^ 41
 word_is_below i listed = word-fits (fields i.qp i.op) 41 (layout i.qp i.op) listed.fit
 
-pub code_is_below : (i : Insn) (w : ℕ) → CodeI i w → w < 2 ^ 41
-code_is_below i w code = omega (arith, code.sum, word_is_below i code.listed)
+-- The major opcode is below 8.
+low-opcode : (qp : ℕ) (op : Op) → leb (limit_of (fields qp op)) (2 ^ 40) ≡ true
+low-opcode qp (ShiftVar Shr r1 value count) = refl
+low-opcode qp (ChkS units.I r2 disp) = refl
+low-opcode qp (Break units.I imm) = refl
+low-opcode qp (Nop units.I imm) = refl
+low-opcode qp (Hint units.I imm) = refl
+low-opcode qp op = refl
+
+pub opcode_is_low : (i : Insn) (w : ℕ) → CodeI i w → w < 2 ^ 40
+opcode_is_low i w code = omega (arith, code.sum, word-below-limit (fields i.qp i.op) 41 (layout i.qp i.op) code.listed.fit, leb-true _ _ (low-opcode i.qp i.op))
 
 -- A word is that of at most one instruction.
 pub only_instruction : (w : ℕ) (i j : Insn) → CodeI i w → CodeI j w → i ≡ j

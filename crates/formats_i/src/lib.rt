@@ -24,7 +24,7 @@ use ia_insn::{Insn, is_listed_i};
 
 /// The I instruction whose word this is, and None exactly where it is that of none (volume 3,
 /// chapter 4, instruction formats, I5 to I29). Where in its bundle the word stands is not looked at.
-#[tactic(auto, using(crate::proofs::RowsI::read_back, crate::proofs::RowsI::code_is_below))]
+#[tactic(auto, using(crate::proofs::RowsI::read_back, crate::proofs::RowsI::opcode_is_low))]
 pub fn decode_i(word: u64) -> Option<Insn>
     // What is answered has this word.
     ensures found { IfSome result (λ i. CodeI i word) }
@@ -32,8 +32,9 @@ pub fn decode_i(word: u64) -> Option<Insn>
     // An instruction that has this word is answered, so None comes only where none has it.
     ensures only { (i : Insn) → CodeI i word → result ≡ Some i }
 
-    // A slot has 41 bits, and no larger number is a word.
-    ensures beyond { 2 ^ 41 ≤ word → IsNone result }
+    // The top four of a slot's 41 bits, the major opcode, are below 8, where an A instruction has
+    // 8 or more: no larger number is a word.
+    ensures beyond { 2 ^ 40 ≤ word → IsNone result }
 {
     let insn = reading::read(word);
     if has_word(&insn, word) {

@@ -1,9 +1,10 @@
 -- What is read of the word of an M instruction is the instruction.
-use Rattle.std.proofs.Common.{◌≡◌, ℕ, ◌+◌, ◌*◌, ◌^◌, ◌<◌, ◌⊎◌, inl, inr, Bool, true, false, ltb, eqb, sym, subst, ◌∙◌, refl, arith}
+use Rattle.std.proofs.Common.{◌≡◌, ℕ, ◌+◌, ◌*◌, ◌^◌, ◌<◌, ◌⊎◌, inl, inr, Bool, true, false, leb, ltb, eqb, sym, subst, ◌∙◌, refl, arith}
+use Rattle.std.proofs.lemmas.Bool.{leb-true}
 use Rattle.std.specs.Prelude.{IsSome, unwrap_or}
 use Rattle.ia_insn.specs.Word.{bits, flag}
 use Rattle.ia_insn.specs.FormatsM.{log2_of, load_code, store_code, fields, IsListedM, word_m, CodeM}
-use Rattle.ia_insn.proofs.Words.{reads, Reads, is_layout, word-fits}
+use Rattle.ia_insn.proofs.Words.{reads, Reads, is_layout, word-fits, limit_of, word-below-limit}
 use Rattle.ia_insn.proofs.Numbers.{signed-twos, twos-fits}
 use Rattle.ia_insn.specs.declared.insn.Insn.{Insn}
 use Rattle.ia_insn.specs.declared.insn.Op.{Op}
@@ -192,8 +193,21 @@ read_back i w code = reads-op w i.qp i.op code
 pub word_is_below : (i : Insn) → IsListedM i → word_m i < 2 ^ 41
 word_is_below i listed = word-fits (fields i.qp i.op) 41 (layout i.qp i.op) listed.fit
 
-pub code_is_below : (i : Insn) (w : ℕ) → CodeM i w → w < 2 ^ 41
-code_is_below i w code = omega (arith, code.sum, word_is_below i code.listed)
+-- The major opcode is below 8.
+low-opcode : (qp : ℕ) (op : Op) → leb (limit_of (fields qp op)) (2 ^ 40) ≡ true
+low-opcode qp (Load size kind hint r1 r3 updates.None) = refl
+low-opcode qp (Store size kind hint r3 r2 updates.None) = refl
+low-opcode qp (ChkS units.M r2 disp) = refl
+low-opcode qp (MovToAr Unat r2) = refl
+low-opcode qp (MovFromAr r1 Unat) = refl
+low-opcode qp (MovToArImm Unat imm) = refl
+low-opcode qp (Break units.M imm) = refl
+low-opcode qp (Nop units.M imm) = refl
+low-opcode qp (Hint units.M imm) = refl
+low-opcode qp op = refl
+
+pub opcode_is_low : (i : Insn) (w : ℕ) → CodeM i w → w < 2 ^ 40
+opcode_is_low i w code = omega (arith, code.sum, word-below-limit (fields i.qp i.op) 41 (layout i.qp i.op) code.listed.fit, leb-true _ _ (low-opcode i.qp i.op))
 
 -- A word is that of at most one instruction.
 pub only_instruction : (w : ℕ) (i j : Insn) → CodeM i w → CodeM j w → i ≡ j

@@ -26,7 +26,7 @@ use ia_insn::{Insn, is_listed_m};
 /// The M instruction whose word this is, and None exactly where it is that of none (volume 3,
 /// chapter 4, instruction formats, M1 to M5 and M20 to M48). Where in its bundle the word stands is
 /// not looked at.
-#[tactic(auto, using(crate::proofs::RowsM::read_back, crate::proofs::RowsM::code_is_below))]
+#[tactic(auto, using(crate::proofs::RowsM::read_back, crate::proofs::RowsM::opcode_is_low))]
 pub fn decode_m(word: u64) -> Option<Insn>
     // What is answered has this word.
     ensures found { IfSome result (λ i. CodeM i word) }
@@ -34,8 +34,9 @@ pub fn decode_m(word: u64) -> Option<Insn>
     // An instruction that has this word is answered, so None comes only where none has it.
     ensures only { (i : Insn) → CodeM i word → result ≡ Some i }
 
-    // A slot has 41 bits, and no larger number is a word.
-    ensures beyond { 2 ^ 41 ≤ word → IsNone result }
+    // The top four of a slot's 41 bits, the major opcode, are below 8, where an A instruction has
+    // 8 or more: no larger number is a word.
+    ensures beyond { 2 ^ 40 ≤ word → IsNone result }
 {
     let insn = reading::read(word);
     if has_word(&insn, word) {

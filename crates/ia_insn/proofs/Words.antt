@@ -40,6 +40,26 @@ word-fits (p ∷ ps) bound h fit =
     one_more p.value p.low p.width bound (word_of ps) (leb-true _ _ (both-left (leb (p.low + p.width) bound) (is_layout p.low ps) h)) fit.0
     (word-fits ps p.low (both-right (leb (p.low + p.width) bound) (is_layout p.low ps) h) fit.1)
 
+-- what the top field alone comes to, and what it comes to with one more
+abbrev pub least_of : List Part → ℕ
+least_of [] = 0
+least_of (p ∷ ps) = p.value * 2 ^ p.low
+
+abbrev pub limit_of : List Part → ℕ
+limit_of [] = 1
+limit_of (p ∷ ps) = (p.value + 1) * 2 ^ p.low
+
+-- a sum is at least what its top field alone comes to, and below that with one more
+pub word-reaches : (ps : List Part) → least_of ps ≤ word_of ps
+word-reaches [] = omega arith
+word-reaches (p ∷ ps) = omega arith
+
+pub word-below-limit : (ps : List Part) (bound : ℕ) → is_layout bound ps ≡ true → AllFit ps → word_of ps < limit_of ps
+word-below-limit [] bound h fit = omega arith
+word-below-limit (p ∷ ps) bound h fit =
+    let below : word_of ps < 2 ^ p.low = word-fits ps p.low (both-right (leb (p.low + p.width) bound) (is_layout p.low ps) h) fit.1 in
+    omega arith
+
 -- the top field of a sum, with anything above the bound
 top_field : (high v low width bound rest : ℕ) → low + width ≤ bound → v < 2 ^ width → rest < 2 ^ low → bits low width (high * 2 ^ bound + (v * 2 ^ low + rest)) ≡ v
 top_field high v low width bound rest room fits below =

@@ -7,3 +7,4 @@ pub mod FormatsF
 pub mod FormatsX
 pub mod Fits
 pub mod Templates
+pub mod Bundles

@@ -6,6 +6,7 @@
 //! crates go from instructions to words and back.
 #![tactic(auto)]
 
+mod bundle;
 mod choices;
 mod insn;
 mod listed_a;
@@ -20,6 +21,7 @@ mod signed;
 mod slot_fitness;
 mod template;
 
+pub use bundle::{BundleOf, Slots};
 pub use choices::{AluFn, BranchKind, CmpKind, LoadKind, Rel, ShiftFn, StoreKind, Unit, Update};
 pub use insn::{Insn, Op};
 pub use listed_a::is_listed_a;
