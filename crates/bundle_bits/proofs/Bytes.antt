@@ -1,8 +1,9 @@
 -- Sixteen bytes and their number.
-use Rattle.std.proofs.Common.{◌≡◌, ℕ, zero, suc, ◌+◌, ◌*◌, ◌/◌, ◌%◌, ◌^◌, ◌<◌, List, [], ◌∷◌, length, get_or, sym, ap, ◌∙◌, refl, arith}
+use Rattle.std.proofs.Common.{◌≡◌, ℕ, zero, suc, ◌+◌, ◌*◌, ◌/◌, ◌%◌, ◌^◌, ◌<◌, List, [], ◌∷◌, length, get_or, sym, ap, ◌∙◌, subst, refl, arith}
 use Rattle.std.specs.Int.{w128, from_le_bytes, to_le_bytes, bytes_low_first, byte_at}
 use Rattle.std.proofs.lemmas.Nat.{mod-mul-add, div-mul-add, mod_below, div-add-mod'}
 use Rattle.std.proofs.Math.Nat.{div-div-eq-div-mul, pow-suc, one-le-pow}
+use Rattle.bundle_bits.specs.RawBundle.{AreBytes}
 
 -- bytes as a number, by recursion
 abbrev value : List ℕ → ℕ
@@ -55,3 +56,22 @@ value-bytes (suc k) i n =
 -- the number of a number's bytes
 pub forth : (n : ℕ) → n < 2 ^ 128 → from_le_bytes w128 (to_le_bytes w128 n) ≡ n
 forth n fits = from-value (to_le_bytes w128 n) refl ∙ value-bytes 16 0 n ∙ (let e : n / 256 ^ 0 % 256 ^ 16 ≡ n = omega arith in e)
+
+-- bytes of one number are the same
+pub one-bytes : (x y : List ℕ) → AreBytes x → AreBytes y → from_le_bytes w128 x ≡ from_le_bytes w128 y → x ≡ y
+one-bytes x y first second is =
+    sym (back x (from_le_bytes w128 y) first.count first.small is) ∙ back y (from_le_bytes w128 y) second.count second.small refl
+
+-- the number of bytes is below 256 to the power of their count
+value-below : (bs : List ℕ) → ((k : ℕ) → get_or bs k 0 < 256) → value bs < 256 ^ length bs
+value-below [] small = omega arith
+value-below (b ∷ bs) small =
+    let rest : value bs < 256 ^ length bs = value-below bs (λ k. small (suc k)) in
+    let here : b < 256 = small 0 in
+    rw (pow-suc 256 (length bs)) (omega arith)
+
+-- the number of sixteen bytes has 128 bits
+pub number-fits : (bs : List ℕ) → AreBytes bs → from_le_bytes w128 bs < 2 ^ 128
+number-fits bs are =
+    let below : value bs < 256 ^ 16 = subst (λ k. value bs < 256 ^ k) are.count (value-below bs are.small) in
+    omega (arith, from-value bs are.count)

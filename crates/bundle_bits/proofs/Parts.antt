@@ -1,5 +1,5 @@
 -- The parts of a bundle's number.
-use Rattle.std.proofs.Common.{◌≡◌, ℕ, ◌+◌, ◌*◌, ◌/◌, ◌%◌, ◌^◌, ◌<◌, List, [], ◌∷◌, arith}
+use Rattle.std.proofs.Common.{◌≡◌, ℕ, ◌+◌, ◌*◌, ◌/◌, ◌%◌, ◌^◌, ◌<◌, List, [], ◌∷◌, refl, sym, ◌∙◌, arith}
 use Rattle.bundle_bits.specs.RawBundle.{number_of, IsBundle}
 use Rattle.bundle_bits.specs.declared.bundle.RawBundle.{RawBundle}
 
@@ -19,3 +19,16 @@ same_parts t slots n parts is = absurd (omega (arith, parts.count))
 -- a bundle of this number has the parts that the code computes
 pub only-parts : (raw : RawBundle) (n : ℕ) → IsBundle raw → number_of raw ≡ n → raw ≡ parts_of n
 only-parts raw n parts is = same_parts raw.template raw.slots n parts is
+
+-- two bundles of one number are the same
+pub one-raw : (raw other : RawBundle) → IsBundle raw → IsBundle other → number_of raw ≡ number_of other → raw ≡ other
+one-raw raw other parts others is =
+    only-parts raw (number_of other) parts is ∙ sym (only-parts other (number_of other) others refl)
+
+-- the parts of a number of 128 bits are those of a bundle, and make the number
+pub are-parts : (n : ℕ) → n < 2 ^ 128 → IsBundle (parts_of n)
+are-parts n fits =
+    record { template = omega arith; count = refl; first = omega arith; second = omega arith; third = omega arith }
+
+pub number-of-parts : (n : ℕ) → number_of (parts_of n) ≡ n
+number-of-parts n = omega arith

@@ -10,7 +10,7 @@
 mod bundle;
 mod field;
 
-pub use bundle::{RawBundle, join, split};
+pub use bundle::{RawBundle, join, one_bytes, one_raw, some_raw, split};
 pub use field::Field;
 
 #[cfg(test)]

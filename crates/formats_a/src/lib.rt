@@ -14,7 +14,7 @@ ghost use Rattle.std.specs.Prelude.{◌≡◌, ◌<◌, ◌≤◌, ◌^◌, ◌�
 ghost use Rattle.std.specs.Option.{SomeIff};
 ghost use Rattle.ia_insn.specs.FormatsA.{CodeA, IsListedA, word_a};
 ghost use Rattle.ia_insn.specs.declared.insn.Insn.{Insn};
-ghost use Rattle.formats_a.specs.Laws.{OneInstruction, OneWord};
+ghost use Rattle.formats_a.specs.Laws.{OneInstruction, OneWord, OpcodeIsHigh};
 
 mod fields;
 mod reading;
@@ -78,6 +78,11 @@ pub fn one_instruction()
 /// The law that an A instruction has at most one word. It does nothing.
 pub fn one_word()
     ensures { OneWord }
+{}
+
+/// The law that the major opcode of an A instruction's word is 8 or more. It does nothing.
+pub fn opcode_is_high()
+    ensures { OpcodeIsHigh }
 {}
 
 #[cfg(test)]

@@ -1,5 +1,5 @@
 -- Words and I instructions correspond one to one.
-use Rattle.std.specs.Prelude.{◌≡◌, ℕ}
+use Rattle.std.specs.Prelude.{◌≡◌, ℕ, ◌^◌, ◌<◌}
 use Rattle.ia_insn.specs.FormatsI.{CodeI}
 use Rattle.ia_insn.specs.declared.insn.Insn.{Insn}
 
@@ -10,3 +10,7 @@ OneInstruction = (word : ℕ) (i j : Insn) → CodeI i word → CodeI j word →
 -- an instruction has at most one word
 abbrev pub OneWord : Type 0
 OneWord = (i : Insn) (v w : ℕ) → CodeI i v → CodeI i w → v ≡ w
+
+-- the major opcode of a word, its top four bits, is below 8
+abbrev pub OpcodeIsLow : Type 0
+OpcodeIsLow = (word : ℕ) (i : Insn) → CodeI i word → word < 2 ^ 40

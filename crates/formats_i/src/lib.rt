@@ -14,7 +14,7 @@ ghost use Rattle.std.specs.Prelude.{◌≡◌, ◌<◌, ◌≤◌, ◌^◌, ◌�
 ghost use Rattle.std.specs.Option.{SomeIff};
 ghost use Rattle.ia_insn.specs.FormatsI.{CodeI, IsListedI, word_i};
 ghost use Rattle.ia_insn.specs.declared.insn.Insn.{Insn};
-ghost use Rattle.formats_i.specs.Laws.{OneInstruction, OneWord};
+ghost use Rattle.formats_i.specs.Laws.{OneInstruction, OneWord, OpcodeIsLow};
 
 mod fields;
 mod reading;
@@ -75,6 +75,11 @@ pub fn one_instruction()
 /// The law that an I instruction has at most one word. It does nothing.
 pub fn one_word()
     ensures { OneWord }
+{}
+
+/// The law that the major opcode of an I instruction's word is below 8. It does nothing.
+pub fn opcode_is_low()
+    ensures { OpcodeIsLow }
 {}
 
 #[cfg(test)]

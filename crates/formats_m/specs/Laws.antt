@@ -1,5 +1,5 @@
 -- Words and M instructions correspond one to one.
-use Rattle.std.specs.Prelude.{◌≡◌, ℕ}
+use Rattle.std.specs.Prelude.{◌≡◌, ℕ, ◌^◌, ◌<◌}
 use Rattle.ia_insn.specs.FormatsM.{CodeM}
 use Rattle.ia_insn.specs.declared.insn.Insn.{Insn}
 
@@ -10,3 +10,7 @@ OneInstruction = (word : ℕ) (i j : Insn) → CodeM i word → CodeM j word →
 -- an instruction has at most one word
 abbrev pub OneWord : Type 0
 OneWord = (i : Insn) (v w : ℕ) → CodeM i v → CodeM i w → v ≡ w
+
+-- the major opcode of a word, its top four bits, is below 8
+abbrev pub OpcodeIsLow : Type 0
+OpcodeIsLow = (word : ℕ) (i : Insn) → CodeM i word → word < 2 ^ 40

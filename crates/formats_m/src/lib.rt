@@ -15,7 +15,7 @@ ghost use Rattle.std.specs.Prelude.{◌≡◌, ◌<◌, ◌≤◌, ◌^◌, ◌�
 ghost use Rattle.std.specs.Option.{SomeIff};
 ghost use Rattle.ia_insn.specs.FormatsM.{CodeM, IsListedM, word_m};
 ghost use Rattle.ia_insn.specs.declared.insn.Insn.{Insn};
-ghost use Rattle.formats_m.specs.Laws.{OneInstruction, OneWord};
+ghost use Rattle.formats_m.specs.Laws.{OneInstruction, OneWord, OpcodeIsLow};
 
 mod fields;
 mod reading;
@@ -78,6 +78,11 @@ pub fn one_instruction()
 /// The law that an M instruction has at most one word. It does nothing.
 pub fn one_word()
     ensures { OneWord }
+{}
+
+/// The law that the major opcode of an M instruction's word is below 8. It does nothing.
+pub fn opcode_is_low()
+    ensures { OpcodeIsLow }
 {}
 
 #[cfg(test)]

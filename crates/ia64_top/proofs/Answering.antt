@@ -10,11 +10,12 @@ use Rattle.ia64_top.specs.declared.words.Command.TheVariants.{Check}
 use Rattle.ia64_top.specs.declared.status.Status.{Status}
 use Rattle.ia64_top.specs.declared.status.Status.TheVariants.{Done, TooLong}
 use Rattle.ia64_top.specs.Words.{command_of}
-use Rattle.ia64_top.specs.Programs.{Program}
-use Rattle.ia64_top.specs.Images.{Spells}
+use Rattle.ia_insn.specs.Programs.{Program}
+use Rattle.image_form.specs.Images.{Spells}
+use Rattle.image_form.specs.Laws.{ImageSize}
+use Rattle.ia64_top.specs.Programs.{IsPlain}
 use Rattle.ia64_top.specs.Violations.{IsFree}
 use Rattle.ia64_top.specs.Output.{input_limit, IsCommandOutput, IsOutput, GivesOutput, GivesPart}
-use Rattle.ia64_top.proofs.Heads.{head_of_spelled}
 
 -- the output of a command for an input within the limit
 output_within : (words : List (List ℕ)) (command : Command) (input bytes : List ℕ) (status : Status) → command_of words ≡ Some command → length input ≤ input_limit → IsCommandOutput command input bytes status → IsOutput words input bytes status
@@ -36,17 +37,17 @@ pub given_in_part : (words : List (List ℕ)) (command : Command) (left given ne
 given_in_part words command None given new input bytes status e whole within o part = tt
 given_in_part words command (Some l) given new input bytes status e whole within o part = (bytes, status, subst (λ (i : List ℕ). IsOutput words i bytes status) whole (output_within words command input bytes status e within o), part)
 
--- the image of a plain program is short
-short_image : (p : Program) (input : List ℕ) → Spells p input → length input ≤ input_limit
-short_image p input s = let h = head_of_spelled p input s in let m = s.most in omega (arith, h.size)
+-- an image is short
+short_image : ImageSize → (p : Program) (input : List ℕ) → Spells p input → length input ≤ input_limit
+short_image size p input s = let n = size p input s in let r = s.program.counts in omega (arith, n, r.bundles, r.entries, r.memory)
 
-pub accepted_beyond : (words : List (List ℕ)) (left : Option (List ℕ)) → IfSome left (λ l. input_limit < length l) → IfSome left (λ input. command_of words ≡ Some Check → (p : Program) → Spells p input → ((TooLong ≡ Done) ↔ IsFree p))
-accepted_beyond words None h = tt
-accepted_beyond words (Some input) h = λ e p s. absurd (let m = short_image p input s in omega arith)
+pub accepted_beyond : ImageSize → (words : List (List ℕ)) (left : Option (List ℕ)) → IfSome left (λ l. input_limit < length l) → IfSome left (λ input. command_of words ≡ Some Check → (p : Program) → Spells p input → IsPlain p → ((TooLong ≡ Done) ↔ IsFree p))
+accepted_beyond size words None h = tt
+accepted_beyond size words (Some input) h = λ e p s plain. absurd (let m = short_image size p input s in omega arith)
 
-pub accepted_within : (words : List (List ℕ)) (command : Command) (left : Option (List ℕ)) (input : List ℕ) (status : Status) → command_of words ≡ Some command → IfSome left (λ l. input ≡ l) → (command ≡ Check → (p : Program) → Spells p input → ((status ≡ Done) ↔ IsFree p)) → IfSome left (λ i. command_of words ≡ Some Check → (p : Program) → Spells p i → ((status ≡ Done) ↔ IsFree p))
+pub accepted_within : (words : List (List ℕ)) (command : Command) (left : Option (List ℕ)) (input : List ℕ) (status : Status) → command_of words ≡ Some command → IfSome left (λ l. input ≡ l) → (command ≡ Check → (p : Program) → Spells p input → IsPlain p → ((status ≡ Done) ↔ IsFree p)) → IfSome left (λ i. command_of words ≡ Some Check → (p : Program) → Spells p i → IsPlain p → ((status ≡ Done) ↔ IsFree p))
 accepted_within words command None input status e whole h = tt
-accepted_within words command (Some l) input status e whole h = λ f p s. h (let g : Some command ≡ Some Check = sym e ∙ f in cc) p (subst (Spells p) (sym whole) s)
+accepted_within words command (Some l) input status e whole h = λ f p s plain. h (let g : Some command ≡ Some Check = sym e ∙ f in cc) p (subst (Spells p) (sym whole) s) plain
 
 -- more bytes than the limit were there where more were taken
 pub beyond : (P : Type 0) (left new : Option (List ℕ)) → P → IfSome left (λ l. P ↔ LosesFirst (input_limit + 1) l new) → IfSome left (λ l. input_limit < length l)

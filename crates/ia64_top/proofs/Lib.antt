@@ -1,9 +1,6 @@
-mod Runs
 mod Rising
 mod Reporting
-mod Slots
-mod Bundles
-mod Heads
+mod Plain
 mod Printing
 mod Outputs
 mod Answering

@@ -1,82 +1,114 @@
 -- One output is stated for an input.
-use Rattle.std.proofs.Common.{◌≡◌, ℕ, ◌<◌, inl, inr, List, [], ◌∷◌, length, refl, sym, subst, arith}
-use Rattle.std.specs.Prelude.{◌↔◌, Contains}
+use Rattle.std.proofs.Common.{◌≡◌, ℕ, ◌<◌, inl, inr, List, [], ◌∷◌, length, take, refl, sym, subst, arith}
+use Rattle.std.specs.Prelude.{◌↔◌, Contains, IfOk, Result, Ok, Err}
+use Rattle.ia_insn.specs.Programs.{Program}
+use Rattle.image_form.specs.declared.fault.ImageFault.{ImageFault}
+use Rattle.image_form.specs.Images.{magic, Spells, RawSpells}
+use Rattle.image_form.specs.Faults.{HasFault, HasRawFault}
+use Rattle.image_form.specs.Laws.{OneProgram, NoFaultWhereSpelled, NoFaultWhereRaw}
 use Rattle.ia64_top.specs.declared.status.Status.{Status}
-use Rattle.ia64_top.specs.declared.status.Status.TheVariants.{Done, Violated, Words, Refused, NotYet}
-use Rattle.ia64_top.specs.declared.image.ImageFault.{ImageFault}
-use Rattle.ia64_top.specs.declared.image.ImageFault.TheVariants.{Short, Counts, Length}
+use Rattle.ia64_top.specs.declared.status.Status.TheVariants.{Done, Violated, Refused, NotYet}
 use Rattle.ia64_top.specs.declared.violation.Violation.{Violation}
 use Rattle.ia64_top.specs.declared.violation.Report.{Report}
 use Rattle.ia64_top.specs.Texts.{verdict_text}
-use Rattle.ia64_top.specs.Programs.{Program}
-use Rattle.ia64_top.specs.Images.{BeginsWithMagic, HasFault, IsSoundHead, Spells}
+use Rattle.ia64_top.specs.Programs.{IsPlain}
 use Rattle.ia64_top.specs.Violations.{IsFree}
 use Rattle.ia64_top.specs.Verdicts.{IsVerdict}
-use Rattle.ia64_top.specs.Judgements.{TellsWhether, IsJudgement}
-use Rattle.ia64_top.specs.Output.{IsUnjudged, IsCheckOutput}
-use Rattle.ia64_top.proofs.Heads.{head_of_spelled, no_fault}
+use Rattle.ia64_top.specs.Judgements.{TellsWhether, IsJudgement, IsProgramAnswer}
+use Rattle.ia64_top.specs.Output.{BeginsAsImage, IsWrapOutput, IsUnjudged, IsCheckOutput}
 
-sound_no_fault : (bytes : List ℕ) → IsSoundHead bytes → (fault : ImageFault) → HasFault bytes fault → ⊥
-sound_no_fault bytes h Short f = omega (arith, h.long)
-sound_no_fault bytes h Counts f = f.1 h.range
-sound_no_fault bytes h Length f = f.2 h.size
+-- what is there where a call went well, told by what its contract tells
+pub if_ok : {T E : Type 0} {P Q : T → Type 0} (result : Result T E) → IfOk result P → ((x : T) → P x → Q x) → IfOk result Q
+if_ok (Ok x) p tell = tell x p
+if_ok (Err e) p tell = tt
 
-judged : (input : List ℕ) (p : Program) → Spells p input → IsUnjudged input → ⊥
-judged input p s (inl n) = n (head_of_spelled p input s).magic
-judged input p s (inr n) = n.1 (p, s)
+begins : (p : Program) (input : List ℕ) → Spells p input → BeginsAsImage input
+begins p input s = subst (λ (l : List ℕ). take 8 l ≡ magic) (sym s.whole) refl
 
-faultless : (input : List ℕ) → IsUnjudged input → BeginsWithMagic input → (fault : ImageFault) → HasFault input fault → ⊥
-faultless input (inl n) m fault f = n m
-faultless input (inr n) m fault f = sound_no_fault input n.0 fault f
-
-pub output_of_judgement : (input : List ℕ) (p : Program) (bytes : List ℕ) (status : Status) → Spells p input → IsJudgement p bytes status → IsCheckOutput input bytes status
-output_of_judgement input p bytes Done s j = (p, s, j)
-output_of_judgement input p bytes Violated s j = (p, s, j)
-output_of_judgement input p bytes Words s j = absurd j.tells
-output_of_judgement input p bytes status s j = absurd j.tells
+-- the answer on the program of an image is that on the image
+pub output_of_answer : (input : List ℕ) (p : Program) (bytes : List ℕ) (status : Status) → Spells p input → IsProgramAnswer p bytes status → IsCheckOutput input bytes status
+output_of_answer input p bytes Done s a = (p, s, a.0, a.1)
+output_of_answer input p bytes Violated s a = (p, s, a.0, a.1)
+output_of_answer input p bytes NotYet s a = (inr (p, s, a.0), a.1)
+output_of_answer input p bytes status s a = absurd a
 
 free_and_not : (p q : Program) → p ≡ q → IsFree p → (IsFree q → ⊥) → ⊥
 free_and_not p q e f n = n (subst IsFree e f)
 
--- a plain program's input has the output of its verdict alone
-pub only_plain : (input : List ℕ) (p : Program) (status : Status) → Spells p input → ((q : Program) → Spells q input → p ≡ q) → TellsWhether p status → (bytes : List ℕ) (other : Status) → IsCheckOutput input bytes other → other ≡ status
-only_plain input p Done s only t bytes Done o = refl
-only_plain input p Done s only t bytes Violated o = absurd (free_and_not p o.0 (only o.0 o.1) t o.2.tells)
-only_plain input p Violated s only t bytes Done o = absurd (free_and_not o.0 p (sym (only o.0 o.1)) o.2.tells t)
-only_plain input p Violated s only t bytes Violated o = refl
-only_plain input p status s only t bytes Done o = absurd t
-only_plain input p status s only t bytes Violated o = absurd t
-only_plain input p status s only t bytes Refused o = absurd (no_fault p input s o.1.0 o.1.1)
-only_plain input p status s only t bytes NotYet o = absurd (judged input p s o.0)
-only_plain input p status s only t bytes other o = absurd o
+-- an input whose program is plain is judged
+plain_is_judged : OneProgram → (input : List ℕ) (p : Program) → Spells p input → IsPlain p → IsUnjudged input → ⊥
+plain_is_judged one input p s plain (inl n) = n (begins p input s)
+plain_is_judged one input p s plain (inr n) = n.2 (subst IsPlain (one input p n.0 s n.1) plain)
+
+-- no other status is stated where the program is free, where it isn't, and where it isn't plain
+only_done : OneProgram → NoFaultWhereSpelled → (input : List ℕ) (p : Program) → Spells p input → IsPlain p → IsFree p → (bytes : List ℕ) (other : Status) → IsCheckOutput input bytes other → other ≡ Done
+only_done one none input p s plain free bytes Done o = refl
+only_done one none input p s plain free bytes Violated o = absurd (free_and_not p o.0 (one input p o.0 s o.1) free o.3.tells)
+only_done one none input p s plain free bytes NotYet o = absurd (plain_is_judged one input p s plain o.0)
+only_done one none input p s plain free bytes Refused o = absurd (none p input o.1.0 s o.1.1)
+only_done one none input p s plain free bytes other o = absurd o
+
+only_violated : OneProgram → NoFaultWhereSpelled → (input : List ℕ) (p : Program) → Spells p input → IsPlain p → (IsFree p → ⊥) → (bytes : List ℕ) (other : Status) → IsCheckOutput input bytes other → other ≡ Violated
+only_violated one none input p s plain not bytes Done o = absurd (free_and_not o.0 p (one input o.0 p o.1 s) o.3.tells not)
+only_violated one none input p s plain not bytes Violated o = refl
+only_violated one none input p s plain not bytes NotYet o = absurd (plain_is_judged one input p s plain o.0)
+only_violated one none input p s plain not bytes Refused o = absurd (none p input o.1.0 s o.1.1)
+only_violated one none input p s plain not bytes other o = absurd o
+
+only_not_plain : OneProgram → NoFaultWhereSpelled → (input : List ℕ) (p : Program) → Spells p input → (IsPlain p → ⊥) → (bytes : List ℕ) (other : Status) → IsCheckOutput input bytes other → other ≡ NotYet
+only_not_plain one none input p s not bytes Done o = absurd (not (subst IsPlain (one input o.0 p o.1 s) o.2))
+only_not_plain one none input p s not bytes Violated o = absurd (not (subst IsPlain (one input o.0 p o.1 s) o.2))
+only_not_plain one none input p s not bytes NotYet o = refl
+only_not_plain one none input p s not bytes Refused o = absurd (none p input o.1.0 s o.1.1)
+only_not_plain one none input p s not bytes other o = absurd o
+
+pub only_answer : OneProgram → NoFaultWhereSpelled → (input : List ℕ) (p : Program) (mine : List ℕ) (status : Status) → Spells p input → IsProgramAnswer p mine status → (bytes : List ℕ) (other : Status) → IsCheckOutput input bytes other → other ≡ status
+only_answer one none input p mine Done s a = only_done one none input p s a.0 a.1.tells
+only_answer one none input p mine Violated s a = only_violated one none input p s a.0 a.1.tells
+only_answer one none input p mine NotYet s a = only_not_plain one none input p s a.0
+only_answer one none input p mine status s a = absurd a
 
 -- an image with a fault has the output of its refusal alone
-pub only_refused : (input : List ℕ) (fault : ImageFault) → BeginsWithMagic input → HasFault input fault → (bytes : List ℕ) (other : Status) → IsCheckOutput input bytes other → other ≡ Refused
-only_refused input fault m f bytes Done o = absurd (no_fault o.0 input o.1 fault f)
-only_refused input fault m f bytes Violated o = absurd (no_fault o.0 input o.1 fault f)
-only_refused input fault m f bytes Refused o = refl
-only_refused input fault m f bytes NotYet o = absurd (faultless input o.0 m fault f)
-only_refused input fault m f bytes other o = absurd o
+pub only_refused : NoFaultWhereSpelled → (input : List ℕ) (fault : ImageFault) → BeginsAsImage input → HasFault input fault → (bytes : List ℕ) (other : Status) → IsCheckOutput input bytes other → other ≡ Refused
+only_refused none input fault m f bytes Done o = absurd (none o.0 input fault o.1 f)
+only_refused none input fault m f bytes Violated o = absurd (none o.0 input fault o.1 f)
+only_refused none input fault m f bytes Refused o = refl
+only_refused none input fault m f bytes NotYet o = absurd (judged o.0)
+  where
+    judged : IsUnjudged input → ⊥
+    judged (inl n) = n m
+    judged (inr n) = none n.0 input fault n.1 f
+only_refused none input fault m f bytes other o = absurd o
 
--- and an input that isn't judged has none
-pub only_unjudged : (input : List ℕ) → IsUnjudged input → (bytes : List ℕ) (other : Status) → IsCheckOutput input bytes other → other ≡ NotYet
-only_unjudged input u bytes Done o = absurd (judged input o.0 o.1 u)
-only_unjudged input u bytes Violated o = absurd (judged input o.0 o.1 u)
-only_unjudged input u bytes Refused o = absurd (faultless input u o.0 o.1.0 o.1.1)
-only_unjudged input u bytes NotYet o = refl
-only_unjudged input u bytes other o = absurd o
+-- and an input that doesn't begin as an image does isn't judged
+pub only_unjudged : (input : List ℕ) → ¬ BeginsAsImage input → (bytes : List ℕ) (other : Status) → IsCheckOutput input bytes other → other ≡ NotYet
+only_unjudged input n bytes Done o = absurd (n (begins o.0 input o.1))
+only_unjudged input n bytes Violated o = absurd (n (begins o.0 input o.1))
+only_unjudged input n bytes Refused o = absurd (n o.0)
+only_unjudged input n bytes NotYet o = refl
+only_unjudged input n bytes other o = absurd o
 
--- `Done` is the answer on a program exactly where it is free
-pub done_where_free : (p q : Program) (status : Status) → q ≡ p → TellsWhether q status → ((status ≡ Done) ↔ IsFree p)
-done_where_free p q Done e t = (λ d. subst IsFree e t, λ f. refl)
-done_where_free p q Violated e t = (λ d. cc, λ f. absurd (t (subst IsFree (sym e) f)))
-done_where_free p q status e t = absurd t
+-- `Done` is the answer on a plain program exactly where it is free
+pub done_where_free : OneProgram → (input : List ℕ) (q : Program) (bytes : List ℕ) (status : Status) → Spells q input → IsProgramAnswer q bytes status → (p : Program) → Spells p input → IsPlain p → ((status ≡ Done) ↔ IsFree p)
+done_where_free one input q bytes Done s a p t plain = (λ d. subst IsFree (one input q p s t) a.1.tells, λ f. refl)
+done_where_free one input q bytes Violated s a p t plain = (λ d. cc, λ f. absurd (a.1.tells (subst IsFree (one input p q t s) f)))
+done_where_free one input q bytes NotYet s a p t plain = absurd (a.0 (subst IsPlain (one input p q t s) plain))
+done_where_free one input q bytes status s a p t plain = absurd a
 
-pub none_spelled_refused : (input : List ℕ) (fault : ImageFault) (p : Program) → HasFault input fault → Spells p input → ⊥
-none_spelled_refused input fault p f s = no_fault p input s fault f
+pub none_spelled_unjudged : (input : List ℕ) (p : Program) → ¬ BeginsAsImage input → Spells p input → ⊥
+none_spelled_unjudged input p n s = n (begins p input s)
 
-pub none_spelled_unjudged : (input : List ℕ) (p : Program) → IsUnjudged input → Spells p input → ⊥
-none_spelled_unjudged input p u s = judged input p s u
+-- bare bundles of a program have its image for output, and nothing else
+pub only_wrapped : NoFaultWhereRaw → (input : List ℕ) (p : Program) → RawSpells p input → (bytes : List ℕ) (other : Status) → IsWrapOutput input bytes other → other ≡ Done
+only_wrapped none input p s bytes Done o = refl
+only_wrapped none input p s bytes Refused o = absurd (none p input o.0 s o.1)
+only_wrapped none input p s bytes other o = absurd o
+
+-- and those with a fault its refusal
+pub only_raw_refused : NoFaultWhereRaw → (input : List ℕ) (fault : ImageFault) → HasRawFault input fault → (bytes : List ℕ) (other : Status) → IsWrapOutput input bytes other → other ≡ Refused
+only_raw_refused none input fault f bytes Done o = absurd (none o.0 input fault o.1 f)
+only_raw_refused none input fault f bytes Refused o = refl
+only_raw_refused none input fault f bytes other o = absurd o
 
 free_of_none : (p : Program) (report : Report) → IsVerdict p report → report.total ≡ 0 → IsFree p
 free_of_none p report v none w x = let c = v.list.has w x in omega (arith, c.1, v.shows.total)

@@ -7,7 +7,8 @@ use Rattle.ia64_top.specs.declared.violation.Rule.{Rule}
 use Rattle.ia64_top.specs.declared.violation.Rule.TheVariants.{Raw, Waw}
 use Rattle.ia64_top.specs.declared.violation.Violation.{Violation}
 use Rattle.ia64_top.specs.declared.violation.Report.{Report}
-use Rattle.ia64_top.specs.Programs.{Program, slot_count, number_of, IsPlace, insn_at, stop_after, is_break, Writes}
+use Rattle.ia_insn.specs.Programs.{Program}
+use Rattle.ia64_top.specs.Programs.{slot_count, number_of, IsPlace, insn_at, stop_after, is_break, Writes}
 use Rattle.ia64_top.specs.Violations.{InOneGroup, Breaks, Violates}
 use Rattle.ia64_top.specs.Verdicts.{rule_number, IsBefore, Shows, IsVerdict}
 use Rattle.ia64_top.specs.Reports.{rank, rank_of, ReportsBelow, IsGroupUnderWay}
@@ -45,10 +46,10 @@ place_same a b s t e =
     ap (λ n. let p : Place = record { bundle = n; slot = a.slot } in p) x ∙ ap (λ n. let p : Place = record { bundle = b.bundle; slot = n } in p) y
 
 -- A violation's slots are among the first 2 ^ 14, so the ranks are in the order of the violations.
-near : (p : Program) (v : Violation) → length p ≤ 4096 → Violates p v → number_of v.first < 16384
+near : (p : Program) (v : Violation) → length p.bundles ≤ 4096 → Violates p v → number_of v.first < 16384
 near p v small x = let b = x.group.before in let i = x.group.inside in omega arith
 
-rises_with_rank : (p : Program) (v w : Violation) → length p ≤ 4096 → Violates p v → Violates p w → rank_of v < rank_of w → IsBefore v w
+rises_with_rank : (p : Program) (v w : Violation) → length p.bundles ≤ 4096 → Violates p v → Violates p w → rank_of v < rank_of w → IsBefore v w
 rises_with_rank p v w small x y h =
     let a = near p v small x in
     let b = near p w small y in
@@ -87,7 +88,7 @@ rises_with_rank p v w small x y h =
     ]
 
 -- the violation of a rank
-same_rank : (p : Program) (v w : Violation) → length p ≤ 4096 → Violates p v → Violates p w → rank_of v ≡ rank_of w → (v.second ≡ w.second) × (v.first ≡ w.first) × (v.rule ≡ w.rule)
+same_rank : (p : Program) (v w : Violation) → length p.bundles ≤ 4096 → Violates p v → Violates p w → rank_of v ≡ rank_of w → (v.second ≡ w.second) × (v.first ≡ w.first) × (v.rule ≡ w.rule)
 same_rank p v w small x y h =
     let a = near p v small x in
     let b = near p w small y in
@@ -106,7 +107,7 @@ none_more p report n m h none r = record {
 }
 
 -- one more is reported
-pub one_more : (p : Program) (old new : Report) (v : Violation) → length p ≤ 4096 → Violates p v → ((w : Violation) → Violates p w → w.first ≡ v.first → w.resource ≡ v.resource) → new.total ≡ old.total + 1 → new.shown.items ≡ take 100 (old.shown.items ++ v ∷ []) → ReportsBelow p old (rank_of v) → ReportsBelow p new (rank_of v + 1)
+pub one_more : (p : Program) (old new : Report) (v : Violation) → length p.bundles ≤ 4096 → Violates p v → ((w : Violation) → Violates p w → w.first ≡ v.first → w.resource ≡ v.resource) → new.total ≡ old.total + 1 → new.shown.items ≡ take 100 (old.shown.items ++ v ∷ []) → ReportsBelow p old (rank_of v) → ReportsBelow p new (rank_of v + 1)
 one_more p old new v small x only total shown r = record {
   all = r.all ++ v ∷ [];
   list = list_push (λ w. Violates p w × (rank_of w < rank_of v)) (λ w. Violates p w × (rank_of w < rank_of v + 1)) r.all v
@@ -141,7 +142,7 @@ pub shows_few : (p : Program) (report : Report) (n : ℕ) → ReportsBelow p rep
 shows_few p report n r = shown_few report r.all r.shows
 
 -- the one violation of a rule and two slots, where the second slot breaks it
-module _ (p : Program) (first second : ℕ) (group : InOneGroup p first second) (rule : Rule) (resource : ℕ) (small : length p ≤ 4096)
+module _ (p : Program) (first second : ℕ) (group : InOneGroup p first second) (rule : Rule) (resource : ℕ) (small : length p.bundles ≤ 4096)
     (written : Writes (insn_at p first).op resource) (only : (q : ℕ) → Writes (insn_at p first).op q → q ≡ resource) where
   pub rule_broken : (old new : Report) (v : Violation) → IsPlace v.first → IsPlace v.second → number_of v.first ≡ first → number_of v.second ≡ second → v.rule ≡ rule → v.resource ≡ resource
       → Breaks rule (insn_at p second).op resource → new.total ≡ old.total + 1 → new.shown.items ≡ take 100 (old.shown.items ++ v ∷ [])
@@ -177,7 +178,7 @@ module _ (p : Program) (first second : ℕ) (group : InOneGroup p first second) 
           kept (subst (λ (k : ℕ). Breaks rule (insn_at p second).op k) e (subst (λ (k : ℕ). Breaks rule (insn_at p k).op v.resource) s (subst (λ (k : Rule). Breaks k (insn_at p (number_of v.second)).op v.resource) t broken)))
 
 -- nothing is written
-pub none_written : (p : Program) (first second : ℕ) (rule : Rule) (report : Report) → length p ≤ 4096 → InOneGroup p first second → ((q : ℕ) → Writes (insn_at p first).op q → ⊥) → ReportsBelow p report (rank second first (rule_number rule)) → ReportsBelow p report (rank second first (rule_number rule) + 1)
+pub none_written : (p : Program) (first second : ℕ) (rule : Rule) (report : Report) → length p.bundles ≤ 4096 → InOneGroup p first second → ((q : ℕ) → Writes (insn_at p first).op q → ⊥) → ReportsBelow p report (rank second first (rule_number rule)) → ReportsBelow p report (rank second first (rule_number rule) + 1)
 none_written p first second rule report small group writes below = none_more p report (rank second first (rule_number rule)) (rank second first (rule_number rule) + 1) (omega arith) none below
   where
     none : (v : Violation) → Violates p v → rank second first (rule_number rule) ≤ rank_of v → rank_of v < rank second first (rule_number rule) + 1 → ⊥
@@ -190,7 +191,7 @@ none_written p first second rule report small group writes below = none_more p r
         writes v.resource (subst (λ (k : ℕ). Writes (insn_at p k).op v.resource) f x.written)
 
 -- The slots before a group's first are in no group with a slot after it.
-pub group_begins : (p : Program) (start second : ℕ) (report : Report) → length p ≤ 4096 → IsGroupUnderWay p start second → second < slot_count p → ReportsBelow p report (rank second 0 0) → ReportsBelow p report (rank second start 0)
+pub group_begins : (p : Program) (start second : ℕ) (report : Report) → length p.bundles ≤ 4096 → IsGroupUnderWay p start second → second < slot_count p → ReportsBelow p report (rank second 0 0) → ReportsBelow p report (rank second start 0)
 group_begins p start second report small g inside below = none_more p report (rank second 0 0) (rank second start 0) (omega arith) none below
   where
     none : (v : Violation) → Violates p v → rank second 0 0 ≤ rank_of v → rank_of v < rank second start 0 → ⊥
@@ -207,7 +208,7 @@ group_begins p start second report small g inside below = none_more p report (ra
 pub in_group : (p : Program) (start first second : ℕ) → IsGroupUnderWay p start second → start ≤ first → first < second → second < slot_count p → InOneGroup p first second
 in_group p start first second g l h inside = record { before = h; inside = inside; reached = g.reached; joined = λ k m n. g.joined k (omega arith) n }
 
-pub slot_reported : (p : Program) (second : ℕ) (report : Report) → length p ≤ 4096 → second < slot_count p → ReportsBelow p report (rank second second 0) → ReportsBelow p report (rank (second + 1) 0 0)
+pub slot_reported : (p : Program) (second : ℕ) (report : Report) → length p.bundles ≤ 4096 → second < slot_count p → ReportsBelow p report (rank second second 0) → ReportsBelow p report (rank (second + 1) 0 0)
 slot_reported p second report small inside below = none_more p report (rank second second 0) (rank (second + 1) 0 0) (omega arith) none below
   where
     none : (v : Violation) → Violates p v → rank second second 0 ≤ rank_of v → rank_of v < rank (second + 1) 0 0 → ⊥
@@ -227,7 +228,7 @@ none_yet p report total shown = record {
 }
 
 -- Where the walk ends all is reported.
-pub all_reported : (p : Program) (report : Report) (place : ℕ) → length p ≤ 4096 → ((second : ℕ) → place ≤ second → second < slot_count p → (k : ℕ) × (k < second) × (is_break (insn_at p k).op ≡ true)) → ReportsBelow p report (rank place 0 0) → IsVerdict p report
+pub all_reported : (p : Program) (report : Report) (place : ℕ) → length p.bundles ≤ 4096 → ((second : ℕ) → place ≤ second → second < slot_count p → (k : ℕ) × (k < second) × (is_break (insn_at p k).op ≡ true)) → ReportsBelow p report (rank place 0 0) → IsVerdict p report
 all_reported p report place small ended below = record {
   all = below.all;
   list = list_like (λ v. Violates p v × (rank_of v < rank place 0 0)) (Violates p) below.all (λ v x. x.0)

@@ -1,12 +1,9 @@
 pub mod Words
 pub mod Statuses
 pub mod Programs
-pub mod Images
 pub mod Violations
 pub mod Verdicts
-pub mod Slots
 pub mod Reports
 pub mod Texts
 pub mod Judgements
 pub mod Output
-pub mod Readings

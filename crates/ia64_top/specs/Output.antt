@@ -2,13 +2,15 @@
 use Rattle.std.specs.Prelude.{◌≡◌, ℕ, ◌<◌, ◌⊎◌, nat_lt, List, [], length, take, Option, MatchOption, MatchBool}
 use Rattle.std.specs.Io.KnownBytes.{Appends}
 use Rattle.ia64_top.specs.declared.words.Command.{Command}
-use Rattle.ia64_top.specs.declared.words.Command.TheVariants.{Check}
+use Rattle.ia64_top.specs.declared.words.Command.TheVariants.{Wrap, Check}
 use Rattle.ia64_top.specs.declared.status.Status.{Status}
 use Rattle.ia64_top.specs.declared.status.Status.TheVariants.{Done, Violated, Words, Refused, TooLong, NotYet}
-use Rattle.ia64_top.specs.declared.image.ImageFault.{ImageFault}
+use Rattle.ia_insn.specs.Programs.{Program}
+use Rattle.image_form.specs.declared.fault.ImageFault.{ImageFault}
+use Rattle.image_form.specs.Images.{magic, Spells, RawSpells}
+use Rattle.image_form.specs.Faults.{HasFault, HasRawFault}
 use Rattle.ia64_top.specs.Words.{command_of}
-use Rattle.ia64_top.specs.Programs.{Program}
-use Rattle.ia64_top.specs.Images.{BeginsWithMagic, HasFault, Spells, IsSoundHead, IsPlainImage}
+use Rattle.ia64_top.specs.Programs.{IsPlain}
 use Rattle.ia64_top.specs.Judgements.{IsJudgement}
 use Rattle.ia64_top.specs.Texts.{refusal_text}
 
@@ -16,15 +18,25 @@ use Rattle.ia64_top.specs.Texts.{refusal_text}
 abbrev pub input_limit : ℕ
 input_limit = 4194304
 
--- an input that isn't judged yet: no image, or an image without a fault in its head that isn't plain
-abbrev pub IsUnjudged : List ℕ → Type 0
-IsUnjudged input = ¬ BeginsWithMagic input ⊎ (IsSoundHead input × ¬ IsPlainImage input)
+-- the input begins as an image does
+abbrev pub BeginsAsImage : List ℕ → Type 0
+BeginsAsImage input = take 8 input ≡ magic
 
--- What `check` writes and answers: a row for each status, with where it comes.
+-- What `wrap` writes and answers: a row for each status, with where it comes.
+abbrev pub IsWrapOutput : List ℕ → List ℕ → Status → Type 0
+IsWrapOutput input bytes Done = (program : Program) × RawSpells program input × Spells program bytes
+IsWrapOutput input bytes Refused = (fault : ImageFault) × HasRawFault input fault × (bytes ≡ refusal_text fault)
+IsWrapOutput input bytes status = ⊥
+
+-- an input that isn't judged yet: no image, or that of a program that isn't plain
+abbrev pub IsUnjudged : List ℕ → Type 0
+IsUnjudged input = ¬ BeginsAsImage input ⊎ ((program : Program) × Spells program input × ¬ IsPlain program)
+
+-- What `check` writes and answers.
 abbrev pub IsCheckOutput : List ℕ → List ℕ → Status → Type 0
-IsCheckOutput input bytes Done = (program : Program) × Spells program input × IsJudgement program bytes Done
-IsCheckOutput input bytes Violated = (program : Program) × Spells program input × IsJudgement program bytes Violated
-IsCheckOutput input bytes Refused = BeginsWithMagic input × ((fault : ImageFault) × HasFault input fault × (bytes ≡ refusal_text fault))
+IsCheckOutput input bytes Done = (program : Program) × Spells program input × IsPlain program × IsJudgement program bytes Done
+IsCheckOutput input bytes Violated = (program : Program) × Spells program input × IsPlain program × IsJudgement program bytes Violated
+IsCheckOutput input bytes Refused = BeginsAsImage input × ((fault : ImageFault) × HasFault input fault × (bytes ≡ refusal_text fault))
 IsCheckOutput input bytes NotYet = IsUnjudged input × (bytes ≡ [])
 IsCheckOutput input bytes status = ⊥
 
@@ -33,6 +45,7 @@ abbrev pub IsSilent : Status → List ℕ → Status → Type 0
 IsSilent status bytes answer = (bytes ≡ []) × (answer ≡ status)
 
 abbrev pub IsCommandOutput : Command → List ℕ → List ℕ → Status → Type 0
+IsCommandOutput Wrap input bytes status = IsWrapOutput input bytes status
 IsCommandOutput Check input bytes status = IsCheckOutput input bytes status
 
 -- The bytes that are written and the status that is answered, for these words and this input.

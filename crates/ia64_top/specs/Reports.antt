@@ -2,7 +2,8 @@
 use Rattle.std.specs.Prelude.{◌≡◌, ℕ, ◌+◌, ◌*◌, ◌<◌, ◌≤◌, true, false, List, length}
 use Rattle.ia64_top.specs.declared.violation.Violation.{Violation}
 use Rattle.ia64_top.specs.declared.violation.Report.{Report}
-use Rattle.ia64_top.specs.Programs.{Program, number_of, insn_at, stop_after, is_break}
+use Rattle.ia_insn.specs.Programs.{Program}
+use Rattle.ia64_top.specs.Programs.{number_of, insn_at, stop_after, is_break}
 use Rattle.ia64_top.specs.Violations.{Violates}
 use Rattle.ia64_top.specs.Verdicts.{rule_number, IsListOf, Shows}
 

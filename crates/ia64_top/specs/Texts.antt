@@ -5,8 +5,9 @@ use Rattle.ia64_top.specs.declared.violation.Rule.{Rule}
 use Rattle.ia64_top.specs.declared.violation.Rule.TheVariants.{Raw, Waw}
 use Rattle.ia64_top.specs.declared.violation.Violation.{Violation}
 use Rattle.ia64_top.specs.declared.violation.Report.{Report}
-use Rattle.ia64_top.specs.declared.image.ImageFault.{ImageFault}
-use Rattle.ia64_top.specs.declared.image.ImageFault.TheVariants.{Short, Counts, Length}
+use Rattle.insn_codec.specs.declared.bundle.SlotFault.TheVariants.{ReservedTemplate, Unlisted}
+use Rattle.image_form.specs.declared.fault.ImageFault.{ImageFault}
+use Rattle.image_form.specs.declared.fault.ImageFault.TheVariants.{Short, Magic, Counts, Length, Entry, Bundle, Target, LongRun, Memory}
 
 abbrev pub line : List ℕ → List ℕ
 line text = text ++ 10 ∷ []
@@ -33,7 +34,22 @@ verdict_text report =
     if report.total == 0 then line (codes "accepted")
     else line (codes "violations " ++ decimal report.total) ++ flat_map (λ v. line (violation_text v)) report.shown.items
 
+-- the bundle and the slot of a place
+abbrev pub slot_text : Place → List ℕ
+slot_text place = codes "image: bundle " ++ decimal place.bundle ++ codes " slot " ++ decimal place.slot
+
+-- what is printed of an image's fault; of want of memory nothing is
+abbrev pub fault_text : ImageFault → List ℕ
+fault_text Short = codes "image: short"
+fault_text Magic = codes "image: magic"
+fault_text Counts = codes "image: counts"
+fault_text Length = codes "image: length"
+fault_text (Entry n) = codes "image: entry " ++ decimal n
+fault_text (Bundle n ReservedTemplate) = codes "image: bundle " ++ decimal n ++ codes ": template"
+fault_text (Bundle n (Unlisted slot)) = slot_text (record { bundle = n; slot = slot }) ++ codes ": unlisted"
+fault_text (Target place) = slot_text place ++ codes ": target"
+fault_text (LongRun place) = slot_text place ++ codes ": long run"
+fault_text Memory = []
+
 abbrev pub refusal_text : ImageFault → List ℕ
-refusal_text Short = line (codes "image: short")
-refusal_text Counts = line (codes "image: counts")
-refusal_text Length = line (codes "image: length")
+refusal_text fault = line (fault_text fault)

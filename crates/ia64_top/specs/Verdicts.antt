@@ -4,7 +4,7 @@ use Rattle.ia64_top.specs.declared.violation.Rule.{Rule}
 use Rattle.ia64_top.specs.declared.violation.Rule.TheVariants.{Raw, Waw}
 use Rattle.ia64_top.specs.declared.violation.Violation.{Violation}
 use Rattle.ia64_top.specs.declared.violation.Report.{Report}
-use Rattle.ia64_top.specs.Programs.{Program}
+use Rattle.ia_insn.specs.Programs.{Program}
 use Rattle.ia64_top.specs.Violations.{Violates}
 
 abbrev pub rule_number : Rule → ℕ

@@ -4,7 +4,8 @@ use Rattle.ia_insn.specs.declared.insn.Op.{Op}
 use Rattle.ia64_top.specs.declared.violation.Rule.{Rule}
 use Rattle.ia64_top.specs.declared.violation.Rule.TheVariants.{Raw, Waw}
 use Rattle.ia64_top.specs.declared.violation.Violation.{Violation}
-use Rattle.ia64_top.specs.Programs.{Program, slot_count, number_of, IsPlace, insn_at, stop_after, is_break, Reads, Writes}
+use Rattle.ia_insn.specs.Programs.{Program}
+use Rattle.ia64_top.specs.Programs.{slot_count, number_of, IsPlace, insn_at, stop_after, is_break, Reads, Writes}
 
 -- The walk of a plain program is the straight line from its first slot to its first `break`, or to its
 -- last slot where there is none. Two of its slots are of one group where no stop stands between them.

@@ -1,19 +1,25 @@
 //! The answers of the commands.
 
-ghost use Rattle.std.specs.Prelude.{◌≡◌, ◌≤◌, ◌↔◌, ℕ, List, length, IfOk};
-ghost use Rattle.ia64_top.specs.Programs.{Program};
-ghost use Rattle.ia64_top.specs.Images.{Spells};
+ghost use Rattle.std.specs.Prelude.{◌≡◌, ◌≢◌, ◌↔◌, ℕ, List, [], IfOk};
+ghost use Rattle.ia_insn.specs.Programs.{Program as Parts};
+ghost use Rattle.image_form.specs.Images.{Spells};
+ghost use Rattle.ia64_top.specs.Programs.{IsPlain};
 ghost use Rattle.ia64_top.specs.Violations.{IsFree};
-ghost use Rattle.ia64_top.specs.Judgements.{IsJudgement};
-ghost use Rattle.ia64_top.specs.Output.{IsCheckOutput, IsCommandOutput};
+ghost use Rattle.ia64_top.specs.Judgements.{IsJudgement, IsProgramAnswer};
+ghost use Rattle.ia64_top.specs.Output.{IsWrapOutput, IsCheckOutput, IsCommandOutput};
+ghost use Rattle.ia64_top.specs.Texts.{refusal_text};
 ghost use Rattle.ia64_top.specs.declared.status.Status.{Status};
 
 use crate::checker::check;
-use crate::image::{Reading, read};
-use crate::program::Bundle;
+use crate::program::is_plain;
 use crate::status::Status;
 use crate::text::{refusal, verdict};
 use crate::words::Command;
+use ia_insn::Program;
+use image_form::{
+    ImageFault, no_fault_where_raw, no_fault_where_spelled, one_program, read_image, wrap_raw,
+    write_image,
+};
 use std::alloc::{AllocError, Global};
 
 /// What is written, and how the call ends.
@@ -24,8 +30,7 @@ pub(crate) struct Answer {
 }
 
 /// The verdict on a plain program.
-fn judge(alloc: Global, program: &[Bundle]) -> Result<Answer, AllocError>
-    requires { length program.now ≤ 4096 }
+fn judge(alloc: Global, program: &Program) -> Result<Answer, AllocError>
     ensures { IfOk result (λ answer. IsJudgement program.now answer.bytes.items answer.status) }
 {
     let report = check(alloc, program)?;
@@ -41,22 +46,69 @@ fn judge(alloc: Global, program: &[Bundle]) -> Result<Answer, AllocError>
     })
 }
 
+/// The answer to an input with a fault.
+fn refuse(alloc: Global, fault: ImageFault) -> Result<Answer, AllocError>
+    ensures { IfOk result (λ answer. (fault ≢ ImageFault.Memory) × (answer.bytes.items ≡ refusal_text fault) × (answer.status ≡ Status.Refused)) }
+{
+    if fault == ImageFault::Memory {
+        return Err(AllocError);
+    }
+    Ok(Answer {
+        bytes: refusal(alloc, fault)?.into_bytes(),
+        status: Status::Refused,
+    })
+}
+
+/// The answer to an input that isn't judged yet.
+fn unjudged(alloc: Global) -> Answer
+    ensures bytes { result.bytes.items ≡ [] }
+    ensures status { result.status ≡ Status.NotYet }
+{
+    Answer {
+        bytes: Vec::new(alloc),
+        status: Status::NotYet,
+    }
+}
+
+/// The answer of `wrap` to an input within the limit.
+fn wrap_input(alloc: Global, input: &[u8]) -> Result<Answer, AllocError>
+    ensures output { IfOk result (λ answer. IsWrapOutput input.now answer.bytes.items answer.status) }
+    ensures only { IfOk result (λ answer. (bytes : List ℕ) (status : Status) → IsWrapOutput input.now bytes status → status ≡ answer.status) }
+{
+    no_fault_where_raw();
+    match wrap_raw(alloc, input) {
+        Ok(program) => Ok(Answer {
+            bytes: write_image(alloc, &program)?,
+            status: Status::Done,
+        }),
+        Err(fault) => refuse(alloc, fault),
+    }
+}
+
+/// The answer of `check` to a program.
+fn check_program(alloc: Global, program: &Program) -> Result<Answer, AllocError>
+    ensures { IfOk result (λ answer. IsProgramAnswer program.now answer.bytes.items answer.status) }
+{
+    if !is_plain(program) {
+        return Ok(unjudged(alloc));
+    }
+    judge(alloc, program)
+}
+
 /// The answer of `check` to an input within the limit.
 fn check_input(alloc: Global, input: &[u8]) -> Result<Answer, AllocError>
     ensures output { IfOk result (λ answer. IsCheckOutput input.now answer.bytes.items answer.status) }
     ensures only { IfOk result (λ answer. (bytes : List ℕ) (status : Status) → IsCheckOutput input.now bytes status → status ≡ answer.status) }
-    ensures accepted { IfOk result (λ answer. (p : Program) → Spells p input.now → ((answer.status ≡ Status.Done) ↔ IsFree p)) }
+    ensures accepted { IfOk result (λ answer. (p : Parts) → Spells p input.now → IsPlain p → ((answer.status ≡ Status.Done) ↔ IsFree p)) }
 {
-    match read(alloc, input)? {
-        Reading::Unjudged => Ok(Answer {
-            bytes: Vec::new(alloc),
-            status: Status::NotYet,
-        }),
-        Reading::Refused(fault) => Ok(Answer {
-            bytes: refusal(alloc, fault)?.into_bytes(),
-            status: Status::Refused,
-        }),
-        Reading::Plain(program) => Ok(judge(alloc, &program)?),
+    one_program();
+    no_fault_where_spelled();
+    if !input.starts_with(b"IA64IMG1") {
+        return Ok(unjudged(alloc));
+    }
+    match read_image(alloc, input) {
+        Ok(program) => check_program(alloc, &program),
+        Err(fault) => refuse(alloc, fault),
     }
 }
 
@@ -64,9 +116,10 @@ fn check_input(alloc: Global, input: &[u8]) -> Result<Answer, AllocError>
 pub(crate) fn respond(alloc: Global, command: Command, input: &[u8]) -> Result<Answer, AllocError>
     ensures output { IfOk result (λ answer. IsCommandOutput command input.now answer.bytes.items answer.status) }
     ensures only { IfOk result (λ answer. (bytes : List ℕ) (status : Status) → IsCommandOutput command input.now bytes status → status ≡ answer.status) }
-    ensures accepted { IfOk result (λ answer. command ≡ Command.Check → (p : Program) → Spells p input.now → ((answer.status ≡ Status.Done) ↔ IsFree p)) }
+    ensures accepted { IfOk result (λ answer. command ≡ Command.Check → (p : Parts) → Spells p input.now → IsPlain p → ((answer.status ≡ Status.Done) ↔ IsFree p)) }
 {
     match command {
+        Command::Wrap => wrap_input(alloc, input),
         Command::Check => check_input(alloc, input),
     }
 }

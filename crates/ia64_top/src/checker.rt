@@ -1,14 +1,14 @@
 //! The exact checker of plain programs.
 
 ghost use Rattle.std.specs.Prelude.{◌≡◌, ◌≢◌, ◌+◌, ◌*◌, ◌^◌, ◌<◌, ◌≤◌, ◌↔◌, ℕ, List, [], ◌∷◌, ◌++◌, length, take, IsTrue, MatchOption, OnOk, IfOk};
-ghost use Rattle.ia64_top.specs.Programs.{number_of, IsPlace, Reads, Writes, insn_at, slot_count};
+ghost use Rattle.ia64_top.specs.Programs.{Reads, Writes, insn_at, slot_count};
 ghost use Rattle.ia64_top.specs.Violations.{Breaks, InOneGroup};
 ghost use Rattle.ia64_top.specs.Verdicts.{rule_number, IsVerdict, OneVerdict};
 ghost use Rattle.ia64_top.specs.Reports.{rank, ReportsBelow, IsGroupUnderWay};
 
-use crate::program::{Bundle, has_stop, insn, is_break_op};
+use crate::program::{has_stop, insn, is_break_op, place};
 use crate::violation::{Report, Rule, Violation};
-use ia_insn::{Gr, Op, Place};
+use ia_insn::{Gr, Op, Program};
 use std::alloc::{AllocError, Global};
 
 /// A program has one verdict: no other count and no other list is stated for it.
@@ -40,18 +40,6 @@ fn breaks(rule: Rule, op: &Op, register: Gr) -> bool
     }
 }
 
-/// The place with this number.
-fn place(number: usize) -> Place
-    requires { number < 2 ^ 33 }
-    ensures place { IsPlace result }
-    ensures number { number_of result ≡ number }
-{
-    Place {
-        bundle: (number / 3) as u32,
-        slot: (number % 3) as u8,
-    }
-}
-
 /// Shows a violation where there is room.
 fn show(shown: &mut Vec<Violation>, violation: Violation) -> Result<(), AllocError>
     requires { length shown.old.items ≤ 100 }
@@ -78,12 +66,12 @@ fn note(report: &mut Report, violation: Violation) -> Result<(), AllocError>
 /// Reports what the rule says of two slots of a group.
 fn check_rule(
     report: &mut Report,
-    program: &[Bundle],
+    program: &Program,
     first: usize,
     second: usize,
     rule: Rule,
 ) -> Result<(), AllocError>
-    requires limit { length program.now ≤ 4096 }
+    requires limit { length program.now.bundles ≤ 4096 }
     requires group { InOneGroup program.now first second }
     requires reported { ReportsBelow program.now report.old (rank second first (rule_number rule)) }
     ensures { OnOk result (ReportsBelow program.now report.new (rank second first (rule_number rule) + 1)) }
@@ -106,11 +94,11 @@ fn check_rule(
 /// Reports the violations of two slots of a group.
 fn check_pair(
     report: &mut Report,
-    program: &[Bundle],
+    program: &Program,
     first: usize,
     second: usize,
 ) -> Result<(), AllocError>
-    requires limit { length program.now ≤ 4096 }
+    requires limit { length program.now.bundles ≤ 4096 }
     requires group { InOneGroup program.now first second }
     requires reported { ReportsBelow program.now report.old (rank second first 0) }
     ensures { OnOk result (ReportsBelow program.now report.new (rank second (first + 1) 0)) }
@@ -123,11 +111,11 @@ fn check_pair(
 /// Reports the violations of a slot and the earlier ones of its group, which begins at `start`.
 fn check_slot(
     report: &mut Report,
-    program: &[Bundle],
+    program: &Program,
     start: usize,
     second: usize,
 ) -> Result<(), AllocError>
-    requires limit { length program.now ≤ 4096 }
+    requires limit { length program.now.bundles ≤ 4096 }
     requires group { IsGroupUnderWay program.now start second }
     requires inside { second < slot_count program.now }
     requires reported { ReportsBelow program.now report.old (rank second 0 0) }
@@ -139,9 +127,8 @@ fn check_slot(
     Ok(())
 }
 
-/// Reports the violations of a program of at most 4,096 bundles.
-pub(crate) fn check(alloc: Global, program: &[Bundle]) -> Result<Report, AllocError>
-    requires { length program.now ≤ 4096 }
+/// Reports the violations of a program.
+pub(crate) fn check(alloc: Global, program: &Program) -> Result<Report, AllocError>
     ensures { IfOk result (λ report. IsVerdict program.now report) }
 {
     let mut report = Report {
@@ -149,7 +136,7 @@ pub(crate) fn check(alloc: Global, program: &[Bundle]) -> Result<Report, AllocEr
         shown: Vec::new(alloc),
     };
     let mut start = 0;
-    for second in 0..3 * program.len() {
+    for second in 0..3 * program.bundle_count() as usize {
         check_slot(&mut report, program, start, second)?;
         if is_break_op(&insn(program, second).op) {
             break;

@@ -3,9 +3,7 @@
 
 mod answer;
 mod checker;
-mod image;
 mod program;
-mod slot;
 mod status;
 mod text;
 mod top;
@@ -13,8 +11,6 @@ mod violation;
 mod words;
 
 pub use checker::one_verdict;
-pub use image::ImageFault;
-pub use program::Bundle;
 pub use status::Status;
 pub use top::ia64;
 pub use violation::{Report, Rule, Violation};

@@ -1,77 +1,117 @@
 //! Plain programs.
 
-ghost use Rattle.std.specs.Prelude.{◌≡◌, ◌*◌, ◌+◌, ◌<◌, ◌^◌, ◌↔◌, length, IsTrue};
-ghost use Rattle.ia64_top.specs.Programs.{slot_count, slot_of, insn_at, stop_after, is_break, ends_run, HasLongRun};
+ghost use Rattle.std.specs.Prelude.{◌≡◌, ◌<◌, ◌/◌, ◌%◌, ◌^◌, ◌↔◌, IsTrue};
+ghost use Rattle.ia64_top.specs.Programs.{number_of, IsPlace, insn_at, stop_after, is_break, IsPlainOp, IsPlainInsn, ArePlain, IsPlainBundle, IsPlainAt, IsPlain};
 
-use ia_insn::{Insn, Op};
+use ia_insn::{AluFn, BundleOf, Insn, Op, Place, Pr, Program, Slots, Unit};
 
-/// A bundle of the shape MII, with or without a stop at its end.
-#[derive(Clone, Copy, Debug, PartialEq, Eq)]
-pub struct Bundle {
-    pub first: Insn,
-    pub second: Insn,
-    pub third: Insn,
-    pub stop: bool,
-}
-
-/// How many slots a run may have, from the slot after an end to the next.
-const RUN_LIMIT: usize = 192;
-
-/// The instruction in a slot, 0 to 2.
-fn slot(bundle: &Bundle, slot: usize) -> &Insn
-    ensures { result.now ≡ slot_of bundle.now slot }
+/// The place with this number.
+pub(crate) fn place(number: usize) -> Place
+    requires { number < 2 ^ 33 }
+    ensures place { IsPlace result }
+    ensures number { number_of result ≡ number }
+    ensures bundle { result.bundle ≡ number / 3 }
+    ensures slot { result.slot ≡ number % 3 }
 {
-    match slot {
-        0 => &bundle.first,
-        1 => &bundle.second,
-        _ => &bundle.third,
+    Place {
+        bundle: (number / 3) as u32,
+        slot: (number % 3) as u8,
     }
 }
 
-/// The instruction at the place with this number.
+/// The instruction at the place with this number, and `nop` where there is none.
 #[tactic(auto, unfolding(crate::specs::Programs::insn_at))]
-pub(crate) fn insn(program: &[Bundle], number: usize) -> &Insn
-    requires { number < slot_count program.now }
-    ensures { result.now ≡ insn_at program.now number }
+pub(crate) fn insn(program: &Program, number: usize) -> Insn
+    requires { number < 2 ^ 33 }
+    ensures { result ≡ insn_at program.now number }
 {
-    slot(&program[number / 3], number % 3)
+    match program.insn_at(place(number)) {
+        Some(insn) => *insn,
+        None => Insn {
+            qp: Pr::of_field(0),
+            op: Op::Nop {
+                unit: Unit::M,
+                imm: 0,
+            },
+        },
+    }
 }
 
 /// Whether a stop follows the slot with this number.
 #[tactic(auto, unfolding(crate::specs::Programs::stop_after))]
-pub(crate) fn has_stop(program: &[Bundle], number: usize) -> bool
-    requires { number < slot_count program.now }
+pub(crate) fn has_stop(program: &Program, number: usize) -> bool
+    requires { number < 2 ^ 33 }
     ensures { result ≡ stop_after program.now number }
 {
-    number % 3 == 2 && program[number / 3].stop
+    if number % 3 != 2 {
+        return false;
+    }
+    match program.bundle((number / 3) as u32) {
+        Some(bundle) => bundle.template().code() % 2 == 1,
+        None => false,
+    }
 }
 
+/// Whether it is a `break`.
 pub(crate) fn is_break_op(op: &Op) -> bool
     ensures { result ≡ is_break op.now }
 {
     matches!(op, Op::Break { .. })
 }
 
-fn ends(program: &[Bundle], number: usize) -> bool
-    requires { number < slot_count program.now }
-    ensures { result ≡ ends_run program.now number }
+fn is_plain_op(op: &Op) -> bool
+    ensures { IsTrue result ↔ IsPlainOp op.now }
 {
-    has_stop(program, number) || is_break_op(&insn(program, number).op)
+    matches!(
+        op,
+        Op::Alu { f: AluFn::Add, .. } | Op::Nop { .. } | Op::Break { .. }
+    )
 }
 
-/// Whether more than 192 slots follow one another before a run ends.
-pub(crate) fn has_long_run(program: &[Bundle]) -> bool
-    requires { length program.now < 2 ^ 32 }
-    ensures { IsTrue result ↔ HasLongRun program.now }
+/// Whether it is `add`, `nop` or `break` under p0.
+fn is_plain_insn(insn: &Insn) -> bool
+    ensures { IsTrue result ↔ IsPlainInsn insn.now }
 {
-    let mut start = 0;
-    for number in 0..3 * program.len() {
-        if number - start >= RUN_LIMIT {
-            return true;
-        }
-        if ends(program, number) {
-            start = number + 1;
+    insn.qp.number() == 0 && is_plain_op(&insn.op)
+}
+
+fn are_plain(slots: &Slots) -> bool
+    ensures { IsTrue result ↔ ArePlain slots.now }
+{
+    match slots {
+        Slots::Three { a, b, c } => is_plain_insn(a) && is_plain_insn(b) && is_plain_insn(c),
+        Slots::Long { .. } => false,
+    }
+}
+
+fn is_plain_bundle(bundle: &BundleOf) -> bool
+    ensures { IsTrue result ↔ IsPlainBundle bundle.now }
+{
+    bundle.template().code() <= 1 && are_plain(bundle.slots())
+}
+
+fn is_plain_at(program: &Program, n: u32) -> bool
+    ensures { IsTrue result ↔ IsPlainAt program.now n }
+{
+    match program.bundle(n) {
+        Some(bundle) => is_plain_bundle(bundle),
+        None => false,
+    }
+}
+
+/// Whether a program has neither entries nor data, and nothing but `add`, `nop` and `break` under p0
+/// in bundles of the shape MII without a stop inside.
+#[tactic(auto, using(crate::proofs::Plain::plain))]
+pub(crate) fn is_plain(program: &Program) -> bool
+    ensures { IsTrue result ↔ IsPlain program.now }
+{
+    if !program.entries().is_empty() || !program.data().is_empty() {
+        return false;
+    }
+    for n in 0..program.bundle_count() {
+        if !is_plain_at(program, n) {
+            return false;
         }
     }
-    false
+    true
 }

@@ -1,10 +1,12 @@
 //! What is printed.
 
 ghost use Rattle.std.specs.Prelude.{◌≡◌, ◌++◌, IfOk, Some, string_bytes};
-ghost use Rattle.ia64_top.specs.Texts.{rule_text, violation_text, verdict_text, refusal_text};
+ghost use Rattle.ia64_top.specs.Texts.{rule_text, violation_text, verdict_text, slot_text, fault_text, refusal_text};
 
-use crate::image::ImageFault;
 use crate::violation::{Report, Rule, Violation};
+use ia_insn::Place;
+use image_form::ImageFault;
+use insn_codec::SlotFault;
 use std::alloc::{AllocError, Global};
 use std::fmt;
 
@@ -45,14 +47,64 @@ pub(crate) fn verdict(alloc: Global, report: &Report) -> Result<String, AllocErr
     Ok(text)
 }
 
+/// A slot of an image, as it is printed.
+#[derive(Clone, Copy, Debug)]
+struct SlotText {
+    place: Place,
+}
+
+impl fmt::Display for SlotText {
+    ghost output = { λ shown. Some (slot_text shown.place) };
+
+    /// The bundle and the slot, in decimal.
+    fn fmt<W: fmt::Write>(&self, f: &mut fmt::Formatter<W>) -> fmt::Result {
+        let Place { bundle, slot } = self.place;
+        write!(f, "image: bundle {bundle} slot {slot}")
+    }
+}
+
+/// An image's fault, as it is printed.
+#[derive(Clone, Copy, Debug)]
+struct FaultText {
+    fault: ImageFault,
+}
+
+impl fmt::Display for FaultText {
+    ghost output = { λ shown. Some (fault_text shown.fault) };
+
+    /// What is wrong, and where.
+    fn fmt<W: fmt::Write>(&self, f: &mut fmt::Formatter<W>) -> fmt::Result {
+        match self.fault {
+            ImageFault::Short => write!(f, "image: short"),
+            ImageFault::Magic => write!(f, "image: magic"),
+            ImageFault::Counts => write!(f, "image: counts"),
+            ImageFault::Length => write!(f, "image: length"),
+            ImageFault::Entry { n } => write!(f, "image: entry {n}"),
+            ImageFault::Bundle { n, fault } => match fault {
+                SlotFault::ReservedTemplate => write!(f, "image: bundle {n}: template"),
+                SlotFault::Unlisted { slot } => {
+                    let place = Place { bundle: n, slot };
+                    let at = SlotText { place };
+                    write!(f, "{at}: unlisted")
+                }
+            },
+            ImageFault::Target { place } => {
+                let at = SlotText { place };
+                write!(f, "{at}: target")
+            }
+            ImageFault::LongRun { place } => {
+                let at = SlotText { place };
+                write!(f, "{at}: long run")
+            }
+            ImageFault::Memory => Ok(()),
+        }
+    }
+}
+
 /// What is printed of an image's fault.
 pub(crate) fn refusal(alloc: Global, fault: ImageFault) -> Result<String, AllocError>
     ensures { IfOk result (λ text. string_bytes text ≡ refusal_text fault) }
 {
-    let text = match fault {
-        ImageFault::Short => "image: short\n",
-        ImageFault::Counts => "image: counts\n",
-        ImageFault::Length => "image: length\n",
-    };
-    String::from_str(alloc, text)
+    let shown = FaultText { fault };
+    format!(in alloc; "{shown}\n")
 }

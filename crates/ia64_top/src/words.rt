@@ -9,6 +9,8 @@ use std::marker::Model;
 /// What the program is asked to do.
 #[derive(Clone, Copy, Debug, PartialEq, Eq)]
 pub enum Command {
+    /// Makes an image of bare bundles.
+    Wrap,
     /// Checks the groups of a program.
     Check,
 }
@@ -47,11 +49,12 @@ impl Words {
         Ok(())
     }
 
-    /// The command that the words are, by the table: `check` alone, in lower case.
+    /// The command that the words are, by the table: `wrap` or `check` alone, in lower case.
     pub fn command(&self) -> Option<Command>
         ensures { result ≡ command_of self.now }
     {
         match self.words.as_slice() {
+            [word] if word.as_slice() == b"wrap".as_slice() => Some(Command::Wrap),
             [word] if word.as_slice() == b"check".as_slice() => Some(Command::Check),
             _ => None,
         }

@@ -1,5 +1,5 @@
 -- The bundles: which instructions a template has room for (volume 1, chapter 3, instruction encoding).
-use Rattle.std.specs.Prelude.{◌≡◌, ℕ, List, [], ◌∷◌}
+use Rattle.std.specs.Prelude.{◌≡◌, ℕ, List, [], ◌∷◌, IfSome, slice_get}
 use Rattle.ia_insn.specs.declared.choices.Unit.{Unit as ExecutionUnit}
 use Rattle.ia_insn.specs.declared.choices.Unit.TheVariants.{L, X}
 use Rattle.ia_insn.specs.declared.bundle.Slots.{Slots}
@@ -27,3 +27,7 @@ pub record Bundle : Type 0 where
 -- the bundle's instructions fit its template
 abbrev pub IsBundle : Bundle → Type 0
 IsBundle b = FitUnits (units_of b.template) b.slots
+
+-- each of them is one
+abbrev pub AreBundles : List Bundle → Type 0
+AreBundles bundles = (n : ℕ) → IfSome (slice_get bundles n) IsBundle

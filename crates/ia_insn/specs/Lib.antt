@@ -8,3 +8,5 @@ pub mod FormatsX
 pub mod Fits
 pub mod Templates
 pub mod Bundles
+pub mod Places
+pub mod Programs

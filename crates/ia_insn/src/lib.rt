@@ -1,9 +1,12 @@
-//! The instructions of the IA-64 profile, the registers that they name, and the bundle templates.
+//! The instructions of the IA-64 profile, the registers that they name, and the bundles and programs
+//! that they make.
 //!
 //! `specs/` holds the encoding relation: of each instruction its fields and its range, one file a
 //! family of formats (Intel Itanium Architecture Software Developer's Manual, volume 3, chapter 4),
-//! and which slots it fits. The functions here say which instructions are listed, and the formats
-//! crates go from instructions to words and back.
+//! and which slots it fits; then the templates and what they have room for, places and runs of slots,
+//! and what makes bundles, declared entries and data a program. The functions here say which
+//! instructions are listed and make bundles and programs; the formats crates go from instructions to
+//! words and back.
 #![tactic(auto)]
 
 mod bundle;
@@ -16,6 +19,8 @@ mod listed_i;
 mod listed_m;
 mod listed_x;
 mod place;
+mod places;
+mod program;
 mod registers;
 mod signed;
 mod slot_fitness;
@@ -31,6 +36,7 @@ pub use listed_i::is_listed_i;
 pub use listed_m::is_listed_m;
 pub use listed_x::is_listed_x;
 pub use place::Place;
+pub use program::{Program, ProgramFault, are_in_range, misplaced_entry};
 pub use registers::{Ar, Br, Gr, Pr};
 pub use signed::{fits_signed, sign_extended, twos_complement};
 pub use slot_fitness::fits;

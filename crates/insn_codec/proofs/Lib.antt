@@ -1,2 +1,5 @@
 pub mod Families
 pub mod Slots
+pub mod Units
+pub mod Spellings
+pub mod Faults

@@ -1,9 +1,8 @@
 -- Which slots hold an instruction.
 use Rattle.std.proofs.Common.{◌≡◌, ℕ, List, [], ◌∷◌, length, slice_index_or, refl, sym, ap, ◌∙◌, subst, arith}
-use Rattle.std.specs.Prelude.{◌≢◌, slice_index}
-use Rattle.std.specs.Int.{w128, from_le_bytes}
+use Rattle.std.specs.Prelude.{◌≢◌, slice_index, Some}
 use Rattle.bundle_bits.specs.declared.bundle.RawBundle.{RawBundle}
-use Rattle.bundle_bits.specs.RawBundle.{number_of, IsBundle as HasWidths}
+use Rattle.bundle_bits.specs.RawBundle.{number_of}
 use Rattle.ia_insn.specs.declared.insn.Insn.{Insn}
 use Rattle.ia_insn.specs.declared.choices.Unit.{Unit as ExecutionUnit}
 use Rattle.ia_insn.specs.declared.choices.Unit.TheVariants.{M, I, F, B, L, X}
@@ -12,21 +11,42 @@ use Rattle.ia_insn.specs.declared.bundle.Slots.TheVariants.{Three, Long}
 use Rattle.ia_insn.specs.Templates.{units_of}
 use Rattle.ia_insn.specs.Fits.{Fits}
 use Rattle.ia_insn.specs.Bundles.{Bundle, IsShort, FitUnits}
-use Rattle.insn_codec.specs.Slots.{UnitCode, IsOfUnit}
+use Rattle.insn_codec.specs.Slots.{UnitCode, IsOfUnit, IsInSlot}
 use Rattle.insn_codec.specs.Spelling.{StandIn, IsSpelled}
-use Rattle.insn_codec.specs.SlotFaults.{IsListedIn, IsSecondListed}
+use Rattle.insn_codec.specs.SlotFaults.{IsListedIn, IsSecond}
 
 -- slot 1 of a unit other than L is as the others
-pub second_unlisted : (v : ExecutionUnit) (words : List ℕ) → v ≢ L → ¬ IsListedIn v 1 words → ¬ IsSecondListed v words
-second_unlisted L words other none h = other refl
-second_unlisted v words other none h = none h
+pub second_is_short : (v : ExecutionUnit) (i : Insn) (words : List ℕ) → v ≢ L → IsSecond v i words → IsInSlot v 1 i (slice_index words 1)
+second_is_short L i words other s = absurd (other refl)
+second_is_short v i words other s = s
 
-pub second_listed : (v : ExecutionUnit) (words : List ℕ) → v ≢ L → IsListedIn v 1 words → IsSecondListed v words
-second_listed L words other h = absurd (other refl)
-second_listed v words other h = h
+pub short_is_second : (v : ExecutionUnit) (i : Insn) (words : List ℕ) → IsInSlot v 1 i (slice_index words 1) → IsSecond v i words
+short_is_second L i words s = absurd s.code
+short_is_second v i words s = s
+
+-- what stands in slots 0 and 1
+pub stands_first : (u v w : ExecutionUnit) (slots : Slots) (words : List ℕ) → StandIn (u ∷ v ∷ w ∷ []) slots words → IsListedIn u 0 words
+stands_first u v w (Three a b c) words s = (a, s.0)
+stands_first u v w (Long first long) words s = (first, s.0)
+
+abbrev pub second_of : Slots → Insn
+second_of (Three a b c) = b
+second_of (Long first long) = long
+
+pub stands_second : (u v w : ExecutionUnit) (slots : Slots) (words : List ℕ) → StandIn (u ∷ v ∷ w ∷ []) slots words → IsSecond v (second_of slots) words
+stands_second u v w (Three a b c) words s = short_is_second v b words s.1
+stands_second u v w (Long first long) words s = subst (λ (x : ExecutionUnit). IsSecond x long words) (sym s.2) s.1
+
+-- what stands in three slots, where slot 1 is not of L, is an instruction in each
+pub only_three : (u v w : ExecutionUnit) (a b c : Insn) (words : List ℕ) → v ≢ L → ((i : Insn) → IsInSlot u 0 i (slice_index words 0) → Some a ≡ Some i) → ((i : Insn) → IsSecond v i words → Some b ≡ Some i) → ((i : Insn) → IsInSlot w 2 i (slice_index words 2) → Some c ≡ Some i) → (slots : Slots) → StandIn (u ∷ v ∷ w ∷ []) slots words → Three a b c ≡ slots
+only_three u v w a b c words other first second third (Three x y z) s =
+    let e = first x s.0 in
+    let f = second y (short_is_second v y words s.1) in
+    let g = third z s.2 in cc
+only_three u v w a b c words other first second third (Long x long) s = absurd (other s.2)
 
 -- in an L and an X slot no instruction has a word of its own
-short : (v : ExecutionUnit) (i : Insn) (w : ℕ) → UnitCode v i w → IsShort v
+pub short : (v : ExecutionUnit) (i : Insn) (w : ℕ) → UnitCode v i w → IsShort v
 short L i w code = code
 short X i w code = code
 short v i w code = tt
@@ -36,22 +56,21 @@ pub stand-fit : (u v w : ExecutionUnit) (slots : Slots) (words : List ℕ) → S
 stand-fit u v w (Three a b c) words s = (s.0.fits, s.1.fits, s.2.fits, short v b (slice_index words 1) s.1.code)
 stand-fit u v w (Long first long) words s = (s.0.fits, subst (λ (x : ExecutionUnit). Fits long x 1) (sym s.2) s.1.fits, s.2)
 
--- the units of three slots, one by one
-pub three_units : (units : List ExecutionUnit) → length units ≡ 3 → (slice_index_or units 0 M ∷ slice_index_or units 1 M ∷ slice_index_or units 2 M ∷ []) ≡ units
-three_units [] n = absurd (omega arith)
-three_units (u ∷ []) n = absurd (omega arith)
-three_units (u ∷ v ∷ []) n = absurd (omega arith)
-three_units (u ∷ v ∷ w ∷ []) n = refl
-three_units (u ∷ v ∷ w ∷ x ∷ xs) n = absurd (omega arith)
+-- three items, one by one
+pub three_items : {A : Type 0} (d : A) (xs : List A) → length xs ≡ 3 → (slice_index_or xs 0 d ∷ slice_index_or xs 1 d ∷ slice_index_or xs 2 d ∷ []) ≡ xs
+three_items d [] n = absurd (omega arith)
+three_items d (x ∷ []) n = absurd (omega arith)
+three_items d (x ∷ y ∷ []) n = absurd (omega arith)
+three_items d (x ∷ y ∷ z ∷ []) n = refl
+three_items d (w ∷ x ∷ y ∷ z ∷ xs) n = absurd (omega arith)
 
 -- what stands in the parts of a bundle's bytes
 pub record StandsInParts (b : Bundle) (raw : RawBundle) : Type 0 where
   pub code : raw.template ≡ b.template
   pub slots : StandIn (units_of raw.template) b.slots raw.slots
 
-pub parts_of : (b : Bundle) (bytes : List ℕ) (raw : RawBundle) → ((r : RawBundle) → HasWidths r → number_of r ≡ from_le_bytes w128 bytes → r ≡ raw) → IsSpelled b bytes → StandsInParts b raw
-parts_of b bytes raw only s =
-    let e : s.raw ≡ raw = only s.raw s.parts.widths s.parts.number in
+pub parts_of : (b : Bundle) (bytes : List ℕ) (raw : RawBundle) (s : IsSpelled b bytes) → s.raw ≡ raw → StandsInParts b raw
+parts_of b bytes raw s e =
     subst (λ (r : RawBundle). StandsInParts b r) e (record { code = s.code; slots = subst (λ (t : ℕ). StandIn (units_of t) b.slots s.raw.slots) (sym s.code) s.slots })
 
 pub same_bundle : (b : Bundle) (template : ℕ) (slots : Slots) → template ≡ b.template → slots ≡ b.slots → (let x : Bundle = record { template = template; slots = slots } in x) ≡ b

@@ -1,3 +1,4 @@
 pub mod Slots
 pub mod Spelling
 pub mod SlotFaults
+pub mod Laws

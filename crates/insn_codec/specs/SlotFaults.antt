@@ -14,10 +14,14 @@ use Rattle.insn_codec.specs.Spelling.{HasParts}
 abbrev pub IsListedIn : ExecutionUnit → ℕ → List ℕ → Type 0
 IsListedIn unit slot words = (i : Insn) × IsInSlot unit slot i (slice_index words slot)
 
--- the same of slot 1, where a long instruction has both words
+-- The instruction stands in slot 1. Where the unit is L it is a long one, over slots 1 and 2.
+abbrev pub IsSecond : ExecutionUnit → Insn → List ℕ → Type 0
+IsSecond L i words = IsInSlots i (slice_index words 1) (slice_index words 2)
+IsSecond unit i words = IsInSlot unit 1 i (slice_index words 1)
+
+-- an instruction stands in slot 1
 abbrev pub IsSecondListed : ExecutionUnit → List ℕ → Type 0
-IsSecondListed L words = (i : Insn) × IsInSlots i (slice_index words 1) (slice_index words 2)
-IsSecondListed unit words = IsListedIn unit 1 words
+IsSecondListed unit words = (i : Insn) × IsSecond unit i words
 
 -- The first slot whose word is no listed instruction that fits there. A long one counts as slot 1.
 abbrev pub IsFirstUnlisted : List ExecutionUnit → List ℕ → ℕ → Type 0

@@ -1,15 +1,18 @@
 //! Bundles and their bytes.
 
-ghost use Rattle.std.specs.Prelude.{◌≡◌, ◌<◌, ◌^◌, List, [], ◌∷◌, length, slice_index, ℕ, Ok, IfOk, IfErr};
+ghost use Rattle.std.specs.Prelude.{◌≡◌, ◌<◌, ◌^◌, List, [], ◌∷◌, length, slice_index, ℕ, Ok, Err, IfOk, IfErr, Some, IfSome};
 ghost use Rattle.ia_insn.specs.Bundles.{Bundle, FitUnits};
 ghost use Rattle.bundle_bits.specs.RawBundle.{IsBundle as HasWidths};
+ghost use Rattle.ia_insn.specs.declared.insn.Insn.{Insn as InsnOf};
 ghost use Rattle.ia_insn.specs.declared.bundle.Slots.{Slots as SlotsOf};
+ghost use Rattle.insn_codec.specs.declared.bundle.SlotFault.{SlotFault as SlotFaultOf};
 ghost use Rattle.insn_codec.specs.Spelling.{StandIn, IsSpelled};
-ghost use Rattle.insn_codec.specs.SlotFaults.{IsUnlisted, HasSlotFault};
+ghost use Rattle.insn_codec.specs.SlotFaults.{IsSecond, IsUnlisted, HasSlotFault};
 
+use crate::laws::{no_fault_where_spelled, one_fault};
 use crate::slot::{read_long, read_slot, write_long, write_unit};
 use bundle_bits::{RawBundle, join, split};
-use ia_insn::{BundleOf, Slots, Template, Unit};
+use ia_insn::{BundleOf, Insn, Slots, Template, Unit};
 
 /// Why sixteen bytes are no bundle.
 #[derive(Clone, Copy, Debug, PartialEq, Eq)]
@@ -24,6 +27,19 @@ pub enum SlotFault {
     },
 }
 
+/// The instruction of slot 1, which takes slot 2 too where the unit is L.
+fn read_second(unit: Unit, raw: &RawBundle) -> Option<Insn>
+    requires { HasWidths raw.now }
+    ensures found { IfSome result (λ i. IsSecond unit i raw.now.slots) }
+    ensures only { (i : InsnOf) → IsSecond unit i raw.now.slots → result ≡ Some i }
+{
+    if unit == Unit::L {
+        read_long(raw.slots[1], raw.slots[2])
+    } else {
+        read_slot(unit, 1, raw.slots[1])
+    }
+}
+
 /// The instructions of slots of the units u, v and w.
 fn read_slots(u: Unit, v: Unit, w: Unit, raw: &RawBundle) -> Result<Slots, SlotFault>
     requires { HasWidths raw.now }
@@ -34,19 +50,23 @@ fn read_slots(u: Unit, v: Unit, w: Unit, raw: &RawBundle) -> Result<Slots, SlotF
     let Some(first) = read_slot(u, 0, raw.slots[0]) else {
         return Err(SlotFault::Unlisted { slot: 0 });
     };
-    if v == Unit::L {
-        let Some(long) = read_long(raw.slots[1], raw.slots[2]) else {
-            return Err(SlotFault::Unlisted { slot: 1 });
-        };
-        return Ok(Slots::Long { first, long });
-    }
-    let Some(b) = read_slot(v, 1, raw.slots[1]) else {
+    let Some(second) = read_second(v, raw) else {
         return Err(SlotFault::Unlisted { slot: 1 });
     };
-    let Some(c) = read_slot(w, 2, raw.slots[2]) else {
+    if v == Unit::L {
+        return Ok(Slots::Long {
+            first,
+            long: second,
+        });
+    }
+    let Some(third) = read_slot(w, 2, raw.slots[2]) else {
         return Err(SlotFault::Unlisted { slot: 2 });
     };
-    Ok(Slots::Three { a: first, b, c })
+    Ok(Slots::Three {
+        a: first,
+        b: second,
+        c: third,
+    })
 }
 
 /// The bundle that has these bytes, or their first fault (volume 1, chapter 3, instruction
@@ -61,7 +81,12 @@ pub fn decode_bundle(bytes: &[u8; 16]) -> Result<BundleOf, SlotFault>
 
     // The fault is the first one of the bytes.
     ensures fault { IfErr result (λ fault. HasSlotFault bytes.now fault) }
+
+    // A fault that the bytes have is answered, so they have no other and are those of no bundle.
+    ensures only_fault { (fault : SlotFaultOf) → HasSlotFault bytes.now fault → result ≡ Err fault }
 {
+    one_fault();
+    no_fault_where_spelled();
     let raw = split(bytes);
     let Some(template) = Template::of(raw.template) else {
         return Err(SlotFault::ReservedTemplate);

@@ -1,22 +1,21 @@
-use Rattle.ia64_top.proofs.Outputs.{only_refused, only_plain, done_where_free, none_spelled_refused}
+use Rattle.std.proofs.Common.{rules, ◌∙◌, sym}
+use Rattle.ia64_top.specs.Output.{BeginsAsImage}
+use Rattle.ia64_top.proofs.Outputs.{if_ok, only_answer, only_refused, done_where_free}
 use Rattle.ia64_top.proofs.answer.check_input.Goals as goal
 
-pub returns-in_ok-refusal-in-Refused-clause-only :
-    goal.returns-in_ok-refusal-in-Refused-clause-only
-returns-in_ok-refusal-in-Refused-clause-only c = let read = rw c.in-Refused.is at c.in_ok-read.ensures in only_refused _ _ read.found.0 read.found.1
+pub returns-in-Ok-clause-only : goal.returns-in-Ok-clause-only
+returns-in-Ok-clause-only c =
+    if_ok c.check_program.result c.check_program.ensures (λ x a. only_answer c.one_program.ensures c.no_fault_where_spelled.ensures c.args.input.now _ _ x.status c.in-Ok.ensures.found a)
 
-pub returns-in_ok-refusal-in-Refused-clause-accepted :
-    goal.returns-in_ok-refusal-in-Refused-clause-accepted
-returns-in_ok-refusal-in-Refused-clause-accepted c p s = let read = rw c.in-Refused.is at c.in_ok-read.ensures in absurd (none_spelled_refused _ _ p read.found.1 s)
+pub returns-in-Ok-clause-accepted : goal.returns-in-Ok-clause-accepted
+returns-in-Ok-clause-accepted c =
+    if_ok c.check_program.result c.check_program.ensures (λ x a. done_where_free c.one_program.ensures c.args.input.now _ _ x.status c.in-Ok.ensures.found a)
 
-pub returns-in_ok-judge-in-Plain-clause-only : goal.returns-in_ok-judge-in-Plain-clause-only
-returns-in_ok-judge-in-Plain-clause-only c =
-    let read = rw c.in-Plain.is at c.in_ok-read.ensures in
-    let judged = rw c.deref.ensures.value at c.in_ok-judge-in-Plain.ensures in
-    only_plain _ c.in-Plain.program.items _ read.found read.only judged.tells
+pub returns-in-Err-clause-only : goal.returns-in-Err-clause-only
+returns-in-Err-clause-only c =
+    let begins : BeginsAsImage c.args.input.now = search rules in
+    if_ok c.refuse.result c.refuse.ensures (λ x a bytes other o. only_refused c.no_fault_where_spelled.ensures c.args.input.now c.in-Err.fault begins (c.in-Err.ensures.fault a.0) bytes other o ∙ sym a.2)
 
-pub returns-in_ok-judge-in-Plain-clause-accepted : goal.returns-in_ok-judge-in-Plain-clause-accepted
-returns-in_ok-judge-in-Plain-clause-accepted c p s =
-    let read = rw c.in-Plain.is at c.in_ok-read.ensures in
-    let judged = rw c.deref.ensures.value at c.in_ok-judge-in-Plain.ensures in
-    done_where_free p c.in-Plain.program.items _ (read.only p s) judged.tells
+pub returns-in-Err-clause-accepted : goal.returns-in-Err-clause-accepted
+returns-in-Err-clause-accepted c =
+    if_ok c.refuse.result c.refuse.ensures (λ x a p s plain. absurd (c.no_fault_where_spelled.ensures p c.args.input.now c.in-Err.fault s (c.in-Err.ensures.fault a.0)))

@@ -1,0 +1,12 @@
+-- Plain programs.
+use Rattle.std.proofs.Common.{◌≡◌, ℕ, ◌<◌, List, [], ◌∷◌, length, refl, arith}
+use Rattle.ia_insn.specs.Programs.{Program}
+use Rattle.ia64_top.specs.Programs.{IsPlainAt, IsPlain}
+
+nil_of : {A : Type 0} (l : List A) → length l ≡ 0 → l ≡ []
+nil_of [] e = refl
+nil_of (x ∷ l) e = absurd (omega arith)
+
+-- a program without entries and data whose bundles are plain
+pub plain : (p : Program) → length p.entries ≡ 0 → length p.memory ≡ 0 → ((n : ℕ) → n < length p.bundles → IsPlainAt p n) → IsPlain p
+plain p entries memory bundles = record { entries = nil_of p.entries entries; memory = nil_of p.memory memory; bundles = bundles }

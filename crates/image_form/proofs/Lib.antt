@@ -1,0 +1,10 @@
+pub mod Numbers
+pub mod Spelled
+pub mod Wholes
+pub mod FirstFaults
+pub mod Readings
+pub mod OneToOne
+pub mod Written
+pub mod Firsts
+pub mod OneFault
+pub mod SomeFault

@@ -1,0 +1,5 @@
+use Rattle.image_form.proofs.Readings.{image_size}
+use Rattle.image_form.proofs.laws.image_size.Goals as goal
+
+pub returns : goal.returns
+returns c = image_size

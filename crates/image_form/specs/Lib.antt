@@ -1,0 +1,4 @@
+pub mod Images
+pub mod Faults
+pub mod Laws
+pub mod Programs

@@ -1,0 +1,52 @@
+//! Why bytes are no image.
+
+use ia_insn::Place;
+use insn_codec::SlotFault;
+use thiserror::Error;
+
+/// Why bytes are no image, or no bare bundles: the first of these, in their order.
+#[derive(Clone, Copy, Debug, PartialEq, Eq, Error)]
+pub enum ImageFault {
+    /// There are fewer bytes than a head has, 24.
+    #[error("fewer bytes than a head has")]
+    Short,
+    /// The bytes don't begin with `IA64IMG1`.
+    #[error("not the first eight bytes of an image")]
+    Magic,
+    /// A number of the head is out of its range, or its last word isn't zero. Of bare bundles: there
+    /// are none, or more than 4,096 whole ones.
+    #[error("a number that is out of its range")]
+    Counts,
+    /// The number of bytes isn't the one that the head says. Of bare bundles: bytes are left over.
+    #[error("another number of bytes")]
+    Length,
+    /// A declared entry isn't a bundle from 1 on, or isn't above the one before it.
+    #[error("entry {n} is no bundle from 1 on or doesn't rise")]
+    Entry {
+        /// Its number, from 0.
+        n: u32,
+    },
+    /// Sixteen bytes are no bundle.
+    #[error("bundle {n} is none")]
+    Bundle {
+        /// The number of the bundle, from 0.
+        n: u32,
+        /// Why it is none.
+        fault: SlotFault,
+    },
+    /// The target of a direct branch or check is none of the bundles.
+    #[error("the target of {place} is no bundle")]
+    Target {
+        /// The place of the branch.
+        place: Place,
+    },
+    /// More than 192 slots follow one another without a stop or another end of a run.
+    #[error("{place} is the 193rd slot of a run")]
+    LongRun {
+        /// The place of the 193rd.
+        place: Place,
+    },
+    /// There was no memory for the program.
+    #[error("out of memory")]
+    Memory,
+}

@@ -1,0 +1,39 @@
+-- Bundles and their bytes correspond one to one, and sixteen bytes are those of a bundle or have one
+-- first fault.
+use Rattle.std.specs.Prelude.{◌≡◌, ℕ, List}
+use Rattle.bundle_bits.specs.RawBundle.{AreBytes}
+use Rattle.ia_insn.specs.declared.insn.Insn.{Insn}
+use Rattle.ia_insn.specs.declared.choices.Unit.{Unit as ExecutionUnit}
+use Rattle.ia_insn.specs.Bundles.{Bundle}
+use Rattle.insn_codec.specs.declared.bundle.SlotFault.{SlotFault}
+use Rattle.insn_codec.specs.Slots.{UnitCode}
+use Rattle.insn_codec.specs.Spelling.{IsSpelled}
+use Rattle.insn_codec.specs.SlotFaults.{HasSlotFault}
+
+-- a word is that of at most one instruction of a unit
+abbrev pub OneInstruction : Type 0
+OneInstruction = (unit : ExecutionUnit) (word : ℕ) (i j : Insn) → UnitCode unit i word → UnitCode unit j word → i ≡ j
+
+-- an instruction has at most one word of a unit
+abbrev pub OneWord : Type 0
+OneWord = (unit : ExecutionUnit) (i : Insn) (v w : ℕ) → UnitCode unit i v → UnitCode unit i w → v ≡ w
+
+-- bytes are those of at most one bundle
+abbrev pub OneBundle : Type 0
+OneBundle = (bytes : List ℕ) (b c : Bundle) → IsSpelled b bytes → IsSpelled c bytes → b ≡ c
+
+-- a bundle has at most one spelling
+abbrev pub OneSpelling : Type 0
+OneSpelling = (b : Bundle) (x y : List ℕ) → IsSpelled b x → IsSpelled b y → x ≡ y
+
+-- bytes have at most one first fault
+abbrev pub OneFault : Type 0
+OneFault = (bytes : List ℕ) (f g : SlotFault) → HasSlotFault bytes f → HasSlotFault bytes g → f ≡ g
+
+-- the bytes of a bundle have no fault
+abbrev pub NoFaultWhereSpelled : Type 0
+NoFaultWhereSpelled = (b : Bundle) (bytes : List ℕ) (f : SlotFault) → IsSpelled b bytes → HasSlotFault bytes f → ⊥
+
+-- sixteen bytes that are those of no bundle are not without a fault
+abbrev pub FaultWhereNoneSpelled : Type 0
+FaultWhereNoneSpelled = (bytes : List ℕ) → AreBytes bytes → ((b : Bundle) → IsSpelled b bytes → ⊥) → ((f : SlotFault) → HasSlotFault bytes f → ⊥) → ⊥
