@@ -3,15 +3,15 @@ use Rattle.std.proofs.Common.{◌≡◌, ℕ, ◌+◌, ◌-◌, ◌*◌, ◌/◌
 use Rattle.std.proofs.lemmas.Nat.{shr_split, shr-shr, shr_high, mod_low, shl_whole, and_mask, field_of, pow_pos, shr_below, mul-add-lt, mod-pow-add, mod_below}
 use Rattle.std.proofs.lemmas.Nat.Bits.{ones_shr}
 use Rattle.std.specs.Prelude.{bit_and}
-use Rattle.bundle_bits.specs.Bits.{bits_of}
+use Rattle.bundle_bits.specs.Words.{bits}
 
 -- the parts of a word at a field
-pub whole : (n low width : ℕ) → n ≡ (n / 2 ^ (low + width) * 2 ^ width + bits_of n low width) * 2 ^ low + n % 2 ^ low
+pub whole : (n low width : ℕ) → n ≡ (n / 2 ^ (low + width) * 2 ^ width + bits low width n) * 2 ^ low + n % 2 ^ low
 whole n low width =
-    sym (shr_split n low) ∙ ap (λ q. q * 2 ^ low + n % 2 ^ low) (sym (shr_split (n / 2 ^ low) width) ∙ ap (λ h. h * 2 ^ width + bits_of n low width) (shr-shr n low width))
+    sym (shr_split n low) ∙ ap (λ q. q * 2 ^ low + n % 2 ^ low) (sym (shr_split (n / 2 ^ low) width) ∙ ap (λ h. h * 2 ^ width + bits low width n) (shr-shr n low width))
 
 -- what the code reads
-pub read : (n low width : ℕ) → width ≤ 64 → bit_and (n / 2 ^ low) (18446744073709551615 / 2 ^ (64 - width)) ≡ bits_of n low width
+pub read : (n low width : ℕ) → width ≤ 64 → bit_and (n / 2 ^ low) (18446744073709551615 / 2 ^ (64 - width)) ≡ bits low width n
 read n low width h =
     let mask : 18446744073709551615 / 2 ^ (64 - width) ≡ 2 ^ width - 1 = ones_shr 64 (64 - width) (omega arith) ∙ ap (λ k. 2 ^ k - 1) (let e : 64 - (64 - width) ≡ width = omega arith in e) in
     ap (λ m. bit_and (n / 2 ^ low) m) mask ∙ and_mask (n / 2 ^ low) width
@@ -27,7 +27,7 @@ read-below n low width h = rw (read n low width h) (below_pow (n / 2 ^ low) widt
 abbrev pub with_bits : (n low width v : ℕ) → ℕ
 with_bits n low width v = (n / 2 ^ (low + width) * 2 ^ width + v) * 2 ^ low + n % 2 ^ low
 
-pub with-same : (n low width v : ℕ) → v < 2 ^ width → bits_of (with_bits n low width v) low width ≡ v
+pub with-same : (n low width v : ℕ) → v < 2 ^ width → bits low width (with_bits n low width v) ≡ v
 with-same n low width v h =
     ap (λ q. q % 2 ^ width) (shr_high (n / 2 ^ (low + width) * 2 ^ width + v) low (n % 2 ^ low) (below_pow n low)) ∙ mod_low (n / 2 ^ (low + width)) width v h
 
@@ -57,30 +57,30 @@ low_low n j k h =
     ap (λ i. n % 2 ^ i % 2 ^ k) e ∙ ap (λ q. q % 2 ^ k) (mod-pow-add n (j - k) k) ∙ mod_low (n / 2 ^ k % 2 ^ (j - k)) k (n % 2 ^ k) (below_pow n k)
 
 -- a field in the low bits
-low_field : (n j low width : ℕ) → low + width ≤ j → bits_of (n % 2 ^ j) low width ≡ bits_of n low width
+low_field : (n j low width : ℕ) → low + width ≤ j → bits low width (n % 2 ^ j) ≡ bits low width n
 low_field n j low width h =
     let e : j ≡ (j - low) + low = omega arith in
     ap (λ i. n % 2 ^ i / 2 ^ low % 2 ^ width) e ∙ ap (λ q. q % 2 ^ width) (field_of n (j - low) low) ∙ low_low (n / 2 ^ low) (j - low) width (omega arith)
 
 -- a field in the high bits
-high_field : (n j low width : ℕ) → j ≤ low → bits_of n low width ≡ bits_of (n / 2 ^ j) (low - j) width
+high_field : (n j low width : ℕ) → j ≤ low → bits low width n ≡ bits (low - j) width (n / 2 ^ j)
 high_field n j low width h =
     let e : low ≡ j + (low - j) = omega arith in
     ap (λ i. n / 2 ^ i % 2 ^ width) e ∙ ap (λ q. q % 2 ^ width) (sym (shr-shr n j (low - j)))
 
 -- a field that shares no bit with the changed one stays
-pub with-other : (n low width v : ℕ) → v < 2 ^ width → (l k : ℕ) → (l + k ≤ low) ⊎ (low + width ≤ l) → bits_of (with_bits n low width v) l k ≡ bits_of n l k
+pub with-other : (n low width v : ℕ) → v < 2 ^ width → (l k : ℕ) → (l + k ≤ low) ⊎ (low + width ≤ l) → bits l k (with_bits n low width v) ≡ bits l k n
 with-other n low width v h l k (inl p) =
-    sym (low_field (with_bits n low width v) low l k p) ∙ ap (λ q. bits_of q l k) (with-below n low width v) ∙ low_field n low l k p
+    sym (low_field (with_bits n low width v) low l k p) ∙ ap (λ q. bits l k q) (with-below n low width v) ∙ low_field n low l k p
 with-other n low width v h l k (inr p) =
-    high_field (with_bits n low width v) (low + width) l k p ∙ ap (λ q. bits_of q (l - (low + width)) k) (with-above n low width v h) ∙ sym (high_field n (low + width) l k p)
+    high_field (with_bits n low width v) (low + width) l k p ∙ ap (λ q. bits (l - (low + width)) k q) (with-above n low width v h) ∙ sym (high_field n (low + width) l k p)
 
 -- what the code writes
-pub changed : (n low width v : ℕ) → (n - bits_of n low width * 2 ^ low) + v * 2 ^ low ≡ with_bits n low width v
+pub changed : (n low width v : ℕ) → (n - bits low width n * 2 ^ low) + v * 2 ^ low ≡ with_bits n low width v
 changed n low width v = omega (arith, whole n low width)
 
 -- the same, as the code's shifts give it
-pub written : (n low width v g : ℕ) → low + width ≤ 64 → v < 2 ^ width → g ≡ bits_of n low width → n - g * 2 ^ low % 18446744073709551616 + v * 2 ^ low % 18446744073709551616 ≡ with_bits n low width v
+pub written : (n low width v g : ℕ) → low + width ≤ 64 → v < 2 ^ width → g ≡ bits low width n → n - g * 2 ^ low % 18446744073709551616 + v * 2 ^ low % 18446744073709551616 ≡ with_bits n low width v
 written n low width v g within h e =
     let small : g < 2 ^ width = subst (λ q. q < 2 ^ width) (sym e) (below_pow (n / 2 ^ low) width) in
     let fits : width + low ≤ 64 = omega arith in

@@ -1,3 +1,5 @@
 pub mod Fields
 pub mod Bytes
 pub mod Parts
+pub mod Words
+mod Sums

@@ -1,9 +1,5 @@
 -- Bit fields of a word.
-use Rattle.std.specs.Prelude.{ℕ, ◌+◌, ◌/◌, ◌%◌, ◌^◌, ◌≤◌, ◌⊎◌}
-
--- the number in the bits of a word from low up, width of them
-abbrev pub bits_of : ℕ → ℕ → ℕ → ℕ
-bits_of word low width = word / 2 ^ low % 2 ^ width
+use Rattle.std.specs.Prelude.{ℕ, ◌+◌, ◌≤◌, ◌⊎◌}
 
 -- a field has at least one bit and lies in 64 bits
 pub record IsField (low width : ℕ) : Type 0 where

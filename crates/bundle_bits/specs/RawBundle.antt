@@ -3,11 +3,12 @@ use Rattle.std.specs.Prelude.{◌≡◌, ℕ, ◌+◌, ◌*◌, ◌^◌, ◌<◌
 use Rattle.bundle_bits.specs.declared.bundle.RawBundle.{RawBundle}
 
 -- the template in bits 4:0, then three slots of 41 bits
-abbrev pub number_of : RawBundle → ℕ
-number_of raw = raw.template + slice_index raw.slots 0 * 2 ^ 5 + slice_index raw.slots 1 * 2 ^ 46 + slice_index raw.slots 2 * 2 ^ 87
+abbrev pub bundle_number : RawBundle → ℕ
+bundle_number raw =
+    raw.template + slice_index raw.slots 0 * 2 ^ 5 + slice_index raw.slots 1 * 2 ^ 46 + slice_index raw.slots 2 * 2 ^ 87
 
 -- a template of 5 bits and three slots of 41 bits
-pub record IsBundle (raw : RawBundle) : Type 0 where
+pub record HasWidths (raw : RawBundle) : Type 0 where
   pub template : raw.template < 2 ^ 5
   pub count : length raw.slots ≡ 3
   pub first : slice_index raw.slots 0 < 2 ^ 41

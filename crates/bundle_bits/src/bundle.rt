@@ -2,7 +2,7 @@
 
 ghost use Rattle.std.specs.Prelude.{◌≡◌, List, ℕ};
 ghost use Rattle.std.specs.Int.{w128, from_le_bytes};
-ghost use Rattle.bundle_bits.specs.RawBundle.{number_of, IsBundle, AreBytes};
+ghost use Rattle.bundle_bits.specs.RawBundle.{bundle_number, HasWidths, AreBytes};
 ghost use Rattle.bundle_bits.specs.Laws.{OneRaw, OneBytes, SomeRaw};
 
 /// How many templates five bits can tell apart.
@@ -26,13 +26,13 @@ pub struct RawBundle {
 /// looked at.
 pub fn split(bytes: &[u8; 16]) -> RawBundle
     // A template below 32 and three slots below 2^41.
-    ensures parts { IsBundle result }
+    ensures parts { HasWidths result }
 
     // The bytes as a little-endian number are template + slot 0 * 2^5 + slot 1 * 2^46 + slot 2 * 2^87.
-    ensures number { number_of result ≡ from_le_bytes w128 bytes.now }
+    ensures number { bundle_number result ≡ from_le_bytes w128 bytes.now }
 
     // No other bundle has these bytes, so what was joined is split into the same parts.
-    ensures only { (raw : RawBundle) → IsBundle raw → number_of raw ≡ from_le_bytes w128 bytes.now → raw ≡ result }
+    ensures only { (raw : RawBundle) → HasWidths raw → bundle_number raw ≡ from_le_bytes w128 bytes.now → raw ≡ result }
 {
     let number = u128::from_le_bytes(*bytes);
     let slots = number / TEMPLATES;
@@ -49,13 +49,13 @@ pub fn split(bytes: &[u8; 16]) -> RawBundle
 
 /// The sixteen bytes of a bundle: the way back from [`split`].
 pub fn join(raw: &RawBundle) -> [u8; 16]
-    requires { IsBundle raw.now }
+    requires { HasWidths raw.now }
 
     // The bytes as a little-endian number are template + slot 0 * 2^5 + slot 1 * 2^46 + slot 2 * 2^87.
-    ensures number { from_le_bytes w128 result ≡ number_of raw.now }
+    ensures number { from_le_bytes w128 result ≡ bundle_number raw.now }
 
     // No other bytes have this number, so joining what was split gives the bytes back.
-    ensures only { (bytes : List ℕ) → AreBytes bytes → from_le_bytes w128 bytes ≡ number_of raw.now → bytes ≡ result }
+    ensures only { (bytes : List ℕ) → AreBytes bytes → from_le_bytes w128 bytes ≡ bundle_number raw.now → bytes ≡ result }
 {
     let number = u128::from(raw.template)
         + u128::from(raw.slots[0]) * TEMPLATES

@@ -1,7 +1,8 @@
 //! Bit fields of a word.
 
 ghost use Rattle.std.specs.Prelude.{◌≡◌, ℕ, ◌+◌, ◌*◌, ◌/◌, ◌%◌, ◌^◌, ◌<◌, ◌≤◌};
-ghost use Rattle.bundle_bits.specs.Bits.{bits_of, IsField, AreDisjoint};
+ghost use Rattle.bundle_bits.specs.Bits.{IsField, AreDisjoint};
+ghost use Rattle.bundle_bits.specs.Words.{bits};
 
 /// The `W` bits of a 64-bit word from bit `LO` up, where bit 0 is the lowest.
 ///
@@ -14,7 +15,7 @@ impl<const LO: u32, const W: u32> Field<LO, W> {
     /// The number in the field, its lowest bit counting 1.
     pub fn get(word: u64) -> u64
         requires { IsField LO W }
-        ensures value { result ≡ bits_of word LO W }
+        ensures value { result ≡ bits LO W word }
         ensures within { result < 2 ^ W }
     {
         (word >> LO) & (u64::MAX >> (64 - W))
@@ -25,13 +26,13 @@ impl<const LO: u32, const W: u32> Field<LO, W> {
     pub fn put(word: u64, value: u64) -> u64
         requires field { IsField LO W }
         requires fits { value < 2 ^ W }
-        ensures same { bits_of result LO W ≡ value }
+        ensures same { bits LO W result ≡ value }
 
         // Each field that shares no bit with this one keeps its number, be it a single bit.
-        ensures others { (low width : ℕ) → AreDisjoint LO W low width → bits_of result low width ≡ bits_of word low width }
+        ensures others { (low width : ℕ) → AreDisjoint LO W low width → bits low width result ≡ bits low width word }
 
         // As numbers: the field's old share goes, and its new one comes.
-        ensures sum { result + bits_of word LO W * 2 ^ LO ≡ word + value * 2 ^ LO }
+        ensures sum { result + bits LO W word * 2 ^ LO ≡ word + value * 2 ^ LO }
     {
         let old = Self::get(word) << LO;
         let new = value << LO;

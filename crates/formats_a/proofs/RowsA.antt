@@ -1,11 +1,12 @@
 -- What is read of the word of an A instruction is the instruction.
-use Rattle.std.proofs.Common.{◌≡◌, ℕ, ◌+◌, ◌-◌, ◌*◌, ◌^◌, ◌<◌, ◌≤◌, Bool, true, false, leb, ltb, eqb, sym, ◌∙◌, refl, arith}
+use Rattle.std.proofs.Common.{◌≡◌, ℕ, ◌+◌, ◌-◌, ◌*◌, ◌^◌, ◌<◌, ◌≤◌, Bool, true, false, leb, ltb, eqb, sym, ap, ◌∙◌, refl, arith}
 use Rattle.std.proofs.lemmas.Bool.{leb-true}
 use Rattle.std.specs.Prelude.{IsSome, unwrap_or}
-use Rattle.ia_insn.specs.Word.{bits, flag}
-use Rattle.ia_insn.specs.FormatsA.{x4, x2b, imm8_codes, compare, parallel_op, zero_codes, fields, IsInRange, IsListedA, word_a, CodeA}
-use Rattle.ia_insn.proofs.Words.{reads, Reads, is_layout, word-fits, least_of, word-reaches}
-use Rattle.ia_insn.proofs.Numbers.{signed-twos, twos-fits, flag-back}
+use Rattle.bundle_bits.specs.Words.{is_layout, the}
+use Rattle.ia_insn.specs.Signed.{flag}
+use Rattle.ia_insn.specs.FormatsA.{x4_of, x2b_of, imm8_codes, compare, parallel_op, zero_codes, fields, IsInRange, IsListedA, word_a, CodeA}
+use Rattle.bundle_bits.proofs.Words.{value_in, row, word-fits, least_of, word-reaches}
+use Rattle.ia_insn.proofs.Parts.{imm8-back, imm14-back, imm22-back}
 use Rattle.ia_insn.specs.declared.insn.Insn.{Insn}
 use Rattle.ia_insn.specs.declared.insn.Op.{Op}
 use Rattle.ia_insn.specs.declared.insn.Op.TheVariants.{Alu, ShlAdd, AluImm8, AddImm14, AddImm22, Cmp, CmpZero, CmpImm}
@@ -15,30 +16,30 @@ use Rattle.ia_insn.specs.declared.choices.Rel.{Rel}
 use Rattle.ia_insn.specs.declared.choices.Rel.TheVariants.{Eq, Ne, Lt, Ltu, Gt, Ge, Le}
 use Rattle.ia_insn.specs.declared.choices.CmpKind.{CmpKind}
 use Rattle.ia_insn.specs.declared.choices.CmpKind.TheVariants as kinds
-use Rattle.formats_a.specs.Reading.{alu_of, imm8_of, parallel_kind_of, rel_of, kind_of, zero_rel_of, imm8_at, alu_at, shl_add_at, alu_imm8_at, add_imm14_at, add_imm22_at, compare_at, compare_zero_at, compare_imm_at, integer_at, any_compare_at, op_at, candidate}
+use Rattle.formats_a.specs.Reading.{alu_of, imm8_of, parallel_kind_of, rel_of, kind_of, zero_rel_of, integer_in, add_imm22_in, compare_in, op_in, candidate}
 
 -- Each table of codes read backwards, and what of the codes tells formats apart.
 
-alu-back : (f : AluFn) → alu_of (x4 f) (x2b f) ≡ f
+alu-back : (f : AluFn) → alu_of (x4_of f) (x2b_of f) ≡ f
 alu-back Add = refl
 alu-back f = refl
 
-alu-low : (f : AluFn) → ltb (x4 f) 4 ≡ true
+alu-low : (f : AluFn) → ltb (x4_of f) 4 ≡ true
 alu-low Add = refl
 alu-low f = refl
 
 -- x4 of shift left and add is 4, or 6 with a pointer of 32 bits
-shl_add-back : (p4 : Bool) → (let x = 4 + flag p4 + flag p4 in (eqb x 6 ≡ p4) × (ltb x 4 ≡ false) × (ltb x 8 ≡ true))
+shl_add-back : (p4 : Bool) → (let x = 4 + 2 * flag p4 in (eqb x 6 ≡ p4) × (ltb x 4 ≡ false) × (ltb x 8 ≡ true))
 shl_add-back false = (refl, refl, refl)
 shl_add-back true = (refl, refl, refl)
 
-imm8-back : (f : AluFn) → IsSome (imm8_codes f) → (let x = unwrap_or (imm8_codes f) (0, 0) in (imm8_of x.0 x.1 ≡ f) × (ltb x.0 4 ≡ false) × (ltb x.0 8 ≡ false))
-imm8-back Sub listed = (refl, refl, refl)
-imm8-back And listed = (refl, refl, refl)
-imm8-back Andcm listed = (refl, refl, refl)
-imm8-back Or listed = (refl, refl, refl)
-imm8-back Xor listed = (refl, refl, refl)
-imm8-back f listed = absurd cc
+imm8_fn-back : (f : AluFn) → IsSome (imm8_codes f) → (let x = unwrap_or (imm8_codes f) (0, 0) in (imm8_of x.0 x.1 ≡ f) × (ltb x.0 4 ≡ false) × (ltb x.0 8 ≡ false))
+imm8_fn-back Sub listed = (refl, refl, refl)
+imm8_fn-back And listed = (refl, refl, refl)
+imm8_fn-back Andcm listed = (refl, refl, refl)
+imm8_fn-back Or listed = (refl, refl, refl)
+imm8_fn-back Xor listed = (refl, refl, refl)
+imm8_fn-back f listed = absurd cc
 
 compare-back : (kind : CmpKind) (rel : Rel) → IsSome (compare kind rel) → (let x = unwrap_or (compare kind rel) (0, 0, 0) in (rel_of x.0 x.1 x.2 ≡ rel) × (kind_of x.0 x.1 x.2 ≡ kind) × (eqb x.0 8 ≡ false) × (eqb x.0 9 ≡ false))
 compare-back kinds.Normal Lt listed = (refl, refl, refl, refl)
@@ -68,76 +69,53 @@ zero-back Ge listed = refl
 zero-back Lt listed = refl
 zero-back rel listed = absurd cc
 
--- x2 of registers is 0 or 1, and of an immediate 2 or 3
-low-flag : (b : Bool) → ltb 1 (flag b) ≡ false
-low-flag false = refl
-low-flag true = refl
+-- x2 of a compare of registers is 0, or 1 of four bytes
+low-flag : (b : Bool) → (let x = flag b in (eqb x 1 ≡ b) × (ltb 1 x ≡ false))
+low-flag false = (refl, refl)
+low-flag true = (refl, refl)
 
-high-flag : (b : Bool) → ltb 1 (2 + flag b) ≡ true
-high-flag false = refl
-high-flag true = refl
-
-high-flag-back : (b : Bool) → eqb (2 + flag b) 3 ≡ b
-high-flag-back false = refl
-high-flag-back true = refl
-
--- The parts of an immediate of 8, 14 and 22 bits make it.
-
-parts_of_8 : (u : ℕ) → u < 2 ^ 8 → bits 7 1 u * 128 + bits 0 7 u ≡ u
-parts_of_8 u fits = omega arith
-
-parts_of_14 : (u : ℕ) → u < 2 ^ 14 → bits 13 1 u * 8192 + bits 7 6 u * 128 + bits 0 7 u ≡ u
-parts_of_14 u fits = omega arith
-
-parts_of_22 : (u : ℕ) → u < 2 ^ 22 → bits 21 1 u * 2097152 + bits 16 5 u * 65536 + bits 7 9 u * 128 + bits 0 7 u ≡ u
-parts_of_22 u fits = omega arith
+-- x2a of an immediate of 14 bits is 2, or 3 with a pointer of 32 bits, and so is x2 of a compare of an immediate
+high-flag : (b : Bool) → (let x = 2 + flag b in (eqb x 3 ≡ b) × (ltb 1 x ≡ true))
+high-flag false = (refl, refl)
+high-flag true = (refl, refl)
 
 -- The fields of an instruction lie in 41 bits and share none.
 layout : (qp : ℕ) (op : Op) → is_layout 41 (fields qp op) ≡ true
 layout qp (Alu f r1 r2 r3) = refl
 layout qp op = refl
 
--- Each field of an instruction's word has its value.
-values : (w qp : ℕ) (op : Op) → CodeA (record { qp = qp; op = op }) w → Reads w (fields qp op)
-values w qp op code = reads (fields qp op) 41 (layout qp op) code.listed.fit w code.sum
-
-reads-op : (w qp : ℕ) (op : Op) → CodeA (record { qp = qp; op = op }) w → candidate w ≡ record { qp = qp; op = op }
-unfolding imm8_at alu_at shl_add_at alu_imm8_at add_imm14_at add_imm22_at compare_at compare_zero_at compare_imm_at integer_at any_compare_at op_at candidate
-reads-op w qp (Alu f r1 r2 r3) code =
-    let r = values w qp _ code in
-    simp (r.0, r.1.0, r.1.1.0, r.1.1.1.0, r.1.1.1.1.0, r.1.1.1.1.1.0, r.1.1.1.1.1.1.0, r.1.1.1.1.1.1.1.0, alu-low f, alu-back f) refl
-reads-op w qp (ShlAdd p4 r1 r2 count r3) code =
-    let r = values w qp _ code in
+-- What is read of the fields of an instruction is the instruction.
+back : (w qp : ℕ) (op : Op) → IsInRange qp op → candidate (value_in w (fields qp op)) ≡ record { qp = qp; op = op }
+unfolding integer_in add_imm22_in compare_in op_in candidate
+back w qp (Alu f r1 r2 r3) range = simp (alu-low f, alu-back f) refl
+back w qp (ShlAdd p4 r1 r2 count r3) range =
     let t = shl_add-back p4 in
-    let back : count - 1 + 1 ≡ count = omega (arith, code.listed.range.1) in
-    simp (r.0, r.1.0, r.1.1.0, r.1.1.1.0, r.1.1.1.1.0, r.1.1.1.1.1.0, r.1.1.1.1.1.1.0, r.1.1.1.1.1.1.1.0, t.0, t.1, t.2, back) refl
-reads-op w qp (AluImm8 f r1 imm r3) code =
-    let r = values w qp _ code in
-    let t = imm8-back f code.listed.range.2 in
-    simp (r.0, r.1.0, r.1.1.0, r.1.1.1.0, r.1.1.1.1.0, r.1.1.1.1.1.0, r.1.1.1.1.1.1.0, r.1.1.1.1.1.1.1.0, r.1.1.1.1.1.1.1.1.0, t.0, t.1, t.2, parts_of_8 _ (twos-fits 8 (omega arith) imm code.listed.range.1), signed-twos 8 (omega arith) imm code.listed.range.1) refl
-reads-op w qp (AddImm14 p4 r1 imm r3) code =
-    let r = values w qp _ code in
-    simp (r.0, r.1.0, r.1.1.0, r.1.1.1.0, r.1.1.1.1.0, r.1.1.1.1.1.0, r.1.1.1.1.1.1.0, r.1.1.1.1.1.1.1.0, high-flag p4, high-flag-back p4, parts_of_14 _ (twos-fits 14 (omega arith) imm code.listed.range.1), signed-twos 14 (omega arith) imm code.listed.range.1) refl
-reads-op w qp (AddImm22 r1 imm r3) code =
-    let r = values w qp _ code in
-    simp (r.0, r.1.0, r.1.1.0, r.1.1.1.0, r.1.1.1.1.0, r.1.1.1.1.1.0, r.1.1.1.1.1.1.0, r.1.1.1.1.1.1.1.0, parts_of_22 _ (twos-fits 22 (omega arith) imm code.listed.range.1), signed-twos 22 (omega arith) imm code.listed.range.1) refl
-reads-op w qp (Cmp four rel kind p1 p2 r2 r3) code =
-    let r = values w qp _ code in
-    let t = compare-back kind rel code.listed.range.1 in
-    simp (r.0, r.1.0, r.1.1.0, r.1.1.1.0, r.1.1.1.1.0, r.1.1.1.1.1.0, r.1.1.1.1.1.1.0, r.1.1.1.1.1.1.1.0, r.1.1.1.1.1.1.1.1.0, r.1.1.1.1.1.1.1.1.1.0, t.0, t.1, t.2, t.3, low-flag four, flag-back four) refl
-reads-op w qp (CmpZero four rel kind p1 p2 r3) code =
-    let r = values w qp _ code in
-    let t = parallel-back kind code.listed.range.1 in
-    simp (r.0, r.1.0, r.1.1.0, r.1.1.1.0, r.1.1.1.1.0, r.1.1.1.1.1.0, r.1.1.1.1.1.1.0, r.1.1.1.1.1.1.1.0, r.1.1.1.1.1.1.1.1.0, t.0, t.1, t.2, low-flag four, flag-back four, zero-back rel code.listed.range.2) refl
-reads-op w qp (CmpImm four rel kind p1 p2 imm r3) code =
-    let r = values w qp _ code in
-    let t = compare-back kind rel code.listed.range.2 in
-    simp (r.0, r.1.0, r.1.1.0, r.1.1.1.0, r.1.1.1.1.0, r.1.1.1.1.1.0, r.1.1.1.1.1.1.0, r.1.1.1.1.1.1.1.0, r.1.1.1.1.1.1.1.1.0, r.1.1.1.1.1.1.1.1.1.0, t.0, t.1, t.2, t.3, high-flag four, high-flag-back four, parts_of_8 _ (twos-fits 8 (omega arith) imm code.listed.range.1), signed-twos 8 (omega arith) imm code.listed.range.1) refl
-reads-op w qp op code = absurd code.listed.range
+    let count-back : count - 1 + 1 ≡ count = omega (arith, range.1) in
+    simp (t.0, t.1, t.2, count-back) refl
+back w qp (AluImm8 f r1 imm r3) range =
+    let t = imm8_fn-back f range.2 in
+    simp (t.0, t.1, t.2, imm8-back imm range.1) refl
+back w qp (AddImm14 p4 r1 imm r3) range =
+    let x2a = high-flag p4 in
+    simp (x2a.0, x2a.1, imm14-back imm range.1) refl
+back w qp (AddImm22 r1 imm r3) range = simp (imm22-back imm range.1) refl
+back w qp (Cmp four rel kind p1 p2 r2 r3) range =
+    let t = compare-back kind rel range.1 in
+    let x2 = low-flag four in
+    simp (t.0, t.1, t.2, t.3, x2.0, x2.1) refl
+back w qp (CmpZero four rel kind p1 p2 r3) range =
+    let t = parallel-back kind range.1 in
+    let x2 = low-flag four in
+    simp (t.0, t.1, t.2, x2.0, x2.1, zero-back rel range.2) refl
+back w qp (CmpImm four rel kind p1 p2 imm r3) range =
+    let t = compare-back kind rel range.2 in
+    let x2 = high-flag four in
+    simp (t.0, t.1, t.2, t.3, x2.0, x2.1, imm8-back imm range.1) refl
+back w qp op range = absurd range
 
 -- The candidate of an instruction's word is the instruction.
-pub read_back : (i : Insn) (w : ℕ) → CodeA i w → candidate w ≡ i
-read_back i w code = reads-op w i.qp i.op code
+pub read_back : (i : Insn) (w : ℕ) → CodeA i w → candidate (the w) ≡ i
+read_back i w code = ap candidate (row (fields i.qp i.op) 41 (layout i.qp i.op) code.listed.fit w code.sum) ∙ back w i.qp i.op code.listed.range
 
 -- A word has 41 bits.
 pub word_is_below : (i : Insn) → IsListedA i → word_a i < 2 ^ 41

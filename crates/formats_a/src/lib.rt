@@ -16,7 +16,6 @@ ghost use Rattle.ia_insn.specs.FormatsA.{CodeA, IsListedA, word_a};
 ghost use Rattle.ia_insn.specs.declared.insn.Insn.{Insn};
 ghost use Rattle.formats_a.specs.Laws.{OneInstruction, OneWord, OpcodeIsHigh};
 
-mod fields;
 mod reading;
 mod writing;
 
@@ -84,6 +83,3 @@ pub fn one_word()
 pub fn opcode_is_high()
     ensures { OpcodeIsHigh }
 {}
-
-#[cfg(test)]
-mod tests;

@@ -4,15 +4,14 @@
 //! instruction, the instruction read here has another word, or none.
 
 ghost use Rattle.std.specs.Prelude.{◌≡◌};
-ghost use Rattle.formats_a.specs.Reading.{logic_of, alu_of, imm8_of, parallel_kind_of, rel_of, kind_of, zero_rel_of, imm8_at, alu_at, shl_add_at, alu_imm8_at, add_imm14_at, add_imm22_at, compare_at, compare_zero_at, compare_imm_at, integer_at, any_compare_at, op_at, candidate};
+ghost use Rattle.bundle_bits.specs.Words.{the};
+ghost use Rattle.formats_a.specs.Reading.{logic_of, alu_of, imm8_of, parallel_kind_of, rel_of, kind_of, zero_rel_of, integer_in, add_imm22_in, compare_in, op_in, candidate};
 
-use crate::fields::{
-    C, Ct2d, Imm5c, Imm6d, Imm7b, Imm9d, Major, P1, P2, Qp, R1, R2, R3, R3Short, S, Ta, Tb, X2,
-    X2b, X4,
-};
-use ia_insn::{AluFn, CmpKind, Gr, Insn, Op, Pr, Rel, sign_extended};
+use ia_insn::fields::{C, Ct2d, Major, P1, P2, Qp, R1, R2, R3, R3A5, Ta, Tb, X2, X2a, X2b, X4};
+use ia_insn::immediates::{imm8, imm14, imm22};
+use ia_insn::{AluFn, CmpKind, Gr, Insn, Op, Pr, Rel};
 
-/// One of the logical operations, by x2b.
+/// A logical operation, by x2b.
 fn read_logic(x2b: u64) -> AluFn
     ensures { result ≡ logic_of x2b }
 {
@@ -24,7 +23,7 @@ fn read_logic(x2b: u64) -> AluFn
     }
 }
 
-/// The operation on two registers.
+/// The operation on two registers, by x4 and x2b.
 fn read_alu_fn(x4: u64, x2b: u64) -> AluFn
     ensures { result ≡ alu_of x4 x2b }
 {
@@ -38,14 +37,14 @@ fn read_alu_fn(x4: u64, x2b: u64) -> AluFn
     }
 }
 
-/// The operation on an immediate and a register.
+/// The operation on an immediate and a register, by x4 and x2b.
 fn read_imm8_fn(x4: u64, x2b: u64) -> AluFn
     ensures { result ≡ imm8_of x4 x2b }
 {
     if x4 == 9 { AluFn::Sub } else { read_logic(x2b) }
 }
 
-/// The kind of a parallel compare.
+/// The type of a parallel compare (ctype), by the major opcode.
 fn read_parallel_kind(major: u64) -> CmpKind
     ensures { result ≡ parallel_kind_of major }
 {
@@ -56,7 +55,7 @@ fn read_parallel_kind(major: u64) -> CmpKind
     }
 }
 
-/// The relation of a compare of two operands.
+/// The relation of a compare of two operands (crel), by the major opcode, ta and c.
 fn read_rel(major: u64, ta: u64, c: u64) -> Rel
     ensures { result ≡ rel_of major ta c }
 {
@@ -69,7 +68,7 @@ fn read_rel(major: u64, ta: u64, c: u64) -> Rel
     }
 }
 
-/// The kind of a compare of two operands.
+/// The type of a compare of two operands (ctype), by the major opcode, ta and c.
 fn read_kind(major: u64, ta: u64, c: u64) -> CmpKind
     ensures { result ≡ kind_of major ta c }
 {
@@ -80,7 +79,7 @@ fn read_kind(major: u64, ta: u64, c: u64) -> CmpKind
     }
 }
 
-/// The relation of a compare of r0 and a register.
+/// The relation of a compare of r0 and a register (crel), by ta and c.
 fn read_zero_rel(ta: u64, c: u64) -> Rel
     ensures { result ≡ zero_rel_of ta c }
 {
@@ -92,174 +91,110 @@ fn read_zero_rel(ta: u64, c: u64) -> Rel
     }
 }
 
-/// The signed number of eight bits: bit 36, then bits 19:13.
-#[tactic(auto, unfolding(crate::specs::Reading::imm8_at))]
-fn read_imm8(word: u64) -> i64
-    ensures { result ≡ imm8_at word }
+/// A1 to A4: the operation of a word with major opcode 8, by x2a and x4.
+#[tactic(auto, unfolding(crate::specs::Reading::integer_in))]
+fn read_integer(word: u64) -> Op
+    ensures { result ≡ integer_in (the word) }
 {
-    sign_extended::<8>((S::get(word) << 7) + Imm7b::get(word))
-}
-
-/// A1: two registers.
-#[tactic(auto, unfolding(crate::specs::Reading::alu_at))]
-fn read_alu(word: u64) -> Op
-    ensures { result ≡ alu_at word }
-{
-    Op::Alu {
-        f: read_alu_fn(X4::get(word), X2b::get(word)),
-        r1: Gr::of_field(R1::get(word)),
-        r2: Gr::of_field(R2::get(word)),
-        r3: Gr::of_field(R3::get(word)),
+    let (x2a, x4, x2b) = (X2a::get(word), X4::get(word), X2b::get(word));
+    let r1 = Gr::of_field(R1::get(word));
+    let r3 = Gr::of_field(R3::get(word));
+    match (x2a, x4) {
+        (2.., _) => Op::AddImm14 {
+            p4: x2a == 3,
+            r1,
+            imm: imm14(word),
+            r3,
+        },
+        (_, 0..4) => Op::Alu {
+            f: read_alu_fn(x4, x2b),
+            r1,
+            r2: Gr::of_field(R2::get(word)),
+            r3,
+        },
+        (_, 4..8) => Op::ShlAdd {
+            p4: x4 == 6,
+            r1,
+            r2: Gr::of_field(R2::get(word)),
+            count: Ct2d::get(word) as u8 + 1,
+            r3,
+        },
+        _ => Op::AluImm8 {
+            f: read_imm8_fn(x4, x2b),
+            r1,
+            imm: imm8(word),
+            r3,
+        },
     }
 }
 
-/// A2: shift left and add.
-#[tactic(auto, unfolding(crate::specs::Reading::shl_add_at))]
-fn read_shl_add(word: u64) -> Op
-    ensures { result ≡ shl_add_at word }
-{
-    Op::ShlAdd {
-        p4: X4::get(word) == 6,
-        r1: Gr::of_field(R1::get(word)),
-        r2: Gr::of_field(R2::get(word)),
-        count: Ct2d::get(word) as u8 + 1,
-        r3: Gr::of_field(R3::get(word)),
-    }
-}
-
-/// A3: an immediate of 8 bits and a register.
-#[tactic(auto, unfolding(crate::specs::Reading::alu_imm8_at))]
-fn read_alu_imm8(word: u64) -> Op
-    ensures { result ≡ alu_imm8_at word }
-{
-    Op::AluImm8 {
-        f: read_imm8_fn(X4::get(word), X2b::get(word)),
-        r1: Gr::of_field(R1::get(word)),
-        imm: read_imm8(word),
-        r3: Gr::of_field(R3::get(word)),
-    }
-}
-
-/// A4: an immediate of 14 bits and a register.
-#[tactic(auto, unfolding(crate::specs::Reading::add_imm14_at))]
-fn read_add_imm14(word: u64) -> Op
-    ensures { result ≡ add_imm14_at word }
-{
-    let imm = (S::get(word) << 13) + (Imm6d::get(word) << 7) + Imm7b::get(word);
-    Op::AddImm14 {
-        p4: X2::get(word) == 3,
-        r1: Gr::of_field(R1::get(word)),
-        imm: sign_extended::<14>(imm),
-        r3: Gr::of_field(R3::get(word)),
-    }
-}
-
-/// A5: an immediate of 22 bits and one of r0 to r3.
-#[tactic(auto, unfolding(crate::specs::Reading::add_imm22_at))]
+/// A5: the operation of a word with major opcode 9.
+#[tactic(auto, unfolding(crate::specs::Reading::add_imm22_in))]
 fn read_add_imm22(word: u64) -> Op
-    ensures { result ≡ add_imm22_at word }
+    ensures { result ≡ add_imm22_in (the word) }
 {
-    let low = (Imm9d::get(word) << 7) + Imm7b::get(word);
-    let imm = (S::get(word) << 21) + (Imm5c::get(word) << 16) + low;
     Op::AddImm22 {
         r1: Gr::of_field(R1::get(word)),
-        imm: sign_extended::<22>(imm),
-        r3: Gr::of_field(R3Short::get(word)),
+        imm: imm22(word),
+        r3: Gr::of_field(R3A5::get(word)),
     }
 }
 
-/// A6: a compare of two registers.
-#[tactic(auto, unfolding(crate::specs::Reading::compare_at))]
+/// A6 to A8: the operation of a word with major opcode 12, 13 or 14, by x2 and tb.
+#[tactic(auto, unfolding(crate::specs::Reading::compare_in))]
 fn read_compare(word: u64) -> Op
-    ensures { result ≡ compare_at word }
+    ensures { result ≡ compare_in (the word) }
 {
-    Op::Cmp {
-        four: X2::get(word) == 1,
-        rel: read_rel(Major::get(word), Ta::get(word), C::get(word)),
-        kind: read_kind(Major::get(word), Ta::get(word), C::get(word)),
-        p1: Pr::of_field(P1::get(word)),
-        p2: Pr::of_field(P2::get(word)),
-        r2: Gr::of_field(R2::get(word)),
-        r3: Gr::of_field(R3::get(word)),
-    }
-}
-
-/// A7: a compare of r0 and a register.
-#[tactic(auto, unfolding(crate::specs::Reading::compare_zero_at))]
-fn read_compare_zero(word: u64) -> Op
-    ensures { result ≡ compare_zero_at word }
-{
-    Op::CmpZero {
-        four: X2::get(word) == 1,
-        rel: read_zero_rel(Ta::get(word), C::get(word)),
-        kind: read_parallel_kind(Major::get(word)),
-        p1: Pr::of_field(P1::get(word)),
-        p2: Pr::of_field(P2::get(word)),
-        r3: Gr::of_field(R3::get(word)),
-    }
-}
-
-/// A8: a compare of an immediate and a register.
-#[tactic(auto, unfolding(crate::specs::Reading::compare_imm_at))]
-fn read_compare_imm(word: u64) -> Op
-    ensures { result ≡ compare_imm_at word }
-{
-    Op::CmpImm {
-        four: X2::get(word) == 3,
-        rel: read_rel(Major::get(word), Ta::get(word), C::get(word)),
-        kind: read_kind(Major::get(word), Ta::get(word), C::get(word)),
-        p1: Pr::of_field(P1::get(word)),
-        p2: Pr::of_field(P2::get(word)),
-        imm: read_imm8(word),
-        r3: Gr::of_field(R3::get(word)),
-    }
-}
-
-/// The operation of a word with major opcode 8.
-#[tactic(auto, unfolding(crate::specs::Reading::integer_at))]
-fn read_integer(word: u64) -> Op
-    ensures { result ≡ integer_at word }
-{
-    if X2::get(word) > 1 {
-        return read_add_imm14(word);
-    }
-    match X4::get(word) {
-        0..4 => read_alu(word),
-        4..8 => read_shl_add(word),
-        _ => read_alu_imm8(word),
-    }
-}
-
-/// The operation of a word with major opcode 12, 13 or 14.
-#[tactic(auto, unfolding(crate::specs::Reading::any_compare_at))]
-fn read_any_compare(word: u64) -> Op
-    ensures { result ≡ any_compare_at word }
-{
-    if X2::get(word) > 1 {
-        read_compare_imm(word)
-    } else if Tb::get(word) == 0 {
-        read_compare(word)
-    } else {
-        read_compare_zero(word)
+    let (major, x2, ta, c) = (Major::get(word), X2::get(word), Ta::get(word), C::get(word));
+    let p1 = Pr::of_field(P1::get(word));
+    let p2 = Pr::of_field(P2::get(word));
+    let r3 = Gr::of_field(R3::get(word));
+    match (x2, Tb::get(word)) {
+        (2.., _) => Op::CmpImm {
+            four: x2 == 3,
+            rel: read_rel(major, ta, c),
+            kind: read_kind(major, ta, c),
+            p1,
+            p2,
+            imm: imm8(word),
+            r3,
+        },
+        (_, 0) => Op::Cmp {
+            four: x2 == 1,
+            rel: read_rel(major, ta, c),
+            kind: read_kind(major, ta, c),
+            p1,
+            p2,
+            r2: Gr::of_field(R2::get(word)),
+            r3,
+        },
+        _ => Op::CmpZero {
+            four: x2 == 1,
+            rel: read_zero_rel(ta, c),
+            kind: read_parallel_kind(major),
+            p1,
+            p2,
+            r3,
+        },
     }
 }
 
 /// The operation of a word, by its major opcode.
-#[tactic(auto, unfolding(crate::specs::Reading::op_at))]
+#[tactic(auto, unfolding(crate::specs::Reading::op_in))]
 fn read_op(word: u64) -> Op
-    ensures { result ≡ op_at word }
+    ensures { result ≡ op_in (the word) }
 {
     match Major::get(word) {
         8 => read_integer(word),
         9 => read_add_imm22(word),
-        _ => read_any_compare(word),
+        _ => read_compare(word),
     }
 }
 
 /// The instruction that a word is if it is that of an A instruction.
 #[tactic(auto, unfolding(crate::specs::Reading::candidate))]
 pub(crate) fn read(word: u64) -> Insn
-    ensures { result ≡ candidate word }
+    ensures { result ≡ candidate (the word) }
 {
     Insn {
         qp: Pr::of_field(Qp::get(word)),

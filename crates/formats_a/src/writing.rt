@@ -1,21 +1,19 @@
-//! The word of an instruction: one function for each format, which puts the fields in from the
-//! lowest up.
+//! The word of an instruction: the opcode extensions of its operation, and a row of fields for each
+//! format.
 
-ghost use Rattle.std.specs.Prelude.{◌≡◌, ◌<◌, ◌≤◌, IsSome, unwrap_or};
-ghost use Rattle.ia_insn.specs.Word.{FitsSigned};
-ghost use Rattle.ia_insn.specs.FormatsA.{x4, x2b, imm8_codes, compare, parallel_op, zero_codes, IsListedA, word_a};
-ghost use Rattle.ia_insn.specs.declared.insn.Op.TheVariants.{Alu, ShlAdd, AluImm8, AddImm14, AddImm22, Cmp, CmpZero, CmpImm};
+ghost use Rattle.std.specs.Prelude.{◌≡◌, IsSome, unwrap_or};
+ghost use Rattle.ia_insn.specs.FormatsA.{x4_of, x2b_of, imm8_codes, compare, parallel_op, zero_codes, IsListedA, word_a};
 
-use crate::fields::{
-    C, Ct2d, Imm5c, Imm6d, Imm7b, Imm9d, Major, P1, P2, Qp, R1, R2, R3, R3Short, S, Ta, Tb, X2,
-    X2b, X4,
+use bundle_bits::{Field, word_of_parts};
+use ia_insn::fields::{
+    C, Ct2d, Imm5c, Imm6d, Imm7b, Imm9d, Major, P1, P2, Qp, R1, R2, R3, R3A5, S, Ta, Tb, Ve, X2,
+    X2a, X2b, X4,
 };
-use bundle_bits::Field;
-use ia_insn::{AluFn, CmpKind, Gr, Insn, Op, Pr, Rel, twos_complement};
+use ia_insn::{AluFn, CmpKind, Insn, Op, Rel, twos_complement};
 
 /// x4 and x2b of an operation on two registers.
 fn codes_of_alu(f: AluFn) -> (u64, u64)
-    ensures { result ≡ (x4 f, x2b f) }
+    ensures { result ≡ (x4_of f, x2b_of f) }
 {
     match f {
         AluFn::Add => (0, 0),
@@ -45,7 +43,7 @@ fn codes_of_imm8(f: AluFn) -> (u64, u64)
     }
 }
 
-/// The major opcode, ta and c of a compare of two operands.
+/// The major opcode, ta and c of a compare of two operands, by its type (ctype) and relation (crel).
 fn codes_of_compare(kind: CmpKind, rel: Rel) -> (u64, u64, u64)
     requires { IsSome (compare kind rel) }
     ensures { result ≡ unwrap_or (compare kind rel) (0, 0, 0) }
@@ -67,7 +65,7 @@ fn codes_of_compare(kind: CmpKind, rel: Rel) -> (u64, u64, u64)
     }
 }
 
-/// The major opcode of a compare of r0 and a register.
+/// The major opcode of a compare of r0 and a register, by its type (ctype).
 fn major_of_parallel(kind: CmpKind) -> u64
     requires { IsSome (parallel_op kind) }
     ensures { result ≡ unwrap_or (parallel_op kind) 0 }
@@ -80,7 +78,7 @@ fn major_of_parallel(kind: CmpKind) -> u64
     }
 }
 
-/// ta and c of a compare of r0 and a register.
+/// ta and c of a compare of r0 and a register, by its relation (crel).
 fn codes_of_zero(rel: Rel) -> (u64, u64)
     requires { IsSome (zero_codes rel) }
     ensures { result ≡ unwrap_or (zero_codes rel) (0, 0) }
@@ -94,168 +92,94 @@ fn codes_of_zero(rel: Rel) -> (u64, u64)
     }
 }
 
-/// A1: two registers.
-fn write_alu(qp: Pr, f: AluFn, r1: Gr, r2: Gr, r3: Gr) -> u64
-    ensures { result ≡ word_a (record { qp = qp; op = Alu f r1 r2 r3 }) }
-{
-    let (x4, x2b) = codes_of_alu(f);
-    let word = Qp::put(0, u64::from(qp.number()));
-    let word = R1::put(word, u64::from(r1.number()));
-    let word = R2::put(word, u64::from(r2.number()));
-    let word = R3::put(word, u64::from(r3.number()));
-    let word = X2b::put(word, x2b);
-    let word = X4::put(word, x4);
-    Major::put(word, 8)
-}
-
-/// A2: shift left and add.
-fn write_shl_add(qp: Pr, p4: bool, r1: Gr, r2: Gr, count: u8, r3: Gr) -> u64
-    requires some { 1 ≤ count }
-    requires most { count ≤ 4 }
-    ensures { result ≡ word_a (record { qp = qp; op = ShlAdd p4 r1 r2 count r3 }) }
-{
-    let word = Qp::put(0, u64::from(qp.number()));
-    let word = R1::put(word, u64::from(r1.number()));
-    let word = R2::put(word, u64::from(r2.number()));
-    let word = R3::put(word, u64::from(r3.number()));
-    let word = Ct2d::put(word, u64::from(count) - 1);
-    let word = X4::put(word, if p4 { 6 } else { 4 });
-    Major::put(word, 8)
-}
-
-/// A3: an immediate of 8 bits and a register.
-fn write_alu_imm8(qp: Pr, f: AluFn, r1: Gr, imm: i64, r3: Gr) -> u64
-    requires fits { FitsSigned 8 imm }
-    requires listed { IsSome (imm8_codes f) }
-    ensures { result ≡ word_a (record { qp = qp; op = AluImm8 f r1 imm r3 }) }
-{
-    let (x4, x2b) = codes_of_imm8(f);
-    let bits = twos_complement::<8>(imm);
-    let word = Qp::put(0, u64::from(qp.number()));
-    let word = R1::put(word, u64::from(r1.number()));
-    let word = Imm7b::put(word, Field::<0, 7>::get(bits));
-    let word = R3::put(word, u64::from(r3.number()));
-    let word = X2b::put(word, x2b);
-    let word = X4::put(word, x4);
-    let word = S::put(word, Field::<7, 1>::get(bits));
-    Major::put(word, 8)
-}
-
-/// A4: an immediate of 14 bits and a register.
-fn write_add_imm14(qp: Pr, p4: bool, r1: Gr, imm: i64, r3: Gr) -> u64
-    requires { FitsSigned 14 imm }
-    ensures { result ≡ word_a (record { qp = qp; op = AddImm14 p4 r1 imm r3 }) }
-{
-    let bits = twos_complement::<14>(imm);
-    let word = Qp::put(0, u64::from(qp.number()));
-    let word = R1::put(word, u64::from(r1.number()));
-    let word = Imm7b::put(word, Field::<0, 7>::get(bits));
-    let word = R3::put(word, u64::from(r3.number()));
-    let word = Imm6d::put(word, Field::<7, 6>::get(bits));
-    let word = X2::put(word, if p4 { 3 } else { 2 });
-    let word = S::put(word, Field::<13, 1>::get(bits));
-    Major::put(word, 8)
-}
-
-/// A5: an immediate of 22 bits and one of r0 to r3.
-fn write_add_imm22(qp: Pr, r1: Gr, imm: i64, r3: Gr) -> u64
-    requires fits { FitsSigned 22 imm }
-    requires short { r3 < 4 }
-    ensures { result ≡ word_a (record { qp = qp; op = AddImm22 r1 imm r3 }) }
-{
-    let bits = twos_complement::<22>(imm);
-    let word = Qp::put(0, u64::from(qp.number()));
-    let word = R1::put(word, u64::from(r1.number()));
-    let word = Imm7b::put(word, Field::<0, 7>::get(bits));
-    let word = R3Short::put(word, u64::from(r3.number()));
-    let word = Imm5c::put(word, Field::<16, 5>::get(bits));
-    let word = Imm9d::put(word, Field::<7, 9>::get(bits));
-    let word = S::put(word, Field::<21, 1>::get(bits));
-    Major::put(word, 9)
-}
-
-/// A6: a compare of two registers.
-fn write_compare(qp: Pr, four: bool, rel: Rel, kind: CmpKind, p1: Pr, p2: Pr, r2: Gr, r3: Gr) -> u64
-    requires { IsSome (compare kind rel) }
-    ensures { result ≡ word_a (record { qp = qp; op = Cmp four rel kind p1 p2 r2 r3 }) }
-{
-    let (major, ta, c) = codes_of_compare(kind, rel);
-    let word = Qp::put(0, u64::from(qp.number()));
-    let word = P1::put(word, u64::from(p1.number()));
-    let word = C::put(word, c);
-    let word = R2::put(word, u64::from(r2.number()));
-    let word = R3::put(word, u64::from(r3.number()));
-    let word = P2::put(word, u64::from(p2.number()));
-    let word = Ta::put(word, ta);
-    let word = X2::put(word, u64::from(four));
-    Major::put(word, major)
-}
-
-/// A7: a compare of r0 and a register.
-fn write_compare_zero(qp: Pr, four: bool, rel: Rel, kind: CmpKind, p1: Pr, p2: Pr, r3: Gr) -> u64
-    requires parallel { IsSome (parallel_op kind) }
-    requires listed { IsSome (zero_codes rel) }
-    ensures { result ≡ word_a (record { qp = qp; op = CmpZero four rel kind p1 p2 r3 }) }
-{
-    let (ta, c) = codes_of_zero(rel);
-    let word = Qp::put(0, u64::from(qp.number()));
-    let word = P1::put(word, u64::from(p1.number()));
-    let word = C::put(word, c);
-    let word = R3::put(word, u64::from(r3.number()));
-    let word = P2::put(word, u64::from(p2.number()));
-    let word = Ta::put(word, ta);
-    let word = X2::put(word, u64::from(four));
-    let word = Tb::put(word, 1);
-    Major::put(word, major_of_parallel(kind))
-}
-
-/// A8: a compare of an immediate and a register.
-fn write_compare_imm(
-    qp: Pr,
-    four: bool,
-    rel: Rel,
-    kind: CmpKind,
-    p1: Pr,
-    p2: Pr,
-    imm: i64,
-    r3: Gr,
-) -> u64
-    requires fits { FitsSigned 8 imm }
-    requires listed { IsSome (compare kind rel) }
-    ensures { result ≡ word_a (record { qp = qp; op = CmpImm four rel kind p1 p2 imm r3 }) }
-{
-    let (major, ta, c) = codes_of_compare(kind, rel);
-    let bits = twos_complement::<8>(imm);
-    let word = Qp::put(0, u64::from(qp.number()));
-    let word = P1::put(word, u64::from(p1.number()));
-    let word = C::put(word, c);
-    let word = Imm7b::put(word, Field::<0, 7>::get(bits));
-    let word = R3::put(word, u64::from(r3.number()));
-    let word = P2::put(word, u64::from(p2.number()));
-    let word = Ta::put(word, ta);
-    let word = X2::put(word, if four { 3 } else { 2 });
-    let word = S::put(word, Field::<7, 1>::get(bits));
-    Major::put(word, major)
-}
-
-/// The word of an A instruction whose operands are in their ranges.
+/// The word of an A instruction whose operands are in their ranges: a row for each format, with its
+/// fields from the top down.
 pub(crate) fn write(insn: &Insn) -> u64
     requires { IsListedA insn.now }
     ensures { result ≡ word_a insn.now }
 {
-    let qp = insn.qp;
+    let qp = Qp::of(u64::from(insn.qp.number()));
     match insn.op {
-        Op::Alu { f, r1, r2, r3 } => write_alu(qp, f, r1, r2, r3),
+        // A1: two registers
+        Op::Alu { f, r1, r2, r3 } => {
+            let (x4, x2b) = codes_of_alu(f);
+            word_of_parts(&[
+                Major::of(8),
+                X2a::of(0),
+                Ve::of(0),
+                X4::of(x4),
+                X2b::of(x2b),
+                R3::of(u64::from(r3.number())),
+                R2::of(u64::from(r2.number())),
+                R1::of(u64::from(r1.number())),
+                qp,
+            ])
+        }
+        // A2: shift left and add
         Op::ShlAdd {
             p4,
             r1,
             r2,
             count,
             r3,
-        } => write_shl_add(qp, p4, r1, r2, count, r3),
-        Op::AluImm8 { f, r1, imm, r3 } => write_alu_imm8(qp, f, r1, imm, r3),
-        Op::AddImm14 { p4, r1, imm, r3 } => write_add_imm14(qp, p4, r1, imm, r3),
-        Op::AddImm22 { r1, imm, r3 } => write_add_imm22(qp, r1, imm, r3),
+        } => word_of_parts(&[
+            Major::of(8),
+            X2a::of(0),
+            Ve::of(0),
+            X4::of(if p4 { 6 } else { 4 }),
+            Ct2d::of(u64::from(count) - 1),
+            R3::of(u64::from(r3.number())),
+            R2::of(u64::from(r2.number())),
+            R1::of(u64::from(r1.number())),
+            qp,
+        ]),
+        // A3: an immediate of 8 bits and a register
+        Op::AluImm8 { f, r1, imm, r3 } => {
+            let (x4, x2b) = codes_of_imm8(f);
+            let bits = twos_complement::<8>(imm);
+            word_of_parts(&[
+                Major::of(8),
+                S::of(Field::<7, 1>::get(bits)),
+                X2a::of(0),
+                Ve::of(0),
+                X4::of(x4),
+                X2b::of(x2b),
+                R3::of(u64::from(r3.number())),
+                Imm7b::of(Field::<0, 7>::get(bits)),
+                R1::of(u64::from(r1.number())),
+                qp,
+            ])
+        }
+        // A4: an immediate of 14 bits and a register
+        Op::AddImm14 { p4, r1, imm, r3 } => {
+            let bits = twos_complement::<14>(imm);
+            word_of_parts(&[
+                Major::of(8),
+                S::of(Field::<13, 1>::get(bits)),
+                X2a::of(if p4 { 3 } else { 2 }),
+                Ve::of(0),
+                Imm6d::of(Field::<7, 6>::get(bits)),
+                R3::of(u64::from(r3.number())),
+                Imm7b::of(Field::<0, 7>::get(bits)),
+                R1::of(u64::from(r1.number())),
+                qp,
+            ])
+        }
+        // A5: an immediate of 22 bits and one of r0 to r3
+        Op::AddImm22 { r1, imm, r3 } => {
+            let bits = twos_complement::<22>(imm);
+            word_of_parts(&[
+                Major::of(9),
+                S::of(Field::<21, 1>::get(bits)),
+                Imm9d::of(Field::<7, 9>::get(bits)),
+                Imm5c::of(Field::<16, 5>::get(bits)),
+                R3A5::of(u64::from(r3.number())),
+                Imm7b::of(Field::<0, 7>::get(bits)),
+                R1::of(u64::from(r1.number())),
+                qp,
+            ])
+        }
+        // A6: a compare of two registers
         Op::Cmp {
             four,
             rel,
@@ -264,7 +188,22 @@ pub(crate) fn write(insn: &Insn) -> u64
             p2,
             r2,
             r3,
-        } => write_compare(qp, four, rel, kind, p1, p2, r2, r3),
+        } => {
+            let (major, ta, c) = codes_of_compare(kind, rel);
+            word_of_parts(&[
+                Major::of(major),
+                Tb::of(0),
+                X2::of(u64::from(four)),
+                Ta::of(ta),
+                P2::of(u64::from(p2.number())),
+                R3::of(u64::from(r3.number())),
+                R2::of(u64::from(r2.number())),
+                C::of(c),
+                P1::of(u64::from(p1.number())),
+                qp,
+            ])
+        }
+        // A7: a compare of r0 and a register
         Op::CmpZero {
             four,
             rel,
@@ -272,7 +211,21 @@ pub(crate) fn write(insn: &Insn) -> u64
             p1,
             p2,
             r3,
-        } => write_compare_zero(qp, four, rel, kind, p1, p2, r3),
+        } => {
+            let (ta, c) = codes_of_zero(rel);
+            word_of_parts(&[
+                Major::of(major_of_parallel(kind)),
+                Tb::of(1),
+                X2::of(u64::from(four)),
+                Ta::of(ta),
+                P2::of(u64::from(p2.number())),
+                R3::of(u64::from(r3.number())),
+                C::of(c),
+                P1::of(u64::from(p1.number())),
+                qp,
+            ])
+        }
+        // A8: a compare of an immediate and a register
         Op::CmpImm {
             four,
             rel,
@@ -281,7 +234,22 @@ pub(crate) fn write(insn: &Insn) -> u64
             p2,
             imm,
             r3,
-        } => write_compare_imm(qp, four, rel, kind, p1, p2, imm, r3),
+        } => {
+            let (major, ta, c) = codes_of_compare(kind, rel);
+            let bits = twos_complement::<8>(imm);
+            word_of_parts(&[
+                Major::of(major),
+                S::of(Field::<7, 1>::get(bits)),
+                X2::of(if four { 3 } else { 2 }),
+                Ta::of(ta),
+                P2::of(u64::from(p2.number())),
+                R3::of(u64::from(r3.number())),
+                Imm7b::of(Field::<0, 7>::get(bits)),
+                C::of(c),
+                P1::of(u64::from(p1.number())),
+                qp,
+            ])
+        }
         _ => unreachable!(),
     }
 }

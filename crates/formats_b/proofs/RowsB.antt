@@ -1,27 +1,22 @@
 -- What is read of the word of a B instruction is the instruction.
-use Rattle.std.proofs.Common.{◌≡◌, ℕ, ◌+◌, ◌^◌, ◌<◌, Bool, true, false, eqb, sym, ◌∙◌, refl, arith}
-use Rattle.ia_insn.specs.Word.{flag}
-use Rattle.ia_insn.specs.FormatsB.{btype, fields, IsListedB, word_b, CodeB}
-use Rattle.ia_insn.proofs.Words.{reads, Reads, is_layout, word-fits}
-use Rattle.ia_insn.proofs.Numbers.{signed-twos, twos-fits, flag-back}
+use Rattle.std.proofs.Common.{◌≡◌, ℕ, ◌^◌, ◌<◌, true, false, sym, ap, ◌∙◌, refl, arith}
+use Rattle.bundle_bits.specs.Words.{is_layout, the}
+use Rattle.ia_insn.specs.FormatsB.{btype, fields, IsInRange, IsListedB, word_b, CodeB}
+use Rattle.bundle_bits.proofs.Words.{value_in, row, word-fits}
+use Rattle.ia_insn.proofs.Numbers.{flag-back}
+use Rattle.ia_insn.proofs.Parts.{branch_displacement-back, imm21-back}
 use Rattle.ia_insn.specs.declared.insn.Insn.{Insn}
 use Rattle.ia_insn.specs.declared.insn.Op.{Op}
 use Rattle.ia_insn.specs.declared.insn.Op.TheVariants.{Br, BrCall, BrInd, BrRet, BrCallInd, Clrrrb, Break, Nop, Hint}
 use Rattle.ia_insn.specs.declared.choices.BranchKind.{BranchKind}
 use Rattle.ia_insn.specs.declared.choices.BranchKind.TheVariants.{Cond}
 use Rattle.ia_insn.specs.declared.choices.Unit.TheVariants as units
-use Rattle.formats_b.specs.Reading.{kind_of, disp_at, imm21_at, br_at, br_call_at, br_ind_at, br_ret_at, br_call_ind_at, clrrrb_at, indirect_at, nop_or_hint_at, op_b_at, candidate_b}
-use Rattle.formats_b.proofs.Parts.{parts_of_21}
+use Rattle.formats_b.specs.ReadingB.{kind_of, indirect_in, nop_or_hint_in, op_in, candidate}
 
 -- The table of kinds read backwards.
 kind-back : (kind : BranchKind) → kind_of (btype kind) ≡ kind
 kind-back Cond = refl
 kind-back kind = refl
-
--- x6 of a clearing of the bases is that of no other instruction with its major opcode
-clrrrb-back : (pred_only : Bool) → (let x6 = 4 + flag pred_only in (eqb x6 0x20 ≡ false) × (eqb x6 0x21 ≡ false) × (eqb x6 0 ≡ false) × (eqb x6 5 ≡ pred_only))
-clrrrb-back false = (refl, refl, refl, refl)
-clrrrb-back true = (refl, refl, refl, refl)
 
 -- The fields of an instruction lie in 41 bits and share none.
 layout : (qp : ℕ) (op : Op) → is_layout 41 (fields qp op) ≡ true
@@ -30,45 +25,24 @@ layout qp (Nop units.B imm) = refl
 layout qp (Hint units.B imm) = refl
 layout qp op = refl
 
--- Each field of an instruction's word has its value.
-values : (w qp : ℕ) (op : Op) → CodeB (record { qp = qp; op = op }) w → Reads w (fields qp op)
-values w qp op code = reads (fields qp op) 41 (layout qp op) code.listed.fit w code.sum
-
-reads-op : (w qp : ℕ) (op : Op) → CodeB (record { qp = qp; op = op }) w → candidate_b w ≡ record { qp = qp; op = op }
-unfolding disp_at imm21_at br_at br_call_at br_ind_at br_ret_at br_call_ind_at clrrrb_at indirect_at nop_or_hint_at op_b_at candidate_b
-reads-op w qp (Br kind wh many clr disp) code =
-    let r = values w qp _ code in
-    simp (r.0, r.1.0, r.1.1.0, r.1.1.1.0, r.1.1.1.1.0, r.1.1.1.1.1.0, r.1.1.1.1.1.1.0, r.1.1.1.1.1.1.1.0, kind-back kind, flag-back many, flag-back clr, parts_of_21 _ (twos-fits 21 (omega arith) disp code.listed.range.1), signed-twos 21 (omega arith) disp code.listed.range.1) refl
-reads-op w qp (BrCall b1 wh many clr disp) code =
-    let r = values w qp _ code in
-    simp (r.0, r.1.0, r.1.1.0, r.1.1.1.0, r.1.1.1.1.0, r.1.1.1.1.1.0, r.1.1.1.1.1.1.0, r.1.1.1.1.1.1.1.0, flag-back many, flag-back clr, parts_of_21 _ (twos-fits 21 (omega arith) disp code.listed.range), signed-twos 21 (omega arith) disp code.listed.range) refl
-reads-op w qp (BrInd b2 wh many clr) code =
-    let r = values w qp _ code in
-    simp (r.0, r.1.0, r.1.1.0, r.1.1.1.0, r.1.1.1.1.0, r.1.1.1.1.1.0, r.1.1.1.1.1.1.0, r.1.1.1.1.1.1.1.0, flag-back many, flag-back clr) refl
-reads-op w qp (BrRet b2 wh many clr) code =
-    let r = values w qp _ code in
-    simp (r.0, r.1.0, r.1.1.0, r.1.1.1.0, r.1.1.1.1.0, r.1.1.1.1.1.0, r.1.1.1.1.1.1.0, r.1.1.1.1.1.1.1.0, flag-back many, flag-back clr) refl
-reads-op w qp (BrCallInd b1 b2 wh many clr) code =
-    let r = values w qp _ code in
-    simp (r.0, r.1.0, r.1.1.0, r.1.1.1.1.0, r.1.1.1.1.1.0, r.1.1.1.1.1.1.0, r.1.1.1.1.1.1.1.0, flag-back many, flag-back clr) refl
-reads-op w qp (Clrrrb pred_only) code =
-    let r = values w qp _ code in
-    let t = clrrrb-back pred_only in
-    simp (r.0, r.1.0, r.1.1.0, t.0, t.1, t.2, t.3) refl
-reads-op w qp (Break units.B imm) code =
-    let r = values w qp _ code in
-    simp (r.0, r.1.0, r.1.1.0, r.1.1.1.0, r.1.1.1.1.0, parts_of_21 imm code.listed.range) refl
-reads-op w qp (Nop units.B imm) code =
-    let r = values w qp _ code in
-    simp (r.0, r.1.0, r.1.1.0, r.1.1.1.0, r.1.1.1.1.0, parts_of_21 imm code.listed.range) refl
-reads-op w qp (Hint units.B imm) code =
-    let r = values w qp _ code in
-    simp (r.0, r.1.0, r.1.1.0, r.1.1.1.0, r.1.1.1.1.0, parts_of_21 imm code.listed.range) refl
-reads-op w qp op code = absurd code.listed.range
+-- What is read of the fields of an instruction is the instruction.
+back : (w qp : ℕ) (op : Op) → IsInRange qp op → candidate (value_in w (fields qp op)) ≡ record { qp = qp; op = op }
+unfolding indirect_in nop_or_hint_in op_in candidate
+back w qp (Br kind wh many clr disp) range = simp (kind-back kind, flag-back many, flag-back clr, branch_displacement-back disp range.1) refl
+back w qp (BrCall b1 wh many clr disp) range = simp (flag-back many, flag-back clr, branch_displacement-back disp range) refl
+back w qp (BrInd b2 wh many clr) range = simp (flag-back many, flag-back clr) refl
+back w qp (BrRet b2 wh many clr) range = simp (flag-back many, flag-back clr) refl
+back w qp (BrCallInd b1 b2 wh many clr) range = simp (flag-back many, flag-back clr) refl
+back w qp (Clrrrb false) range = refl
+back w qp (Clrrrb true) range = refl
+back w qp (Break units.B imm) range = simp (imm21-back imm range) refl
+back w qp (Nop units.B imm) range = simp (imm21-back imm range) refl
+back w qp (Hint units.B imm) range = simp (imm21-back imm range) refl
+back w qp op range = absurd range
 
 -- The candidate of an instruction's word is the instruction.
-pub read_back : (i : Insn) (w : ℕ) → CodeB i w → candidate_b w ≡ i
-read_back i w code = reads-op w i.qp i.op code
+pub read_back : (i : Insn) (w : ℕ) → CodeB i w → candidate (the w) ≡ i
+read_back i w code = ap candidate (row (fields i.qp i.op) 41 (layout i.qp i.op) code.listed.fit w code.sum) ∙ back w i.qp i.op code.listed.range
 
 -- A word has 41 bits.
 pub word_is_below : (i : Insn) → IsListedB i → word_b i < 2 ^ 41

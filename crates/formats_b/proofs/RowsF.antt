@@ -1,13 +1,14 @@
 -- What is read of the word of an F instruction is the instruction.
-use Rattle.std.proofs.Common.{◌≡◌, ℕ, ◌^◌, ◌<◌, true, sym, ◌∙◌, refl, arith}
-use Rattle.ia_insn.specs.FormatsF.{fields, IsListedF, word_f, CodeF}
-use Rattle.ia_insn.proofs.Words.{reads, Reads, is_layout, word-fits}
+use Rattle.std.proofs.Common.{◌≡◌, ℕ, ◌^◌, ◌<◌, true, sym, ap, ◌∙◌, refl, arith}
+use Rattle.bundle_bits.specs.Words.{is_layout, the}
+use Rattle.ia_insn.specs.FormatsF.{fields, IsInRange, IsListedF, word_f, CodeF}
+use Rattle.bundle_bits.proofs.Words.{value_in, row, word-fits}
+use Rattle.ia_insn.proofs.Parts.{imm21-back}
 use Rattle.ia_insn.specs.declared.insn.Insn.{Insn}
 use Rattle.ia_insn.specs.declared.insn.Op.{Op}
 use Rattle.ia_insn.specs.declared.insn.Op.TheVariants.{Break, Nop}
 use Rattle.ia_insn.specs.declared.choices.Unit.TheVariants as units
-use Rattle.formats_b.specs.Reading.{imm21_at, op_f_at, candidate_f}
-use Rattle.formats_b.proofs.Parts.{parts_of_21}
+use Rattle.formats_b.specs.ReadingF.{candidate}
 
 -- The fields of an instruction lie in 41 bits and share none.
 layout : (qp : ℕ) (op : Op) → is_layout 41 (fields qp op) ≡ true
@@ -15,23 +16,16 @@ layout qp (Break units.F imm) = refl
 layout qp (Nop units.F imm) = refl
 layout qp op = refl
 
--- Each field of an instruction's word has its value.
-values : (w qp : ℕ) (op : Op) → CodeF (record { qp = qp; op = op }) w → Reads w (fields qp op)
-values w qp op code = reads (fields qp op) 41 (layout qp op) code.listed.fit w code.sum
-
-reads-op : (w qp : ℕ) (op : Op) → CodeF (record { qp = qp; op = op }) w → candidate_f w ≡ record { qp = qp; op = op }
-unfolding imm21_at op_f_at candidate_f
-reads-op w qp (Break units.F imm) code =
-    let r = values w qp _ code in
-    simp (r.1.0, r.1.1.1.0, r.1.1.1.1.0, r.1.1.1.1.1.0, parts_of_21 imm code.listed.range) refl
-reads-op w qp (Nop units.F imm) code =
-    let r = values w qp _ code in
-    simp (r.1.0, r.1.1.1.0, r.1.1.1.1.1.0, r.1.1.1.1.1.1.0, parts_of_21 imm code.listed.range) refl
-reads-op w qp op code = absurd code.listed.range
+-- What is read of the fields of an instruction is the instruction.
+back : (w qp : ℕ) (op : Op) → IsInRange qp op → candidate (value_in w (fields qp op)) ≡ record { qp = qp; op = op }
+unfolding candidate
+back w qp (Break units.F imm) range = simp (imm21-back imm range) refl
+back w qp (Nop units.F imm) range = simp (imm21-back imm range) refl
+back w qp op range = absurd range
 
 -- The candidate of an instruction's word is the instruction.
-pub read_back : (i : Insn) (w : ℕ) → CodeF i w → candidate_f w ≡ i
-read_back i w code = reads-op w i.qp i.op code
+pub read_back : (i : Insn) (w : ℕ) → CodeF i w → candidate (the w) ≡ i
+read_back i w code = ap candidate (row (fields i.qp i.op) 41 (layout i.qp i.op) code.listed.fit w code.sum) ∙ back w i.qp i.op code.listed.range
 
 -- A word has 41 bits.
 pub word_is_below : (i : Insn) → IsListedF i → word_f i < 2 ^ 41

@@ -1,13 +1,14 @@
 -- What is read of the words of a long instruction is the instruction.
-use Rattle.std.proofs.Common.{◌≡◌, ℕ, ◌^◌, ◌<◌, true, sym, ◌∙◌, refl, arith}
-use Rattle.ia_insn.specs.FormatsX.{fields, low_of, IsListedX, word_x, CodeX}
-use Rattle.ia_insn.proofs.Words.{reads, Reads, is_layout, word-fits}
+use Rattle.std.proofs.Common.{◌≡◌, ℕ, ◌^◌, ◌<◌, true, sym, ap, ◌∙◌, refl, arith}
+use Rattle.bundle_bits.specs.Words.{is_layout, the}
+use Rattle.ia_insn.specs.FormatsX.{fields, low_of, IsInRange, IsListedX, word_x, CodeX}
+use Rattle.bundle_bits.proofs.Words.{value_in, row, word-fits}
 use Rattle.ia_insn.specs.declared.insn.Insn.{Insn}
 use Rattle.ia_insn.specs.declared.insn.Op.{Op}
 use Rattle.ia_insn.specs.declared.insn.Op.TheVariants.{Movl, Break, Nop}
 use Rattle.ia_insn.specs.declared.choices.Unit.TheVariants as units
-use Rattle.formats_b.specs.Reading.{imm62_at, movl_at, break_or_nop_x_at, op_x_at, candidate_x}
-use Rattle.formats_b.proofs.Parts.{parts_of_62, parts_of_64}
+use Rattle.formats_b.specs.ReadingX.{op_in, candidate}
+use Rattle.formats_b.proofs.Parts.{imm62-back, imm64-back}
 
 -- The fields of an instruction lie in 41 bits and share none.
 layout : (qp : ℕ) (op : Op) → is_layout 41 (fields qp op) ≡ true
@@ -15,26 +16,20 @@ layout qp (Break units.X imm) = refl
 layout qp (Nop units.X imm) = refl
 layout qp op = refl
 
--- Each field of an instruction's word has its value.
-values : (l w qp : ℕ) (op : Op) → CodeX (record { qp = qp; op = op }) l w → Reads w (fields qp op)
-values l w qp op code = reads (fields qp op) 41 (layout qp op) code.listed.fit w code.sum
-
-reads-op : (l w qp : ℕ) (op : Op) → CodeX (record { qp = qp; op = op }) l w → candidate_x l w ≡ record { qp = qp; op = op }
-unfolding imm62_at movl_at break_or_nop_x_at op_x_at candidate_x
-reads-op l w qp (Movl r1 imm) code =
-    let r = values l w qp _ code in
-    simp (r.0, r.1.0, r.1.1.0, r.1.1.1.0, r.1.1.1.1.0, r.1.1.1.1.1.1.0, r.1.1.1.1.1.1.1.0, r.1.1.1.1.1.1.1.1.0, code.low, parts_of_64 imm code.listed.range.1) refl
-reads-op l w qp (Break units.X imm) code =
-    let r = values l w qp _ code in
-    simp (r.0, r.1.0, r.1.1.1.0, r.1.1.1.1.0, r.1.1.1.1.1.0, code.low, parts_of_62 imm code.listed.range) refl
-reads-op l w qp (Nop units.X imm) code =
-    let r = values l w qp _ code in
-    simp (r.0, r.1.0, r.1.1.1.0, r.1.1.1.1.1.0, r.1.1.1.1.1.1.0, code.low, parts_of_62 imm code.listed.range) refl
-reads-op l w qp op code = absurd code.listed.range
+-- What is read of the L word and the fields of an instruction is the instruction.
+back : (w qp : ℕ) (op : Op) → IsInRange qp op → candidate (low_of op) (value_in w (fields qp op)) ≡ record { qp = qp; op = op }
+unfolding op_in candidate
+back w qp (Break units.X imm) range = simp (imm62-back imm range) refl
+back w qp (Movl r1 imm) range = simp (imm64-back imm range.1) refl
+back w qp (Nop units.X imm) range = simp (imm62-back imm range) refl
+back w qp op range = absurd range
 
 -- The candidate of an instruction's words is the instruction.
-pub read_back : (i : Insn) (l w : ℕ) → CodeX i l w → candidate_x l w ≡ i
-read_back i l w code = reads-op l w i.qp i.op code
+pub read_back : (i : Insn) (l w : ℕ) → CodeX i l w → candidate l (the w) ≡ i
+read_back i l w code =
+    ap (λ low. candidate low (the w)) code.low
+    ∙ ap (candidate (low_of i.op)) (row (fields i.qp i.op) 41 (layout i.qp i.op) code.listed.fit w code.sum)
+    ∙ back w i.qp i.op code.listed.range
 
 -- The words have 41 bits each.
 pub word_is_below : (i : Insn) → IsListedX i → word_x i < 2 ^ 41

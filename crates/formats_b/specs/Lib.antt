@@ -1,3 +1,5 @@
-pub mod Reading
-pub mod Writing
+pub mod Numbered
+pub mod ReadingB
+pub mod ReadingF
+pub mod ReadingX
 pub mod Laws

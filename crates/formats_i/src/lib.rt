@@ -16,7 +16,6 @@ ghost use Rattle.ia_insn.specs.FormatsI.{CodeI, IsListedI, word_i};
 ghost use Rattle.ia_insn.specs.declared.insn.Insn.{Insn};
 ghost use Rattle.formats_i.specs.Laws.{OneInstruction, OneWord, OpcodeIsLow};
 
-mod fields;
 mod reading;
 mod writing;
 
@@ -81,6 +80,3 @@ pub fn one_word()
 pub fn opcode_is_low()
     ensures { OpcodeIsLow }
 {}
-
-#[cfg(test)]
-mod tests;

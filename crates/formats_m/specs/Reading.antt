@@ -1,8 +1,11 @@
 -- What the decoder reads out of a word before it looks whether the word is that of an instruction:
 -- the one M instruction that the word can be, or any where it is that of none
 -- (volume 3, chapter 4, instruction formats, M1 to M5 and M20 to M48).
-use Rattle.std.specs.Prelude.{ℕ, ◌+◌, ◌*◌, ◌/◌, ◌%◌, ◌==◌, nat_lt, if◌then◌else◌}
-use Rattle.ia_insn.specs.Word.{bits, signed_of}
+use Rattle.std.specs.Prelude.{ℕ, ℤ, ◌+◌, ◌*◌, ◌/◌, ◌%◌, ◌==◌, nat_lt, if◌then◌else◌}
+use Rattle.bundle_bits.specs.Words.{Part}
+use Rattle.ia_insn.specs.Fields.{Major, Qp, M, X3, X2M24, X6M1, X4M24, X6, Y, R3, R2, R1, S, IM3, Imm7b, Imm7a, Sor, Sol, Sof, HintM1}
+use Rattle.ia_insn.specs.Immediates.{imm8_in, check_displacement_in, branch_displacement_in, imm21_in}
+use Rattle.ia_insn.specs.Signed.{signed_of}
 use Rattle.ia_insn.specs.declared.insn.Insn.{Insn}
 use Rattle.ia_insn.specs.declared.insn.Op.{Op}
 use Rattle.ia_insn.specs.declared.insn.Op.TheVariants.{Load, Store, ChkS, ChkA, Invala, InvalaE, Mf, MovToAr, MovFromAr, MovToArImm, Alloc, Break, Nop, Hint}
@@ -15,11 +18,11 @@ use Rattle.ia_insn.specs.declared.choices.Unit.TheVariants as units
 use Rattle.ia_insn.specs.declared.choices.Update.{Update}
 use Rattle.ia_insn.specs.declared.choices.Update.TheVariants as updates
 
--- how many bytes a load or a store with this x6 reaches
+-- how many bytes a load or a store with this x6 has
 abbrev pub size_of : ℕ → ℕ
 size_of x6 = if x6 % 4 == 0 then 1 else if x6 % 4 == 1 then 2 else if x6 % 4 == 2 then 4 else 8
 
--- the kind of the load with this x6
+-- the type of the load with this x6
 abbrev pub load_kind_of : ℕ → LoadKind
 load_kind_of x6 =
     if x6 / 4 == 0 then loads.Plain
@@ -33,96 +36,56 @@ load_kind_of x6 =
     else if x6 / 4 == 10 then loads.CClrAcq
     else loads.Fill
 
--- the kind of the store with this x6
+-- the type of the store with this x6
 abbrev pub store_kind_of : ℕ → StoreKind
 store_kind_of x6 = if x6 / 4 == 12 then stores.Plain else if x6 / 4 == 13 then stores.Rel else stores.Spill
 
--- the number of 21 bits: bit 36, then bits 25:6
-unfoldable pub imm21_at : ℕ → ℕ
-imm21_at w = bits 36 1 w * 1048576 + bits 6 20 w
+-- the immediate of 9 bits that a load adds to its base: M3
+abbrev pub load_imm9_in : ((ℕ → Part) → ℕ) → ℤ
+load_imm9_in the = signed_of 9 (the S * 256 + the IM3 * 128 + the Imm7b)
 
--- what a load adds to its base, by the major opcode and bit 36
-unfoldable pub load_update_at : ℕ → Update
-load_update_at w =
-    if bits 37 4 w == 5 then updates.Imm (signed_of 9 (bits 36 1 w * 256 + bits 27 1 w * 128 + bits 13 7 w))
-    else if bits 36 1 w == 1 then updates.Reg (bits 13 7 w)
-    else updates.None
+-- the immediate of 9 bits that a store adds to its base: M5
+abbrev pub store_imm9_in : ((ℕ → Part) → ℕ) → ℤ
+store_imm9_in the = signed_of 9 (the S * 256 + the IM3 * 128 + the Imm7a)
 
--- M1 to M3: a load
-unfoldable pub load_at : ℕ → Op
-load_at w = Load (size_of (bits 30 6 w)) (load_kind_of (bits 30 6 w)) (bits 28 2 w) (bits 6 7 w) (bits 20 7 w) (load_update_at w)
+-- M1 to M3: what a load adds to its base, by the major opcode and m
+unfoldable pub load_update_in : ((ℕ → Part) → ℕ) → Update
+load_update_in the =
+    if the Major == 4 then (if the M == 0 then updates.None else updates.Reg (the R2))
+    else updates.Imm (load_imm9_in the)
 
--- what a store adds to its base, by the major opcode
-unfoldable pub store_update_at : ℕ → Update
-store_update_at w =
-    if bits 37 4 w == 5 then updates.Imm (signed_of 9 (bits 36 1 w * 256 + bits 27 1 w * 128 + bits 6 7 w))
-    else updates.None
+-- M4 and M5: what a store adds to its base, by the major opcode
+unfoldable pub store_update_in : ((ℕ → Part) → ℕ) → Update
+store_update_in the = if the Major == 4 then updates.None else updates.Imm (store_imm9_in the)
 
--- M4 and M5: a store
-unfoldable pub store_at : ℕ → Op
-store_at w = Store (size_of (bits 30 6 w)) (store_kind_of (bits 30 6 w)) (bits 28 2 w) (bits 20 7 w) (bits 13 7 w) (store_update_at w)
+-- M1 to M5: major opcodes 4 and 5, by x6
+unfoldable pub memory_in : ((ℕ → Part) → ℕ) → Op
+memory_in the =
+    let x6 = the X6M1 in
+    if nat_lt x6 0x30 then Load (size_of x6) (load_kind_of x6) (the HintM1) (the R1) (the R3) (load_update_in the)
+    else Store (size_of x6) (store_kind_of x6) (the HintM1) (the R3) (the R2) (store_update_in the)
 
--- M20: a speculation check
-unfoldable pub chk_s_at : ℕ → Op
-chk_s_at w = ChkS units.M (bits 13 7 w) (signed_of 21 (bits 36 1 w * 1048576 + bits 20 13 w * 128 + bits 6 7 w))
+-- M24, M26, M30, M37 and M48: major opcode 0 with x3 0, by x4, x2 and y
+unfoldable pub system_in : ((ℕ → Part) → ℕ) → Op
+system_in the =
+    if the X4M24 == 0 then (if the X2M24 == 0 then Break units.M (imm21_in the) else Invala)
+    else if the X4M24 == 1 then (if the Y == 0 then Nop units.M (imm21_in the) else Hint units.M (imm21_in the))
+    else if the X4M24 == 2 then (if the X2M24 == 1 then InvalaE (the R1) else Mf)
+    else MovToArImm Unat (imm8_in the)
 
--- M22: an advanced load check
-unfoldable pub chk_a_at : ℕ → Op
-chk_a_at w = ChkA (bits 33 3 w == 5) (bits 6 7 w) (signed_of 21 (bits 36 1 w * 1048576 + bits 13 20 w))
+-- M22, and the formats of x3 0: major opcode 0, by x3
+unfoldable pub major_0_in : ((ℕ → Part) → ℕ) → Op
+major_0_in the = if the X3 == 0 then system_in the else ChkA (the X3 == 5) (the R1) (branch_displacement_in the)
 
--- M26: an invalidation of an ALAT entry
-unfoldable pub invala_e_at : ℕ → Op
-invala_e_at w = InvalaE (bits 6 7 w)
+-- M20, M29, M31 and M34: major opcode 1, by x3 and x6
+unfoldable pub major_1_in : ((ℕ → Part) → ℕ) → Op
+major_1_in the =
+    if the X3 == 0 then (if the X6 == 0x22 then MovFromAr (the R1) Unat else MovToAr Unat (the R2))
+    else if the X3 == 1 then ChkS units.M (the R2) (check_displacement_in the)
+    else Alloc (the R1) (the Sof) (the Sol) (the Sor)
 
--- M29: a move to ar.unat
-unfoldable pub mov_to_ar_at : ℕ → Op
-mov_to_ar_at w = MovToAr Unat (bits 13 7 w)
+unfoldable pub op_in : ((ℕ → Part) → ℕ) → Op
+op_in the = if the Major == 0 then major_0_in the else if the Major == 1 then major_1_in the else memory_in the
 
--- M31: a move from ar.unat
-unfoldable pub mov_from_ar_at : ℕ → Op
-mov_from_ar_at w = MovFromAr (bits 6 7 w) Unat
-
--- M30: a move of an immediate to ar.unat
-unfoldable pub mov_to_ar_imm_at : ℕ → Op
-mov_to_ar_imm_at w = MovToArImm Unat (signed_of 8 (bits 36 1 w * 128 + bits 13 7 w))
-
--- M34: an allocation of a register stack frame
-unfoldable pub alloc_at : ℕ → Op
-alloc_at w = Alloc (bits 6 7 w) (bits 13 7 w) (bits 20 7 w) (bits 27 4 w)
-
--- M37: a break
-unfoldable pub break_at : ℕ → Op
-break_at w = Break units.M (imm21_at w)
-
--- M48: a nop or a hint, by bit 26
-unfoldable pub nop_at : ℕ → Op
-nop_at w = if bits 26 1 w == 0 then Nop units.M (imm21_at w) else Hint units.M (imm21_at w)
-
--- major opcodes 4 and 5, by x6
-unfoldable pub memory_at : ℕ → Op
-memory_at w = if nat_lt (bits 30 6 w) 48 then load_at w else store_at w
-
--- major opcode 0 with x3 0, by x4 and x2
-unfoldable pub system_at : ℕ → Op
-system_at w =
-    if bits 27 4 w == 0 then (if bits 31 2 w == 0 then break_at w else Invala)
-    else if bits 27 4 w == 1 then nop_at w
-    else if bits 27 4 w == 2 then (if bits 31 2 w == 1 then invala_e_at w else Mf)
-    else mov_to_ar_imm_at w
-
--- major opcode 0, by x3
-unfoldable pub op0_at : ℕ → Op
-op0_at w = if bits 33 3 w == 0 then system_at w else chk_a_at w
-
--- major opcode 1, by x3 and x6
-unfoldable pub op1_at : ℕ → Op
-op1_at w =
-    if bits 33 3 w == 0 then (if bits 27 6 w == 42 then mov_to_ar_at w else mov_from_ar_at w)
-    else if bits 33 3 w == 1 then chk_s_at w
-    else alloc_at w
-
-unfoldable pub op_at : ℕ → Op
-op_at w = if bits 37 4 w == 0 then op0_at w else if bits 37 4 w == 1 then op1_at w else memory_at w
-
-unfoldable pub candidate : ℕ → Insn
-candidate w = record { qp = bits 0 6 w; op = op_at w }
+unfoldable pub candidate : ((ℕ → Part) → ℕ) → Insn
+candidate the = record { qp = the Qp; op = op_in the }

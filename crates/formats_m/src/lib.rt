@@ -1,12 +1,12 @@
 //! The M instructions: those of the memory unit, which go into an M slot (volume 3, chapter 4,
 //! instruction formats, M1 to M5 and M20 to M48).
 //!
-//! They are the loads and stores with their kinds, hints and updates of the base, the checks of
-//! speculative and advanced loads, the invalidations of the ALAT, the memory fence, the moves of
-//! ar.unat, the allocation of a register stack frame, and `break.m`, `nop.m` and `hint.m`.
-//! [`decode_m`] gives the instruction of a slot's word and [`encode_m`] the word of an
-//! instruction. Both are exact: a word with a bit set that its format leaves blank, a reserved
-//! code or an operand out of its range is that of no instruction.
+//! They are the loads and stores with their types, hints and updates of the base (the completers
+//! ldtype, ldhint, sttype and sthint), the checks of speculative and advanced loads, the
+//! invalidations of the ALAT, the memory fence, the moves of `ar.unat`, the allocation of a register
+//! stack frame, and `break.m`, `nop.m` and `hint.m`. [`decode_m`] gives the instruction of a slot's
+//! word and [`encode_m`] the word of an instruction. Both are exact: a word with a bit set that its
+//! format leaves blank, a reserved code or an operand out of its range is that of no instruction.
 //!
 //! Nothing here takes memory.
 #![tactic(auto)]
@@ -17,7 +17,6 @@ ghost use Rattle.ia_insn.specs.FormatsM.{CodeM, IsListedM, word_m};
 ghost use Rattle.ia_insn.specs.declared.insn.Insn.{Insn};
 ghost use Rattle.formats_m.specs.Laws.{OneInstruction, OneWord, OpcodeIsLow};
 
-mod fields;
 mod reading;
 mod writing;
 
@@ -84,6 +83,3 @@ pub fn one_word()
 pub fn opcode_is_low()
     ensures { OpcodeIsLow }
 {}
-
-#[cfg(test)]
-mod tests;

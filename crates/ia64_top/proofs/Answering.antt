@@ -1,14 +1,14 @@
 -- The stated output, where a source tells its bytes.
-use Rattle.std.proofs.Common.{◌≡◌, ℕ, ◌+◌, ◌<◌, ◌≤◌, List, [], length, take, Option, Some, None, refl, sym, ◌∙◌, subst, arith}
+use Rattle.std.proofs.Common.{◌≡◌, ℕ, ◌+◌, ◌<◌, ◌≤◌, List, [], length, length-drop, take, drop, Option, Some, None, refl, sym, ap, ◌∙◌, subst, arith}
 use Rattle.std.specs.Prelude.{◌↔◌, IfSome}
 use Rattle.std.specs.Io.KnownBytes.{Appends}
 use Rattle.std.proofs.KnownBytes.{Appends-nil}
 use Rattle.std.proofs.lemmas.Bool.{lt-ltb, le-ltb}
 use Rattle.io_seam.specs.Bytes.{LosesFirst}
 use Rattle.ia64_top.specs.declared.words.Command.{Command}
-use Rattle.ia64_top.specs.declared.words.Command.TheVariants.{Check}
+use Rattle.ia64_top.specs.declared.words.Command.TheVariants.{Wrap, Check}
 use Rattle.ia64_top.specs.declared.status.Status.{Status}
-use Rattle.ia64_top.specs.declared.status.Status.TheVariants.{Done, TooLong}
+use Rattle.ia64_top.specs.declared.status.Status.TheVariants.{Done, Words, TooLong}
 use Rattle.ia64_top.specs.Words.{command_of}
 use Rattle.ia_insn.specs.Programs.{Program}
 use Rattle.image_form.specs.Images.{Spells}
@@ -39,7 +39,7 @@ given_in_part words command (Some l) given new input bytes status e whole within
 
 -- an image is short
 short_image : ImageSize → (p : Program) (input : List ℕ) → Spells p input → length input ≤ input_limit
-short_image size p input s = let n = size p input s in let r = s.program.counts in omega (arith, n, r.bundles, r.entries, r.memory)
+short_image size p input s = let n = size p input s in let r = s.program.counts in omega (arith, n, r.bundles, r.entries, r.bytes)
 
 pub accepted_beyond : ImageSize → (words : List (List ℕ)) (left : Option (List ℕ)) → IfSome left (λ l. input_limit < length l) → IfSome left (λ input. command_of words ≡ Some Check → (p : Program) → Spells p input → IsPlain p → ((TooLong ≡ Done) ↔ IsFree p))
 accepted_beyond size words None h = tt
@@ -53,3 +53,17 @@ accepted_within words command (Some l) input status e whole h = λ f p s plain. 
 pub beyond : (P : Type 0) (left new : Option (List ℕ)) → P → IfSome left (λ l. P ↔ LosesFirst (input_limit + 1) l new) → IfSome left (λ l. input_limit < length l)
 beyond P None new p h = tt
 beyond P (Some l) new p h = let t = (h.0 p).0 in omega arith
+
+-- a source that is as it was lost no byte
+pub untouched : (left : Option (List ℕ)) → IfSome left (λ l. (Words ≡ TooLong) ↔ LosesFirst (input_limit + 1) l left)
+untouched None = tt
+untouched (Some l) = (λ e. cc, λ loses. let e : l ≡ drop (input_limit + 1) l = cc in absurd (omega (arith, loses.0, ap length e, length-drop (input_limit + 1) l)))
+
+-- what a command answers to an input within the limit is never that it is too long
+not_too_long : (command : Command) (input bytes : List ℕ) → IsCommandOutput command input bytes TooLong → ⊥
+not_too_long Wrap input bytes o = o
+not_too_long Check input bytes o = o
+
+pub read_whole : (P : Type 0) (command : Command) (left new : Option (List ℕ)) (input bytes : List ℕ) (status : Status) → ¬ P → IfSome left (λ l. P ↔ LosesFirst (input_limit + 1) l new) → IsCommandOutput command input bytes status → IfSome left (λ l. (status ≡ TooLong) ↔ LosesFirst (input_limit + 1) l new)
+read_whole P command None new input bytes status whole loses o = tt
+read_whole P command (Some l) new input bytes status whole loses o = (λ e. absurd (not_too_long command input bytes (subst (IsCommandOutput command input bytes) e o)), λ gone. absurd (whole (loses.1 gone)))

@@ -1,5 +1,8 @@
 mod Rising
-mod Reporting
+mod Adding
+mod Clashes
+mod Groups
+mod Walking
 mod Plain
 mod Printing
 mod Outputs

@@ -4,13 +4,13 @@ use Rattle.std.specs.Prelude.{◌↔◌, Contains, IfOk, Result, Ok, Err}
 use Rattle.ia_insn.specs.Programs.{Program}
 use Rattle.image_form.specs.declared.fault.ImageFault.{ImageFault}
 use Rattle.image_form.specs.Images.{magic, Spells, RawSpells}
-use Rattle.image_form.specs.Faults.{HasFault, HasRawFault}
+use Rattle.image_form.specs.Faults.{HasImageFault, HasRawFault}
 use Rattle.image_form.specs.Laws.{OneProgram, NoFaultWhereSpelled, NoFaultWhereRaw}
 use Rattle.ia64_top.specs.declared.status.Status.{Status}
 use Rattle.ia64_top.specs.declared.status.Status.TheVariants.{Done, Violated, Refused, NotYet}
 use Rattle.ia64_top.specs.declared.violation.Violation.{Violation}
 use Rattle.ia64_top.specs.declared.violation.Report.{Report}
-use Rattle.ia64_top.specs.Texts.{verdict_text}
+use Rattle.ia64_top.specs.Texts.{verdict_text, refusal_text}
 use Rattle.ia64_top.specs.Programs.{IsPlain}
 use Rattle.ia64_top.specs.Violations.{IsFree}
 use Rattle.ia64_top.specs.Verdicts.{IsVerdict}
@@ -69,7 +69,7 @@ only_answer one none input p mine NotYet s a = only_not_plain one none input p s
 only_answer one none input p mine status s a = absurd a
 
 -- an image with a fault has the output of its refusal alone
-pub only_refused : NoFaultWhereSpelled → (input : List ℕ) (fault : ImageFault) → BeginsAsImage input → HasFault input fault → (bytes : List ℕ) (other : Status) → IsCheckOutput input bytes other → other ≡ Refused
+pub only_refused : NoFaultWhereSpelled → (input : List ℕ) (fault : ImageFault) → BeginsAsImage input → HasImageFault input fault → (bytes : List ℕ) (other : Status) → IsCheckOutput input bytes other → other ≡ Refused
 only_refused none input fault m f bytes Done o = absurd (none o.0 input fault o.1 f)
 only_refused none input fault m f bytes Violated o = absurd (none o.0 input fault o.1 f)
 only_refused none input fault m f bytes Refused o = refl
@@ -109,6 +109,13 @@ pub only_raw_refused : NoFaultWhereRaw → (input : List ℕ) (fault : ImageFaul
 only_raw_refused none input fault f bytes Done o = absurd (none o.0 input fault o.1 f)
 only_raw_refused none input fault f bytes Refused o = refl
 only_raw_refused none input fault f bytes other o = absurd o
+
+-- the output of a refusal is one of the fault that it tells
+pub is_raw_refusal : (input : List ℕ) (fault : ImageFault) (bytes : List ℕ) (status : Status) → HasRawFault input fault → bytes ≡ refusal_text fault → status ≡ Refused → IsWrapOutput input bytes status
+is_raw_refusal input fault bytes status f printed e = subst (IsWrapOutput input bytes) (sym e) (fault, f, printed)
+
+pub is_refusal : (input : List ℕ) (fault : ImageFault) (bytes : List ℕ) (status : Status) → BeginsAsImage input → HasImageFault input fault → bytes ≡ refusal_text fault → status ≡ Refused → IsCheckOutput input bytes status
+is_refusal input fault bytes status m f printed e = subst (IsCheckOutput input bytes) (sym e) (m, (fault, f, printed))
 
 free_of_none : (p : Program) (report : Report) → IsVerdict p report → report.total ≡ 0 → IsFree p
 free_of_none p report v none w x = let c = v.list.has w x in omega (arith, c.1, v.shows.total)

@@ -8,5 +8,5 @@ nil_of [] e = refl
 nil_of (x ∷ l) e = absurd (omega arith)
 
 -- a program without entries and data whose bundles are plain
-pub plain : (p : Program) → length p.entries ≡ 0 → length p.memory ≡ 0 → ((n : ℕ) → n < length p.bundles → IsPlainAt p n) → IsPlain p
-plain p entries memory bundles = record { entries = nil_of p.entries entries; memory = nil_of p.memory memory; bundles = bundles }
+pub plain : (p : Program) → length p.entries ≡ 0 → length p.bytes ≡ 0 → ((n : ℕ) → n < length p.bundles → IsPlainAt p n) → IsPlain p
+plain p entries bytes bundles = record { entries = nil_of p.entries entries; bytes = nil_of p.bytes bytes; bundles = bundles }

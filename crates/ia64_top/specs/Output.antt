@@ -8,7 +8,7 @@ use Rattle.ia64_top.specs.declared.status.Status.TheVariants.{Done, Violated, Wo
 use Rattle.ia_insn.specs.Programs.{Program}
 use Rattle.image_form.specs.declared.fault.ImageFault.{ImageFault}
 use Rattle.image_form.specs.Images.{magic, Spells, RawSpells}
-use Rattle.image_form.specs.Faults.{HasFault, HasRawFault}
+use Rattle.image_form.specs.Faults.{HasImageFault, HasRawFault}
 use Rattle.ia64_top.specs.Words.{command_of}
 use Rattle.ia64_top.specs.Programs.{IsPlain}
 use Rattle.ia64_top.specs.Judgements.{IsJudgement}
@@ -34,9 +34,12 @@ IsUnjudged input = ¬ BeginsAsImage input ⊎ ((program : Program) × Spells pro
 
 -- What `check` writes and answers.
 abbrev pub IsCheckOutput : List ℕ → List ℕ → Status → Type 0
-IsCheckOutput input bytes Done = (program : Program) × Spells program input × IsPlain program × IsJudgement program bytes Done
-IsCheckOutput input bytes Violated = (program : Program) × Spells program input × IsPlain program × IsJudgement program bytes Violated
-IsCheckOutput input bytes Refused = BeginsAsImage input × ((fault : ImageFault) × HasFault input fault × (bytes ≡ refusal_text fault))
+IsCheckOutput input bytes Done =
+    (program : Program) × Spells program input × IsPlain program × IsJudgement program bytes Done
+IsCheckOutput input bytes Violated =
+    (program : Program) × Spells program input × IsPlain program × IsJudgement program bytes Violated
+IsCheckOutput input bytes Refused =
+    BeginsAsImage input × ((fault : ImageFault) × HasImageFault input fault × (bytes ≡ refusal_text fault))
 IsCheckOutput input bytes NotYet = IsUnjudged input × (bytes ≡ [])
 IsCheckOutput input bytes status = ⊥
 
@@ -51,7 +54,8 @@ IsCommandOutput Check input bytes status = IsCheckOutput input bytes status
 -- The bytes that are written and the status that is answered, for these words and this input.
 abbrev pub IsOutput : List (List ℕ) → List ℕ → List ℕ → Status → Type 0
 IsOutput words input bytes status = MatchOption (command_of words) (IsSilent Words bytes status)
-    (λ command. MatchBool (nat_lt input_limit (length input)) (IsSilent TooLong bytes status) (IsCommandOutput command input bytes status))
+    (λ command. MatchBool (nat_lt input_limit (length input)) (IsSilent TooLong bytes status)
+    (IsCommandOutput command input bytes status))
 
 -- The sink got the bytes of the output of this status.
 abbrev pub GivesOutput : List (List ℕ) → List ℕ → Option (List ℕ) → Option (List ℕ) → Status → Type 0
@@ -59,4 +63,6 @@ GivesOutput words input old new status = (bytes : List ℕ) × IsOutput words in
 
 -- The sink got a proper prefix of the bytes of some output.
 abbrev pub GivesPart : List (List ℕ) → List ℕ → Option (List ℕ) → Option (List ℕ) → Type 0
-GivesPart words input old new = (bytes : List ℕ) × (status : Status) × IsOutput words input bytes status × ((count : ℕ) × (count < length bytes) × Appends old new (take count bytes))
+GivesPart words input old new =
+    (bytes : List ℕ) × (status : Status) × IsOutput words input bytes status
+    × ((count : ℕ) × (count < length bytes) × Appends old new (take count bytes))

@@ -1,29 +1,39 @@
 -- A report that is under way.
-use Rattle.std.specs.Prelude.{◌≡◌, ℕ, ◌+◌, ◌*◌, ◌<◌, ◌≤◌, true, false, List, length}
+use Rattle.std.specs.Prelude.{◌≡◌, ℕ, ◌+◌, ◌-◌, ◌≤◌, ◌⊎◌, List, [], ◌∷◌, ◌++◌, length, take, Contains}
+use Rattle.ia_insn.specs.declared.insn.Op.{Op}
+use Rattle.ia_insn.specs.declared.place.Place.{Place}
+use Rattle.ia_insn.specs.Places.{IsStopped}
+use Rattle.ia_insn.specs.Programs.{Program}
+use Rattle.ia64_top.specs.declared.checker.Writer.{Writer}
 use Rattle.ia64_top.specs.declared.violation.Violation.{Violation}
 use Rattle.ia64_top.specs.declared.violation.Report.{Report}
-use Rattle.ia_insn.specs.Programs.{Program}
-use Rattle.ia64_top.specs.Programs.{number_of, insn_at, stop_after, is_break}
-use Rattle.ia64_top.specs.Violations.{Violates}
-use Rattle.ia64_top.specs.Verdicts.{rule_number, IsListOf, Shows}
+use Rattle.ia64_top.specs.Programs.{Writes}
+use Rattle.ia64_top.specs.Violations.{Breaks}
+use Rattle.ia64_top.specs.Verdicts.{IsListOf}
 
--- where a rule on two slots stands in the order, as one number: there are at most 2 ^ 14 slots and two rules
-abbrev pub rank : ℕ → ℕ → ℕ → ℕ
-rank second first rule = 32768 * second + 2 * first + rule
+-- A report got the violations that have P, in order, and no others. There are at most so many. It counts them, and
+-- shows them where there is room.
+pub record Adds (P : Violation → Type 0) (most : ℕ) (old new : Report) : Type 0 where
+  pub more : List Violation
+  pub list : IsListOf P more
+  pub few : length more ≤ most
+  pub total : new.total ≡ old.total + length more
+  pub shown : new.shown.items ≡ old.shown.items ++ take (100 - length old.shown.items) more
 
-abbrev pub rank_of : Violation → ℕ
-rank_of v = rank (number_of v.second) (number_of v.first) (rule_number v.rule)
+-- The slot at this place breaks a rule on a register that one of the writers writes. They stand before it in its group.
+pub record IsClash (writers : List Writer) (place : Place) (op : Op) (v : Violation) : Type 0 where
+  pub second : v.second ≡ place
+  pub first : Contains writers (record { place = v.first; register = v.resource })
+  pub broken : Breaks v.rule op v.resource
 
--- the violations before this place in the order are reported
-pub record ReportsBelow (p : Program) (report : Report) (n : ℕ) : Type 0 where
-  pub all : List Violation
-  pub list : IsListOf (λ v. Violates p v × (rank_of v < n)) all
-  pub shows : Shows report all
-  pub small : length all ≤ n
+-- the slot is a writer beside those before it, where it writes a register
+abbrev pub Joins : Place → Op → List Writer → List Writer → Type 0
+Joins place op old new =
+    ((r : ℕ) × Writes op r × (new ≡ old ++ record { place = place; register = r } ∷ []))
+    ⊎ (((r : ℕ) → ¬ Writes op r) × (new ≡ old))
 
--- The walk reaches the place, and the group that it belongs to began at start.
-pub record IsGroupUnderWay (p : Program) (start place : ℕ) : Type 0 where
-  pub within : start ≤ place
-  pub reached : (k : ℕ) → k < place → is_break (insn_at p k).op ≡ false
-  pub joined : (k : ℕ) → start ≤ k → k < place → stop_after p k ≡ false
-  pub begun : (k : ℕ) → k + 1 ≡ start → stop_after p k ≡ true
+-- The writers before the next slot of the walk: none where a stop ends the group, and else the slot beside
+-- those before it.
+abbrev pub GoesOn : Program → Place → Op → List Writer → List Writer → Type 0
+GoesOn p place op old new =
+    (IsStopped p.bundles place × (new ≡ [])) ⊎ (¬ IsStopped p.bundles place × Joins place op old new)

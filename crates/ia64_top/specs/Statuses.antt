@@ -1,7 +1,8 @@
 -- How a call of the top call may end.
 use Rattle.std.specs.Prelude.{ℕ}
 use Rattle.ia64_top.specs.declared.status.Status.{Status}
-use Rattle.ia64_top.specs.declared.status.Status.TheVariants.{Done, Violated, Words, Refused, TooLong, ReadFault, WriteFault, NoMemory, Limit, Faulted, NotYet}
+use Rattle.ia64_top.specs.declared.status.Status.TheVariants.{Done, Violated, Words, Refused, TooLong}
+use Rattle.ia64_top.specs.declared.status.Status.TheVariants.{ReadFault, WriteFault, NoMemory, Limit, Faulted, NotYet}
 
 -- the exit status
 abbrev pub status_number : Status → ℕ

@@ -1,24 +1,18 @@
 -- What is printed. Every line ends with a line feed.
 use Rattle.std.specs.Prelude.{ℕ, List, [], ◌∷◌, ◌++◌, ◌==◌, if◌then◌else◌, codes, decimal, flat_map}
 use Rattle.ia_insn.specs.declared.place.Place.{Place}
+use Rattle.ia_insn.specs.Texts.{gr_text, place_text}
 use Rattle.ia64_top.specs.declared.violation.Rule.{Rule}
 use Rattle.ia64_top.specs.declared.violation.Rule.TheVariants.{Raw, Waw}
 use Rattle.ia64_top.specs.declared.violation.Violation.{Violation}
 use Rattle.ia64_top.specs.declared.violation.Report.{Report}
 use Rattle.insn_codec.specs.declared.bundle.SlotFault.TheVariants.{ReservedTemplate, Unlisted}
 use Rattle.image_form.specs.declared.fault.ImageFault.{ImageFault}
-use Rattle.image_form.specs.declared.fault.ImageFault.TheVariants.{Short, Magic, Counts, Length, Entry, Bundle, Target, LongRun, Memory}
+use Rattle.image_form.specs.declared.fault.ImageFault.TheVariants.{Short, Magic, Counts, Length, Entry, Bundle}
+use Rattle.image_form.specs.declared.fault.ImageFault.TheVariants.{Target, LongRun, Memory}
 
 abbrev pub line : List ℕ → List ℕ
 line text = text ++ 10 ∷ []
-
--- `r` and the number in decimal
-abbrev pub register_text : ℕ → List ℕ
-register_text r = 114 ∷ decimal r
-
--- the bundle, a dot and the slot, in decimal
-abbrev pub place_text : Place → List ℕ
-place_text place = decimal place.bundle ++ (46 ∷ decimal place.slot)
 
 abbrev pub rule_text : Rule → List ℕ
 rule_text Raw = codes "RAW"
@@ -26,13 +20,16 @@ rule_text Waw = codes "WAW"
 
 -- the rule, the register, and the first and the second place, parted by spaces
 abbrev pub violation_text : Violation → List ℕ
-violation_text v = rule_text v.rule ++ codes " " ++ register_text v.resource ++ codes " " ++ place_text v.first ++ codes " " ++ place_text v.second
+violation_text v =
+    rule_text v.rule ++ codes " " ++ gr_text v.resource ++ codes " " ++ place_text v.first ++ codes " "
+    ++ place_text v.second
 
 -- `accepted`, or how many violations there are, and a line for each that is shown
 abbrev pub verdict_text : Report → List ℕ
 verdict_text report =
     if report.total == 0 then line (codes "accepted")
-    else line (codes "violations " ++ decimal report.total) ++ flat_map (λ v. line (violation_text v)) report.shown.items
+    else line (codes "violations " ++ decimal report.total)
+    ++ flat_map (λ v. line (violation_text v)) report.shown.items
 
 -- the bundle and the slot of a place
 abbrev pub slot_text : Place → List ℕ

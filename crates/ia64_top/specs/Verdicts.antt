@@ -1,5 +1,6 @@
 -- The verdict on a plain program.
-use Rattle.std.specs.Prelude.{◌≡◌, ◌<◌, ℕ, ◌⊎◌, List, [], ◌∷◌, Contains, length, take}
+use Rattle.std.specs.Prelude.{◌≡◌, ◌<◌, ℕ, ◌⊎◌, List, [], ◌∷◌, Contains, length, take, ⊤}
+use Rattle.ia_insn.specs.Places.{IsBefore}
 use Rattle.ia64_top.specs.declared.violation.Rule.{Rule}
 use Rattle.ia64_top.specs.declared.violation.Rule.TheVariants.{Raw, Waw}
 use Rattle.ia64_top.specs.declared.violation.Violation.{Violation}
@@ -12,27 +13,21 @@ rule_number Raw = 0
 rule_number Waw = 1
 
 -- Violations are in order of the second place, the first place, the rule and the register.
-abbrev pub numbers_of : Violation → List ℕ
-numbers_of v = v.second.bundle ∷ v.second.slot ∷ v.first.bundle ∷ v.first.slot ∷ rule_number v.rule ∷ v.resource ∷ []
+abbrev pub Precedes : Violation → Violation → Type 0
+Precedes v w =
+    IsBefore v.second w.second ⊎ ((v.second ≡ w.second) × (
+    IsBefore v.first w.first ⊎ ((v.first ≡ w.first) × (
+    (rule_number v.rule < rule_number w.rule) ⊎ ((v.rule ≡ w.rule) × (v.resource < w.resource))))))
 
--- at the first place where they differ, the first list has the smaller number
-abbrev pub IsLexBefore : List ℕ → List ℕ → Type 0
-IsLexBefore [] ys = ⊥
-IsLexBefore (x ∷ xs) [] = ⊥
-IsLexBefore (x ∷ xs) (y ∷ ys) = (x < y) ⊎ ((x ≡ y) × IsLexBefore xs ys)
+-- the violation precedes each of the list
+abbrev pub PrecedesAll : Violation → List Violation → Type 0
+PrecedesAll v [] = ⊤
+PrecedesAll v (w ∷ ws) = Precedes v w × PrecedesAll v ws
 
-abbrev pub IsBefore : Violation → Violation → Type 0
-IsBefore a b = IsLexBefore (numbers_of a) (numbers_of b)
-
--- the violation is before each of the list
-abbrev pub IsBeforeAll : Violation → List Violation → Type 0
-IsBeforeAll v [] = Unit {0}
-IsBeforeAll v (w ∷ ws) = IsBefore v w × IsBeforeAll v ws
-
--- each violation is before all later ones, so none stands twice
+-- each violation precedes all later ones, so none stands twice
 abbrev pub Rises : List Violation → Type 0
-Rises [] = Unit {0}
-Rises (v ∷ vs) = IsBeforeAll v vs × Rises vs
+Rises [] = ⊤
+Rises (v ∷ vs) = PrecedesAll v vs × Rises vs
 
 -- the rising list of all that has P, and of nothing else
 pub record IsListOf (P : Violation → Type 0) (all : List Violation) : Type 0 where
@@ -53,4 +48,6 @@ pub record IsVerdict (p : Program) (report : Report) : Type 0 where
 
 -- A program has one verdict.
 abbrev pub OneVerdict : Type 0
-OneVerdict = (p : Program) (report other : Report) → IsVerdict p report → IsVerdict p other → (report.total ≡ other.total) × (report.shown.items ≡ other.shown.items)
+OneVerdict =
+    (p : Program) (report other : Report) → IsVerdict p report → IsVerdict p other
+    → (report.total ≡ other.total) × (report.shown.items ≡ other.shown.items)

@@ -6,5 +6,7 @@ use Rattle.ia64_top.specs.declared.words.Command.TheVariants.{Wrap, Check}
 -- The command that the words are, where they are one: `wrap` or `check` alone. Upper and lower case
 -- differ.
 abbrev pub command_of : List (List ℕ) → Option Command
-command_of (word ∷ []) = if bytes_eq word (codes "wrap") then Some Wrap else if bytes_eq word (codes "check") then Some Check else None
+command_of (word ∷ []) =
+    if bytes_eq word (codes "wrap") then Some Wrap
+    else if bytes_eq word (codes "check") then Some Check else None
 command_of words = None

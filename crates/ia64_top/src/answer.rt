@@ -17,8 +17,8 @@ use crate::text::{refusal, verdict};
 use crate::words::Command;
 use ia_insn::Program;
 use image_form::{
-    ImageFault, no_fault_where_raw, no_fault_where_spelled, one_program, read_image, wrap_raw,
-    write_image,
+    ImageFault, is_image, no_fault_where_raw, no_fault_where_spelled, one_program, read_image,
+    wrap_raw, write_image,
 };
 use std::alloc::{AllocError, Global};
 
@@ -103,7 +103,7 @@ fn check_input(alloc: Global, input: &[u8]) -> Result<Answer, AllocError>
 {
     one_program();
     no_fault_where_spelled();
-    if !input.starts_with(b"IA64IMG1") {
+    if !is_image(input) {
         return Ok(unjudged(alloc));
     }
     match read_image(alloc, input) {

@@ -1,14 +1,15 @@
 //! The exact checker of plain programs.
 
-ghost use Rattle.std.specs.Prelude.{◌≡◌, ◌≢◌, ◌+◌, ◌*◌, ◌^◌, ◌<◌, ◌≤◌, ◌↔◌, ℕ, List, [], ◌∷◌, ◌++◌, length, take, IsTrue, MatchOption, OnOk, IfOk};
-ghost use Rattle.ia64_top.specs.Programs.{Reads, Writes, insn_at, slot_count};
-ghost use Rattle.ia64_top.specs.Violations.{Breaks, InOneGroup};
-ghost use Rattle.ia64_top.specs.Verdicts.{rule_number, IsVerdict, OneVerdict};
-ghost use Rattle.ia64_top.specs.Reports.{rank, ReportsBelow, IsGroupUnderWay};
+ghost use Rattle.std.specs.Prelude.{◌≡◌, ◌+◌, ◌-◌, ◌*◌, ◌^◌, ◌<◌, ◌↔◌, ℕ, [], ◌∷◌, ◌++◌, length, take, IsTrue, MatchOption, AllPairs, OnOk, IfOk};
+ghost use Rattle.ia_insn.specs.Places.{IsBefore};
+ghost use Rattle.ia64_top.specs.Programs.{Writes};
+ghost use Rattle.ia64_top.specs.Violations.{Breaks};
+ghost use Rattle.ia64_top.specs.Verdicts.{IsVerdict, OneVerdict};
+ghost use Rattle.ia64_top.specs.Reports.{Adds, IsClash, GoesOn};
 
-use crate::program::{has_stop, insn, is_break_op, place};
+use crate::program::is_break;
 use crate::violation::{Report, Rule, Violation};
-use ia_insn::{Gr, Op, Program};
+use ia_insn::{Gr, Op, Place, Program};
 use std::alloc::{AllocError, Global};
 
 /// A program has one verdict: no other count and no other list is stated for it.
@@ -19,31 +20,38 @@ pub fn one_verdict()
 /// How many violations a report shows.
 const SHOWN_LIMIT: usize = 100;
 
+/// A slot of the group under way that writes a general register.
+#[derive(Clone, Copy, Debug, PartialEq, Eq)]
+struct Writer {
+    place: Place,
+    register: Gr,
+}
+
 /// The general register that an instruction writes, if it writes one.
 fn target(op: &Op) -> Option<Gr>
-    ensures { MatchOption result ((r : ℕ) → Writes op.now r → ⊥) (λ r. Writes op.now r × ((q : ℕ) → Writes op.now q → q ≡ r)) }
+    ensures { MatchOption result ((r : ℕ) → ¬ Writes op.now r) (λ r. Writes op.now r) }
 {
     match op {
-        Op::Alu { r1, .. } if r1.number() != 0 => Some(*r1),
+        Op::Alu { r1, .. } if !r1.is_zero() => Some(*r1),
         _ => None,
     }
 }
 
+/// Whether an instruction does what the rule forbids with a register that an earlier slot writes.
 fn breaks(rule: Rule, op: &Op, register: Gr) -> bool
-    requires { register ≢ 0 }
     ensures { IsTrue result ↔ Breaks rule op.now register }
 {
-    match (rule, op) {
-        (Rule::Raw, Op::Alu { r2, r3, .. }) => *r2 == register || *r3 == register,
-        (Rule::Waw, Op::Alu { r1, .. }) => *r1 == register,
-        _ => false,
-    }
+    !register.is_zero()
+        && match (rule, op) {
+            (Rule::Raw, Op::Alu { r2, r3, .. }) => *r2 == register || *r3 == register,
+            (Rule::Waw, Op::Alu { r1, .. }) => *r1 == register,
+            _ => false,
+        }
 }
 
 /// Shows a violation where there is room.
 fn show(shown: &mut Vec<Violation>, violation: Violation) -> Result<(), AllocError>
-    requires { length shown.old.items ≤ 100 }
-    ensures { OnOk result (shown.new.items ≡ take 100 (shown.old.items ++ violation ∷ [])) }
+    ensures { OnOk result (shown.new.items ≡ shown.old.items ++ take (100 - length shown.old.items) (violation ∷ [])) }
 {
     if shown.len() < SHOWN_LIMIT {
         shown.push(violation)?;
@@ -53,76 +61,83 @@ fn show(shown: &mut Vec<Violation>, violation: Violation) -> Result<(), AllocErr
 
 /// Counts a violation that comes after all that are reported.
 fn note(report: &mut Report, violation: Violation) -> Result<(), AllocError>
-    requires room { report.old.total < 2 ^ 63 }
-    requires shown { length report.old.shown.items ≤ 100 }
+    requires { report.old.total < 2 ^ 63 }
     ensures total { OnOk result (report.new.total ≡ report.old.total + 1) }
-    ensures shown { OnOk result (report.new.shown.items ≡ take 100 (report.old.shown.items ++ violation ∷ [])) }
+    ensures shown { OnOk result (report.new.shown.items ≡ report.old.shown.items ++ take (100 - length report.old.shown.items) (violation ∷ [])) }
 {
     show(&mut report.shown, violation)?;
     report.total += 1;
     Ok(())
 }
 
-/// Reports what the rule says of two slots of a group.
+/// Reports what a rule says of a slot and an earlier one of its group, which writes a register.
 fn check_rule(
     report: &mut Report,
-    program: &Program,
-    first: usize,
-    second: usize,
     rule: Rule,
+    writer: &Writer,
+    second: Place,
+    op: &Op,
 ) -> Result<(), AllocError>
-    requires limit { length program.now.bundles ≤ 4096 }
-    requires group { InOneGroup program.now first second }
-    requires reported { ReportsBelow program.now report.old (rank second first (rule_number rule)) }
-    ensures { OnOk result (ReportsBelow program.now report.new (rank second first (rule_number rule) + 1)) }
+    requires { report.old.total < 2 ^ 63 }
+    ensures { OnOk result (Adds (λ v. IsClash (writer.now ∷ []) second op.now v × (v.rule ≡ rule)) 1 report.old report.new) }
 {
-    let Some(resource) = target(&insn(program, first).op) else {
-        return Ok(());
-    };
-    if breaks(rule, &insn(program, second).op, resource) {
+    if breaks(rule, op, writer.register) {
         let violation = Violation {
-            second: place(second),
-            first: place(first),
+            second,
+            first: writer.place,
             rule,
-            resource,
+            resource: writer.register,
         };
         note(report, violation)?;
     }
     Ok(())
 }
 
-/// Reports the violations of two slots of a group.
-fn check_pair(
+/// Reports the violations of a slot and an earlier one of its group, which writes a register.
+fn check_writer(
     report: &mut Report,
-    program: &Program,
-    first: usize,
-    second: usize,
+    writer: &Writer,
+    second: Place,
+    op: &Op,
 ) -> Result<(), AllocError>
-    requires limit { length program.now.bundles ≤ 4096 }
-    requires group { InOneGroup program.now first second }
-    requires reported { ReportsBelow program.now report.old (rank second first 0) }
-    ensures { OnOk result (ReportsBelow program.now report.new (rank second (first + 1) 0)) }
+    requires { report.old.total + 1 < 2 ^ 63 }
+    ensures { OnOk result (Adds (IsClash (writer.now ∷ []) second op.now) 2 report.old report.new) }
 {
-    check_rule(report, program, first, second, Rule::Raw)?;
-    check_rule(report, program, first, second, Rule::Waw)?;
+    check_rule(report, Rule::Raw, writer, second, op)?;
+    check_rule(report, Rule::Waw, writer, second, op)?;
     Ok(())
 }
 
-/// Reports the violations of a slot and the earlier ones of its group, which begins at `start`.
+/// Reports the violations of a slot and the earlier ones of its group that write registers.
 fn check_slot(
     report: &mut Report,
-    program: &Program,
-    start: usize,
-    second: usize,
+    writers: &[Writer],
+    second: Place,
+    op: &Op,
 ) -> Result<(), AllocError>
-    requires limit { length program.now.bundles ≤ 4096 }
-    requires group { IsGroupUnderWay program.now start second }
-    requires inside { second < slot_count program.now }
-    requires reported { ReportsBelow program.now report.old (rank second 0 0) }
-    ensures { OnOk result (ReportsBelow program.now report.new (rank (second + 1) 0 0)) }
+    requires room { report.old.total + 2 * length writers.now < 2 ^ 63 }
+    requires rise { AllPairs (λ a b. IsBefore a.place b.place) writers.now }
+    ensures { OnOk result (Adds (IsClash writers.now second op.now) (2 * length writers.now) report.old report.new) }
 {
-    for first in start..second {
-        check_pair(report, program, first, second)?;
+    for writer in writers {
+        check_writer(report, writer, second, op)?;
+    }
+    Ok(())
+}
+
+/// Goes past a slot: a stop ends the group, and else the slot is one of the earlier ones.
+fn go_on(
+    writers: &mut Vec<Writer>,
+    program: &Program,
+    place: Place,
+    op: &Op,
+) -> Result<(), AllocError>
+    ensures { OnOk result (GoesOn program.now place op.now writers.old.items writers.new.items) }
+{
+    if program.stop_after(place) {
+        writers.clear();
+    } else if let Some(register) = target(op) {
+        writers.push(Writer { place, register })?;
     }
     Ok(())
 }
@@ -135,15 +150,19 @@ pub(crate) fn check(alloc: Global, program: &Program) -> Result<Report, AllocErr
         total: 0,
         shown: Vec::new(alloc),
     };
-    let mut start = 0;
-    for second in 0..3 * program.bundle_count() as usize {
-        check_slot(&mut report, program, start, second)?;
-        if is_break_op(&insn(program, second).op) {
+    let mut writers = Vec::new(alloc);
+    prove!(program.bundle_count() > 0, "a program has a first place");
+    let mut reached = Some(Place::FIRST);
+    while let Some(place) = reached {
+        let Some(insn) = program.insn_at(place) else {
+            break;
+        };
+        check_slot(&mut report, &writers, place, &insn.op)?;
+        if is_break(&insn.op) {
             break;
         }
-        if has_stop(program, second) {
-            start = second + 1;
-        }
+        go_on(&mut writers, program, place, &insn.op)?;
+        reached = program.next(place);
     }
     Ok(report)
 }

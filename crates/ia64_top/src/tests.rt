@@ -1,25 +1,31 @@
 ghost use Rattle.std.specs.Prelude.{◌≤◌};
 
 use crate::{Status, Words, ia64};
+use ia_insn::{Br, Gr, Pr};
 use io_seam::{MemSink, MemSource, read_all};
 use std::alloc::Global;
+use std::process::Abort;
 use std::test::Fail;
-
-/// The head of an image of one bundle.
-const HEAD: [u8; 24] = *b"IA64IMG1\x01\0\0\0\0\0\0\0\0\0\0\0\0\0\0\0";
 
 /// Three `nop` and a stop.
 const NOPS: [u8; 16] = [
     0x01, 0x00, 0x00, 0x00, 0x01, 0x00, 0x00, 0x00, 0x00, 0x02, 0x00, 0x00, 0x00, 0x00, 0x04, 0x00,
 ];
 
+/// Three `nop` and no stop.
+const OPEN: [u8; 16] = [
+    0x00, 0x00, 0x00, 0x00, 0x01, 0x00, 0x00, 0x00, 0x00, 0x02, 0x00, 0x00, 0x00, 0x00, 0x04, 0x00,
+];
+
+/// Three `nop`, a stop inside and one at the end.
+const INNER: [u8; 16] = [
+    0x03, 0x00, 0x00, 0x00, 0x01, 0x00, 0x00, 0x00, 0x00, 0x02, 0x00, 0x00, 0x00, 0x00, 0x04, 0x00,
+];
+
 /// `nop.m 0`, `add r8=r9,r10`, `add r11=r8,r9` and a stop.
 const CLASH: [u8; 16] = [
     0x01, 0x00, 0x00, 0x00, 0x01, 0x00, 0x80, 0x48, 0x28, 0x00, 0x40, 0x60, 0x81, 0x48, 0x00, 0x80,
 ];
-
-/// What is printed of that bundle.
-const CLASH_TEXT: &str = "violations 1\nRAW r8 0.1 0.2\n";
 
 /// A reserved template.
 const RESERVED: [u8; 16] = [6, 0, 0, 0, 0, 0, 0, 0, 0, 0, 0, 0, 0, 0, 0, 0];
@@ -34,11 +40,62 @@ const BRANCH: [u8; 16] = [
     0x11, 0x00, 0x00, 0x00, 0x01, 0x00, 0x00, 0x00, 0x00, 0x02, 0x00, 0x00, 0x10, 0x00, 0x00, 0x40,
 ];
 
-/// The first bytes of the image of one bundle.
-fn image(alloc: Global, bundle: &[u8], len: usize) -> Result<Vec<u8>, Fail> {
-    let mut bytes = Vec::from_slice(alloc, &HEAD)?;
-    bytes.extend_from_slice(bundle)?;
-    bytes.truncate(len);
+/// What an input or an output is made of: the head of an image with these numbers, where there is
+/// one, entries, so many times a bundle, and an end.
+#[derive(Clone, Copy)]
+struct Parts<'a> {
+    head: Option<[u32; 4]>,
+    entries: &'a [u8],
+    count: usize,
+    bundle: [u8; 16],
+    end: &'a [u8],
+}
+
+/// So many times a bundle, and then an end.
+fn bare(count: usize, bundle: [u8; 16], end: &[u8]) -> Parts<'_> {
+    Parts {
+        head: None,
+        entries: b"",
+        count,
+        bundle,
+        end,
+    }
+}
+
+/// The head of an image with these numbers, and then the same.
+fn headed(numbers: [u32; 4], count: usize, bundle: [u8; 16], end: &[u8]) -> Parts<'_> {
+    Parts {
+        head: Some(numbers),
+        entries: b"",
+        count,
+        bundle,
+        end,
+    }
+}
+
+/// The image of so many times a bundle.
+fn image(count: u32, bundle: [u8; 16]) -> Parts<'static> {
+    headed([count, 0, 0, 0], count as usize, bundle, b"")
+}
+
+/// A text alone.
+fn text(text: &str) -> Parts<'_> {
+    bare(0, NOPS, text.as_bytes())
+}
+
+fn bytes_of(alloc: Global, parts: &Parts) -> Result<Vec<u8>, Fail> {
+    let mut bytes = Vec::new(alloc);
+    if let Some(numbers) = parts.head {
+        bytes.extend_from_slice(b"IA64IMG1")?;
+        for number in &numbers {
+            bytes.extend_from_slice(&number.to_le_bytes())?;
+        }
+    }
+    bytes.extend_from_slice(parts.entries)?;
+    for _ in 0..parts.count {
+        bytes.extend_from_slice(&parts.bundle)?;
+    }
+    bytes.extend_from_slice(parts.end)?;
     Ok(bytes)
 }
 
@@ -48,24 +105,6 @@ fn words(alloc: Global, list: &[&str]) -> Result<Words, Fail> {
         words.push(word.as_bytes())?;
     }
     Ok(words)
-}
-
-/// Bytes with one of them changed.
-fn changed(mut bytes: Vec<u8>, at: usize, byte: u8) -> Vec<u8> {
-    if at < bytes.len() {
-        bytes[at] = byte;
-    }
-    bytes
-}
-
-/// So many times a bundle, and then another one.
-fn line(alloc: Global, count: usize, bundle: &[u8], last: &[u8]) -> Result<Vec<u8>, Fail> {
-    let mut bytes = Vec::new(alloc);
-    for _ in 0..count {
-        bytes.extend_from_slice(bundle)?;
-    }
-    bytes.extend_from_slice(last)?;
-    Ok(bytes)
 }
 
 /// The status and the output of a command on a source and a sink of these steps, whose calls of these
@@ -82,112 +121,179 @@ fn run(
 {
     let words = words(alloc, &[command])?;
     let mut source = MemSource::new(input, source.0, source.1);
-    let mut sink = MemSink::new(alloc, 2000, sink.0, sink.1)?;
+    let mut sink = MemSink::new(alloc, 70_000, sink.0, sink.1)?;
     let status = ia64(alloc, &words, &mut source, &mut sink);
     Ok((status.number(), Vec::from_slice(alloc, sink.bytes())?))
 }
 
-/// A command with calls that move up to 4,096 bytes and don't fail.
-fn run_whole(alloc: Global, command: &str, input: Vec<u8>) -> Result<(u8, Vec<u8>), Fail> {
-    run(
+/// A command with calls that move up to 4,096 bytes and don't fail has this status and this output.
+fn answers(
+    rt: &impl Abort,
+    alloc: Global,
+    command: &str,
+    input: &Parts,
+    status: u8,
+    output: &Parts,
+) -> Result<(), Fail> {
+    let (number, written) = run(
         alloc,
         command,
-        input,
+        bytes_of(alloc, input)?,
         (4096, Vec::new(alloc)),
         (4096, Vec::new(alloc)),
-    )
+    )?;
+    assert_eq!(rt; number, status);
+    assert_eq!(rt; written.as_slice(), bytes_of(alloc, output)?.as_slice());
+    Ok(())
 }
 
+/// The image of a branch to the next bundle, and of three `nop`.
+const BRANCHING: Parts<'static> = Parts {
+    head: Some([2, 0, 0, 0]),
+    entries: b"",
+    count: 1,
+    bundle: BRANCH,
+    end: &NOPS,
+};
+
+/// An image whose declared entry is no bundle from 1 on.
+const MISPLACED: Parts<'static> = Parts {
+    head: Some([1, 1, 0, 0]),
+    entries: &[1, 0, 0, 0],
+    count: 1,
+    bundle: NOPS,
+    end: b"",
+};
+
 #[test]
-fn programs_have_their_verdict(rt: HostRuntime) -> Result<(), Fail> {
+fn commands_have_their_output(rt: HostRuntime) -> Result<(), Fail> {
     let alloc = rt.alloc();
-    // A stop inside its bundle, and a branch: not judged yet.
-    let mut inner = NOPS;
-    inner[0] = 0x03;
-    let two = line(alloc, 1, &BRANCH, &NOPS)?;
-    let branching = changed(image(alloc, &two, 56)?, 8, 2);
-    let cases = [
-        (image(alloc, &NOPS, 40)?, 0, "accepted\n"),
-        (image(alloc, &CLASH, 40)?, 1, CLASH_TEXT),
-        (image(alloc, &inner, 40)?, 10, ""),
-        (branching, 10, ""),
-        (Vec::from_slice(alloc, b"{ .mii")?, 10, ""),
-        (Vec::new(alloc), 10, ""),
+    let long = headed([1, 0, 0, 0], 262_142, NOPS, b"8 bytes.");
+    let too_long = headed([1, 0, 0, 0], 262_142, NOPS, b"9 bytes..");
+    let rows = [
+        ("check", image(1, NOPS), 0, text("accepted\n")),
+        ("check", image(4096, NOPS), 0, text("accepted\n")),
+        (
+            "check",
+            image(1, CLASH),
+            1,
+            text("violations 1\nRAW r8 0.1 0.2\n"),
+        ),
+        // A stop inside its bundle, a branch, and no image: not judged yet.
+        ("check", image(1, INNER), 10, text("")),
+        ("check", BRANCHING, 10, text("")),
+        ("check", text("{ .mii"), 10, text("")),
+        ("check", text(""), 10, text("")),
+        // An input of 4,194,304 bytes is read, and no longer one.
+        ("check", long, 3, text("image: length\n")),
+        ("check", too_long, 4, text("")),
+        ("check", text("IA64IMG1"), 3, text("image: short\n")),
+        (
+            "check",
+            text("IA64IMG1 has 23 bytes.."),
+            3,
+            text("image: short\n"),
+        ),
+        (
+            "check",
+            headed([0, 0, 0, 0], 1, NOPS, b""),
+            3,
+            text("image: counts\n"),
+        ),
+        (
+            "check",
+            headed([1, 0, 0, 1], 1, NOPS, b""),
+            3,
+            text("image: counts\n"),
+        ),
+        (
+            "check",
+            headed([1, 0, 0, 0], 0, NOPS, b"bundle"),
+            3,
+            text("image: length\n"),
+        ),
+        ("check", MISPLACED, 3, text("image: entry 0\n")),
+        (
+            "check",
+            image(1, RESERVED),
+            3,
+            text("image: bundle 0: template\n"),
+        ),
+        (
+            "check",
+            image(1, UNLISTED),
+            3,
+            text("image: bundle 0 slot 2: unlisted\n"),
+        ),
+        (
+            "check",
+            image(1, BRANCH),
+            3,
+            text("image: bundle 0 slot 2: target\n"),
+        ),
+        ("wrap", bare(1, NOPS, b""), 0, image(1, NOPS)),
+        ("wrap", bare(4096, NOPS, b""), 0, image(4096, NOPS)),
+        ("wrap", bare(1, BRANCH, &NOPS), 0, BRANCHING),
+        ("wrap", text(""), 3, text("image: counts\n")),
+        ("wrap", bare(4097, NOPS, b""), 3, text("image: counts\n")),
+        ("wrap", bare(1, NOPS, b"!"), 3, text("image: length\n")),
+        (
+            "wrap",
+            bare(1, RESERVED, b""),
+            3,
+            text("image: bundle 0: template\n"),
+        ),
+        (
+            "wrap",
+            bare(4095, NOPS, &RESERVED),
+            3,
+            text("image: bundle 4095: template\n"),
+        ),
+        (
+            "wrap",
+            bare(4095, NOPS, &UNLISTED),
+            3,
+            text("image: bundle 4095 slot 2: unlisted\n"),
+        ),
+        (
+            "wrap",
+            bare(4095, NOPS, &BRANCH),
+            3,
+            text("image: bundle 4095 slot 2: target\n"),
+        ),
+        (
+            "wrap",
+            bare(65, OPEN, b""),
+            3,
+            text("image: bundle 64 slot 0: long run\n"),
+        ),
     ];
-    for (input, status, text) in cases {
-        let (number, output) = run_whole(alloc, "check", input)?;
-        assert_eq!(rt; number, status);
-        assert_eq!(rt; output.as_slice(), text.as_bytes());
+    for (command, input, status, output) in rows {
+        answers(&rt, alloc, command, &input, status, &output)?;
     }
     Ok(())
 }
 
 #[test]
-fn faults_of_an_image_have_their_texts(rt: HostRuntime) -> Result<(), Fail> {
+fn a_hundred_violations_are_shown(rt: HostRuntime) -> Result<(), Fail> {
     let alloc = rt.alloc();
-    let one = |bundle: &[u8]| image(alloc, bundle, 40);
-    let mut entry = changed(image(alloc, &[1, 0, 0, 0], 28)?, 12, 1);
-    entry.extend_from_slice(&NOPS)?;
-    let cases = [
-        (image(alloc, &NOPS, 8)?, "image: short\n"),
-        (image(alloc, &NOPS, 23)?, "image: short\n"),
-        (changed(one(&NOPS)?, 8, 0), "image: counts\n"),
-        (changed(one(&NOPS)?, 20, 1), "image: counts\n"),
-        (image(alloc, &NOPS, 30)?, "image: length\n"),
-        (entry, "image: entry 0\n"),
-        (one(&RESERVED)?, "image: bundle 0: template\n"),
-        (one(&UNLISTED)?, "image: bundle 0 slot 2: unlisted\n"),
-        (one(&BRANCH)?, "image: bundle 0 slot 2: target\n"),
-    ];
-    for (input, text) in cases {
-        let (number, output) = run_whole(alloc, "check", input)?;
-        assert_eq!(rt; number, 3);
-        assert_eq!(rt; output.as_slice(), text.as_bytes());
+    let mut output = String::from_str(alloc, "violations 101\n")?;
+    for n in 0..100 {
+        writeln!(output, "RAW r8 {n}.1 {n}.2")?;
     }
-    Ok(())
+    let (input, output) = (image(101, CLASH), text(output.as_str()));
+    answers(&rt, alloc, "check", &input, 1, &output)
 }
 
-#[test]
-fn bare_bundles_become_an_image(rt: HostRuntime) -> Result<(), Fail> {
-    let alloc = rt.alloc();
-    let (status, output) = run_whole(alloc, "wrap", Vec::from_slice(alloc, &NOPS)?)?;
-    assert_eq!(rt; status, 0);
-    assert_eq!(rt; output.as_slice(), image(alloc, &NOPS, 40)?.as_slice());
-    let (status, output) = run_whole(alloc, "wrap", line(alloc, 1, &BRANCH, &NOPS)?)?;
-    assert_eq!(rt; status, 0);
-    assert_eq!(rt; output.len(), 56);
-    let mut open = NOPS;
-    open[0] = 0x00;
-    let cases = [
-        (Vec::new(alloc), "image: counts\n"),
-        (line(alloc, 4096, &NOPS, &NOPS)?, "image: counts\n"),
-        (line(alloc, 1, &NOPS, &[0])?, "image: length\n"),
-        (
-            line(alloc, 0, &NOPS, &RESERVED)?,
-            "image: bundle 0: template\n",
-        ),
-        (
-            line(alloc, 4095, &NOPS, &RESERVED)?,
-            "image: bundle 4095: template\n",
-        ),
-        (
-            line(alloc, 4095, &NOPS, &UNLISTED)?,
-            "image: bundle 4095 slot 2: unlisted\n",
-        ),
-        (
-            line(alloc, 4095, &NOPS, &BRANCH)?,
-            "image: bundle 4095 slot 2: target\n",
-        ),
-        (
-            line(alloc, 64, &open, &open)?,
-            "image: bundle 64 slot 0: long run\n",
-        ),
-    ];
-    for (input, text) in cases {
-        let (number, output) = run_whole(alloc, "wrap", input)?;
-        assert_eq!(rt; number, 3);
-        assert_eq!(rt; output.as_slice(), text.as_bytes());
-    }
+/// The words are no command, and neither the source nor the sink is touched.
+fn leaves_the_source(rt: &impl Abort, alloc: Global, words: &Words) -> Result<(), Fail> {
+    let input = bytes_of(alloc, &image(1, NOPS))?;
+    let mut source = MemSource::new(input.clone()?, 16, Vec::new(alloc));
+    let mut sink = MemSink::new(alloc, 100, 16, Vec::new(alloc))?;
+    let status = ia64(alloc, words, &mut source, &mut sink);
+    assert_eq!(rt; status, Status::Words);
+    assert_eq!(rt; sink.bytes(), b"".as_slice());
+    assert_eq!(rt; read_all(alloc, &mut source, 100)?, input);
     Ok(())
 }
 
@@ -202,12 +308,14 @@ fn other_words_leave_the_source(rt: HostRuntime) -> Result<(), Fail> {
         &[],
     ];
     for row in rows {
-        let mut source = MemSource::new(image(alloc, &NOPS, 40)?, 16, Vec::new(alloc));
-        let mut sink = MemSink::new(alloc, 100, 16, Vec::new(alloc))?;
-        let status = ia64(alloc, &words(alloc, row)?, &mut source, &mut sink);
-        assert_eq!(rt; status, Status::Words);
-        assert_eq!(rt; sink.bytes().len(), 0);
-        assert_eq!(rt; read_all(alloc, &mut source, 100)?.len(), 40);
+        leaves_the_source(&rt, alloc, &words(alloc, row)?)?;
+    }
+
+    // Words of 1,000 bytes, alone and after a command.
+    for row in [&[] as &[&str], &["wrap"]] {
+        let mut words = words(alloc, row)?;
+        words.push(&vec![in alloc; b'w'; 1000]?)?;
+        leaves_the_source(&rt, alloc, &words)?;
     }
     Ok(())
 }
@@ -215,43 +323,38 @@ fn other_words_leave_the_source(rt: HostRuntime) -> Result<(), Fail> {
 #[test]
 fn faults_and_short_pieces(rt: HostRuntime) -> Result<(), Fail> {
     let alloc = rt.alloc();
+    let clash = image(1, CLASH);
+    let none = Vec::new(alloc);
     let first = vec![in alloc; 0u64]?;
-    let second = vec![in alloc; 1u64]?;
-    let (status, output) = run(
-        alloc,
-        "check",
-        image(alloc, &CLASH, 40)?,
-        (16, first),
-        (16, Vec::new(alloc)),
-    )?;
+    let input = bytes_of(alloc, &clash)?;
+    let (status, output) = run(alloc, "check", input, (16, first), (16, none))?;
     assert_eq!(rt; status, 5);
-    assert_eq!(rt; output.len(), 0);
-    let (status, output) = run(
-        alloc,
-        "check",
-        image(alloc, &CLASH, 40)?,
-        (16, Vec::new(alloc)),
-        (5, second),
-    )?;
+    assert_eq!(rt; output.as_slice(), b"".as_slice());
+
+    let none = Vec::new(alloc);
+    let second = vec![in alloc; 1u64]?;
+    let input = bytes_of(alloc, &clash)?;
+    let (status, output) = run(alloc, "check", input, (16, none), (5, second))?;
     assert_eq!(rt; status, 6);
     assert_eq!(rt; output.as_slice(), b"viola".as_slice());
-    let (status, output) = run(
-        alloc,
-        "check",
-        image(alloc, &CLASH, 40)?,
-        (1, Vec::new(alloc)),
-        (1, Vec::new(alloc)),
-    )?;
+
+    let (none, no_other) = (Vec::new(alloc), Vec::new(alloc));
+    let input = bytes_of(alloc, &clash)?;
+    let (status, output) = run(alloc, "check", input, (1, none), (1, no_other))?;
     assert_eq!(rt; status, 1);
-    assert_eq!(rt; output.as_slice(), CLASH_TEXT.as_bytes());
+    assert_eq!(rt;
+        output.as_slice(),
+        b"violations 1\nRAW r8 0.1 0.2\n".as_slice()
+    );
     Ok(())
 }
 
 #[test]
-fn an_input_past_the_limit(rt: HostRuntime) -> Result<(), Fail> {
-    let alloc = rt.alloc();
-    let (status, output) = run_whole(alloc, "check", vec![in alloc; 0u8; 4_194_305]?)?;
-    assert_eq!(rt; status, 4);
-    assert_eq!(rt; output.len(), 0);
+fn registers_print_their_names(rt: HostRuntime) -> Result<(), Fail> {
+    let mut names = String::new(rt.alloc());
+    if let (Some(r), Some(p), Some(b)) = (Gr::new(127), Pr::new(63), Br::new(7)) {
+        write!(names, "{r} {p} {b}")?;
+    }
+    assert_eq!(rt; names.as_str(), "r127 p63 b7");
     Ok(())
 }

@@ -1,15 +1,16 @@
 //! The top call.
 
-ghost use Rattle.std.specs.Prelude.{◌≡◌, ◌≢◌, ◌↔◌, ◌⊎◌, ℕ, List, None, Some, IfSome};
+ghost use Rattle.std.specs.Prelude.{◌≡◌, ◌≢◌, ◌≤◌, ◌+◌, ◌↔◌, ◌⊎◌, ℕ, List, None, Some, IsSome, IfSome};
 ghost use Rattle.std.specs.Io.KnownBytes.{IsAtEnd};
 ghost use Rattle.io_seam.specs.Faults.{Rose};
+ghost use Rattle.io_seam.specs.Bytes.{LosesFirst, LosesAtMost};
 ghost use Rattle.ia64_top.specs.Words.{command_of};
 ghost use Rattle.ia64_top.specs.Statuses.{IsAnswer};
 ghost use Rattle.ia_insn.specs.Programs.{Program};
 ghost use Rattle.image_form.specs.Images.{Spells};
 ghost use Rattle.ia64_top.specs.Programs.{IsPlain};
 ghost use Rattle.ia64_top.specs.Violations.{IsFree};
-ghost use Rattle.ia64_top.specs.Output.{IsOutput, GivesOutput, GivesPart};
+ghost use Rattle.ia64_top.specs.Output.{input_limit, IsOutput, GivesOutput, GivesPart};
 
 use crate::answer::respond;
 use crate::status::Status;
@@ -57,6 +58,20 @@ pub fn ia64<S: Source, K: Sink>(
     ensures write_fault { result ≡ Status.WriteFault → Rose (K.faults sink.old) (K.faults sink.new) }
     ensures written_part { result ≡ Status.WriteFault → IsAtEnd (S.left source.new) × (S.faults source.new ≡ S.faults source.old) × IfSome (S.left source.old) (λ input.
         GivesPart words.now input (K.given sink.old) (K.given sink.new)) }
+    ensures no_memory { result ≡ Status.NoMemory → S.faults source.new ≡ S.faults source.old }
+
+    // Whatever the status: the bytes that are gone from the source are its first ones, at most one
+    // more than the limit, and so many exactly where the input is too long.
+    ensures taken { IfSome (S.left source.old) (λ input.
+        LosesAtMost (input_limit + 1) input (S.left source.new)) }
+    ensures too_long { IfSome (S.left source.old) (λ input.
+        (result ≡ Status.TooLong) ↔ LosesFirst (input_limit + 1) input (S.left source.new)) }
+
+    // Neither count of faults falls, and bytes are told exactly where they were told before.
+    ensures source_never_falls { S.faults source.old ≤ S.faults source.new }
+    ensures sink_never_falls { K.faults sink.old ≤ K.faults sink.new }
+    ensures source_told { IsSome (S.left source.old) ↔ IsSome (S.left source.new) }
+    ensures sink_told { IsSome (K.given sink.old) ↔ IsSome (K.given sink.new) }
 {
     image_size();
     let Some(command) = words.command() else {

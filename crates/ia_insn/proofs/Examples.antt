@@ -1,7 +1,7 @@
 -- Words that the GNU assembler makes (binutils for ia64, with -xexplicit), against the definitions.
 use Rattle.std.proofs.Common.{◌≡◌, refl, true, false}
 use Rattle.std.specs.Prelude.{pos, negsuc}
-use Rattle.ia_insn.specs.Word.{word_of}
+use Rattle.bundle_bits.specs.Words.{word_of}
 use Rattle.ia_insn.specs.FormatsA as format_a
 use Rattle.ia_insn.specs.FormatsI as format_i
 use Rattle.ia_insn.specs.FormatsM as format_m

@@ -5,8 +5,8 @@ use Rattle.std.specs.Prelude.{IsSome, slice_get}
 use Rattle.ia_insn.specs.declared.place.Place.{Place}
 use Rattle.ia_insn.specs.declared.bundle.Slots.{Slots}
 use Rattle.ia_insn.specs.declared.bundle.Slots.TheVariants.{Three, Long}
-use Rattle.ia_insn.specs.Bundles.{Bundle}
-use Rattle.ia_insn.specs.Places.{slot_insn, last_slot, bundle_insn, insn_at, IsPlaceOf, IsBefore, IsNext}
+use Rattle.ia_insn.specs.Bundles.{Bundle, slot_insn, last_slot}
+use Rattle.ia_insn.specs.Places.{bundle_insn, insn_at, IsPlaceOf, IsBefore, IsNext}
 
 -- a slot has an instruction exactly up to the last
 slot_within : (slots : Slots) (slot : ℕ) → IsSome (slot_insn slots slot) → slot ≤ last_slot slots

@@ -1,7 +1,9 @@
-pub mod Words
 pub mod Numbers
+pub mod Parts
 mod Examples
 mod TemplateCodes
 pub mod InOrder
 pub mod Stops
 pub mod Reaching
+pub mod ProgramFaults
+pub mod OperandRanges

@@ -4,7 +4,7 @@ use Rattle.std.specs.Prelude.{ℤ, pos, negsuc}
 use Rattle.std.proofs.lemmas.Bool.{lt-ltb, le-ltb}
 use Rattle.std.proofs.lemmas.Nat.{pow_pos}
 use Rattle.std.proofs.Math.Nat.{pow-suc}
-use Rattle.ia_insn.specs.Word.{twos, FitsSigned, signed_of, flag}
+use Rattle.ia_insn.specs.Signed.{twos, FitsSigned, signed_of, flag}
 
 pub half : (width : ℕ) → 1 ≤ width → 2 ^ width ≡ 2 ^ (width - 1) + 2 ^ (width - 1)
 half width h = ap (λ k. 2 ^ k) (let e : width ≡ suc (width - 1) = omega arith in e) ∙ pow-suc 2 (width - 1) ∙ (omega arith)

@@ -3,7 +3,9 @@ use Rattle.std.proofs.Common.{◌≡◌, ℕ, ◌+◌, ◌-◌, ◌*◌, ◌<◌
 use Rattle.std.specs.Prelude.{MatchOption, IfSome, slice_get}
 use Rattle.ia_insn.specs.declared.place.Place.{Place}
 use Rattle.ia_insn.specs.Bundles.{Bundle, IsBundle, AreBundles}
-use Rattle.ia_insn.specs.Places.{IsPlaceOf, IsBefore, IsNext, EndsRun, StandBefore, IsWithinRun, IsTargetInside, EachPlace, IsFirstBad}
+use Rattle.ia_insn.specs.Places.{IsPlaceOf, IsBefore, IsNext, EachPlace, IsFirstBad}
+use Rattle.ia_insn.specs.Runs.{EndsRun, StandBefore, IsWithinRun}
+use Rattle.ia_insn.specs.Targets.{IsTargetInside}
 use Rattle.ia_insn.proofs.InOrder.{slot_small, bundle_small, is_place, get_some}
 
 same_place : (p q : Place) → p.bundle ≡ q.bundle → p.slot ≡ q.slot → p ≡ q

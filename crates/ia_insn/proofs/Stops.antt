@@ -5,7 +5,7 @@ use Rattle.std.specs.Prelude.{Contains}
 use Rattle.ia_insn.specs.declared.bundle.Slots.{Slots}
 use Rattle.ia_insn.specs.declared.bundle.Slots.TheVariants.{Three, Long}
 use Rattle.ia_insn.specs.Templates.{stops_of}
-use Rattle.ia_insn.specs.Places.{IsStopAfter}
+use Rattle.ia_insn.specs.Bundles.{IsStopAfter}
 
 stop_small : (template slot : ℕ) → Contains (stops_of template) slot → slot < 3
 stop_small template slot h = grind (arith, nat_tests)

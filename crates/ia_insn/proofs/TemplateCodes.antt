@@ -2,6 +2,7 @@
 use Rattle.std.proofs.Common.{◌≡◌, ℕ, suc, zero, ◌+◌, ◌*◌, ◌/◌, ◌<◌, List, [], ◌∷◌, Bool, true, false, arith, ap, refl, sym, ◌∙◌, cond, eqb, subst, ◌⊎◌, inl, inr}
 use Rattle.std.specs.Prelude.{◌&&◌, is_some}
 use Rattle.std.proofs.lemmas.Bool.{eqb-true, eq-eqb}
+use Rattle.std.proofs.lemmas.Bool.Decides.{nat_tests}
 use Rattle.std.specs.Cmp.Derive.{both_true}
 use Rattle.ia_insn.specs.Templates.{shape_of, IsTemplate, units_of, stops_of}
 use Rattle.ia_insn.specs.declared.choices.Unit.{Unit as ExecutionUnit}
@@ -65,3 +66,7 @@ one_template a b h k first second units stops =
     let here : is_one a b ≡ true = below (is_one a) 32 b row k in
     let keys : key a ≡ key b = ap (λ us. key_of us (stops_of a)) units ∙ ap (key_of (units_of b)) stops in
     eqb-true a b (picked _ _ here (both_true first (both_true second (eq-eqb (key a) (key b) keys))))
+
+-- a code is below 32
+pub code_small : (code : ℕ) → IsTemplate code → code < 32
+code_small code h = grind (arith, nat_tests)

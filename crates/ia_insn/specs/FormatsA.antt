@@ -1,7 +1,9 @@
 -- The A formats, of M and I slots: the fields of each instruction, and when it is listed
 -- (volume 3, chapter 4, instruction formats, A1 to A8).
-use Rattle.std.specs.Prelude.{◌≡◌, ◌≢◌, ℕ, ◌+◌, ◌-◌, ◌≤◌, List, [], ◌∷◌, Option, Some, None, IsSome, unwrap_or}
-use Rattle.ia_insn.specs.Word.{Part, field, word_of, AllFit, bits, twos, FitsSigned, flag}
+use Rattle.std.specs.Prelude.{◌≡◌, ◌≢◌, ℕ, ◌+◌, ◌-◌, ◌*◌, ◌≤◌, List, [], ◌∷◌, Option, Some, None, IsSome, unwrap_or}
+use Rattle.ia_insn.specs.Fields.{Major, Qp, Tb, X2, X2a, Ve, Ta, X4, X2b, C, P2, R3, R3A5, R2, R1, P1, S, Imm9d, Imm6d, Imm5c, Imm7b, Ct2d}
+use Rattle.bundle_bits.specs.Words.{Part, word_of, AllFit, bits}
+use Rattle.ia_insn.specs.Signed.{twos, FitsSigned, flag}
 use Rattle.ia_insn.specs.declared.insn.Insn.{Insn}
 use Rattle.ia_insn.specs.declared.insn.Op.{Op}
 use Rattle.ia_insn.specs.declared.insn.Op.TheVariants.{Alu, ShlAdd, AluImm8, AddImm14, AddImm22, Cmp, CmpZero, CmpImm}
@@ -13,27 +15,27 @@ use Rattle.ia_insn.specs.declared.choices.CmpKind.{CmpKind}
 use Rattle.ia_insn.specs.declared.choices.CmpKind.TheVariants as kinds
 
 -- x4 and x2b of the operations on two registers, A1
-abbrev pub x4 : AluFn → ℕ
-x4 Add = 0
-x4 Add1 = 0
-x4 Sub = 1
-x4 Sub1 = 1
-x4 Addp4 = 2
-x4 And = 3
-x4 Andcm = 3
-x4 Or = 3
-x4 Xor = 3
+abbrev pub x4_of : AluFn → ℕ
+x4_of Add = 0
+x4_of Add1 = 0
+x4_of Sub = 1
+x4_of Sub1 = 1
+x4_of Addp4 = 2
+x4_of And = 3
+x4_of Andcm = 3
+x4_of Or = 3
+x4_of Xor = 3
 
-abbrev pub x2b : AluFn → ℕ
-x2b Add = 0
-x2b Add1 = 1
-x2b Sub = 1
-x2b Sub1 = 0
-x2b Addp4 = 0
-x2b And = 0
-x2b Andcm = 1
-x2b Or = 2
-x2b Xor = 3
+abbrev pub x2b_of : AluFn → ℕ
+x2b_of Add = 0
+x2b_of Add1 = 1
+x2b_of Sub = 1
+x2b_of Sub1 = 0
+x2b_of Addp4 = 0
+x2b_of And = 0
+x2b_of Andcm = 1
+x2b_of Or = 2
+x2b_of Xor = 3
 
 -- x4 and x2b of the operations on an immediate and a register, A3
 abbrev pub imm8_codes : AluFn → Option (ℕ × ℕ)
@@ -75,41 +77,45 @@ zero_codes Ge = Some (1, 0)
 zero_codes Lt = Some (1, 1)
 zero_codes rel = None
 
--- The fields, from the top bit down. In op 8 bit 33, ve, is zero. An instruction of another family
--- has none.
+-- The fields, from the top bit down: each that the format has, so what it leaves blank has none. An
+-- instruction of another family has none at all.
 abbrev pub fields : ℕ → Op → List Part
 -- A1: two registers
 fields qp (Alu f r1 r2 r3) =
-    field 37 4 8 ∷ field 34 2 0 ∷ field 29 4 (x4 f) ∷ field 27 2 (x2b f) ∷ field 20 7 r3 ∷ field 13 7 r2 ∷ field 6 7 r1 ∷ field 0 6 qp ∷ []
+    Major 8 ∷ X2a 0 ∷ Ve 0 ∷ X4 (x4_of f) ∷ X2b (x2b_of f) ∷ R3 r3 ∷ R2 r2 ∷ R1 r1 ∷ Qp qp ∷ []
 -- A2: shift left and add, where x4 is 4, and 6 for a pointer of 32 bits
 fields qp (ShlAdd p4 r1 r2 count r3) =
-    field 37 4 8 ∷ field 34 2 0 ∷ field 29 4 (4 + flag p4 + flag p4) ∷ field 27 2 (count - 1) ∷ field 20 7 r3 ∷ field 13 7 r2 ∷ field 6 7 r1 ∷ field 0 6 qp ∷ []
+    Major 8 ∷ X2a 0 ∷ Ve 0 ∷ X4 (4 + 2 * flag p4) ∷ Ct2d (count - 1) ∷ R3 r3 ∷ R2 r2 ∷ R1 r1 ∷ Qp qp ∷ []
 -- A3: an immediate of 8 bits and a register
 fields qp (AluImm8 f r1 imm r3) =
     let u = twos 8 imm in
     let x = unwrap_or (imm8_codes f) (0, 0) in
-    field 37 4 8 ∷ field 36 1 (bits 7 1 u) ∷ field 34 2 0 ∷ field 29 4 x.0 ∷ field 27 2 x.1 ∷ field 20 7 r3 ∷ field 13 7 (bits 0 7 u) ∷ field 6 7 r1 ∷ field 0 6 qp ∷ []
+    Major 8 ∷ S (bits 7 1 u) ∷ X2a 0 ∷ Ve 0 ∷ X4 x.0 ∷ X2b x.1 ∷ R3 r3 ∷ Imm7b (bits 0 7 u) ∷ R1 r1 ∷ Qp qp ∷ []
 -- A4: an immediate of 14 bits and a register
 fields qp (AddImm14 p4 r1 imm r3) =
     let u = twos 14 imm in
-    field 37 4 8 ∷ field 36 1 (bits 13 1 u) ∷ field 34 2 (2 + flag p4) ∷ field 27 6 (bits 7 6 u) ∷ field 20 7 r3 ∷ field 13 7 (bits 0 7 u) ∷ field 6 7 r1 ∷ field 0 6 qp ∷ []
+    Major 8 ∷ S (bits 13 1 u) ∷ X2a (2 + flag p4) ∷ Ve 0 ∷ Imm6d (bits 7 6 u) ∷ R3 r3 ∷ Imm7b (bits 0 7 u) ∷ R1 r1
+    ∷ Qp qp ∷ []
 -- A5: an immediate of 22 bits and one of r0 to r3
 fields qp (AddImm22 r1 imm r3) =
     let u = twos 22 imm in
-    field 37 4 9 ∷ field 36 1 (bits 21 1 u) ∷ field 27 9 (bits 7 9 u) ∷ field 22 5 (bits 16 5 u) ∷ field 20 2 r3 ∷ field 13 7 (bits 0 7 u) ∷ field 6 7 r1 ∷ field 0 6 qp ∷ []
+    Major 9 ∷ S (bits 21 1 u) ∷ Imm9d (bits 7 9 u) ∷ Imm5c (bits 16 5 u) ∷ R3A5 r3 ∷ Imm7b (bits 0 7 u) ∷ R1 r1
+    ∷ Qp qp ∷ []
 -- A6: a compare of two registers
 fields qp (Cmp four rel kind p1 p2 r2 r3) =
     let x = unwrap_or (compare kind rel) (0, 0, 0) in
-    field 37 4 x.0 ∷ field 36 1 0 ∷ field 34 2 (flag four) ∷ field 33 1 x.1 ∷ field 27 6 p2 ∷ field 20 7 r3 ∷ field 13 7 r2 ∷ field 12 1 x.2 ∷ field 6 6 p1 ∷ field 0 6 qp ∷ []
+    Major x.0 ∷ Tb 0 ∷ X2 (flag four) ∷ Ta x.1 ∷ P2 p2 ∷ R3 r3 ∷ R2 r2 ∷ C x.2 ∷ P1 p1 ∷ Qp qp ∷ []
 -- A7: a compare of r0 and a register
 fields qp (CmpZero four rel kind p1 p2 r3) =
     let x = unwrap_or (zero_codes rel) (0, 0) in
-    field 37 4 (unwrap_or (parallel_op kind) 0) ∷ field 36 1 1 ∷ field 34 2 (flag four) ∷ field 33 1 x.0 ∷ field 27 6 p2 ∷ field 20 7 r3 ∷ field 12 1 x.1 ∷ field 6 6 p1 ∷ field 0 6 qp ∷ []
+    Major (unwrap_or (parallel_op kind) 0) ∷ Tb 1 ∷ X2 (flag four) ∷ Ta x.0 ∷ P2 p2 ∷ R3 r3 ∷ C x.1 ∷ P1 p1
+    ∷ Qp qp ∷ []
 -- A8: a compare of an immediate and a register
 fields qp (CmpImm four rel kind p1 p2 imm r3) =
     let u = twos 8 imm in
     let x = unwrap_or (compare kind rel) (0, 0, 0) in
-    field 37 4 x.0 ∷ field 36 1 (bits 7 1 u) ∷ field 34 2 (2 + flag four) ∷ field 33 1 x.1 ∷ field 27 6 p2 ∷ field 20 7 r3 ∷ field 13 7 (bits 0 7 u) ∷ field 12 1 x.2 ∷ field 6 6 p1 ∷ field 0 6 qp ∷ []
+    Major x.0 ∷ S (bits 7 1 u) ∷ X2 (2 + flag four) ∷ Ta x.1 ∷ P2 p2 ∷ R3 r3 ∷ Imm7b (bits 0 7 u) ∷ C x.2 ∷ P1 p1
+    ∷ Qp qp ∷ []
 fields qp op = []
 
 -- What of an instruction's range its fields' widths don't say: r0 is no target, two predicate

@@ -1,7 +1,9 @@
 -- The B formats, of B slots: the fields of each instruction, and when it is listed
 -- (volume 3, chapter 4, instruction formats, B1 to B9).
 use Rattle.std.specs.Prelude.{◌≡◌, ℕ, ◌+◌, ◌<◌, ◌^◌, List, [], ◌∷◌}
-use Rattle.ia_insn.specs.Word.{Part, field, word_of, AllFit, bits, twos, FitsSigned, flag}
+use Rattle.ia_insn.specs.Fields.{Major, Qp, X6, Btype, B2, B1, S, I, Imm20b, Imm20a, D, Wh, WhLowestB5, P}
+use Rattle.bundle_bits.specs.Words.{Part, word_of, AllFit, bits}
+use Rattle.ia_insn.specs.Signed.{twos, FitsSigned, flag}
 use Rattle.ia_insn.specs.declared.insn.Insn.{Insn}
 use Rattle.ia_insn.specs.declared.insn.Op.{Op}
 use Rattle.ia_insn.specs.declared.insn.Op.TheVariants.{Br, BrCall, BrInd, BrRet, BrCallInd, Clrrrb, Break, Nop, Hint}
@@ -31,29 +33,30 @@ abbrev pub fields : ℕ → Op → List Part
 -- B1: branch, and B2: counted branch
 fields qp (Br kind wh many clr disp) =
     let u = twos 21 disp in
-    field 37 4 4 ∷ field 36 1 (bits 20 1 u) ∷ field 35 1 (flag clr) ∷ field 33 2 wh ∷ field 13 20 (bits 0 20 u) ∷ field 12 1 (flag many) ∷ field 6 3 (btype kind) ∷ field 0 6 qp ∷ []
+    Major 4 ∷ S (bits 20 1 u) ∷ D (flag clr) ∷ Wh wh ∷ Imm20b (bits 0 20 u) ∷ P (flag many) ∷ Btype (btype kind)
+    ∷ Qp qp ∷ []
 -- B3: call
 fields qp (BrCall b1 wh many clr disp) =
     let u = twos 21 disp in
-    field 37 4 5 ∷ field 36 1 (bits 20 1 u) ∷ field 35 1 (flag clr) ∷ field 33 2 wh ∷ field 13 20 (bits 0 20 u) ∷ field 12 1 (flag many) ∷ field 6 3 b1 ∷ field 0 6 qp ∷ []
+    Major 5 ∷ S (bits 20 1 u) ∷ D (flag clr) ∷ Wh wh ∷ Imm20b (bits 0 20 u) ∷ P (flag many) ∷ B1 b1 ∷ Qp qp ∷ []
 -- B4: indirect branch and return
 fields qp (BrInd b2 wh many clr) =
-    field 37 4 0 ∷ field 35 1 (flag clr) ∷ field 33 2 wh ∷ field 27 6 0x20 ∷ field 13 3 b2 ∷ field 12 1 (flag many) ∷ field 6 3 0 ∷ field 0 6 qp ∷ []
+    Major 0 ∷ D (flag clr) ∷ Wh wh ∷ X6 0x20 ∷ B2 b2 ∷ P (flag many) ∷ Btype 0 ∷ Qp qp ∷ []
 fields qp (BrRet b2 wh many clr) =
-    field 37 4 0 ∷ field 35 1 (flag clr) ∷ field 33 2 wh ∷ field 27 6 0x21 ∷ field 13 3 b2 ∷ field 12 1 (flag many) ∷ field 6 3 4 ∷ field 0 6 qp ∷ []
--- B5: indirect call, whose wh has a lowest bit of 1 at bit 32
+    Major 0 ∷ D (flag clr) ∷ Wh wh ∷ X6 0x21 ∷ B2 b2 ∷ P (flag many) ∷ Btype 4 ∷ Qp qp ∷ []
+-- B5: indirect call, whose wh has a lowest bit of 1
 fields qp (BrCallInd b1 b2 wh many clr) =
-    field 37 4 1 ∷ field 35 1 (flag clr) ∷ field 33 2 wh ∷ field 32 1 1 ∷ field 13 3 b2 ∷ field 12 1 (flag many) ∷ field 6 3 b1 ∷ field 0 6 qp ∷ []
+    Major 1 ∷ D (flag clr) ∷ Wh wh ∷ WhLowestB5 1 ∷ B2 b2 ∷ P (flag many) ∷ B1 b1 ∷ Qp qp ∷ []
 -- B8: clearing of the rotating register bases
 fields qp (Clrrrb pred_only) =
-    field 37 4 0 ∷ field 27 6 (4 + flag pred_only) ∷ field 0 6 qp ∷ []
+    Major 0 ∷ X6 (4 + flag pred_only) ∷ Qp qp ∷ []
 -- B9: break, nop and hint
 fields qp (Break units.B imm) =
-    field 37 4 0 ∷ field 36 1 (bits 20 1 imm) ∷ field 27 6 0 ∷ field 6 20 (bits 0 20 imm) ∷ field 0 6 qp ∷ []
+    Major 0 ∷ I (bits 20 1 imm) ∷ X6 0 ∷ Imm20a (bits 0 20 imm) ∷ Qp qp ∷ []
 fields qp (Nop units.B imm) =
-    field 37 4 2 ∷ field 36 1 (bits 20 1 imm) ∷ field 27 6 0 ∷ field 6 20 (bits 0 20 imm) ∷ field 0 6 qp ∷ []
+    Major 2 ∷ I (bits 20 1 imm) ∷ X6 0 ∷ Imm20a (bits 0 20 imm) ∷ Qp qp ∷ []
 fields qp (Hint units.B imm) =
-    field 37 4 2 ∷ field 36 1 (bits 20 1 imm) ∷ field 27 6 1 ∷ field 6 20 (bits 0 20 imm) ∷ field 0 6 qp ∷ []
+    Major 2 ∷ I (bits 20 1 imm) ∷ X6 1 ∷ Imm20a (bits 0 20 imm) ∷ Qp qp ∷ []
 fields qp op = []
 
 -- What of an instruction's range its fields' widths don't say: a displacement has the width of its

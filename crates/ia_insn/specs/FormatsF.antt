@@ -1,7 +1,8 @@
 -- The F formats, of F slots: the fields of each instruction, and when it is listed
 -- (volume 3, chapter 4, instruction formats, F15 and F16).
 use Rattle.std.specs.Prelude.{◌≡◌, ℕ, ◌<◌, ◌^◌, List, [], ◌∷◌}
-use Rattle.ia_insn.specs.Word.{Part, field, word_of, AllFit, bits}
+use Rattle.ia_insn.specs.Fields.{Major, Qp, X, X6, Y, I, Imm20a}
+use Rattle.bundle_bits.specs.Words.{Part, word_of, AllFit, bits}
 use Rattle.ia_insn.specs.declared.insn.Insn.{Insn}
 use Rattle.ia_insn.specs.declared.insn.Op.{Op}
 use Rattle.ia_insn.specs.declared.insn.Op.TheVariants.{Break, Nop}
@@ -11,10 +12,10 @@ use Rattle.ia_insn.specs.declared.choices.Unit.TheVariants as units
 abbrev pub fields : ℕ → Op → List Part
 -- F15: break
 fields qp (Break units.F imm) =
-    field 37 4 0 ∷ field 36 1 (bits 20 1 imm) ∷ field 33 1 0 ∷ field 27 6 0 ∷ field 6 20 (bits 0 20 imm) ∷ field 0 6 qp ∷ []
+    Major 0 ∷ I (bits 20 1 imm) ∷ X 0 ∷ X6 0 ∷ Imm20a (bits 0 20 imm) ∷ Qp qp ∷ []
 -- F16: nop
 fields qp (Nop units.F imm) =
-    field 37 4 0 ∷ field 36 1 (bits 20 1 imm) ∷ field 33 1 0 ∷ field 27 6 1 ∷ field 26 1 0 ∷ field 6 20 (bits 0 20 imm) ∷ field 0 6 qp ∷ []
+    Major 0 ∷ I (bits 20 1 imm) ∷ X 0 ∷ X6 1 ∷ Y 0 ∷ Imm20a (bits 0 20 imm) ∷ Qp qp ∷ []
 fields qp op = []
 
 -- What of an instruction's range its fields' widths don't say.

@@ -2,7 +2,9 @@
 -- (volume 3, chapter 4, instruction formats, M1 to M5 and M20 to M48).
 use Rattle.std.specs.Prelude.{◌≡◌, ◌≢◌, ◌⊎◌, ℕ, ◌+◌, ◌*◌, ◌<◌, ◌≤◌, ◌^◌, ◌==◌, if◌then◌else◌, List, [], ◌∷◌, Option, Some, None, IsSome, unwrap_or}
 use Rattle.std.specs.Option.{option_map}
-use Rattle.ia_insn.specs.Word.{Part, field, word_of, AllFit, bits, twos, FitsSigned, flag}
+use Rattle.ia_insn.specs.Fields.{Major, Qp, M, X3, X2M24, X6M1, X4M24, X6, XM1, Y, R3, Ar3, R2, R1, S, I, IM3, Imm13c, Imm20b, Imm7b, Imm20a, Imm7a, Sor, Sol, Sof, HintM1}
+use Rattle.bundle_bits.specs.Words.{Part, word_of, AllFit, bits}
+use Rattle.ia_insn.specs.Signed.{twos, FitsSigned, flag}
 use Rattle.ia_insn.specs.FormatsI.{ar_number}
 use Rattle.ia_insn.specs.declared.insn.Insn.{Insn}
 use Rattle.ia_insn.specs.declared.insn.Op.{Op}
@@ -18,7 +20,9 @@ use Rattle.ia_insn.specs.declared.choices.Update.TheVariants as updates
 
 -- the low bits of x6 for an access of 1, 2, 4 or 8 bytes
 abbrev pub log2_of : ℕ → Option ℕ
-log2_of size = if size == 1 then Some 0 else if size == 2 then Some 1 else if size == 4 then Some 2 else if size == 8 then Some 3 else None
+log2_of size =
+    if size == 1 then Some 0 else if size == 2 then Some 1 else if size == 4 then Some 2 else if size == 8 then Some 3
+    else None
 
 -- x6 of a load of one byte; a fill, which has 8 bytes, has none
 abbrev pub load_base : LoadKind → ℕ
@@ -48,59 +52,60 @@ store_code stores.Spill size = if size == 8 then Some 0x3b else None
 abbrev pub fields : ℕ → Op → List Part
 -- M1: load
 fields qp (Load size kind hint r1 r3 updates.None) =
-    field 37 4 4 ∷ field 36 1 0 ∷ field 30 6 (unwrap_or (load_code kind size) 0) ∷ field 28 2 hint ∷ field 27 1 0 ∷ field 20 7 r3 ∷ field 6 7 r1 ∷ field 0 6 qp ∷ []
+    Major 4 ∷ M 0 ∷ X6M1 (unwrap_or (load_code kind size) 0) ∷ HintM1 hint ∷ XM1 0 ∷ R3 r3 ∷ R1 r1 ∷ Qp qp ∷ []
 -- M2: load, the base updated by a register
 fields qp (Load size kind hint r1 r3 (updates.Reg r2)) =
-    field 37 4 4 ∷ field 36 1 1 ∷ field 30 6 (unwrap_or (load_code kind size) 0) ∷ field 28 2 hint ∷ field 27 1 0 ∷ field 20 7 r3 ∷ field 13 7 r2 ∷ field 6 7 r1 ∷ field 0 6 qp ∷ []
+    Major 4 ∷ M 1 ∷ X6M1 (unwrap_or (load_code kind size) 0) ∷ HintM1 hint ∷ XM1 0 ∷ R3 r3 ∷ R2 r2 ∷ R1 r1 ∷ Qp qp ∷ []
 -- M3: load, the base updated by an immediate of 9 bits
 fields qp (Load size kind hint r1 r3 (updates.Imm imm)) =
     let u = twos 9 imm in
-    field 37 4 5 ∷ field 36 1 (bits 8 1 u) ∷ field 30 6 (unwrap_or (load_code kind size) 0) ∷ field 28 2 hint ∷ field 27 1 (bits 7 1 u) ∷ field 20 7 r3 ∷ field 13 7 (bits 0 7 u) ∷ field 6 7 r1 ∷ field 0 6 qp ∷ []
+    Major 5 ∷ S (bits 8 1 u) ∷ X6M1 (unwrap_or (load_code kind size) 0) ∷ HintM1 hint ∷ IM3 (bits 7 1 u) ∷ R3 r3
+    ∷ Imm7b (bits 0 7 u) ∷ R1 r1 ∷ Qp qp ∷ []
 -- M4: store
 fields qp (Store size kind hint r3 r2 updates.None) =
-    field 37 4 4 ∷ field 36 1 0 ∷ field 30 6 (unwrap_or (store_code kind size) 0) ∷ field 28 2 hint ∷ field 27 1 0 ∷ field 20 7 r3 ∷ field 13 7 r2 ∷ field 0 6 qp ∷ []
+    Major 4 ∷ M 0 ∷ X6M1 (unwrap_or (store_code kind size) 0) ∷ HintM1 hint ∷ XM1 0 ∷ R3 r3 ∷ R2 r2 ∷ Qp qp ∷ []
 -- M5: store, the base updated by an immediate of 9 bits
 fields qp (Store size kind hint r3 r2 (updates.Imm imm)) =
     let u = twos 9 imm in
-    field 37 4 5 ∷ field 36 1 (bits 8 1 u) ∷ field 30 6 (unwrap_or (store_code kind size) 0) ∷ field 28 2 hint ∷ field 27 1 (bits 7 1 u) ∷ field 20 7 r3 ∷ field 13 7 r2 ∷ field 6 7 (bits 0 7 u) ∷ field 0 6 qp ∷ []
+    Major 5 ∷ S (bits 8 1 u) ∷ X6M1 (unwrap_or (store_code kind size) 0) ∷ HintM1 hint ∷ IM3 (bits 7 1 u) ∷ R3 r3
+    ∷ R2 r2 ∷ Imm7a (bits 0 7 u) ∷ Qp qp ∷ []
 -- M20: speculation check
 fields qp (ChkS units.M r2 disp) =
     let u = twos 21 disp in
-    field 37 4 1 ∷ field 36 1 (bits 20 1 u) ∷ field 33 3 1 ∷ field 20 13 (bits 7 13 u) ∷ field 13 7 r2 ∷ field 6 7 (bits 0 7 u) ∷ field 0 6 qp ∷ []
+    Major 1 ∷ S (bits 20 1 u) ∷ X3 1 ∷ Imm13c (bits 7 13 u) ∷ R2 r2 ∷ Imm7a (bits 0 7 u) ∷ Qp qp ∷ []
 -- M22: advanced load check
 fields qp (ChkA clear r1 disp) =
     let u = twos 21 disp in
-    field 37 4 0 ∷ field 36 1 (bits 20 1 u) ∷ field 33 3 (4 + flag clear) ∷ field 13 20 (bits 0 20 u) ∷ field 6 7 r1 ∷ field 0 6 qp ∷ []
--- M24: invalidation of the ALAT
+    Major 0 ∷ S (bits 20 1 u) ∷ X3 (4 + flag clear) ∷ Imm20b (bits 0 20 u) ∷ R1 r1 ∷ Qp qp ∷ []
+-- M24: invalidation of the ALAT, and memory fence
 fields qp Invala =
-    field 37 4 0 ∷ field 33 3 0 ∷ field 31 2 1 ∷ field 27 4 0 ∷ field 0 6 qp ∷ []
+    Major 0 ∷ X3 0 ∷ X2M24 1 ∷ X4M24 0 ∷ Qp qp ∷ []
+fields qp Mf =
+    Major 0 ∷ X3 0 ∷ X2M24 2 ∷ X4M24 2 ∷ Qp qp ∷ []
 -- M26: invalidation of an ALAT entry
 fields qp (InvalaE r1) =
-    field 37 4 0 ∷ field 33 3 0 ∷ field 31 2 1 ∷ field 27 4 2 ∷ field 6 7 r1 ∷ field 0 6 qp ∷ []
--- M24: memory fence
-fields qp Mf =
-    field 37 4 0 ∷ field 33 3 0 ∷ field 31 2 2 ∷ field 27 4 2 ∷ field 0 6 qp ∷ []
+    Major 0 ∷ X3 0 ∷ X2M24 1 ∷ X4M24 2 ∷ R1 r1 ∷ Qp qp ∷ []
 -- M29: move to an application register
 fields qp (MovToAr Unat r2) =
-    field 37 4 1 ∷ field 33 3 0 ∷ field 27 6 0x2a ∷ field 20 7 (ar_number Unat) ∷ field 13 7 r2 ∷ field 0 6 qp ∷ []
--- M31: move from an application register
-fields qp (MovFromAr r1 Unat) =
-    field 37 4 1 ∷ field 33 3 0 ∷ field 27 6 0x22 ∷ field 20 7 (ar_number Unat) ∷ field 6 7 r1 ∷ field 0 6 qp ∷ []
+    Major 1 ∷ X3 0 ∷ X6 0x2a ∷ Ar3 (ar_number Unat) ∷ R2 r2 ∷ Qp qp ∷ []
 -- M30: move of an immediate to an application register
 fields qp (MovToArImm Unat imm) =
     let u = twos 8 imm in
-    field 37 4 0 ∷ field 36 1 (bits 7 1 u) ∷ field 33 3 0 ∷ field 31 2 2 ∷ field 27 4 8 ∷ field 20 7 (ar_number Unat) ∷ field 13 7 (bits 0 7 u) ∷ field 0 6 qp ∷ []
+    Major 0 ∷ S (bits 7 1 u) ∷ X3 0 ∷ X2M24 2 ∷ X4M24 8 ∷ Ar3 (ar_number Unat) ∷ Imm7b (bits 0 7 u) ∷ Qp qp ∷ []
+-- M31: move from an application register
+fields qp (MovFromAr r1 Unat) =
+    Major 1 ∷ X3 0 ∷ X6 0x22 ∷ Ar3 (ar_number Unat) ∷ R1 r1 ∷ Qp qp ∷ []
 -- M34: allocation of a register stack frame
 fields qp (Alloc r1 sof sol sor) =
-    field 37 4 1 ∷ field 33 3 6 ∷ field 27 4 sor ∷ field 20 7 sol ∷ field 13 7 sof ∷ field 6 7 r1 ∷ field 0 6 qp ∷ []
+    Major 1 ∷ X3 6 ∷ Sor sor ∷ Sol sol ∷ Sof sof ∷ R1 r1 ∷ Qp qp ∷ []
 -- M37: break
 fields qp (Break units.M imm) =
-    field 37 4 0 ∷ field 36 1 (bits 20 1 imm) ∷ field 33 3 0 ∷ field 31 2 0 ∷ field 27 4 0 ∷ field 6 20 (bits 0 20 imm) ∷ field 0 6 qp ∷ []
+    Major 0 ∷ I (bits 20 1 imm) ∷ X3 0 ∷ X2M24 0 ∷ X4M24 0 ∷ Imm20a (bits 0 20 imm) ∷ Qp qp ∷ []
 -- M48: nop and hint
 fields qp (Nop units.M imm) =
-    field 37 4 0 ∷ field 36 1 (bits 20 1 imm) ∷ field 33 3 0 ∷ field 31 2 0 ∷ field 27 4 1 ∷ field 26 1 0 ∷ field 6 20 (bits 0 20 imm) ∷ field 0 6 qp ∷ []
+    Major 0 ∷ I (bits 20 1 imm) ∷ X3 0 ∷ X2M24 0 ∷ X4M24 1 ∷ Y 0 ∷ Imm20a (bits 0 20 imm) ∷ Qp qp ∷ []
 fields qp (Hint units.M imm) =
-    field 37 4 0 ∷ field 36 1 (bits 20 1 imm) ∷ field 33 3 0 ∷ field 31 2 0 ∷ field 27 4 1 ∷ field 26 1 1 ∷ field 6 20 (bits 0 20 imm) ∷ field 0 6 qp ∷ []
+    Major 0 ∷ I (bits 20 1 imm) ∷ X3 0 ∷ X2M24 0 ∷ X4M24 1 ∷ Y 1 ∷ Imm20a (bits 0 20 imm) ∷ Qp qp ∷ []
 fields qp op = []
 
 -- An update is none, or of a base other than r0 and than the target, by a register or by -256 to 255.
@@ -120,16 +125,18 @@ IsStoreUpdate r3 (updates.Imm imm) = (r3 ≢ 0) × FitsSigned 9 imm
 -- width of its field, and a frame has at most 96 registers, its locals and its rotating ones, eight
 -- for each of sor, among them. An allocation has no qualifying predicate.
 abbrev pub IsInRange : ℕ → Op → Type 0
-IsInRange qp (Load size kind hint r1 r3 update) = (r1 ≢ 0) × (hint ≢ 2) × IsSome (load_code kind size) × IsLoadUpdate r1 r3 update
-IsInRange qp (Store size kind hint r3 r2 update) = ((hint ≡ 0) ⊎ (hint ≡ 3)) × IsSome (store_code kind size) × IsStoreUpdate r3 update
+IsInRange qp (Load size kind hint r1 r3 update) =
+    (r1 ≢ 0) × (hint ≢ 2) × IsSome (load_code kind size) × IsLoadUpdate r1 r3 update
+IsInRange qp (Store size kind hint r3 r2 update) =
+    ((hint ≡ 0) ⊎ (hint ≡ 3)) × IsSome (store_code kind size) × IsStoreUpdate r3 update
 IsInRange qp (ChkS units.M r2 disp) = FitsSigned 21 disp
 IsInRange qp (ChkA clear r1 disp) = FitsSigned 21 disp
 IsInRange qp Invala = Unit {0}
-IsInRange qp (InvalaE r1) = Unit {0}
 IsInRange qp Mf = Unit {0}
+IsInRange qp (InvalaE r1) = Unit {0}
 IsInRange qp (MovToAr Unat r2) = Unit {0}
-IsInRange qp (MovFromAr r1 Unat) = r1 ≢ 0
 IsInRange qp (MovToArImm Unat imm) = FitsSigned 8 imm
+IsInRange qp (MovFromAr r1 Unat) = r1 ≢ 0
 IsInRange qp (Alloc r1 sof sol sor) = (r1 ≢ 0) × (sof ≤ 96) × (sol ≤ sof) × (8 * sor ≤ sof) × (qp ≡ 0)
 IsInRange qp (Break units.M imm) = imm < 2 ^ 21
 IsInRange qp (Nop units.M imm) = imm < 2 ^ 21

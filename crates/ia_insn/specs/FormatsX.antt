@@ -2,7 +2,8 @@
 -- fields of each instruction, and when it is listed (volume 3, chapter 4, instruction formats, X1,
 -- X2 and X5).
 use Rattle.std.specs.Prelude.{◌≡◌, ◌≢◌, ℕ, ◌<◌, ◌^◌, List, [], ◌∷◌}
-use Rattle.ia_insn.specs.Word.{Part, field, word_of, AllFit, bits}
+use Rattle.ia_insn.specs.Fields.{Major, Qp, X3, X6, Y, Vc, R1, I, Imm9d, Imm5c, Ic, Imm7b, Imm20a}
+use Rattle.bundle_bits.specs.Words.{Part, word_of, AllFit, bits}
 use Rattle.ia_insn.specs.declared.insn.Insn.{Insn}
 use Rattle.ia_insn.specs.declared.insn.Op.{Op}
 use Rattle.ia_insn.specs.declared.insn.Op.TheVariants.{Movl, Break, Nop}
@@ -11,19 +12,21 @@ use Rattle.ia_insn.specs.declared.choices.Unit.TheVariants as units
 -- The fields of the word of the X slot, from the top bit down. An instruction of another family
 -- has none.
 abbrev pub fields : ℕ → Op → List Part
--- X2: move of an immediate of 64 bits
-fields qp (Movl r1 imm) =
-    field 37 4 6 ∷ field 36 1 (bits 63 1 imm) ∷ field 27 9 (bits 7 9 imm) ∷ field 22 5 (bits 16 5 imm) ∷ field 21 1 (bits 21 1 imm) ∷ field 20 1 0 ∷ field 13 7 (bits 0 7 imm) ∷ field 6 7 r1 ∷ field 0 6 qp ∷ []
 -- X1: break
 fields qp (Break units.X imm) =
-    field 37 4 0 ∷ field 36 1 (bits 61 1 imm) ∷ field 33 3 0 ∷ field 27 6 0 ∷ field 6 20 (bits 0 20 imm) ∷ field 0 6 qp ∷ []
+    Major 0 ∷ I (bits 61 1 imm) ∷ X3 0 ∷ X6 0 ∷ Imm20a (bits 0 20 imm) ∷ Qp qp ∷ []
+-- X2: move of an immediate of 64 bits
+fields qp (Movl r1 imm) =
+    Major 6 ∷ I (bits 63 1 imm) ∷ Imm9d (bits 7 9 imm) ∷ Imm5c (bits 16 5 imm) ∷ Ic (bits 21 1 imm) ∷ Vc 0
+    ∷ Imm7b (bits 0 7 imm) ∷ R1 r1 ∷ Qp qp ∷ []
 -- X5: nop
 fields qp (Nop units.X imm) =
-    field 37 4 0 ∷ field 36 1 (bits 61 1 imm) ∷ field 33 3 0 ∷ field 27 6 1 ∷ field 26 1 0 ∷ field 6 20 (bits 0 20 imm) ∷ field 0 6 qp ∷ []
+    Major 0 ∷ I (bits 61 1 imm) ∷ X3 0 ∷ X6 1 ∷ Y 0 ∷ Imm20a (bits 0 20 imm) ∷ Qp qp ∷ []
 fields qp op = []
 
 -- The word of the L slot: 41 bits of the immediate. The number of a break or nop has bit 36 of the X
--- slot on top, then the L slot, then bits 25:6.
+-- slot on top, then the L slot, then bits 25:6. This order is a choice of this profile: the GNU tools,
+-- and as far as known the manual, have the L slot on top and bit 36 below it.
 abbrev pub low_of : Op → ℕ
 low_of (Movl r1 imm) = bits 22 41 imm
 low_of (Break unit imm) = bits 20 41 imm
@@ -33,8 +36,8 @@ low_of op = 0
 -- What of an instruction's range its fields' widths don't say: r0 is no target, an immediate has 64
 -- bits, and the number of a break or nop 62.
 abbrev pub IsInRange : ℕ → Op → Type 0
-IsInRange qp (Movl r1 imm) = (r1 ≢ 0) × (imm < 2 ^ 64)
 IsInRange qp (Break units.X imm) = imm < 2 ^ 62
+IsInRange qp (Movl r1 imm) = (r1 ≢ 0) × (imm < 2 ^ 64)
 IsInRange qp (Nop units.X imm) = imm < 2 ^ 62
 IsInRange qp op = ⊥
 

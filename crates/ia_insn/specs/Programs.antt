@@ -1,27 +1,31 @@
 -- Programs: bundles, declared entries and data, and what makes them a program.
-use Rattle.std.specs.Prelude.{◌≡◌, ℕ, zero, suc, ◌-◌, ◌%◌, ◌<◌, ◌≤◌, ◌⊎◌, List, length, slice_index, slice_get, Contains, IsSomeAnd, ⊤}
+use Rattle.std.specs.Prelude.{◌≡◌, ℕ, zero, suc, ◌-◌, ◌%◌, ◌<◌, ◌≤◌, ◌⊎◌, List, [], ◌∷◌, length, slice_index, slice_get, Contains, IsSomeAnd, ⊤}
+use Rattle.first_fault.specs.Stages.{Stage, unless, first, IsFirstFault}
 use Rattle.ia_insn.specs.declared.insn.Op.{Op}
 use Rattle.ia_insn.specs.declared.insn.Op.TheVariants.{BrCall, BrCallInd}
+use Rattle.ia_insn.specs.declared.place.Place.{Place}
 use Rattle.ia_insn.specs.declared.program.ProgramFault.{ProgramFault}
 use Rattle.ia_insn.specs.declared.program.ProgramFault.TheVariants.{Counts, Entry, Target, LongRun}
 use Rattle.ia_insn.specs.declared.bundle.Slots.{Slots}
 use Rattle.ia_insn.specs.declared.bundle.Slots.TheVariants.{Three, Long}
 use Rattle.ia_insn.specs.Bundles.{Bundle, AreBundles}
-use Rattle.ia_insn.specs.Places.{IsTargetInside, IsWithinRun, EachPlace, IsFirstBad}
+use Rattle.ia_insn.specs.Places.{EachPlace, IsFirstBad}
+use Rattle.ia_insn.specs.Runs.{IsWithinRun}
+use Rattle.ia_insn.specs.Targets.{IsTargetInside}
 
 -- What a program is: its bundles, the numbers of its declared entries, and its data bytes.
 pub record Program : Type 0 where
   pub bundles : List Bundle
   pub entries : List ℕ
-  pub memory : List ℕ
+  pub bytes : List ℕ
 
 -- 1 to 4,096 bundles, at most 1,024 declared entries, at most 1,048,576 data bytes, a multiple of 8
-pub record AreInRange (bundle_count entry_count memory_size : ℕ) : Type 0 where
+pub record AreInRange (bundle_count entry_count byte_count : ℕ) : Type 0 where
   pub some : 1 ≤ bundle_count
   pub bundles : bundle_count ≤ 4096
   pub entries : entry_count ≤ 1024
-  pub memory : memory_size ≤ 1048576
-  pub words : memory_size % 8 ≡ 0
+  pub bytes : byte_count ≤ 1048576
+  pub words : byte_count % 8 ≡ 0
 
 -- what the n-th entry is above: the one before it, and the first is above 0
 abbrev pub floor : List ℕ → ℕ → ℕ
@@ -43,21 +47,33 @@ pub record IsFirstMisplaced (count : ℕ) (entries : List ℕ) (n : ℕ) : Type 
   pub misplaced : ¬ IsEntryAt count entries n
   pub first : (k : ℕ) → k < n → IsEntryAt count entries k
 
--- A program: its instructions fit their bundles, its counts are in range, its entries rise, each target is one of its bundles, and a run
--- has at most 192 slots.
+-- each of them is a byte
+abbrev pub AreBytes : List ℕ → Type 0
+AreBytes bytes = (i : ℕ) → slice_index bytes i < 256
+
+-- A program: its instructions fit their bundles, its counts are in range, its entries rise, each target
+-- is one of its bundles, a run has at most 192 slots, and its data are bytes.
 pub record IsProgram (p : Program) : Type 0 where
   pub fit : AreBundles p.bundles
-  pub counts : AreInRange (length p.bundles) (length p.entries) (length p.memory)
+  pub counts : AreInRange (length p.bundles) (length p.entries) (length p.bytes)
   pub entries : AreEntries (length p.bundles) p.entries
   pub targets : EachPlace p.bundles (IsTargetInside p.bundles)
   pub runs : EachPlace p.bundles (IsWithinRun p.bundles)
+  pub bytes : AreBytes p.bytes
 
--- The first fault of what is to be a program, in the order in which they are looked for.
-abbrev pub HasFault : Program → ProgramFault → Type 0
-HasFault p Counts = ¬ AreInRange (length p.bundles) (length p.entries) (length p.memory)
-HasFault p (Entry n) = AreInRange (length p.bundles) (length p.entries) (length p.memory) × IsFirstMisplaced (length p.bundles) p.entries n
-HasFault p (Target place) = AreInRange (length p.bundles) (length p.entries) (length p.memory) × AreEntries (length p.bundles) p.entries × IsFirstBad p.bundles (IsTargetInside p.bundles) place
-HasFault p (LongRun place) = AreInRange (length p.bundles) (length p.entries) (length p.memory) × AreEntries (length p.bundles) p.entries × EachPlace p.bundles (IsTargetInside p.bundles) × IsFirstBad p.bundles (IsWithinRun p.bundles) place
+-- What is looked for in bundles, entries and data that are to be a program, in this order.
+abbrev pub program_stages : Program → List (Stage ProgramFault)
+program_stages p =
+    unless (AreInRange (length p.bundles) (length p.entries) (length p.bytes)) Counts
+    ∷ first ℕ Entry (IsFirstMisplaced (length p.bundles) p.entries) (AreEntries (length p.bundles) p.entries)
+    ∷ first Place Target (IsFirstBad p.bundles (IsTargetInside p.bundles))
+    (EachPlace p.bundles (IsTargetInside p.bundles))
+    ∷ first Place LongRun (IsFirstBad p.bundles (IsWithinRun p.bundles)) (EachPlace p.bundles (IsWithinRun p.bundles))
+    ∷ []
+
+-- The first fault of what is to be a program.
+abbrev pub HasProgramFault : Program → ProgramFault → Type 0
+HasProgramFault p fault = IsFirstFault (program_stages p) fault
 
 abbrev pub IsCall : Op → Type 0
 IsCall (BrCall b1 wh many clr disp) = ⊤

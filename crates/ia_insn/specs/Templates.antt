@@ -1,6 +1,6 @@
 -- The bundle templates: the units of the three slots, and the slots that a stop follows
 -- (volume 1, chapter 3, instruction encoding, and volume 3, chapter 4, bundle templates).
-use Rattle.std.specs.Prelude.{◌≡◌, ℕ, ◌/◌, ◌%◌, ◌==◌, if◌then◌else◌, List, [], ◌∷◌, ◌++◌, Option, Some, None, IsSome, unwrap_or}
+use Rattle.std.specs.Prelude.{◌≡◌, ℕ, ◌/◌, ◌%◌, ◌==◌, if◌then◌else◌, List, [], ◌∷◌, ◌++◌, Option, Some, None, IsSome, unwrap_or, Bool, false, IsTrue, Contains, ◌↔◌, slice_index_or}
 use Rattle.ia_insn.specs.declared.choices.Unit.{Unit as ExecutionUnit}
 use Rattle.ia_insn.specs.declared.choices.Unit.TheVariants.{M, I, F, B, L, X}
 
@@ -43,6 +43,17 @@ units_of code = (unwrap_or (shape_of (code / 2)) no_shape).units
 -- The slots that a stop follows: those inside the bundle and, with an odd code, the last.
 abbrev pub stops_of : ℕ → List ℕ
 stops_of code = (unwrap_or (shape_of (code / 2)) no_shape).inner ++ (if code % 2 == 1 then 2 ∷ [] else [])
+
+-- A stop of the template follows the slot exactly if it is marked.
+pub record StopsAs (code slot : ℕ) (marked : Bool) : Type 0 where
+  pub both : Contains (stops_of code) slot ↔ IsTrue marked
+
+-- A template has these units, and its stops are those after the slots that are marked.
+pub record HasShape (code : ℕ) (units : List ExecutionUnit) (stops : List Bool) : Type 0 where
+  pub same : units_of code ≡ units
+  pub first : StopsAs code 0 (slice_index_or stops 0 false)
+  pub second : StopsAs code 1 (slice_index_or stops 1 false)
+  pub third : StopsAs code 2 (slice_index_or stops 2 false)
 
 -- Templates with the same units and the same stops are the same.
 abbrev pub AreEqualIfAlike : ℕ → ℕ → Type 0

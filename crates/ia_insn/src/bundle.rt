@@ -1,9 +1,9 @@
 //! Bundles.
 
 ghost use Rattle.std.specs.Prelude.{◌≡◌, ◌↔◌, IsTrue, SomeIff};
-ghost use Rattle.std.specs.Option.{SomeIff};
+ghost use Rattle.std.specs.Option.{SomeIff, option_copied};
 ghost use Rattle.ia_insn.specs.Templates.{units_of};
-ghost use Rattle.ia_insn.specs.Bundles.{Bundle, IsBundle, FitUnits};
+ghost use Rattle.ia_insn.specs.Bundles.{Bundle, IsBundle, FitUnits, slot_insn, last_slot, IsStopAfter};
 
 use crate::choices::Unit;
 use crate::insn::Insn;
@@ -33,6 +33,32 @@ pub enum Slots {
     },
 }
 
+impl Slots {
+    /// The instruction of slot 0, 1 or 2. None exactly above the last slot that has one.
+    pub fn insn(&self, slot: u8) -> Option<&Insn>
+        ensures { option_copied result ≡ slot_insn self.now slot }
+    {
+        match (self, slot) {
+            (Slots::Three { a, .. }, 0) => Some(a),
+            (Slots::Three { b, .. }, 1) => Some(b),
+            (Slots::Three { c, .. }, 2) => Some(c),
+            (Slots::Long { first, .. }, 0) => Some(first),
+            (Slots::Long { long, .. }, 1) => Some(long),
+            _ => None,
+        }
+    }
+
+    /// The last slot that has an instruction: 2, or 1 where that is a long one.
+    pub fn last(&self) -> u8
+        ensures { result ≡ last_slot self.now }
+    {
+        match self {
+            Slots::Three { .. } => 2,
+            Slots::Long { .. } => 1,
+        }
+    }
+}
+
 /// A bundle: a template and the instructions that fit it. Contracts see the template's code and the
 /// instructions.
 #[derive(Clone, Copy, Debug, PartialEq, Eq)]
@@ -58,10 +84,7 @@ fn fit_template(template: &Template, slots: &Slots) -> bool
     let [first, second, third] = template.units();
     match slots {
         Slots::Three { a, b, c } => {
-            fits(a, first, 0)
-                && fits(b, second, 1)
-                && fits(c, third, 2)
-                && !matches!(second, Unit::L | Unit::X)
+            fits(a, first, 0) && fits(b, second, 1) && fits(c, third, 2) && second != Unit::L
         }
         Slots::Long { first: one, long } => {
             fits(one, first, 0) && fits(long, second, 1) && second == Unit::L
@@ -82,6 +105,15 @@ impl BundleOf {
         }
     }
 
+    /// The bundle of these, where it is known that the instructions fit the template. Nothing is
+    /// looked at.
+    pub fn of_fitting(template: Template, slots: Slots) -> Self
+        requires { FitUnits (units_of template) slots }
+        ensures { result ≡ record { template = template; slots = slots } }
+    {
+        Self { template, slots }
+    }
+
     /// Its template.
     pub fn template(&self) -> Template
         ensures { result ≡ self.now.template }
@@ -96,86 +128,16 @@ impl BundleOf {
     {
         &self.slots
     }
-}
 
-#[cfg(test)]
-mod tests {
-    use super::*;
-    use crate::choices::BranchKind;
-    use crate::insn::Op;
-    use crate::registers::Pr;
-
-    fn unguarded(op: Op) -> Insn {
-        Insn {
-            qp: Pr::of_field(0),
-            op,
+    /// Whether a stop follows the instruction of a slot; that of a long one follows slot 1. None does
+    /// where the slot has no instruction.
+    #[tactic(auto, using(crate::proofs::Stops::no_stop_beyond))]
+    pub fn stop_after(&self, slot: u8) -> bool
+        ensures { IsTrue result ↔ IsStopAfter self.now.template self.now.slots slot }
+    {
+        match &self.slots {
+            Slots::Three { .. } => slot < 3 && self.template.stop_after(slot),
+            Slots::Long { .. } => slot == 1 && self.template.stop_after(2),
         }
-    }
-
-    fn nop(unit: Unit) -> Insn {
-        unguarded(Op::Nop { unit, imm: 0 })
-    }
-
-    fn three(a: Unit, b: Unit, c: Unit) -> Slots {
-        Slots::Three {
-            a: nop(a),
-            b: nop(b),
-            c: nop(c),
-        }
-    }
-
-    fn long() -> Slots {
-        Slots::Long {
-            first: nop(Unit::M),
-            long: nop(Unit::X),
-        }
-    }
-
-    fn loop_branch() -> Insn {
-        unguarded(Op::Br {
-            kind: BranchKind::Cloop,
-            wh: 0,
-            many: false,
-            clr: false,
-            disp: -1,
-        })
-    }
-
-    /// Whether the template with this code has a bundle of these, and shows them again.
-    fn is_bundle(code: u8, slots: Slots) -> bool {
-        let Some(template) = Template::of(code) else {
-            return false;
-        };
-        match BundleOf::new(template, slots) {
-            Some(bundle) => bundle.template() == template && *bundle.slots() == slots,
-            None => false,
-        }
-    }
-
-    #[test]
-    fn instructions_fit_their_template(rt: HostRuntime) {
-        assert!(rt; is_bundle(0x01, three(Unit::M, Unit::I, Unit::I)));
-        assert!(rt; !is_bundle(0x01, three(Unit::I, Unit::I, Unit::I)));
-        assert!(rt; !is_bundle(0x01, three(Unit::M, Unit::M, Unit::I)));
-        assert!(rt; !is_bundle(0x01, three(Unit::M, Unit::I, Unit::F)));
-        assert!(rt; !is_bundle(0x01, long()));
-        assert!(rt; is_bundle(0x04, long()));
-        assert!(rt; !is_bundle(0x04, three(Unit::M, Unit::X, Unit::X)));
-    }
-
-    #[test]
-    fn a_loop_branch_fits_slot_2_alone(rt: HostRuntime) {
-        let last = Slots::Three {
-            a: nop(Unit::M),
-            b: nop(Unit::B),
-            c: loop_branch(),
-        };
-        let second = Slots::Three {
-            a: nop(Unit::M),
-            b: loop_branch(),
-            c: nop(Unit::B),
-        };
-        assert!(rt; is_bundle(0x13, last));
-        assert!(rt; !is_bundle(0x13, second));
     }
 }

@@ -53,7 +53,7 @@ pub enum ShiftFn {
     Shl,
 }
 
-/// The relation of a compare (volume 3, chapter 2, `cmp`).
+/// The relation of a compare, crel in the manual (volume 3, chapter 2, `cmp`).
 #[derive(Clone, Copy, Debug, PartialEq, Eq)]
 pub enum Rel {
     /// Equal.
@@ -72,7 +72,8 @@ pub enum Rel {
     Le,
 }
 
-/// What a compare does with its result (volume 3, chapter 2, `cmp`, comparison types).
+/// What a compare does with its result, ctype in the manual (volume 3, chapter 2, `cmp`, comparison
+/// types).
 #[derive(Clone, Copy, Debug, PartialEq, Eq)]
 pub enum CmpKind {
     /// Both targets are written, the second with the complement.
@@ -87,7 +88,7 @@ pub enum CmpKind {
     OrAndcm,
 }
 
-/// The kind of a load (volume 3, chapter 2, `ld`, load types).
+/// The kind of a load, ldtype in the manual (volume 3, chapter 2, `ld`, load types).
 #[derive(Clone, Copy, Debug, PartialEq, Eq)]
 pub enum LoadKind {
     /// A plain load.
@@ -112,7 +113,7 @@ pub enum LoadKind {
     Fill,
 }
 
-/// The kind of a store (volume 3, chapter 2, `st`, store types).
+/// The kind of a store, sttype in the manual (volume 3, chapter 2, `st`, store types).
 #[derive(Clone, Copy, Debug, PartialEq, Eq)]
 pub enum StoreKind {
     /// A plain store.
@@ -123,7 +124,8 @@ pub enum StoreKind {
     Spill,
 }
 
-/// The kind of a direct branch that is no call (volume 3, chapter 2, `br`, branch types).
+/// The kind of a direct branch that is no call, btype in the manual (volume 3, chapter 2, `br`,
+/// branch types).
 #[derive(Clone, Copy, Debug, PartialEq, Eq)]
 pub enum BranchKind {
     /// `cond`, by its qualifying predicate.

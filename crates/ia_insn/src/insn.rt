@@ -1,5 +1,7 @@
 //! Instructions.
 
+ghost use Rattle.std.specs.Prelude.{◌≡◌};
+
 use crate::choices::{AluFn, BranchKind, CmpKind, LoadKind, Rel, ShiftFn, StoreKind, Unit, Update};
 use crate::registers::{Ar, Br, Gr, Pr};
 
@@ -76,9 +78,9 @@ pub enum Op {
     Cmp {
         /// Whether the low four bytes are compared.
         four: bool,
-        /// The relation.
+        /// The relation (crel).
         rel: Rel,
-        /// What is done with the result.
+        /// What is done with the result (ctype).
         kind: CmpKind,
         /// The first target.
         p1: Pr,
@@ -93,9 +95,9 @@ pub enum Op {
     CmpZero {
         /// Whether the low four bytes are compared.
         four: bool,
-        /// The relation: Gt, Le, Ge or Lt.
+        /// The relation (crel): Gt, Le, Ge or Lt.
         rel: Rel,
-        /// What is done with the result: And, Or or OrAndcm.
+        /// What is done with the result (ctype): And, Or or OrAndcm.
         kind: CmpKind,
         /// The first target.
         p1: Pr,
@@ -108,9 +110,9 @@ pub enum Op {
     CmpImm {
         /// Whether the low four bytes are compared.
         four: bool,
-        /// The relation.
+        /// The relation (crel).
         rel: Rel,
-        /// What is done with the result.
+        /// What is done with the result (ctype).
         kind: CmpKind,
         /// The first target.
         p1: Pr,
@@ -235,17 +237,6 @@ pub enum Op {
         /// The operand.
         r3: Gr,
     },
-    /// The low bytes of `r3`, extended, into `r1` (I29).
-    Ext {
-        /// Whether they are sign-extended.
-        signed: bool,
-        /// How many bytes: 1, 2 or 4.
-        size: u8,
-        /// The target.
-        r1: Gr,
-        /// The operand.
-        r3: Gr,
-    },
     /// A branch where `r2` has NaT (I20 and M20).
     ChkS {
         /// The unit: I or M.
@@ -263,9 +254,9 @@ pub enum Op {
         r2: Gr,
         /// Whether the hint is for a return.
         ret: bool,
-        /// Whether the hint is important.
+        /// The importance hint (ih): whether it is imp.
         imp: bool,
-        /// The hint: 0 sptk, 1 none, 2 dptk.
+        /// The whether hint of the move (mwh): 0 sptk, 1 none, 2 dptk.
         wh: u8,
         /// The place that the hint is for, in bundles from this one, -256 to 255.
         tag: i16,
@@ -321,13 +312,24 @@ pub enum Op {
         /// The source, which decides the unit.
         ar: Ar,
     },
+    /// The low bytes of `r3`, extended, into `r1` (I29).
+    Ext {
+        /// Whether they are sign-extended.
+        signed: bool,
+        /// How many bytes: 1, 2 or 4.
+        size: u8,
+        /// The target.
+        r1: Gr,
+        /// The operand.
+        r3: Gr,
+    },
     /// A load from the address `r3` into `r1` (M1 to M3).
     Load {
         /// How many bytes: 1, 2, 4 or 8.
         size: u8,
-        /// The kind.
+        /// The load type (ldtype).
         kind: LoadKind,
-        /// The hint: 0 none, 1 nt1, 3 nta.
+        /// The cache hint (ldhint): 0 none, 1 nt1, 3 nta.
         hint: u8,
         /// The target.
         r1: Gr,
@@ -340,9 +342,9 @@ pub enum Op {
     Store {
         /// How many bytes: 1, 2, 4 or 8.
         size: u8,
-        /// The kind.
+        /// The store type (sttype).
         kind: StoreKind,
-        /// The hint: 0 none, 3 nta.
+        /// The cache hint (sthint): 0 none, 3 nta.
         hint: u8,
         /// The base, which holds the address.
         r3: Gr,
@@ -362,13 +364,13 @@ pub enum Op {
     },
     /// Removes all entries of the ALAT (M24).
     Invala,
+    /// A memory fence (M24).
+    Mf,
     /// Removes the entry of `r1` from the ALAT (M26).
     InvalaE {
         /// The register.
         r1: Gr,
     },
-    /// A memory fence (M24).
-    Mf,
     /// A new register stack frame, and the previous function state into `r1` (M34).
     Alloc {
         /// The target.
@@ -382,13 +384,13 @@ pub enum Op {
     },
     /// A direct branch (B1 and B2).
     Br {
-        /// The kind.
+        /// The branch type (btype).
         kind: BranchKind,
-        /// The hint: 0 sptk, 1 spnt, 2 dptk, 3 dpnt.
+        /// The branch whether hint (bwh): 0 sptk, 1 spnt, 2 dptk, 3 dpnt.
         wh: u8,
-        /// Whether many bundles are to be fetched ahead.
+        /// The prefetch hint (ph): whether it is many, and not few.
         many: bool,
-        /// Whether the branch is to be forgotten.
+        /// The branch cache deallocation hint (dh): whether it is clr.
         clr: bool,
         /// The target, in bundles from this one, -1048576 to 1048575.
         disp: i32,
@@ -397,11 +399,11 @@ pub enum Op {
     BrCall {
         /// The register for the address after it.
         b1: Br,
-        /// The hint: 0 sptk, 1 spnt, 2 dptk, 3 dpnt.
+        /// The branch whether hint (bwh): 0 sptk, 1 spnt, 2 dptk, 3 dpnt.
         wh: u8,
-        /// Whether many bundles are to be fetched ahead.
+        /// The prefetch hint (ph): whether it is many, and not few.
         many: bool,
-        /// Whether the branch is to be forgotten.
+        /// The branch cache deallocation hint (dh): whether it is clr.
         clr: bool,
         /// The target, in bundles from this one, -1048576 to 1048575.
         disp: i32,
@@ -410,22 +412,22 @@ pub enum Op {
     BrInd {
         /// The register with the target.
         b2: Br,
-        /// The hint: 0 sptk, 1 spnt, 2 dptk, 3 dpnt.
+        /// The branch whether hint (bwh): 0 sptk, 1 spnt, 2 dptk, 3 dpnt.
         wh: u8,
-        /// Whether many bundles are to be fetched ahead.
+        /// The prefetch hint (ph): whether it is many, and not few.
         many: bool,
-        /// Whether the branch is to be forgotten.
+        /// The branch cache deallocation hint (dh): whether it is clr.
         clr: bool,
     },
     /// A return to the address in `b2` (B4).
     BrRet {
         /// The register with the target.
         b2: Br,
-        /// The hint: 0 sptk, 1 spnt, 2 dptk, 3 dpnt.
+        /// The branch whether hint (bwh): 0 sptk, 1 spnt, 2 dptk, 3 dpnt.
         wh: u8,
-        /// Whether many bundles are to be fetched ahead.
+        /// The prefetch hint (ph): whether it is many, and not few.
         many: bool,
-        /// Whether the branch is to be forgotten.
+        /// The branch cache deallocation hint (dh): whether it is clr.
         clr: bool,
     },
     /// A call of the address in `b2` (B5).
@@ -434,11 +436,11 @@ pub enum Op {
         b1: Br,
         /// The register with the target.
         b2: Br,
-        /// The hint: 0 sptk, 1 spnt, 2 dptk, 3 dpnt.
+        /// The branch whether hint (bwh): 0 sptk, 1 spnt, 2 dptk, 3 dpnt.
         wh: u8,
-        /// Whether many bundles are to be fetched ahead.
+        /// The prefetch hint (ph): whether it is many, and not few.
         many: bool,
-        /// Whether the branch is to be forgotten.
+        /// The branch cache deallocation hint (dh): whether it is clr.
         clr: bool,
     },
     /// Clears the rotating register bases (B8).
@@ -474,4 +476,22 @@ pub enum Op {
         /// The number, of 21 bits.
         imm: u64,
     },
+}
+
+impl Default for Insn {
+    ghost use Rattle.ia_insn.specs.declared.insn.Op.TheVariants.{Nop};
+    ghost use Rattle.ia_insn.specs.declared.choices.Unit.TheVariants.{M};
+
+    ghost is_default = { λ i. i ≡ record { qp = 0; op = Nop M 0 } };
+
+    /// `nop.m 0`.
+    fn default() -> Self {
+        Insn {
+            qp: Pr::default(),
+            op: Op::Nop {
+                unit: Unit::M,
+                imm: 0,
+            },
+        }
+    }
 }

@@ -47,7 +47,7 @@ pub fn is_listed_a(insn: &Insn) -> bool
         Op::Alu { f: _, r1, r2, r3 } => {
             r2.has_seven_bits();
             r3.has_seven_bits();
-            r1.number() != 0
+            !r1.is_zero()
         }
         Op::ShlAdd {
             p4: _,
@@ -58,18 +58,18 @@ pub fn is_listed_a(insn: &Insn) -> bool
         } => {
             r2.has_seven_bits();
             r3.has_seven_bits();
-            r1.number() != 0 && count >= 1 && count <= 4
+            !r1.is_zero() && count >= 1 && count <= 4
         }
         Op::AluImm8 { f, r1, imm, r3 } => {
             r3.has_seven_bits();
-            r1.number() != 0 && fits_signed::<8>(imm) && has_imm8_codes(f)
+            !r1.is_zero() && fits_signed::<8>(imm) && has_imm8_codes(f)
         }
         Op::AddImm14 { p4: _, r1, imm, r3 } => {
             r3.has_seven_bits();
-            r1.number() != 0 && fits_signed::<14>(imm)
+            !r1.is_zero() && fits_signed::<14>(imm)
         }
         Op::AddImm22 { r1, imm, r3 } => {
-            r1.number() != 0 && r3.number() < 4 && fits_signed::<22>(imm)
+            !r1.is_zero() && r3.number() < 4 && fits_signed::<22>(imm)
         }
         Op::Cmp {
             four: _,

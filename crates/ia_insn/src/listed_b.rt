@@ -17,7 +17,7 @@ fn is_qualifier(kind: BranchKind, qp: Pr) -> bool
 {
     match kind {
         BranchKind::Cond | BranchKind::Wexit | BranchKind::Wtop => true,
-        BranchKind::Cloop | BranchKind::Cexit | BranchKind::Ctop => qp.number() == 0,
+        BranchKind::Cloop | BranchKind::Cexit | BranchKind::Ctop => qp.is_zero(),
     }
 }
 
@@ -70,7 +70,7 @@ pub fn is_listed_b(insn: &Insn) -> bool
             b2.has_three_bits();
             wh < 4
         }
-        Op::Clrrrb { pred_only: _ } => insn.qp.number() == 0,
+        Op::Clrrrb { pred_only: _ } => insn.qp.is_zero(),
         Op::Break { unit, imm } | Op::Nop { unit, imm } | Op::Hint { unit, imm } => {
             unit == Unit::B && imm < 0x20_0000
         }

@@ -32,16 +32,16 @@ pub fn is_listed_i(insn: &Insn) -> bool
         } => {
             value.has_seven_bits();
             count.has_seven_bits();
-            r1.number() != 0
+            !r1.is_zero()
         }
         Op::Popcnt { r1, r3 } => {
             r3.has_seven_bits();
-            r1.number() != 0
+            !r1.is_zero()
         }
         Op::Shrp { r1, r2, r3, count } => {
             r2.has_seven_bits();
             r3.has_seven_bits();
-            r1.number() != 0 && count <= 63
+            !r1.is_zero() && count <= 63
         }
         Op::Extr {
             signed: _,
@@ -51,14 +51,14 @@ pub fn is_listed_i(insn: &Insn) -> bool
             len,
         } => {
             r3.has_seven_bits();
-            r1.number() != 0 && is_bit_range(pos, len)
+            !r1.is_zero() && is_bit_range(pos, len)
         }
         Op::DepZ { r1, r2, pos, len } => {
             r2.has_seven_bits();
-            r1.number() != 0 && is_bit_range(pos, len)
+            !r1.is_zero() && is_bit_range(pos, len)
         }
         Op::DepZImm { r1, imm, pos, len } => {
-            r1.number() != 0 && is_bit_range(pos, len) && fits_signed::<8>(imm)
+            !r1.is_zero() && is_bit_range(pos, len) && fits_signed::<8>(imm)
         }
         Op::DepImm {
             r1,
@@ -68,7 +68,7 @@ pub fn is_listed_i(insn: &Insn) -> bool
             len,
         } => {
             r3.has_seven_bits();
-            r1.number() != 0 && is_bit_range(pos, len)
+            !r1.is_zero() && is_bit_range(pos, len)
         }
         Op::Dep {
             r1,
@@ -79,7 +79,7 @@ pub fn is_listed_i(insn: &Insn) -> bool
         } => {
             r2.has_seven_bits();
             r3.has_seven_bits();
-            r1.number() != 0 && is_bit_range(pos, len) && len <= 16
+            !r1.is_zero() && is_bit_range(pos, len) && len <= 16
         }
         Op::Tbit {
             unc: _,
@@ -95,14 +95,8 @@ pub fn is_listed_i(insn: &Insn) -> bool
             r3.has_seven_bits();
             p1.number() != p2.number()
         }
-        Op::Ext {
-            signed,
-            size,
-            r1,
-            r3,
-        } => {
-            r3.has_seven_bits();
-            r1.number() != 0 && is_extended_size(signed, size)
+        Op::Break { unit, imm } | Op::Nop { unit, imm } | Op::Hint { unit, imm } => {
+            unit == Unit::I && imm < 0x20_0000
         }
         Op::ChkS { unit, r2, disp } => {
             r2.has_seven_bits();
@@ -122,7 +116,7 @@ pub fn is_listed_i(insn: &Insn) -> bool
         }
         Op::MovFromBr { r1, b2 } => {
             b2.has_three_bits();
-            r1.number() != 0
+            !r1.is_zero()
         }
         Op::MovToPr { r2, mask } => {
             r2.has_seven_bits();
@@ -131,38 +125,23 @@ pub fn is_listed_i(insn: &Insn) -> bool
         Op::MovToPrRot { imm } => {
             fits_signed::<44>(imm) && twos_complement::<44>(imm) % 0x1_0000 == 0
         }
-        Op::MovFromIp { r1 } | Op::MovFromPr { r1 } => r1.number() != 0,
+        Op::MovFromIp { r1 } | Op::MovFromPr { r1 } => !r1.is_zero(),
         Op::MovToAr { ar, r2 } => {
             r2.has_seven_bits();
             ar != Ar::Unat
         }
         Op::MovToArImm { ar, imm } => ar != Ar::Unat && fits_signed::<8>(imm),
-        Op::MovFromAr { r1, ar } => r1.number() != 0 && ar != Ar::Unat,
-        Op::Break { unit, imm } | Op::Nop { unit, imm } | Op::Hint { unit, imm } => {
-            unit == Unit::I && imm < 0x20_0000
+        Op::MovFromAr { r1, ar } => !r1.is_zero() && ar != Ar::Unat,
+        Op::Ext {
+            signed,
+            size,
+            r1,
+            r3,
+        } => {
+            r3.has_seven_bits();
+            !r1.is_zero() && is_extended_size(signed, size)
         }
-        Op::Alu { .. }
-        | Op::ShlAdd { .. }
-        | Op::AluImm8 { .. }
-        | Op::AddImm14 { .. }
-        | Op::AddImm22 { .. }
-        | Op::Cmp { .. }
-        | Op::CmpZero { .. }
-        | Op::CmpImm { .. }
-        | Op::Load { .. }
-        | Op::Store { .. }
-        | Op::ChkA { .. }
-        | Op::Invala
-        | Op::InvalaE { .. }
-        | Op::Mf
-        | Op::Alloc { .. }
-        | Op::Br { .. }
-        | Op::BrCall { .. }
-        | Op::BrInd { .. }
-        | Op::BrRet { .. }
-        | Op::BrCallInd { .. }
-        | Op::Clrrrb { .. }
-        | Op::Movl { .. } => false,
+        _ => false,
     }
 }
 

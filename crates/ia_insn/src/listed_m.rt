@@ -44,7 +44,7 @@ fn is_store_size(kind: StoreKind, size: u8) -> bool
 fn is_load_base(target: Gr, base: Gr) -> bool
     ensures { IsTrue result ↔ (base ≢ 0) × (target ≢ base) }
 {
-    base.number() != 0 && target.number() != base.number()
+    !base.is_zero() && target.number() != base.number()
 }
 
 /// Whether a load with these operands is listed.
@@ -59,7 +59,7 @@ fn is_listed_load(
 ) -> bool
     ensures { IsTrue result ↔ IsListedM (record { qp = qp; op = Load size kind hint r1 r3 update }) }
 {
-    if r1.number() == 0 || hint > 3 || hint == 2 || !is_load_size(kind, size) {
+    if r1.is_zero() || hint > 3 || hint == 2 || !is_load_size(kind, size) {
         return false;
     }
     match update {
@@ -87,7 +87,7 @@ fn is_listed_store(
     match update {
         Update::None => true,
         Update::Reg(_) => false,
-        Update::Imm(imm) => r3.number() != 0 && fits_signed::<9>(i64::from(imm)),
+        Update::Imm(imm) => !r3.is_zero() && fits_signed::<9>(i64::from(imm)),
     }
 }
 
@@ -130,49 +130,18 @@ pub fn is_listed_m(insn: &Insn) -> bool
             r2.has_seven_bits();
             ar == Ar::Unat
         }
-        Op::MovFromAr { r1, ar } => r1.number() != 0 && ar == Ar::Unat,
         Op::MovToArImm { ar, imm } => ar == Ar::Unat && fits_signed::<8>(imm),
+        Op::MovFromAr { r1, ar } => !r1.is_zero() && ar == Ar::Unat,
         Op::Alloc { r1, sof, sol, sor } => {
-            r1.number() != 0
+            !r1.is_zero()
                 && sof <= 96
                 && sol <= sof
                 && 8 * u64::from(sor) <= u64::from(sof)
-                && insn.qp.number() == 0
+                && insn.qp.is_zero()
         }
         Op::Break { unit, imm } | Op::Nop { unit, imm } | Op::Hint { unit, imm } => {
             unit == Unit::M && imm < 0x20_0000
         }
-        Op::Alu { .. }
-        | Op::ShlAdd { .. }
-        | Op::AluImm8 { .. }
-        | Op::AddImm14 { .. }
-        | Op::AddImm22 { .. }
-        | Op::Cmp { .. }
-        | Op::CmpZero { .. }
-        | Op::CmpImm { .. }
-        | Op::ShiftVar { .. }
-        | Op::Popcnt { .. }
-        | Op::Shrp { .. }
-        | Op::Extr { .. }
-        | Op::DepZ { .. }
-        | Op::DepZImm { .. }
-        | Op::DepImm { .. }
-        | Op::Dep { .. }
-        | Op::Tbit { .. }
-        | Op::Tnat { .. }
-        | Op::Ext { .. }
-        | Op::MovToBr { .. }
-        | Op::MovFromBr { .. }
-        | Op::MovToPr { .. }
-        | Op::MovToPrRot { .. }
-        | Op::MovFromIp { .. }
-        | Op::MovFromPr { .. }
-        | Op::Br { .. }
-        | Op::BrCall { .. }
-        | Op::BrInd { .. }
-        | Op::BrRet { .. }
-        | Op::BrCallInd { .. }
-        | Op::Clrrrb { .. }
-        | Op::Movl { .. } => false,
+        _ => false,
     }
 }

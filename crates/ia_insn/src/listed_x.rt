@@ -16,12 +16,12 @@ pub fn is_listed_x(insn: &Insn) -> bool
 {
     insn.qp.has_six_bits();
     match insn.op {
-        Op::Movl { r1, imm } => {
-            let _immediate = imm;
-            r1.number() != 0
-        }
         Op::Break { unit, imm } | Op::Nop { unit, imm } => {
             unit == Unit::X && imm < 0x4000_0000_0000_0000
+        }
+        Op::Movl { r1, imm } => {
+            let _immediate = imm;
+            !r1.is_zero()
         }
         _ => false,
     }

@@ -1,13 +1,14 @@
 //! Places of slots.
 
-ghost use Rattle.std.specs.Prelude.{◌++◌, ◌∷◌, Some};
-ghost use Rattle.std.specs.Fmt.{decimal};
+ghost use Rattle.std.specs.Prelude.{◌↔◌, IsTrue, Some};
+ghost use Rattle.ia_insn.specs.Places.{IsBefore, NumbersRise};
+ghost use Rattle.ia_insn.specs.Texts.{place_text};
 
 use std::fmt;
 
 /// The place of a slot in a program: the number of its bundle, from 0, and its slot, 0 to 2. Places
 /// are ordered by bundle, then by slot.
-#[derive(Clone, Copy, Debug, PartialEq, Eq, PartialOrd, Ord)]
+#[derive(Clone, Copy, Debug, Default, PartialEq, Eq, PartialOrd, Ord)]
 pub struct Place {
     /// The number of the bundle, from 0.
     pub bundle: u32,
@@ -15,37 +16,31 @@ pub struct Place {
     pub slot: u8,
 }
 
+impl Place {
+    /// The first place of a program.
+    pub const FIRST: Place = Place { bundle: 0, slot: 0 };
+
+    /// Whether this place comes before another. It is the derived order, `<`.
+    pub fn is_before(&self, other: &Place) -> bool
+        ensures { IsTrue result ↔ IsBefore self.now other.now }
+    {
+        self < other
+    }
+}
+
+/// The law that of two places, with slots 0 to 2, the one before has the lower number. It does
+/// nothing.
+pub fn numbers_rise(first: Place, second: Place)
+    ensures { NumbersRise first second }
+{}
+
 impl fmt::Display for Place {
-    ghost output = { λ p. Some (decimal p.bundle ++ (46 ∷ decimal p.slot)) };
+    ghost output = { λ p. Some (place_text p) };
 
     /// The bundle, a dot and the slot, in decimal.
     fn fmt<W: fmt::Write>(&self, f: &mut fmt::Formatter<W>) -> fmt::Result {
         let bundle = self.bundle;
         let slot = self.slot;
         write!(f, "{bundle}.{slot}")
-    }
-}
-
-#[cfg(test)]
-mod tests {
-    use super::*;
-    use std::test::Fail;
-
-    #[test]
-    fn place_prints_bundle_and_slot(rt: HostRuntime) -> Result<(), Fail> {
-        let place = Place {
-            bundle: 4095,
-            slot: 2,
-        };
-        assert_eq!(rt; place.to_string(rt.alloc())?.as_str(), "4095.2");
-        Ok(())
-    }
-
-    #[test]
-    fn places_go_by_bundle_then_slot(rt: HostRuntime) {
-        let last = Place { bundle: 3, slot: 2 };
-        let next = Place { bundle: 4, slot: 0 };
-        assert!(rt; last < next);
-        assert!(rt; Place { bundle: 3, slot: 1 } < last);
     }
 }

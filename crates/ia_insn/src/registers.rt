@@ -1,8 +1,8 @@
 //! The registers that an instruction names.
 
-ghost use Rattle.std.specs.Prelude.{◌≡◌, ℕ, ◌<◌, ◌^◌, ◌∷◌, Some, Option};
+ghost use Rattle.std.specs.Prelude.{◌≡◌, ℕ, ◌<◌, ◌^◌, ◌↔◌, IsTrue, Some, Option};
 ghost use Rattle.std.specs.Option.{SomeIff};
-ghost use Rattle.std.specs.Fmt.{decimal};
+ghost use Rattle.ia_insn.specs.Texts.{gr_text, pr_text, br_text};
 
 use std::fmt;
 use std::marker::Model;
@@ -52,14 +52,31 @@ impl Gr {
         self.number
     }
 
+    /// Whether it is r0, which reads 0 and is no target.
+    pub fn is_zero(&self) -> bool
+        ensures exact { IsTrue result ↔ (self.now ≡ 0) }
+        ensures within { self.now < 128 }
+    {
+        self.number == 0
+    }
+
     /// The law that its number has seven bits. It does nothing.
     pub fn has_seven_bits(self)
         ensures { self < 2 ^ 7 }
     {}
 }
 
+impl Default for Gr {
+    ghost is_default = { λ r. r ≡ 0 };
+
+    /// r0.
+    fn default() -> Self {
+        Gr { number: 0 }
+    }
+}
+
 impl fmt::Display for Gr {
-    ghost output = { λ r. Some (114 ∷ decimal r) };
+    ghost output = { λ r. Some (gr_text r) };
 
     /// `r` and the number in decimal.
     fn fmt<W: fmt::Write>(&self, f: &mut fmt::Formatter<W>) -> fmt::Result {
@@ -109,14 +126,31 @@ impl Pr {
         self.number
     }
 
+    /// Whether it is p0, which is always 1.
+    pub fn is_zero(&self) -> bool
+        ensures exact { IsTrue result ↔ (self.now ≡ 0) }
+        ensures within { self.now < 64 }
+    {
+        self.number == 0
+    }
+
     /// The law that its number has six bits. It does nothing.
     pub fn has_six_bits(self)
         ensures { self < 2 ^ 6 }
     {}
 }
 
+impl Default for Pr {
+    ghost is_default = { λ r. r ≡ 0 };
+
+    /// p0.
+    fn default() -> Self {
+        Pr { number: 0 }
+    }
+}
+
 impl fmt::Display for Pr {
-    ghost output = { λ r. Some (112 ∷ decimal r) };
+    ghost output = { λ r. Some (pr_text r) };
 
     /// `p` and the number in decimal.
     fn fmt<W: fmt::Write>(&self, f: &mut fmt::Formatter<W>) -> fmt::Result {
@@ -171,8 +205,17 @@ impl Br {
     {}
 }
 
+impl Default for Br {
+    ghost is_default = { λ r. r ≡ 0 };
+
+    /// b0.
+    fn default() -> Self {
+        Br { number: 0 }
+    }
+}
+
 impl fmt::Display for Br {
-    ghost output = { λ r. Some (98 ∷ decimal r) };
+    ghost output = { λ r. Some (br_text r) };
 
     /// `b` and the number in decimal.
     fn fmt<W: fmt::Write>(&self, f: &mut fmt::Formatter<W>) -> fmt::Result {
@@ -194,30 +237,4 @@ pub enum Ar {
     Lc,
     /// `ar.ec`, register 66, which I slots move.
     Ec,
-}
-
-#[cfg(test)]
-mod tests {
-    use super::*;
-    use std::test::Fail;
-
-    #[test]
-    fn numbers_end_at_the_register_file(rt: HostRuntime) -> Result<(), Fail> {
-        assert_eq!(rt; Gr::new(127).ok_or("r127")?.number(), 127);
-        assert_eq!(rt; Gr::new(128), None);
-        assert_eq!(rt; Pr::new(63).ok_or("p63")?.number(), 63);
-        assert_eq!(rt; Pr::new(64), None);
-        assert_eq!(rt; Br::new(7).ok_or("b7")?.number(), 7);
-        assert_eq!(rt; Br::new(8), None);
-        Ok(())
-    }
-
-    #[test]
-    fn registers_print_their_names(rt: HostRuntime) -> Result<(), Fail> {
-        let alloc = rt.alloc();
-        assert_eq!(rt; Gr::of_field(127).to_string(alloc)?.as_str(), "r127");
-        assert_eq!(rt; Pr::of_field(63).to_string(alloc)?.as_str(), "p63");
-        assert_eq!(rt; Br::of_field(7).to_string(alloc)?.as_str(), "b7");
-        Ok(())
-    }
 }

@@ -3,7 +3,7 @@
 
 ghost use Rattle.std.specs.Prelude.{◌≡◌, ◌<◌, ◌≤◌, ◌^◌, ◌↔◌, IsTrue};
 ghost use Rattle.std.specs.Bool.{OnTrue};
-ghost use Rattle.ia_insn.specs.Word.{signed_of, twos, FitsSigned};
+ghost use Rattle.ia_insn.specs.Signed.{signed_of, twos, FitsSigned};
 
 /// 2 to a power.
 fn power(exponent: u32) -> u64
@@ -57,19 +57,5 @@ pub fn twos_complement<const W: u32>(number: i64) -> u64
         number as u64
     } else {
         2 * half - 1 - (-(number + 1)) as u64
-    }
-}
-
-#[cfg(test)]
-mod tests {
-    use super::*;
-
-    #[test]
-    fn sign_is_the_highest_bit(rt: HostRuntime) {
-        assert_eq!(rt; sign_extended::<14>(0x3fff), -1);
-        assert_eq!(rt; sign_extended::<14>(0x1fff), 8191);
-        assert_eq!(rt; twos_complement::<14>(-8192), 0x2000);
-        assert!(rt; fits_signed::<8>(-128) && fits_signed::<8>(127));
-        assert!(rt; !fits_signed::<8>(-129) && !fits_signed::<8>(128));
     }
 }

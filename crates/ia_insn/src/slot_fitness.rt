@@ -12,8 +12,9 @@ use crate::listed_i::is_listed_i;
 use crate::listed_m::is_listed_m;
 use crate::listed_x::is_listed_x;
 
-/// Whether a B instruction may stand in this slot.
-fn is_branch_slot(op: Op, slot: u8) -> bool
+/// Whether the operation may stand in this slot of its bundle, in a slot of its own unit: the loop
+/// branches stand in slot 2 alone (volume 3, chapter 2, `br`).
+pub fn is_branch_slot(op: Op, slot: u8) -> bool
     ensures { IsTrue result ↔ IsBranchSlot op slot }
 {
     match op {
@@ -36,76 +37,4 @@ pub fn fits(insn: &Insn, unit: Unit, slot: u8) -> bool
             Unit::B => is_listed_b(insn) && is_branch_slot(insn.op, slot),
             Unit::L | Unit::X => is_listed_x(insn) && slot == 1,
         }
-}
-
-#[cfg(test)]
-mod tests {
-    use super::*;
-    use crate::choices::AluFn;
-    use crate::registers::{Gr, Pr};
-
-    const UNITS: [Unit; 6] = [Unit::M, Unit::I, Unit::F, Unit::B, Unit::L, Unit::X];
-
-    fn unguarded(op: Op) -> Insn {
-        Insn {
-            qp: Pr::of_field(0),
-            op,
-        }
-    }
-
-    fn branch(kind: BranchKind) -> Insn {
-        unguarded(Op::Br {
-            kind,
-            wh: 0,
-            many: false,
-            clr: false,
-            disp: -1,
-        })
-    }
-
-    #[test]
-    fn families_fit_their_units(rt: HostRuntime) {
-        let r8 = Gr::of_field(8);
-        let add = |r1| Op::Alu {
-            f: AluFn::Add,
-            r1,
-            r2: r8,
-            r3: r8,
-        };
-        let nop_f = Op::Nop {
-            unit: Unit::F,
-            imm: 0,
-        };
-        // Which of M, I, F, B, L and X an instruction fits at slot 1.
-        for (op, fitting) in [
-            (add(r8), [true, true, false, false, false, false]),
-            (add(Gr::of_field(0)), [false; 6]),
-            (
-                Op::Popcnt { r1: r8, r3: r8 },
-                [false, true, false, false, false, false],
-            ),
-            (Op::Mf, [true, false, false, false, false, false]),
-            (nop_f, [false, false, true, false, false, false]),
-            (
-                Op::Clrrrb { pred_only: true },
-                [false, false, false, true, false, false],
-            ),
-            (
-                Op::Movl { r1: r8, imm: 1 },
-                [false, false, false, false, true, true],
-            ),
-        ] {
-            for (unit, wanted) in UNITS.into_iter().zip(fitting) {
-                assert_eq!(rt; fits(&unguarded(op), unit, 1), wanted, "{op:?} in {unit:?}");
-            }
-        }
-    }
-
-    #[test]
-    fn loop_branches_fit_slot_2_alone(rt: HostRuntime) {
-        assert!(rt; fits(&branch(BranchKind::Cond), Unit::B, 1));
-        assert!(rt; !fits(&branch(BranchKind::Ctop), Unit::B, 1));
-        assert!(rt; fits(&branch(BranchKind::Ctop), Unit::B, 2));
-        assert!(rt; !fits(&branch(BranchKind::Ctop), Unit::B, 3));
-    }
 }

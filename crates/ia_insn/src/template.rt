@@ -1,8 +1,8 @@
 //! Bundle templates.
 
-ghost use Rattle.std.specs.Prelude.{◌≡◌, ℕ, ◌<◌, ◌↔◌, SomeIff, IsTrue, Contains, Option};
+ghost use Rattle.std.specs.Prelude.{◌≡◌, ℕ, ◌<◌, ◌↔◌, SomeIff, IsTrue, Contains, Option, MatchOption};
 ghost use Rattle.std.specs.Option.{SomeIff};
-ghost use Rattle.ia_insn.specs.Templates.{IsTemplate, units_of, stops_of, AreEqualIfAlike};
+ghost use Rattle.ia_insn.specs.Templates.{IsTemplate, units_of, stops_of, StopsAs, HasShape, AreEqualIfAlike};
 
 use crate::choices::Unit;
 use std::marker::Model;
@@ -34,6 +34,21 @@ impl Template {
             0x00..=0x05 | 0x08..=0x13 | 0x16..=0x19 | 0x1c | 0x1d => Some(Template { code }),
             _ => None,
         }
+    }
+
+    /// The template with these units, and stops after the slots that are marked. None exactly where
+    /// there is none; there is no second one ([`one_template`]).
+    pub fn with(units: [Unit; 3], stops: [bool; 3]) -> Option<Self>
+        ensures { MatchOption result ((code : ℕ) → IsTemplate code → HasShape code units stops → ⊥) (λ code. HasShape code units stops) }
+    {
+        for code in 0..32 {
+            if let Some(template) = Template::of(code) {
+                if template.has_shape(units, stops) {
+                    return Some(template);
+                }
+            }
+        }
+        None
     }
 
     /// Its code, 0 to 31.
@@ -74,6 +89,24 @@ impl Template {
             _ => self.code % 2 == 1,
         }
     }
+
+    /// Whether a stop follows the slot exactly if it is marked.
+    fn stops_as(&self, slot: u8, marked: bool) -> bool
+        requires { slot < 3 }
+        ensures { IsTrue result ↔ StopsAs self.now slot marked }
+    {
+        self.stop_after(slot) == marked
+    }
+
+    /// Whether these are its units, and its stops those after the slots that are marked.
+    fn has_shape(&self, units: [Unit; 3], stops: [bool; 3]) -> bool
+        ensures { IsTrue result ↔ HasShape self.now units stops }
+    {
+        self.units() == units
+            && self.stops_as(0, stops[0])
+            && self.stops_as(1, stops[1])
+            && self.stops_as(2, stops[2])
+    }
 }
 
 /// The law that templates with the same units and the same stops are the same. It does nothing.
@@ -83,39 +116,4 @@ pub fn one_template(first: Template, second: Template)
 {
     let _first = first.code();
     let _second = second.code();
-}
-
-#[cfg(test)]
-mod tests {
-    use super::*;
-    use std::test::Fail;
-
-    #[test]
-    fn reserved_codes_are_no_templates(rt: HostRuntime) {
-        for code in 0..=32 {
-            let reserved = matches!(
-                code,
-                0x06 | 0x07 | 0x14 | 0x15 | 0x1a | 0x1b | 0x1e | 0x1f | 0x20
-            );
-            assert_eq!(rt; Template::of(code).is_none(), reserved, "code {code}");
-        }
-    }
-
-    #[test]
-    fn codes_give_units_and_stops(rt: HostRuntime) -> Result<(), Fail> {
-        for (code, units, stops) in [
-            (0x03, [Unit::M, Unit::I, Unit::I], [false, true, true]),
-            (0x04, [Unit::M, Unit::L, Unit::X], [false, false, false]),
-            (0x0a, [Unit::M, Unit::M, Unit::I], [true, false, false]),
-            (0x1d, [Unit::M, Unit::F, Unit::B], [false, false, true]),
-        ] {
-            let template = Template::of(code).ok_or("a template")?;
-            assert_eq!(rt; template.code(), code);
-            assert!(rt; template.units() == units, "code {code}");
-            assert_eq!(rt; template.stop_after(0), stops[0], "code {code}");
-            assert_eq!(rt; template.stop_after(1), stops[1], "code {code}");
-            assert_eq!(rt; template.stop_after(2), stops[2], "code {code}");
-        }
-        Ok(())
-    }
 }

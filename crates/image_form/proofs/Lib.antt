@@ -1,10 +1,7 @@
-pub mod Numbers
+pub mod NumberBytes
 pub mod Spelled
 pub mod Wholes
-pub mod FirstFaults
-pub mod Readings
+pub mod Stages
 pub mod OneToOne
-pub mod Written
-pub mod Firsts
-pub mod OneFault
-pub mod SomeFault
+pub mod NotWithout
+pub mod Answered

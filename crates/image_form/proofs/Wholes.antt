@@ -1,99 +1,184 @@
--- The parts of an image, and the whole.
-use Rattle.std.proofs.Common.{◌≡◌, ℕ, zero, suc, ◌+◌, ◌*◌, ◌<◌, ◌≤◌, List, [], ◌∷◌, ◌++◌, length, get_or, take, drop, append_assoc, refl, sym, ap, ◌∙◌, arith}
-use Rattle.std.specs.Int.{w32, to_le_bytes}
-use Rattle.std.proofs.lemmas.Nat.{le_bytes_4}
-use Rattle.std.proofs.lemmas.List.{take-append-drop, length-drop, length-take, get_or-drop, drop-drop}
-use Rattle.ia_insn.specs.Programs.{Program, IsProgram}
-use Rattle.image_form.specs.Images.{magic, head_of, words_of, AreSpelled, Spells}
-use Rattle.image_form.specs.Faults.{word_at, bundle_count, entry_count, memory_size, numbers, bundles_from, memory_from, entries_of, bundle_bytes, memory_of, HasParts}
+-- Images and their parts: a program has the image exactly where its parts are those of the bytes.
+use Rattle.std.proofs.Common.{◌≡◌, ℕ, ◌+◌, ◌*◌, ◌/◌, ◌%◌, ◌^◌, ◌<◌, ◌≤◌, List, [], ◌∷◌, ◌++◌, length, length-append, take, drop, refl, sym, ap, ◌∙◌, subst, arith}
+use Rattle.std.specs.Prelude.{slice_index}
+use Rattle.std.proofs.Math.Seq.{take-add}
+use Rattle.std.proofs.lemmas.Nat.{from_le_bytes-to_le_bytes_4}
+use Rattle.std.proofs.lemmas.List.{take-append-drop, take_at, drop_at, take_all, drop-drop, length-take, length-drop}
+use Rattle.ia_insn.specs.Programs.{Program, IsProgram, AreInRange, AreEntries, AreBytes}
+use Rattle.image_form.specs.Images.{magic, number_bytes, head_bytes, AreSpelled, Spells}
+use Rattle.image_form.specs.Parts.{number_at, numbers, bundle_count, entry_count, data_size, image_length, entry_bytes, after_entries, bundle_bytes, data_of, entries_of, HasHead}
+use Rattle.image_form.specs.Laws.{ImageSize}
+use Rattle.image_form.proofs.NumberBytes.{bytes_take, bytes_drop, length-numbers, length-number_bytes, number_bytes-numbers, numbers-number_bytes, FitFour}
 use Rattle.image_form.proofs.Spelled.{spelled_length}
 
--- each is a byte
-abbrev pub AreSmall : List ℕ → Type 0
-AreSmall bytes = (i : ℕ) → get_or bytes i 0 < 256
+-- The program's parts are those of the bytes.
+pub record ArePartsOf (p : Program) (bytes : List ℕ) : Type 0 where
+  pub head : HasHead bytes
+  pub entries : p.entries ≡ entries_of bytes
+  pub spelled : AreSpelled p.bundles (bundle_bytes bytes)
+  pub rest : p.bytes ≡ data_of bytes
 
-pub small_take : (n : ℕ) (xs : List ℕ) → AreSmall xs → AreSmall (take n xs)
-small_take zero xs h i = omega arith
-small_take (suc n) [] h i = h i
-small_take (suc n) (x ∷ xs) h zero = h zero
-small_take (suc n) (x ∷ xs) h (suc i) = small_take n xs (λ k. h (suc k)) i
+-- how long the parts are
+pub length-entry_bytes : (bytes : List ℕ) → HasHead bytes → length (entry_bytes bytes) ≡ 4 * entry_count bytes
+length-entry_bytes bytes h = simp (length-take, length-drop) (omega (arith, h.size))
 
-pub small_drop : (n : ℕ) (xs : List ℕ) → AreSmall xs → AreSmall (drop n xs)
-small_drop n xs h i = rw (get_or-drop n xs i 0) (h (n + i))
+pub length-bundle_bytes : (bytes : List ℕ) → HasHead bytes → length (bundle_bytes bytes) ≡ 16 * bundle_count bytes
+length-bundle_bytes bytes h = simp (length-take, length-drop) (omega (arith, h.size))
 
--- four bytes from a place on are those of their number
-four : (bytes : List ℕ) (at : ℕ) → at + 4 ≤ length bytes → AreSmall bytes → to_le_bytes w32 (word_at bytes at) ≡ take 4 (drop at bytes)
-four bytes at fits small =
-    le_bytes_4 (take 4 (drop at bytes)) (word_at bytes at) (simp (length-take, length-drop) (omega arith)) (small_take 4 (drop at bytes) (small_drop at bytes small)) refl
+length-data_of : (bytes : List ℕ) → HasHead bytes → length (data_of bytes) ≡ data_size bytes
+length-data_of bytes h = simp length-drop (omega (arith, h.size))
 
--- the bytes from a place on are four and the others
-cut : (bytes : List ℕ) (at next : ℕ) → next ≡ at + 4 → drop at bytes ≡ take 4 (drop at bytes) ++ drop next bytes
-cut bytes at next e = sym (take-append-drop 4 (drop at bytes)) ∙ ap (λ l. take 4 (drop at bytes) ++ l) (drop-drop 4 at bytes ∙ ap (λ k. drop k bytes) (sym e))
+-- The program has as many bundles, entries and bytes of data as the head says.
+pub record HasCounts (p : Program) (bytes : List ℕ) : Type 0 where
+  pub bundles : length p.bundles ≡ bundle_count bytes
+  pub entries : length p.entries ≡ entry_count bytes
+  pub size : length p.bytes ≡ data_size bytes
 
-next_four : (bytes : List ℕ) (at next : ℕ) → next ≡ at + 4 → next ≤ length bytes → AreSmall bytes → drop at bytes ≡ to_le_bytes w32 (word_at bytes at) ++ drop next bytes
-next_four bytes at next e fits small = cut bytes at next e ∙ ap (λ l. l ++ drop next bytes) (sym (four bytes at (omega arith) small))
+pub counts_of : (p : Program) (bytes : List ℕ) → ArePartsOf p bytes → HasCounts p bytes
+counts_of p bytes parts = record {
+  bundles = omega (arith, spelled_length p.bundles (bundle_bytes bytes) parts.spelled, length-bundle_bytes bytes parts.head);
+  entries = ap length parts.entries ∙ length-numbers (entry_count bytes) (entry_bytes bytes);
+  size = ap length parts.rest ∙ length-data_of bytes parts.head;
+}
 
--- the head and what follows
-whole_head : (bytes : List ℕ) → 24 ≤ length bytes → take 8 bytes ≡ magic → word_at bytes 20 ≡ 0 → AreSmall bytes → bytes ≡ head_of (bundle_count bytes) (entry_count bytes) (memory_size bytes) ++ drop 24 bytes
-whole_head bytes long begins last small =
-    sym (take-append-drop 8 bytes)
-    ∙ ap (λ l. l ++ drop 8 bytes) begins
-    ∙ ap (λ l. magic ++ l) (next_four bytes 8 12 refl (omega arith) small)
-    ∙ ap (λ l. magic ++ (to_le_bytes w32 (bundle_count bytes) ++ l)) (next_four bytes 12 16 refl (omega arith) small)
-    ∙ ap (λ l. magic ++ (to_le_bytes w32 (bundle_count bytes) ++ (to_le_bytes w32 (entry_count bytes) ++ l))) (next_four bytes 16 20 refl (omega arith) small)
-    ∙ ap (λ l. magic ++ (to_le_bytes w32 (bundle_count bytes) ++ (to_le_bytes w32 (entry_count bytes) ++ (to_le_bytes w32 (memory_size bytes) ++ l)))) (next_four bytes 20 24 refl (omega arith) small ∙ ap (λ n. to_le_bytes w32 n ++ drop 24 bytes) last)
+-- where the head is right, so are the counts, and the entries where those of the bytes are
+pub counts_right : (p : Program) (bytes : List ℕ) → ArePartsOf p bytes → AreInRange (length p.bundles) (length p.entries) (length p.bytes)
+counts_right p bytes parts = let n = counts_of p bytes parts in rw (n.bundles, n.entries, n.size) parts.head.counts.range
 
--- numbers and what follows
-whole_words : (n : ℕ) (bytes : List ℕ) → 4 * n ≤ length bytes → AreSmall bytes → bytes ≡ words_of (numbers n bytes) ++ drop (4 * n) bytes
-whole_words zero bytes fits small = refl
-whole_words (suc n) bytes fits small =
-    let rest = whole_words n (drop 4 bytes) (rw (length-drop 4 bytes) (omega arith)) (small_drop 4 bytes small) in
-    next_four bytes 0 4 refl (omega arith) small
-    ∙ ap (λ l. to_le_bytes w32 (word_at bytes 0) ++ l) (rest ∙ ap (λ l. words_of (numbers n (drop 4 bytes)) ++ l) (drop-drop (4 * n) 4 bytes ∙ ap (λ k. drop k bytes) (omega arith)))
-    ∙ sym (append_assoc (to_le_bytes w32 (word_at bytes 0)) (words_of (numbers n (drop 4 bytes))) (drop (4 * suc n) bytes))
+pub entries_right : (p : Program) (bytes : List ℕ) → ArePartsOf p bytes → AreEntries (bundle_count bytes) (entries_of bytes) → AreEntries (length p.bundles) p.entries
+entries_right p bytes parts are = let n = counts_of p bytes parts in rw (n.bundles, parts.entries) are
 
-pub numbers_length : (n : ℕ) (bytes : List ℕ) → length (numbers n bytes) ≡ n
-numbers_length zero bytes = refl
-numbers_length (suc n) bytes = ap suc (numbers_length n (drop 4 bytes))
+-- the numbers of the entries' bytes are the entries
+pub entries_read : (bytes part : List ℕ) → HasHead bytes → part ≡ entry_bytes bytes → numbers (length part / 4) part ≡ entries_of bytes
+entries_read bytes part h is =
+    let size : length part ≡ 4 * entry_count bytes = ap length is ∙ length-entry_bytes bytes h in
+    let count : length part / 4 ≡ entry_count bytes = omega arith in
+    rw (count, is) refl
 
-pub entries_length : (bytes : List ℕ) → length (entries_of bytes) ≡ entry_count bytes
-entries_length bytes = numbers_length (entry_count bytes) (drop 24 bytes)
+-- what was read of the parts
+pub parts_read : (p : Program) (bytes e b d : List ℕ) → HasHead bytes → e ≡ entry_bytes bytes → b ≡ bundle_bytes bytes → d ≡ data_of bytes → p.entries ≡ numbers (length e / 4) e → AreSpelled p.bundles b → p.bytes ≡ d → ArePartsOf p bytes
+parts_read p bytes e b d h entries bundles rest read spelled last = record {
+  head = h;
+  entries = read ∙ entries_read bytes e h entries;
+  spelled = subst (AreSpelled p.bundles) bundles spelled;
+  rest = last ∙ rest;
+}
 
--- the bytes of the bundles are sixteen times as many
-pub bundle_bytes_length : (bytes : List ℕ) → HasParts bytes → length (bundle_bytes bytes) ≡ 16 * bundle_count bytes
-bundle_bytes_length bytes h = simp (length-take, length-drop) (omega (arith, h.size))
+-- the numbers of the head, one after the other
+head_numbers : (bytes : List ℕ) → numbers 4 (drop 8 bytes) ≡ bundle_count bytes ∷ entry_count bytes ∷ data_size bytes ∷ number_at bytes 20 ∷ []
+head_numbers bytes = simp drop-drop
 
--- how many bundles, entries and bytes of data a program of these parts has
-pub bundle_length : (p : Program) (bytes : List ℕ) → HasParts bytes → AreSpelled p.bundles (bundle_bytes bytes) → length p.bundles ≡ bundle_count bytes
-bundle_length p bytes h spelled = omega (arith, spelled_length p.bundles (bundle_bytes bytes) spelled, bundle_bytes_length bytes h)
+-- the head is what is written of its numbers
+head_back : (bytes : List ℕ) → AreBytes bytes → HasHead bytes → head_bytes (bundle_count bytes) (entry_count bytes) (data_size bytes) ≡ take 24 bytes
+head_back bytes are h =
+    let four : number_bytes (bundle_count bytes ∷ entry_count bytes ∷ data_size bytes ∷ 0 ∷ []) ≡ take 16 (drop 8 bytes) =
+    ap (λ n. number_bytes (bundle_count bytes ∷ entry_count bytes ∷ data_size bytes ∷ n ∷ [])) (sym h.counts.last)
+    ∙ ap number_bytes (sym (head_numbers bytes))
+    ∙ number_bytes-numbers 4 (drop 8 bytes) (rw (length-drop 8 bytes) (omega (arith, h.long))) (bytes_drop 8 bytes are) in
+    ap (λ l. l ++ number_bytes (bundle_count bytes ∷ entry_count bytes ∷ data_size bytes ∷ 0 ∷ [])) (sym h.begins) ∙ ap (λ l. take 8 bytes ++ l) four ∙ sym (take-add 8 16 bytes)
 
-pub entry_length : (p : Program) (bytes : List ℕ) → p.entries ≡ entries_of bytes → length p.entries ≡ entry_count bytes
-entry_length p bytes entries = ap length entries ∙ entries_length bytes
+entries_back : (bytes : List ℕ) → AreBytes bytes → HasHead bytes → number_bytes (entries_of bytes) ≡ entry_bytes bytes
+entries_back bytes are h =
+    let size = length-entry_bytes bytes h in
+    number_bytes-numbers (entry_count bytes) (entry_bytes bytes) (omega arith) (bytes_take (4 * entry_count bytes) (drop 24 bytes) (bytes_drop 24 bytes are))
+    ∙ take_all (4 * entry_count bytes) (entry_bytes bytes) (omega arith)
 
-pub memory_length : (p : Program) (bytes : List ℕ) → HasParts bytes → p.memory ≡ memory_of bytes → length p.memory ≡ memory_size bytes
-memory_length p bytes h memory = ap length memory ∙ length-drop (memory_from bytes) bytes ∙ omega (arith, h.size)
+whole_of_parts : (bytes : List ℕ) → AreBytes bytes → HasHead bytes → bytes ≡ head_bytes (bundle_count bytes) (entry_count bytes) (data_size bytes) ++ (number_bytes (entries_of bytes) ++ (bundle_bytes bytes ++ data_of bytes))
+whole_of_parts bytes are h =
+    sym (take-append-drop 24 bytes)
+    ∙ ap (λ l. l ++ drop 24 bytes) (sym (head_back bytes are h))
+    ∙ ap (λ l. head_bytes (bundle_count bytes) (entry_count bytes) (data_size bytes) ++ l) (
+    sym (take-append-drop (4 * entry_count bytes) (drop 24 bytes))
+    ∙ ap (λ l. l ++ after_entries bytes) (sym (entries_back bytes are h))
+    ∙ ap (λ l. number_bytes (entries_of bytes) ++ l) (sym (take-append-drop (16 * bundle_count bytes) (after_entries bytes)))
+    )
 
--- the bytes of a program's parts are its image
-pub spelled_whole : (p : Program) (bytes : List ℕ) → AreSmall bytes → HasParts bytes → p.entries ≡ entries_of bytes → AreSpelled p.bundles (bundle_bytes bytes) → p.memory ≡ memory_of bytes → IsProgram p → Spells p bytes
-spelled_whole p bytes small h entries spelled memory program = record {
+-- a program of the parts has the image
+pub spells_of_parts : (p : Program) (bytes : List ℕ) → AreBytes bytes → IsProgram p → ArePartsOf p bytes → Spells p bytes
+spells_of_parts p bytes are program parts = record {
   program = program;
   bundles = bundle_bytes bytes;
-  spelled = spelled;
-  whole = all ∙ sym parts;
+  spelled = parts.spelled;
+  whole = let n = counts_of p bytes parts in rw (n.bundles, n.entries, n.size, parts.entries, parts.rest) (whole_of_parts bytes are parts.head);
+}
+
+-- the counts that the head of an image says, and what follows it
+record IsHeadedBy (b e d : ℕ) (after bytes : List ℕ) : Type 0 where
+  begins : take 8 bytes ≡ magic
+  bundles : bundle_count bytes ≡ b
+  entries : entry_count bytes ≡ e
+  size : data_size bytes ≡ d
+  last : number_at bytes 20 ≡ 0
+  rest : drop 24 bytes ≡ after
+  long : length bytes ≡ 24 + length after
+
+headed : (b e d : ℕ) (after : List ℕ) → b < 2 ^ 32 → e < 2 ^ 32 → d < 2 ^ 32 → IsHeadedBy b e d after (head_bytes b e d ++ after)
+headed b e d after hb he hd = record {
+  begins = refl;
+  bundles = from_le_bytes-to_le_bytes_4 b hb;
+  entries = from_le_bytes-to_le_bytes_4 e he;
+  size = from_le_bytes-to_le_bytes_4 d hd;
+  last = refl;
+  rest = refl;
+  long = length-append (head_bytes b e d) after;
+}
+
+entries_fit : (count : ℕ) (entries : List ℕ) → count ≤ 4096 → AreEntries count entries → FitFour entries
+entries_fit count entries most are k less = let i = (are k less).inside in omega arith
+
+parts_of_whole : (p : Program) (bundles : List ℕ) → IsProgram p → AreSpelled p.bundles bundles → ArePartsOf p (head_bytes (length p.bundles) (length p.entries) (length p.bytes) ++ (number_bytes p.entries ++ (bundles ++ p.bytes)))
+parts_of_whole p bundles program spelled = record {
+  head = record {
+    long = omega (arith, head.long);
+    begins = head.begins;
+    counts = record { range = rw (head.bundles, head.entries, head.size) counts; last = head.last };
+    size = size;
+  };
+  entries = sym (ap (λ k. numbers k (entry_bytes image)) head.entries ∙ ap (numbers (length p.entries)) entry_part ∙ numbers-number_bytes p.entries (entries_fit (length p.bundles) p.entries counts.bundles program.entries));
+  spelled = subst (AreSpelled p.bundles) (sym bundle_part) spelled;
+  rest = sym data_part;
 }
   where
-    -- the same by the parts' own lists
-    parts : head_of (length p.bundles) (length p.entries) (length p.memory) ++ (words_of p.entries ++ (bundle_bytes bytes ++ p.memory)) ≡ head_of (bundle_count bytes) (entry_count bytes) (memory_size bytes) ++ (words_of (entries_of bytes) ++ (bundle_bytes bytes ++ memory_of bytes))
-    parts =
-        ap (λ n. head_of n (length p.entries) (length p.memory) ++ (words_of p.entries ++ (bundle_bytes bytes ++ p.memory))) (bundle_length p bytes h spelled)
-        ∙ ap (λ n. head_of (bundle_count bytes) n (length p.memory) ++ (words_of p.entries ++ (bundle_bytes bytes ++ p.memory))) (entry_length p bytes entries)
-        ∙ ap (λ n. head_of (bundle_count bytes) (entry_count bytes) n ++ (words_of p.entries ++ (bundle_bytes bytes ++ p.memory))) (memory_length p bytes h memory)
-        ∙ ap (λ l. head_of (bundle_count bytes) (entry_count bytes) (memory_size bytes) ++ (words_of l ++ (bundle_bytes bytes ++ p.memory))) entries
-        ∙ ap (λ l. head_of (bundle_count bytes) (entry_count bytes) (memory_size bytes) ++ (words_of (entries_of bytes) ++ (bundle_bytes bytes ++ l))) memory
+    after : List ℕ
+    after = number_bytes p.entries ++ (bundles ++ p.bytes)
 
-    after_entries : drop (4 * entry_count bytes) (drop 24 bytes) ≡ bundle_bytes bytes ++ memory_of bytes
-    after_entries = drop-drop (4 * entry_count bytes) 24 bytes ∙ sym (take-append-drop (16 * bundle_count bytes) (drop (bundles_from bytes) bytes)) ∙ ap (λ l. bundle_bytes bytes ++ l) (drop-drop (16 * bundle_count bytes) (bundles_from bytes) bytes)
+    image : List ℕ
+    image = head_bytes (length p.bundles) (length p.entries) (length p.bytes) ++ (number_bytes p.entries ++ (bundles ++ p.bytes))
 
-    all : bytes ≡ head_of (bundle_count bytes) (entry_count bytes) (memory_size bytes) ++ (words_of (entries_of bytes) ++ (bundle_bytes bytes ++ memory_of bytes))
-    all = whole_head bytes h.long h.begins h.counts.last small
-        ∙ ap (λ l. head_of (bundle_count bytes) (entry_count bytes) (memory_size bytes) ++ l) (whole_words (entry_count bytes) (drop 24 bytes) (rw (length-drop 24 bytes) (omega (arith, h.size))) (small_drop 24 bytes small) ∙ ap (λ l. words_of (entries_of bytes) ++ l) after_entries)
+    counts : AreInRange (length p.bundles) (length p.entries) (length p.bytes)
+    counts = program.counts
+
+    head : IsHeadedBy (length p.bundles) (length p.entries) (length p.bytes) (number_bytes p.entries ++ (bundles ++ p.bytes)) image
+    head = headed (length p.bundles) (length p.entries) (length p.bytes) (number_bytes p.entries ++ (bundles ++ p.bytes)) (omega (arith, counts.bundles)) (omega (arith, counts.entries)) (omega (arith, counts.bytes))
+
+    size : length image ≡ image_length image
+    size = rw (head.bundles, head.entries, head.size) (omega (arith, head.long, length-append (number_bytes p.entries) (bundles ++ p.bytes), length-append bundles p.bytes, length-number_bytes p.entries, spelled_length p.bundles bundles spelled))
+
+    entry_part : entry_bytes image ≡ number_bytes p.entries
+    entry_part = rw (head.entries, head.rest) (take_at (number_bytes p.entries) (bundles ++ p.bytes) (4 * length p.entries) (length-number_bytes p.entries))
+
+    after_part : after_entries image ≡ bundles ++ p.bytes
+    after_part = rw (head.entries, head.rest) (drop_at (number_bytes p.entries) (bundles ++ p.bytes) (4 * length p.entries) (length-number_bytes p.entries))
+
+    bundle_part : bundle_bytes image ≡ bundles
+    bundle_part = rw (head.bundles, after_part) (take_at bundles p.bytes (16 * length p.bundles) (spelled_length p.bundles bundles spelled))
+
+    data_part : data_of image ≡ p.bytes
+    data_part = rw (head.bundles, after_part) (drop_at bundles p.bytes (16 * length p.bundles) (spelled_length p.bundles bundles spelled))
+
+-- the parts of an image are the program's
+pub parts_of_spelled : (p : Program) (bytes : List ℕ) → Spells p bytes → ArePartsOf p bytes
+parts_of_spelled p bytes s = subst (ArePartsOf p) (sym s.whole) (parts_of_whole p s.bundles s.program s.spelled)
+
+pub image_size : ImageSize
+image_size p bytes s =
+    let parts = parts_of_spelled p bytes s in
+    let n = counts_of p bytes parts in
+    omega (arith, parts.head.size, n.bundles, n.entries, n.size)
+
+-- where there are neither entries nor data, the counts are right where that of the whole bundles is
+pub raw_counts : (p : Program) (bytes : List ℕ) → length bytes % 16 ≡ 0 → AreInRange (length bytes / 16) 0 0 → AreSpelled p.bundles bytes → p.entries ≡ [] → p.bytes ≡ [] → AreInRange (length p.bundles) (length p.entries) (length p.bytes)
+raw_counts p bytes whole counts spelled no_entries no_data =
+    let n = spelled_length p.bundles bytes spelled in
+    let same : length p.bundles ≡ length bytes / 16 = omega arith in
+    rw (no_entries, no_data, same) counts

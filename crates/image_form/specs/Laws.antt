@@ -1,10 +1,10 @@
 -- Images and programs correspond one to one, and so do bare bundles and programs of them. Bytes are
 -- the image of a program or have one first fault.
-use Rattle.std.specs.Prelude.{◌≡◌, ℕ, ◌+◌, ◌*◌, ◌<◌, List, length, slice_index}
-use Rattle.ia_insn.specs.Programs.{Program}
+use Rattle.std.specs.Prelude.{◌≡◌, ℕ, ◌+◌, ◌*◌, List, length}
+use Rattle.ia_insn.specs.Programs.{Program, AreBytes}
 use Rattle.image_form.specs.declared.fault.ImageFault.{ImageFault}
 use Rattle.image_form.specs.Images.{Spells, RawSpells}
-use Rattle.image_form.specs.Faults.{HasFault, HasRawFault}
+use Rattle.image_form.specs.Faults.{HasImageFault, HasRawFault}
 
 -- bytes are the image of at most one program
 abbrev pub OneProgram : Type 0
@@ -16,11 +16,14 @@ OneImage = (p : Program) (x y : List ℕ) → Spells p x → Spells p y → x �
 
 -- how many bytes the image of a program has
 abbrev pub ImageSize : Type 0
-ImageSize = (p : Program) (bytes : List ℕ) → Spells p bytes → length bytes ≡ 24 + 4 * length p.entries + 16 * length p.bundles + length p.memory
+ImageSize =
+    (p : Program) (bytes : List ℕ) → Spells p bytes
+    → length bytes ≡ 24 + 4 * length p.entries + 16 * length p.bundles + length p.bytes
 
 -- the image of a program has no fault
 abbrev pub NoFaultWhereSpelled : Type 0
-NoFaultWhereSpelled = (p : Program) (bytes : List ℕ) (fault : ImageFault) → Spells p bytes → HasFault bytes fault → ⊥
+NoFaultWhereSpelled =
+    (p : Program) (bytes : List ℕ) (fault : ImageFault) → Spells p bytes → HasImageFault bytes fault → ⊥
 
 -- bytes are the bare bundles of at most one program
 abbrev pub OneRawProgram : Type 0
@@ -28,11 +31,12 @@ OneRawProgram = (bytes : List ℕ) (p q : Program) → RawSpells p bytes → Raw
 
 -- the bare bundles of a program have no fault
 abbrev pub NoFaultWhereRaw : Type 0
-NoFaultWhereRaw = (p : Program) (bytes : List ℕ) (fault : ImageFault) → RawSpells p bytes → HasRawFault bytes fault → ⊥
+NoFaultWhereRaw =
+    (p : Program) (bytes : List ℕ) (fault : ImageFault) → RawSpells p bytes → HasRawFault bytes fault → ⊥
 
 -- bytes have at most one first fault
 abbrev pub OneFault : Type 0
-OneFault = (bytes : List ℕ) (f g : ImageFault) → HasFault bytes f → HasFault bytes g → f ≡ g
+OneFault = (bytes : List ℕ) (f g : ImageFault) → HasImageFault bytes f → HasImageFault bytes g → f ≡ g
 
 -- bytes have at most one first fault as bare bundles
 abbrev pub OneRawFault : Type 0
@@ -40,8 +44,12 @@ OneRawFault = (bytes : List ℕ) (f g : ImageFault) → HasRawFault bytes f → 
 
 -- bytes that are the image of no program are not without a fault
 abbrev pub FaultWhereNoneSpelled : Type 0
-FaultWhereNoneSpelled = (bytes : List ℕ) → ((i : ℕ) → slice_index bytes i < 256) → ((p : Program) → Spells p bytes → ⊥) → ((f : ImageFault) → HasFault bytes f → ⊥) → ⊥
+FaultWhereNoneSpelled =
+    (bytes : List ℕ) → AreBytes bytes
+    → ((p : Program) → Spells p bytes → ⊥) → ((f : ImageFault) → HasImageFault bytes f → ⊥) → ⊥
 
--- the like of bare bundles
+-- bytes that are the bare bundles of no program are not without a fault
 abbrev pub FaultWhereNoneRaw : Type 0
-FaultWhereNoneRaw = (bytes : List ℕ) → ((i : ℕ) → slice_index bytes i < 256) → ((p : Program) → RawSpells p bytes → ⊥) → ((f : ImageFault) → HasRawFault bytes f → ⊥) → ⊥
+FaultWhereNoneRaw =
+    (bytes : List ℕ) → AreBytes bytes
+    → ((p : Program) → RawSpells p bytes → ⊥) → ((f : ImageFault) → HasRawFault bytes f → ⊥) → ⊥

@@ -1,4 +1,4 @@
 pub mod Images
+pub mod Parts
 pub mod Faults
 pub mod Laws
-pub mod Programs

@@ -1,13 +1,14 @@
-//! The bundles of an image.
+//! Bundles in sixteen bytes each.
 
-ghost use Rattle.std.specs.Prelude.{◌≡◌, ◌≢◌, ◌+◌, ◌*◌, ◌%◌, ◌<◌, ◌≤◌, ◌^◌, [], ◌∷◌, ◌++◌, length, vec_len, vec_capacity, IfOk, IfErr};
+ghost use Rattle.std.specs.Prelude.{◌≡◌, ◌≢◌, ◌+◌, ◌*◌, ◌%◌, ◌<◌, ◌^◌, ℕ, List, [], ◌∷◌, ◌++◌, length, vec_len, vec_capacity, IfOk, IfErr, OnOk};
+ghost use Rattle.first_fault.specs.Stages.{IsFirstFault};
 ghost use Rattle.image_form.specs.Images.{AreSpelled};
-ghost use Rattle.image_form.specs.Faults.{IsBundleFault};
+ghost use Rattle.image_form.specs.Faults.{bundle_stages};
 
 use crate::fault::ImageFault;
 use ia_insn::BundleOf;
-use insn_codec::decode_bundle;
-use std::alloc::Global;
+use insn_codec::{decode_bundle, encode_bundle};
+use std::alloc::{AllocError, Global};
 
 /// Appends a bundle where there is room.
 fn push(bundles: &mut Vec<BundleOf>, bundle: BundleOf)
@@ -24,11 +25,9 @@ pub(crate) fn read_bundles(alloc: Global, bytes: &[u8]) -> Result<Vec<BundleOf>,
     requires whole { length bytes.now % 16 ≡ 0 }
     requires limit { length bytes.now < 2 ^ 32 }
     ensures found { IfOk result (λ bundles. AreSpelled bundles.items bytes.now) }
-    ensures fault { IfErr result (λ fault. fault ≢ ImageFault.Memory → IsBundleFault bytes.now fault) }
+    ensures fault { IfErr result (λ fault. fault ≢ ImageFault.Memory → IsFirstFault (bundle_stages bytes.now) fault) }
 {
-    let Ok(mut bundles) = Vec::with_capacity(alloc, bytes.len() / 16) else {
-        return Err(ImageFault::Memory);
-    };
+    let mut bundles = Vec::with_capacity(alloc, bytes.len() / 16)?;
     let mut rest = bytes;
     while let Some((chunk, after)) = rest.split_first_chunk::<16>() {
         match decode_bundle(chunk) {
@@ -43,4 +42,14 @@ pub(crate) fn read_bundles(alloc: Global, bytes: &[u8]) -> Result<Vec<BundleOf>,
         rest = after;
     }
     Ok(bundles)
+}
+
+/// Appends bundles, one after the other.
+pub(crate) fn push_bundles(bytes: &mut Vec<u8>, bundles: &[BundleOf]) -> Result<(), AllocError>
+    ensures { OnOk result ((spelled : List ℕ) × (bytes.new.items ≡ bytes.old.items ++ spelled) × AreSpelled bundles.now spelled) }
+{
+    for bundle in bundles {
+        bytes.extend_from_slice(&encode_bundle(bundle))?;
+    }
+    Ok(())
 }

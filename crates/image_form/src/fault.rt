@@ -1,7 +1,12 @@
 //! Why bytes are no image.
 
-use ia_insn::Place;
+ghost use Rattle.std.specs.Prelude.{◌≡◌};
+ghost use Rattle.image_form.specs.declared.fault.ImageFault.TheVariants.{Memory};
+ghost use Rattle.image_form.specs.Faults.{image_fault};
+
+use ia_insn::{Place, ProgramFault};
 use insn_codec::SlotFault;
+use std::alloc::AllocError;
 use thiserror::Error;
 
 /// Why bytes are no image, or no bare bundles: the first of these, in their order.
@@ -13,8 +18,8 @@ pub enum ImageFault {
     /// The bytes don't begin with `IA64IMG1`.
     #[error("not the first eight bytes of an image")]
     Magic,
-    /// A number of the head is out of its range, or its last word isn't zero. Of bare bundles: there
-    /// are none, or more than 4,096 whole ones.
+    /// A number of the head is out of its range, or its last isn't zero. Of bare bundles: there are
+    /// none, or more than 4,096 whole ones.
     #[error("a number that is out of its range")]
     Counts,
     /// The number of bytes isn't the one that the head says. Of bare bundles: bytes are left over.
@@ -49,4 +54,27 @@ pub enum ImageFault {
     /// There was no memory for the program.
     #[error("out of memory")]
     Memory,
+}
+
+/// Want of memory.
+impl From<AllocError> for ImageFault {
+    ghost from_gives = { λ _ fault. fault ≡ Memory };
+
+    fn from(_error: AllocError) -> ImageFault {
+        ImageFault::Memory
+    }
+}
+
+/// The same fault of an image.
+impl From<ProgramFault> for ImageFault {
+    ghost from_gives = { λ why fault. fault ≡ image_fault why };
+
+    fn from(fault: ProgramFault) -> ImageFault {
+        match fault {
+            ProgramFault::Counts => ImageFault::Counts,
+            ProgramFault::Entry { n } => ImageFault::Entry { n },
+            ProgramFault::Target { place } => ImageFault::Target { place },
+            ProgramFault::LongRun { place } => ImageFault::LongRun { place },
+        }
+    }
 }

@@ -1,90 +1,106 @@
 //! The heads of images.
 
-ghost use Rattle.std.specs.Prelude.{◌≡◌, ◌+◌, ◌≤◌, ◌↔◌, length, IsTrue, MatchOption};
-ghost use Rattle.image_form.specs.Faults.{word_at, bundle_count, entry_count, memory_size, memory_from, AreCounts, HasParts, HasFault};
+ghost use Rattle.std.specs.Prelude.{◌≡◌, ◌+◌, ◌*◌, ◌↔◌, take, IsTrue, IfOk, IfErr};
+ghost use Rattle.ia_insn.specs.Programs.{AreInRange};
+ghost use Rattle.image_form.specs.Images.{magic};
+ghost use Rattle.image_form.specs.Parts.{entry_bytes, bundle_bytes, data_of, IsHeadOf};
+ghost use Rattle.image_form.specs.Faults.{HasImageFault};
 
 use crate::fault::ImageFault;
+use crate::numbers::number_at;
 use ia_insn::are_in_range;
 
 /// What an image begins with.
-pub(crate) const MAGIC: &[u8; 8] = b"IA64IMG1";
+pub const MAGIC: &[u8; 8] = b"IA64IMG1";
 
 /// How many bytes an image's head has.
-pub(crate) const HEAD_LEN: usize = 24;
+const HEAD_LEN: usize = 24;
 
-/// The number in the four bytes from a place on, the lowest byte first.
-pub(crate) fn word(bytes: &[u8], at: usize) -> u32
-    requires { at + 4 ≤ length bytes.now }
-    ensures { result ≡ word_at bytes.now at }
+/// Whether the bytes begin as an image does, with [`MAGIC`].
+pub fn is_image(bytes: &[u8]) -> bool
+    ensures { IsTrue result ↔ (take 8 bytes.now ≡ magic) }
 {
-    let (front, _) = bytes[at..].split_at(4);
-    u32::from_le_bytes([front[0], front[1], front[2], front[3]])
+    bytes.starts_with(MAGIC)
 }
 
-/// How many bundles, declared entries and bytes of data the head says that follow.
-#[derive(Clone, Copy, Debug, PartialEq, Eq)]
+/// How many bundles, declared entries and bytes of data follow the head of an image.
+#[derive(Clone, Copy, Debug)]
 pub(crate) struct Head {
-    pub bundles: usize,
-    pub entries: usize,
-    pub memory: usize,
+    pub bundle_count: u32,
+    pub entry_count: u32,
+    pub data_size: u32,
 }
 
-/// The numbers of a head.
-pub(crate) fn read_head(bytes: &[u8]) -> Head
-    requires { 24 ≤ length bytes.now }
-    ensures bundles { result.bundles ≡ bundle_count bytes.now }
-    ensures entries { result.entries ≡ entry_count bytes.now }
-    ensures memory { result.memory ≡ memory_size bytes.now }
-{
-    Head {
-        bundles: word(bytes, 8) as usize,
-        entries: word(bytes, 12) as usize,
-        memory: word(bytes, 16) as usize,
-    }
+/// The bytes of the entries, of the bundles, and the data of an image.
+#[derive(Clone, Copy, Debug)]
+pub(crate) struct Parts<'a> {
+    pub entries: &'a [u8],
+    pub bundles: &'a [u8],
+    pub data: &'a [u8],
 }
 
-/// Whether the numbers of a head are in range and its last word is zero.
-fn are_counts(bytes: &[u8]) -> bool
-    requires { 24 ≤ length bytes.now }
-    ensures { IsTrue result ↔ AreCounts bytes.now }
-{
-    let Head {
-        bundles,
-        entries,
-        memory,
-    } = read_head(bytes);
-    are_in_range(bundles, entries, memory) && word(bytes, 20) == 0
-}
+impl Head {
+    /// How many bytes an image with this head has.
+    pub(crate) fn image_len(&self) -> usize
+        ensures { result ≡ 24 + 4 * self.now.entry_count + 16 * self.now.bundle_count + self.now.data_size }
+    {
+        HEAD_LEN
+            + 4 * self.entry_count as usize
+            + 16 * self.bundle_count as usize
+            + self.data_size as usize
+    }
 
-/// How many bytes an image with this head has.
-fn image_len(bytes: &[u8]) -> usize
-    requires long { 24 ≤ length bytes.now }
-    requires counts { AreCounts bytes.now }
-    ensures { result ≡ memory_from bytes.now + memory_size bytes.now }
-{
-    let Head {
-        bundles,
-        entries,
-        memory,
-    } = read_head(bytes);
-    HEAD_LEN + 4 * entries + 16 * bundles + memory
-}
+    /// Whether there may be so many bundles, entries and bytes of data.
+    fn is_in_range(&self) -> bool
+        ensures { IsTrue result ↔ AreInRange self.now.bundle_count self.now.entry_count self.now.data_size }
+    {
+        are_in_range(
+            self.bundle_count as usize,
+            self.entry_count as usize,
+            self.data_size as usize,
+        )
+    }
 
-/// The first fault of an image's head and length.
-pub(crate) fn head_fault(bytes: &[u8]) -> Option<ImageFault>
-    ensures { MatchOption result (HasParts bytes.now) (λ fault. HasFault bytes.now fault) }
-{
-    if bytes.len() < HEAD_LEN {
-        return Some(ImageFault::Short);
+    /// The head of an image, or the first fault of the bytes where that is one of the head or of the
+    /// length.
+    pub(crate) fn read(bytes: &[u8]) -> Result<Head, ImageFault>
+        ensures found { IfOk result (λ head. IsHeadOf bytes.now head) }
+        ensures fault { IfErr result (HasImageFault bytes.now) }
+    {
+        if bytes.len() < HEAD_LEN {
+            return Err(ImageFault::Short);
+        }
+        if !is_image(bytes) {
+            return Err(ImageFault::Magic);
+        }
+        let head = Head {
+            bundle_count: number_at(bytes, 8),
+            entry_count: number_at(bytes, 12),
+            data_size: number_at(bytes, 16),
+        };
+        if !head.is_in_range() || number_at(bytes, 20) != 0 {
+            return Err(ImageFault::Counts);
+        }
+        if bytes.len() != head.image_len() {
+            return Err(ImageFault::Length);
+        }
+        Ok(head)
     }
-    if !bytes.starts_with(MAGIC) {
-        return Some(ImageFault::Magic);
+
+    /// The parts of the image that has this head.
+    pub(crate) fn parts<'a>(&self, image: &'a [u8]) -> Parts<'a>
+        requires { IsHeadOf image.now self.now }
+        ensures entries { result.entries.now ≡ entry_bytes image.now }
+        ensures bundles { result.bundles.now ≡ bundle_bytes image.now }
+        ensures rest { result.data.now ≡ data_of image.now }
+    {
+        let (_, rest) = image.split_at(HEAD_LEN);
+        let (entries, rest) = rest.split_at(4 * self.entry_count as usize);
+        let (bundles, data) = rest.split_at(16 * self.bundle_count as usize);
+        Parts {
+            entries,
+            bundles,
+            data,
+        }
     }
-    if !are_counts(bytes) {
-        return Some(ImageFault::Counts);
-    }
-    if bytes.len() != image_len(bytes) {
-        return Some(ImageFault::Length);
-    }
-    None
 }

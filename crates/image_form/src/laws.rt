@@ -28,6 +28,7 @@ pub fn no_fault_where_spelled()
     ensures { NoFaultWhereSpelled }
 {
     one_bundle();
+    insn_codec::one_fault();
     insn_codec::no_fault_where_spelled();
 }
 
@@ -43,6 +44,7 @@ pub fn no_fault_where_raw()
     ensures { NoFaultWhereRaw }
 {
     one_bundle();
+    insn_codec::one_fault();
     insn_codec::no_fault_where_spelled();
 }
 
@@ -64,16 +66,25 @@ pub fn one_raw_fault()
     insn_codec::no_fault_where_spelled();
 }
 
-/// The law that bytes that are the image of no program have a fault. It does nothing.
+/// The law that bytes that are the image of no program are not without a fault. It does nothing.
+///
+/// It gives no way to the fault. [`read_image`](crate::read_image) answers it, but may answer want of
+/// memory in its place.
 pub fn fault_where_none_spelled()
     ensures { FaultWhereNoneSpelled }
 {
+    one_bundle();
     insn_codec::fault_where_none_spelled();
 }
 
-/// The law that bytes that are the bare bundles of no program have a fault. It does nothing.
+/// The law that bytes that are the bare bundles of no program are not without a fault. It does
+/// nothing.
+///
+/// It gives no way to the fault. [`wrap_raw`](crate::wrap_raw) answers it, but may answer want of
+/// memory in its place.
 pub fn fault_where_none_raw()
     ensures { FaultWhereNoneRaw }
 {
+    one_bundle();
     insn_codec::fault_where_none_spelled();
 }

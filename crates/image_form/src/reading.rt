@@ -1,81 +1,58 @@
 //! Reading programs.
 
-ghost use Rattle.std.specs.Prelude.{◌≡◌, ◌≢◌, ◌⊎◌, ◌≤◌, Ok, Err, IfOk, IfErr};
-ghost use Rattle.ia_insn.specs.Programs.{Program as Parts, IsProgram, HasFault as HasProgramFault};
+ghost use Rattle.std.specs.Prelude.{◌≡◌, ◌≢◌, ◌⊎◌, ◌/◌, ◌<◌, ◌^◌, ℕ, List, [], ◌∷◌, length, Ok, Err, IfOk, IfErr};
+ghost use Rattle.first_fault.specs.Stages.{IsFirstFault};
+ghost use Rattle.ia_insn.specs.Programs.{Program as Parts, AreInRange, AreEntries, IsProgram};
 ghost use Rattle.image_form.specs.declared.fault.ImageFault.{ImageFault as FaultOf};
-ghost use Rattle.image_form.specs.Images.{Spells, RawSpells};
-ghost use Rattle.image_form.specs.Faults.{HasParts, AreWhole, HasFault, HasRawFault, IsRawCount};
-ghost use Rattle.image_form.specs.Programs.{image_fault};
+ghost use Rattle.image_form.specs.Images.{AreSpelled, Spells, RawSpells};
+ghost use Rattle.image_form.specs.Parts.{numbers};
+ghost use Rattle.image_form.specs.Faults.{entry_stage, bundle_stages, HasImageFault, HasRawFault};
 
 use crate::bundles::read_bundles;
 use crate::fault::ImageFault;
-use crate::head::head_fault;
+use crate::head::Head;
 use crate::laws::{
     no_fault_where_raw, no_fault_where_spelled, one_fault, one_program, one_raw_fault,
     one_raw_program,
 };
-use crate::parts::{bundle_bytes, bundle_count, memory, read_entries};
-use ia_insn::{BundleOf, Program, ProgramFault, misplaced_entry};
+use crate::numbers::read_numbers;
+use ia_insn::{BundleOf, Program, are_in_range, misplaced_entry};
 use std::alloc::Global;
 
-/// The same fault of an image.
-fn image_fault(fault: ProgramFault) -> ImageFault
-    ensures { result ≡ image_fault fault }
+/// The declared entries of an image of so many bundles, or the first that is misplaced.
+fn read_entries(alloc: Global, count: u32, bytes: &[u8]) -> Result<Vec<u32>, ImageFault>
+    requires { length bytes.now < 2 ^ 32 }
+    ensures found { IfOk result (λ entries. (entries.items ≡ numbers (length bytes.now / 4) bytes.now) × AreEntries count entries.items) }
+    ensures fault { IfErr result (λ fault. fault ≢ ImageFault.Memory → IsFirstFault (entry_stage count (numbers (length bytes.now / 4) bytes.now) ∷ []) fault) }
 {
-    match fault {
-        ProgramFault::Counts => ImageFault::Counts,
-        ProgramFault::Entry { n } => ImageFault::Entry { n },
-        ProgramFault::Target { place } => ImageFault::Target { place },
-        ProgramFault::LongRun { place } => ImageFault::LongRun { place },
+    let entries = read_numbers(alloc, bytes)?;
+    match misplaced_entry(count, &entries) {
+        Some(n) => Err(ImageFault::Entry { n }),
+        None => Ok(entries),
     }
 }
 
-/// The program of these parts, or their first fault.
-fn program(
-    bundles: Vec<BundleOf>,
-    entries: Vec<u32>,
-    memory: Vec<u8>,
-) -> Result<Program, ImageFault>
-    ensures found { IfOk result (λ p. (p ≡ record { bundles = bundles.items; entries = entries.items; memory = memory.items }) × IsProgram p) }
-    ensures fault { IfErr result (λ fault. (why : _) × (fault ≡ image_fault why) × HasProgramFault (record { bundles = bundles.items; entries = entries.items; memory = memory.items }) why) }
+/// The program of these, whose counts and entries are right, or the first fault of the bundles.
+fn program(bundles: Vec<BundleOf>, entries: Vec<u32>, bytes: Vec<u8>) -> Result<Program, ImageFault>
+    requires counts { AreInRange (length bundles.items) (length entries.items) (length bytes.items) }
+    requires entries { AreEntries (length bundles.items) entries.items }
+    ensures found { IfOk result (λ p. (p ≡ record { bundles = bundles.items; entries = entries.items; bytes = bytes.items }) × IsProgram p) }
+    ensures fault { IfErr result (λ fault. (spelled : List ℕ) → AreSpelled bundles.items spelled → IsFirstFault (bundle_stages spelled) fault) }
 {
-    match Program::new(bundles, entries, memory) {
-        Ok(program) => Ok(program),
-        Err(fault) => Err(image_fault(fault)),
-    }
-}
-
-/// The parts of bytes whose head has no fault.
-fn read_parts(alloc: Global, bytes: &[u8]) -> Result<Program, ImageFault>
-    requires { HasParts bytes.now }
-    ensures found { IfOk result (λ p. Spells p bytes.now) }
-    ensures fault { IfErr result (λ fault. fault ≢ ImageFault.Memory → HasFault bytes.now fault) }
-{
-    let Ok(entries) = read_entries(alloc, bytes) else {
-        return Err(ImageFault::Memory);
-    };
-    if let Some(n) = misplaced_entry(bundle_count(bytes), &entries) {
-        return Err(ImageFault::Entry { n });
-    }
-    let bundles = match read_bundles(alloc, bundle_bytes(bytes)) {
-        Ok(bundles) => bundles,
-        Err(fault) => return Err(fault),
-    };
-    let Ok(memory) = Vec::from_slice(alloc, memory(bytes)) else {
-        return Err(ImageFault::Memory);
-    };
-    program(bundles, entries, memory)
+    Ok(Program::of_checked(bundles, entries, bytes)?)
 }
 
 /// The program whose image the bytes are, or their first fault.
 fn read(alloc: Global, bytes: &[u8]) -> Result<Program, ImageFault>
     ensures found { IfOk result (λ p. Spells p bytes.now) }
-    ensures fault { IfErr result (λ fault. fault ≢ ImageFault.Memory → HasFault bytes.now fault) }
+    ensures fault { IfErr result (λ fault. fault ≢ ImageFault.Memory → HasImageFault bytes.now fault) }
 {
-    if let Some(fault) = head_fault(bytes) {
-        return Err(fault);
-    }
-    read_parts(alloc, bytes)
+    let head = Head::read(bytes)?;
+    let parts = head.parts(bytes);
+    let entries = read_entries(alloc, head.bundle_count, parts.entries)?;
+    let bundles = read_bundles(alloc, parts.bundles)?;
+    let data = Vec::from_slice(alloc, parts.data)?;
+    program(bundles, entries, data)
 }
 
 /// The program whose image the bytes are.
@@ -92,10 +69,10 @@ pub fn read_image(alloc: Global, bytes: &[u8]) -> Result<Program, ImageFault>
     ensures only { (p : Parts) → Spells p bytes.now → (result ≡ Ok p) ⊎ (result ≡ Err ImageFault.Memory) }
 
     // The fault is the first one of the bytes.
-    ensures fault { IfErr result (λ fault. fault ≢ ImageFault.Memory → HasFault bytes.now fault) }
+    ensures fault { IfErr result (λ fault. fault ≢ ImageFault.Memory → HasImageFault bytes.now fault) }
 
     // A fault that the bytes have is answered, since they have no other.
-    ensures only_fault { (fault : FaultOf) → HasFault bytes.now fault → (result ≡ Err fault) ⊎ (result ≡ Err ImageFault.Memory) }
+    ensures only_fault { (fault : FaultOf) → HasImageFault bytes.now fault → (result ≡ Err fault) ⊎ (result ≡ Err ImageFault.Memory) }
 {
     one_program();
     one_fault();
@@ -108,17 +85,13 @@ fn wrap(alloc: Global, bytes: &[u8]) -> Result<Program, ImageFault>
     ensures found { IfOk result (λ p. RawSpells p bytes.now) }
     ensures fault { IfErr result (λ fault. fault ≢ ImageFault.Memory → HasRawFault bytes.now fault) }
 {
-    let count = bytes.len() / 16;
-    if count < 1 || count > 4096 {
+    if !are_in_range(bytes.len() / 16, 0, 0) {
         return Err(ImageFault::Counts);
     }
     if bytes.len() % 16 != 0 {
         return Err(ImageFault::Length);
     }
-    let bundles = match read_bundles(alloc, bytes) {
-        Ok(bundles) => bundles,
-        Err(fault) => return Err(fault),
-    };
+    let bundles = read_bundles(alloc, bytes)?;
     program(bundles, Vec::new(alloc), Vec::new(alloc))
 }
 

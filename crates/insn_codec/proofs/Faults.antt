@@ -1,99 +1,88 @@
 -- Sixteen bytes are those of a bundle, or have one first fault.
-use Rattle.std.proofs.Common.{◌≡◌, ℕ, zero, suc, List, [], ◌∷◌, length, ◌/◌, refl, sym, ap, subst, arith, Bool, true, false, cond}
-use Rattle.std.specs.Prelude.{Option, None, IsSome, unwrap_or}
+use Rattle.std.proofs.Common.{◌≡◌, inl, inr, ℕ, List, [], ◌∷◌, length, refl, subst, arith}
+use Rattle.std.specs.Prelude.{◌≢◌}
+use Rattle.first_fault.specs.Stages.{IsFirstFault, ArePassed}
+use Rattle.first_fault.proofs.Laws as stages
 use Rattle.bundle_bits.specs.declared.bundle.RawBundle.{RawBundle}
 use Rattle.bundle_bits.specs.Laws.{OneRaw, SomeRaw}
 use Rattle.ia_insn.specs.declared.choices.Unit.{Unit as ExecutionUnit}
 use Rattle.ia_insn.specs.declared.choices.Unit.TheVariants.{L}
 use Rattle.ia_insn.specs.declared.bundle.Slots.{Slots}
 use Rattle.ia_insn.specs.declared.bundle.Slots.TheVariants.{Three, Long}
-use Rattle.ia_insn.specs.Templates.{Shape, shape, shape_of, no_shape, IsTemplate, units_of}
+use Rattle.ia_insn.specs.Templates.{IsTemplate, units_of}
 use Rattle.insn_codec.specs.declared.bundle.SlotFault.{SlotFault}
 use Rattle.insn_codec.specs.declared.bundle.SlotFault.TheVariants.{ReservedTemplate, Unlisted}
-use Rattle.insn_codec.specs.Spelling.{StandIn, HasParts}
-use Rattle.insn_codec.specs.SlotFaults.{IsListedIn, IsSecondListed, IsFirstUnlisted, HasFault}
+use Rattle.insn_codec.specs.Spelling.{StandIn, IsRawOf}
+use Rattle.insn_codec.specs.SlotFaults.{IsListedIn, IsLongListed, slot_stages, bundle_stages, HasSlotFault}
 use Rattle.insn_codec.specs.Laws.{OneFault, NoFaultWhereSpelled, FaultWhereNoneSpelled}
-use Rattle.insn_codec.proofs.Slots.{stands_first, second_of, stands_second, parts_of}
-use Rattle.insn_codec.proofs.Spellings.{same-parts}
+use Rattle.insn_codec.proofs.Slots.{template_units, parts_of}
+use Rattle.insn_codec.proofs.Spellings.{same_raw}
 
--- one slot is the first without an instruction
-same-slot : (units : List ExecutionUnit) (words : List ℕ) (m n : ℕ) → IsFirstUnlisted units words m → IsFirstUnlisted units words n → m ≡ n
-same-slot (u ∷ v ∷ w ∷ []) words zero zero a b = refl
-same-slot (u ∷ v ∷ w ∷ []) words zero (suc zero) a b = absurd (a b.0)
-same-slot (u ∷ v ∷ w ∷ []) words zero (suc (suc zero)) a b = absurd (a b.0)
-same-slot (u ∷ v ∷ w ∷ []) words (suc zero) zero a b = absurd (b a.0)
-same-slot (u ∷ v ∷ w ∷ []) words (suc zero) (suc zero) a b = refl
-same-slot (u ∷ v ∷ w ∷ []) words (suc zero) (suc (suc zero)) a b = absurd (a.1 b.1)
-same-slot (u ∷ v ∷ w ∷ []) words (suc (suc zero)) zero a b = absurd (b a.0)
-same-slot (u ∷ v ∷ w ∷ []) words (suc (suc zero)) (suc zero) a b = absurd (b.1 a.1)
-same-slot (u ∷ v ∷ w ∷ []) words (suc (suc zero)) (suc (suc zero)) a b = refl
-same-slot (u ∷ v ∷ w ∷ []) words m (suc (suc (suc n))) a b = absurd b
-same-slot units words m n a b = absurd a
+-- slot 2 is the first without an instruction
+pub third_unlisted : (u v w : ExecutionUnit) (words : List ℕ) (f : SlotFault) → v ≢ L → IsListedIn u 0 words → IsListedIn v 1 words → f ≡ Unlisted 2 → ¬ IsListedIn w 2 words → IsFirstFault (slot_stages (u ∷ v ∷ w ∷ []) words) f
+third_unlisted u L w words f short first second e fails = absurd (short refl)
+third_unlisted u v w words f short first second e fails = inr (first, inr (second, inl (tt, e, fails)))
 
-same-fault : (raw : RawBundle) (f g : SlotFault) → HasFault raw f → HasFault raw g → f ≡ g
-same-fault raw ReservedTemplate ReservedTemplate a b = refl
-same-fault raw ReservedTemplate (Unlisted n) a b = absurd (a b.0)
-same-fault raw (Unlisted m) ReservedTemplate a b = absurd (b a.0)
-same-fault raw (Unlisted m) (Unlisted n) a b = ap Unlisted (same-slot (units_of raw.template) raw.slots m n a.1 b.1)
+-- a template has a fault of its slots
+pub slot_fault : (bytes : List ℕ) (raw : RawBundle) (f : SlotFault) (units : List ExecutionUnit) → IsRawOf bytes raw → IsTemplate raw.template → units ≡ units_of raw.template → IsFirstFault (slot_stages units raw.slots) f → HasSlotFault bytes f
+slot_fault bytes raw f units parts is same later =
+    (raw, parts, inr (is, subst (λ (l : List ExecutionUnit). IsFirstFault (slot_stages l raw.slots) f) same later))
+
+-- where instructions have the words of the slots, each stage is passed, and the other way round
+slots_passed : (units : List ExecutionUnit) (slots : Slots) (words : List ℕ) → StandIn units slots words → ArePassed (slot_stages units words)
+slots_passed (u ∷ L ∷ w ∷ []) (Three a b c) words s = absurd s.1.code
+slots_passed (u ∷ L ∷ w ∷ []) (Long first long) words s = ((first, s.0), ((long, s.1), tt))
+slots_passed (u ∷ v ∷ w ∷ []) (Three a b c) words s = ((a, s.0), ((b, s.1), ((c, s.2), tt)))
+slots_passed (u ∷ v ∷ w ∷ []) (Long first long) words s = let e = s.2 in absurd cc
+slots_passed units slots words s = absurd s
+
+slots_stand : (units : List ExecutionUnit) (words : List ℕ) → length units ≡ 3 → ArePassed (slot_stages units words) → (slots : Slots) × StandIn units slots words
+slots_stand (u ∷ L ∷ w ∷ []) words three p = (Long p.0.0 p.1.0.0, (p.0.1, p.1.0.1, refl))
+slots_stand (u ∷ v ∷ w ∷ []) words three p = (Three p.0.0 p.1.0.0 p.1.1.0.0, (p.0.1, p.1.0.1, p.1.1.0.1))
+slots_stand units words three p = absurd (omega arith)
+
+-- a stage of one fault finds it once, and not where it is passed
+slots_sound : (units : List ExecutionUnit) (words : List ℕ) → stages.AreSound (slot_stages units words)
+slots_sound (u ∷ L ∷ w ∷ []) words = (
+  stages.unless_sound (IsListedIn u 0 words) (Unlisted 0),
+  (stages.unless_sound (IsLongListed words) (Unlisted 1), tt),
+)
+slots_sound (u ∷ v ∷ w ∷ []) words = (
+  stages.unless_sound (IsListedIn u 0 words) (Unlisted 0),
+  (stages.unless_sound (IsListedIn v 1 words) (Unlisted 1), (stages.unless_sound (IsListedIn w 2 words) (Unlisted 2), tt)),
+)
+slots_sound units words = tt
+
+bundle_sound : (raw : RawBundle) → stages.AreSound (bundle_stages raw)
+bundle_sound raw = (stages.unless_sound (IsTemplate raw.template) ReservedTemplate, slots_sound (units_of raw.template) raw.slots)
+
+-- it isn't that it neither finds it nor is passed
+not_open : (Holds : Type 0) → ((key : Unit {0}) → ¬ Holds → ⊥) → (Holds → ⊥) → ⊥
+not_open Holds none go = none tt go
+
+slots_not_open : (units : List ExecutionUnit) (words : List ℕ) → stages.AreNotOpen (slot_stages units words)
+slots_not_open (u ∷ L ∷ w ∷ []) words = (not_open (IsListedIn u 0 words), (not_open (IsLongListed words), tt))
+slots_not_open (u ∷ v ∷ w ∷ []) words = (not_open (IsListedIn u 0 words), (not_open (IsListedIn v 1 words), (not_open (IsListedIn w 2 words), tt)))
+slots_not_open units words = tt
 
 -- bytes have one first fault
-pub one-fault : OneRaw → OneFault
-one-fault raws bytes f g a b =
-    same-fault b.0 f g (subst (λ (r : RawBundle). HasFault r f) (same-parts raws bytes a.0 b.0 a.1 b.1) a.2) b.2
-
--- where all slots have instructions, none is the first without one
-all-listed : (units : List ExecutionUnit) (slots : Slots) (words : List ℕ) (n : ℕ) → StandIn units slots words → IsFirstUnlisted units words n → ⊥
-all-listed (u ∷ v ∷ w ∷ []) slots words zero s f = f (stands_first u v w slots words s)
-all-listed (u ∷ v ∷ w ∷ []) slots words (suc zero) s f = f.1 (second_of slots, stands_second u v w slots words s)
-all-listed (u ∷ v ∷ w ∷ []) (Three a b c) words (suc (suc zero)) s f = f.3 (c, s.2)
-all-listed (u ∷ v ∷ w ∷ []) (Long first long) words (suc (suc zero)) s f = f.2 s.2
-all-listed units slots words n s f = absurd f
-
-without-fault : (raw : RawBundle) (slots : Slots) (f : SlotFault) → IsTemplate raw.template → StandIn (units_of raw.template) slots raw.slots → HasFault raw f → ⊥
-without-fault raw slots ReservedTemplate is s a = a is
-without-fault raw slots (Unlisted n) is s a = all-listed (units_of raw.template) slots raw.slots n s a.1
+pub one_fault : OneRaw → OneFault
+one_fault raws bytes f g a b =
+    let same = same_raw raws bytes a.0 b.0 a.1 b.1 in
+    stages.one_fault (bundle_stages b.0) (bundle_sound b.0) f g (subst (λ (r : RawBundle). IsFirstFault (bundle_stages r) f) same a.2) b.2
 
 -- the bytes of a bundle have no fault
-pub no-fault-where-spelled : OneRaw → NoFaultWhereSpelled
-no-fault-where-spelled raws b bytes f s a =
-    let p = parts_of b bytes a.0 s (same-parts raws bytes s.raw a.0 s.parts a.1) in
-    without-fault a.0 b.slots f (subst IsTemplate (sym p.code) s.template) p.slots a.2
-
--- the template, where there is one, has three units
-abbrev HasThree : Option Shape → Type 0
-HasThree shape = IsSome shape → length (unwrap_or shape no_shape).units ≡ 3
-
-one-more-has-three : (test : Bool) (u v w : ExecutionUnit) (inner : List ℕ) (others : Option Shape) → HasThree others → HasThree (cond test (shape u v w inner) others)
-one-more-has-three true u v w inner others have is = refl
-one-more-has-three false u v w inner others have is = have is
-
-none-has-three : HasThree None
-none-has-three is = absurd cc
-
-three-units : (pair : ℕ) → HasThree (shape_of pair)
-three-units pair = search (one-more-has-three, none-has-three) depth 16
-
--- where slots 0 and 1 have instructions, but not all slots, slot 2 is the first without one
-some-third : (u v w : ExecutionUnit) (words : List ℕ) → IsListedIn u 0 words → IsSecondListed v words → ((slots : Slots) → StandIn (u ∷ v ∷ w ∷ []) slots words → ⊥) → (IsFirstUnlisted (u ∷ v ∷ w ∷ []) words 2 → ⊥) → ⊥
-some-third u L w words first second none faultless = none (Long first.0 second.0) (first.1, second.1, refl)
-some-third u v w words first second none faultless =
-    faultless (first, second, (λ e. cc), (λ third. none (Three first.0 second.0 third.0) (first.1, second.1, third.1)))
-
--- where not all slots have instructions, one is the first without one
-some-slot : (units : List ExecutionUnit) (words : List ℕ) → length units ≡ 3 → ((slots : Slots) → StandIn units slots words → ⊥) → ((n : ℕ) → IsFirstUnlisted units words n → ⊥) → ⊥
-some-slot (u ∷ v ∷ w ∷ []) words count none faultless =
-    faultless 0 (λ first. faultless 1 (first, (λ second. some-third u v w words first second none (faultless 2))))
-some-slot units words count none faultless = omega arith
+pub no_fault_where_spelled : OneRaw → NoFaultWhereSpelled
+no_fault_where_spelled raws b bytes f s a =
+    let p = parts_of b bytes a.0 s (same_raw raws bytes s.raw a.0 s.parts a.1) in
+    stages.no_fault (bundle_stages a.0) (bundle_sound a.0) (p.template, slots_passed (units_of a.0.template) b.slots a.0.slots p.slots) f a.2
 
 -- bytes that are those of no bundle have a fault
-pub fault-where-none-spelled : SomeRaw → FaultWhereNoneSpelled
-fault-where-none-spelled some bytes are none faultless =
+pub fault_where_none_spelled : SomeRaw → FaultWhereNoneSpelled
+fault_where_none_spelled some bytes are none faultless =
     let raw = some bytes are in
-    let parts : HasParts bytes raw.0 = record { widths = raw.1; number = raw.2 } in
-    faultless ReservedTemplate (
-      raw.0,
-      parts,
-      (λ is. some-slot (units_of raw.0.template) raw.0.slots (three-units (raw.0.template / 2) is)
-          (λ slots stand. none (record { template = raw.0.template; slots = slots }) (record { raw = raw.0; parts = parts; are = are; code = refl; template = is; slots = stand }))
-          (λ n first. faultless (Unlisted n) (raw.0, parts, (is, first)))),
-    )
+    let parts : IsRawOf bytes raw.0 = record { widths = raw.1; number = raw.2 } in
+    stages.not_without (bundle_stages raw.0) (not_open (IsTemplate raw.0.template), slots_not_open (units_of raw.0.template) raw.0.slots)
+    (λ f is. faultless f (raw.0, parts, is))
+    (λ passed. let s = slots_stand (units_of raw.0.template) raw.0.slots (template_units raw.0.template passed.0) passed.1 in
+    none (record { template = raw.0.template; slots = s.0 }) (record { raw = raw.0; parts = parts; are = are; code = refl; template = passed.0; slots = s.1 }))

@@ -1,5 +1,6 @@
 pub mod Families
-pub mod Slots
 pub mod Units
+pub mod Slots
 pub mod Spellings
 pub mod Faults
+pub mod Answers

@@ -1,6 +1,6 @@
 -- Bundles and their bytes correspond one to one, and sixteen bytes are those of a bundle or have one
 -- first fault.
-use Rattle.std.specs.Prelude.{◌≡◌, ℕ, List}
+use Rattle.std.specs.Prelude.{◌≡◌, ◌⊎◌, ℕ, List}
 use Rattle.bundle_bits.specs.RawBundle.{AreBytes}
 use Rattle.ia_insn.specs.declared.insn.Insn.{Insn}
 use Rattle.ia_insn.specs.declared.choices.Unit.{Unit as ExecutionUnit}
@@ -36,4 +36,10 @@ NoFaultWhereSpelled = (b : Bundle) (bytes : List ℕ) (f : SlotFault) → IsSpel
 
 -- sixteen bytes that are those of no bundle are not without a fault
 abbrev pub FaultWhereNoneSpelled : Type 0
-FaultWhereNoneSpelled = (bytes : List ℕ) → AreBytes bytes → ((b : Bundle) → IsSpelled b bytes → ⊥) → ((f : SlotFault) → HasSlotFault bytes f → ⊥) → ⊥
+FaultWhereNoneSpelled =
+    (bytes : List ℕ) → AreBytes bytes → ((b : Bundle) → IsSpelled b bytes → ⊥)
+    → ((f : SlotFault) → HasSlotFault bytes f → ⊥) → ⊥
+
+-- the bytes are those of a bundle, or have a fault
+abbrev pub BundleOrFault : List ℕ → Type 0
+BundleOrFault bytes = ((b : Bundle) × IsSpelled b bytes) ⊎ ((f : SlotFault) × HasSlotFault bytes f)

@@ -1,17 +1,18 @@
 //! Bundles and their bytes.
 
-ghost use Rattle.std.specs.Prelude.{◌≡◌, ◌<◌, ◌^◌, List, [], ◌∷◌, length, slice_index, ℕ, Ok, Err, IfOk, IfErr, Some, IfSome};
+ghost use Rattle.std.specs.Prelude.{◌≡◌, ◌≢◌, ◌<◌, ◌^◌, List, [], ◌∷◌, slice_index, ℕ, Ok, Err, IfOk, IfErr};
+ghost use Rattle.first_fault.specs.Stages.{IsFirstFault};
 ghost use Rattle.ia_insn.specs.Bundles.{Bundle, FitUnits};
-ghost use Rattle.bundle_bits.specs.RawBundle.{IsBundle as HasWidths};
-ghost use Rattle.ia_insn.specs.declared.insn.Insn.{Insn as InsnOf};
-ghost use Rattle.ia_insn.specs.declared.bundle.Slots.{Slots as SlotsOf};
+ghost use Rattle.ia_insn.specs.declared.choices.Unit.TheVariants.{X};
 ghost use Rattle.insn_codec.specs.declared.bundle.SlotFault.{SlotFault as SlotFaultOf};
+ghost use Rattle.insn_codec.specs.Slots.{IsInSlot, IsInSlots};
 ghost use Rattle.insn_codec.specs.Spelling.{StandIn, IsSpelled};
-ghost use Rattle.insn_codec.specs.SlotFaults.{IsSecond, IsUnlisted, HasSlotFault};
+ghost use Rattle.insn_codec.specs.SlotFaults.{IsListedIn, IsLongListed, slot_stages, HasSlotFault};
 
-use crate::laws::{no_fault_where_spelled, one_fault};
-use crate::slot::{read_long, read_slot, write_long, write_unit};
+use crate::laws::{no_fault_where_spelled, one_bundle, one_fault, one_spelling};
+use crate::slot::{read_unit, write_long, write_unit};
 use bundle_bits::{RawBundle, join, split};
+use formats_b::decode_x;
 use ia_insn::{BundleOf, Insn, Slots, Template, Unit};
 
 /// Why sixteen bytes are no bundle.
@@ -27,46 +28,58 @@ pub enum SlotFault {
     },
 }
 
-/// The instruction of slot 1, which takes slot 2 too where the unit is L.
-fn read_second(unit: Unit, raw: &RawBundle) -> Option<Insn>
-    requires { HasWidths raw.now }
-    ensures found { IfSome result (λ i. IsSecond unit i raw.now.slots) }
-    ensures only { (i : InsnOf) → IsSecond unit i raw.now.slots → result ≡ Some i }
+/// The instruction of a slot of this unit, or the fault of the slot.
+fn read_slot(unit: Unit, slot: u8, words: &[u64; 3]) -> Result<Insn, SlotFault>
+    requires { slot < 3 }
+    ensures found { IfOk result (λ i. IsInSlot unit slot i (slice_index words.now slot)) }
+    ensures fault { IfErr result (λ fault. (fault ≡ SlotFault.Unlisted slot) × ¬ IsListedIn unit slot words.now) }
 {
-    if unit == Unit::L {
-        read_long(raw.slots[1], raw.slots[2])
-    } else {
-        read_slot(unit, 1, raw.slots[1])
+    match read_unit(unit, slot, words[usize::from(slot)]) {
+        Some(insn) => Ok(insn),
+        None => Err(SlotFault::Unlisted { slot }),
     }
 }
 
-/// The instructions of slots of the units u, v and w.
-fn read_slots(u: Unit, v: Unit, w: Unit, raw: &RawBundle) -> Result<Slots, SlotFault>
-    requires { HasWidths raw.now }
-    ensures found { IfOk result (λ slots. StandIn (u ∷ v ∷ w ∷ []) slots raw.now.slots) }
-    ensures only { (slots : SlotsOf) → StandIn (u ∷ v ∷ w ∷ []) slots raw.now.slots → result ≡ Ok slots }
-    ensures fault { IfErr result (λ fault. IsUnlisted (u ∷ v ∷ w ∷ []) raw.now.slots fault) }
+/// The long instruction of slots 1 and 2, or the fault of slot 1.
+fn read_long(words: &[u64; 3]) -> Result<Insn, SlotFault>
+    ensures found { IfOk result (λ i. IsInSlots i (slice_index words.now 1) (slice_index words.now 2)) }
+    ensures fault { IfErr result (λ fault. (fault ≡ SlotFault.Unlisted 1) × ¬ IsLongListed words.now) }
 {
-    let Some(first) = read_slot(u, 0, raw.slots[0]) else {
-        return Err(SlotFault::Unlisted { slot: 0 });
-    };
-    let Some(second) = read_second(v, raw) else {
-        return Err(SlotFault::Unlisted { slot: 1 });
-    };
-    if v == Unit::L {
-        return Ok(Slots::Long {
-            first,
-            long: second,
-        });
+    match decode_x(words[1], words[2]) {
+        Some(insn) => Ok(insn),
+        None => Err(SlotFault::Unlisted { slot: 1 }),
     }
-    let Some(third) = read_slot(w, 2, raw.slots[2]) else {
-        return Err(SlotFault::Unlisted { slot: 2 });
-    };
+}
+
+/// The instructions of slots of the units u, v and w, or the first fault.
+fn read_slots(u: Unit, v: Unit, w: Unit, words: &[u64; 3]) -> Result<Slots, SlotFault>
+    ensures found { IfOk result (λ slots. StandIn (u ∷ v ∷ w ∷ []) slots words.now) }
+    ensures fault { IfErr result (IsFirstFault (slot_stages (u ∷ v ∷ w ∷ []) words.now)) }
+{
+    let first = read_slot(u, 0, words)?;
+    if v == Unit::L {
+        let long = read_long(words)?;
+        return Ok(Slots::Long { first, long });
+    }
+    let second = read_slot(v, 1, words)?;
+    let third = read_slot(w, 2, words)?;
     Ok(Slots::Three {
         a: first,
         b: second,
         c: third,
     })
+}
+
+/// The bundle that has these bytes, or their first fault.
+fn read_bundle(bytes: &[u8; 16]) -> Result<BundleOf, SlotFault>
+    ensures found { IfOk result (λ b. IsSpelled b bytes.now) }
+    ensures fault { IfErr result (HasSlotFault bytes.now) }
+{
+    let raw = split(bytes);
+    let template = Template::of(raw.template).ok_or(SlotFault::ReservedTemplate)?;
+    let [u, v, w] = template.units();
+    let slots = read_slots(u, v, w, &raw.slots)?;
+    Ok(BundleOf::of_fitting(template, slots))
 }
 
 /// The bundle that has these bytes, or their first fault (volume 1, chapter 3, instruction
@@ -85,32 +98,20 @@ pub fn decode_bundle(bytes: &[u8; 16]) -> Result<BundleOf, SlotFault>
     // A fault that the bytes have is answered, so they have no other and are those of no bundle.
     ensures only_fault { (fault : SlotFaultOf) → HasSlotFault bytes.now fault → result ≡ Err fault }
 {
+    one_bundle();
     one_fault();
     no_fault_where_spelled();
-    let raw = split(bytes);
-    let Some(template) = Template::of(raw.template) else {
-        return Err(SlotFault::ReservedTemplate);
-    };
-    let [u, v, w] = template.units();
-    let slots = match read_slots(u, v, w, &raw) {
-        Ok(slots) => slots,
-        Err(fault) => return Err(fault),
-    };
-    match BundleOf::new(template, slots) {
-        Some(bundle) => Ok(bundle),
-        None => unreachable!(),
-    }
+    read_bundle(bytes)
 }
 
 /// The words of the slots of a bundle whose template has the units u, v and w.
-#[tactic(auto, using(crate::proofs::Slots::of_first_unit, crate::proofs::Slots::of_last_unit, crate::proofs::Slots::of_short_unit, crate::proofs::Slots::of_long_unit))]
 fn write_slots(u: Unit, v: Unit, w: Unit, slots: &Slots) -> [u64; 3]
-    requires { FitUnits (u ∷ v ∷ w ∷ []) slots.now }
+    requires fit { FitUnits (u ∷ v ∷ w ∷ []) slots.now }
+    requires short { v ≢ X }
     ensures stand { StandIn (u ∷ v ∷ w ∷ []) slots.now result }
     ensures first { slice_index result 0 < 2 ^ 41 }
     ensures second { slice_index result 1 < 2 ^ 41 }
     ensures third { slice_index result 2 < 2 ^ 41 }
-    ensures only { (words : List ℕ) → length words ≡ 3 → StandIn (u ∷ v ∷ w ∷ []) slots.now words → words ≡ result }
 {
     match slots {
         Slots::Three { a, b, c } => [write_unit(u, a), write_unit(v, b), write_unit(w, c)],
@@ -121,6 +122,18 @@ fn write_slots(u: Unit, v: Unit, w: Unit, slots: &Slots) -> [u64; 3]
     }
 }
 
+/// The bytes of a bundle.
+fn write_bundle(bundle: &BundleOf) -> [u8; 16]
+    ensures { IsSpelled bundle.now result }
+{
+    let template = bundle.template();
+    let [u, v, w] = template.units();
+    join(&RawBundle {
+        template: template.code(),
+        slots: write_slots(u, v, w, bundle.slots()),
+    })
+}
+
 /// The bytes of a bundle: the way back from [`decode_bundle`].
 pub fn encode_bundle(bundle: &BundleOf) -> [u8; 16]
     // The bundle has these bytes.
@@ -129,10 +142,6 @@ pub fn encode_bundle(bundle: &BundleOf) -> [u8; 16]
     // It has no others, so what was decoded comes back.
     ensures only { (bytes : List ℕ) → IsSpelled bundle.now bytes → bytes ≡ result }
 {
-    let template = bundle.template();
-    let [u, v, w] = template.units();
-    join(&RawBundle {
-        template: template.code(),
-        slots: write_slots(u, v, w, bundle.slots()),
-    })
+    one_spelling();
+    write_bundle(bundle)
 }

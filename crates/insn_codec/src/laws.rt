@@ -1,7 +1,8 @@
 //! The laws of bundles and their bytes.
 
-ghost use Rattle.insn_codec.specs.Laws.{OneInstruction, OneWord, OneBundle, OneSpelling, OneFault, NoFaultWhereSpelled, FaultWhereNoneSpelled};
+ghost use Rattle.insn_codec.specs.Laws.{OneInstruction, OneWord, OneBundle, OneSpelling, OneFault, NoFaultWhereSpelled, FaultWhereNoneSpelled, BundleOrFault};
 
+use crate::bundle::decode_bundle;
 use bundle_bits::{one_bytes, one_raw, some_raw};
 use formats_a::opcode_is_high;
 use formats_b::{
@@ -70,4 +71,11 @@ pub fn fault_where_none_spelled()
     ensures { FaultWhereNoneSpelled }
 {
     some_raw();
+}
+
+/// The law that sixteen bytes are those of a bundle or have a fault. It decodes them to find which.
+pub fn bundle_or_fault(bytes: &[u8; 16])
+    ensures { BundleOrFault bytes.now }
+{
+    let _answer = decode_bundle(bytes);
 }

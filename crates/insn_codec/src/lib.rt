@@ -11,8 +11,6 @@ mod slot;
 
 pub use bundle::{SlotFault, decode_bundle, encode_bundle};
 pub use laws::{
-    fault_where_none_spelled, no_fault_where_spelled, one_bundle, one_fault, one_spelling,
+    bundle_or_fault, fault_where_none_spelled, no_fault_where_spelled, one_bundle, one_fault,
+    one_spelling,
 };
-
-#[cfg(test)]
-mod tests;

@@ -1,96 +1,75 @@
 //! The words of the slots.
 
-ghost use Rattle.std.specs.Prelude.{◌≡◌, ◌^◌, ◌<◌, ℕ, Some, IfSome};
+ghost use Rattle.std.specs.Prelude.{◌≡◌, ◌^◌, ◌<◌, Some, IfSome};
 ghost use Rattle.ia_insn.specs.declared.insn.Insn.{Insn};
-ghost use Rattle.ia_insn.specs.FormatsX.{CodeX};
-ghost use Rattle.ia_insn.specs.Fits.{Fits};
-ghost use Rattle.ia_insn.specs.declared.choices.Unit.TheVariants.{L};
-ghost use Rattle.insn_codec.specs.Slots.{UnitCode, IsOfUnit, IsInSlot, IsInSlots};
+ghost use Rattle.ia_insn.specs.FormatsX.{IsListedX, CodeX};
+ghost use Rattle.ia_insn.specs.declared.choices.Unit.TheVariants.{B};
+ghost use Rattle.insn_codec.specs.Slots.{UnitCode, IsOfUnit, IsInSlot};
 
-use formats_a::{decode_a, encode_a};
-use formats_b::{LongWord, decode_b, decode_f, decode_x, encode_b, encode_f, encode_x};
+use formats_a::{decode_a, encode_a, opcode_is_high};
+use formats_b::{LongWord, decode_b, decode_f, encode_b, encode_f, encode_x};
 use formats_i::{decode_i, encode_i};
 use formats_m::{decode_m, encode_m};
-use ia_insn::{Insn, Unit, fits};
+use ia_insn::{Insn, Unit, is_branch_slot};
 
-/// The instruction of the unit that has this word.
-fn read_unit(unit: Unit, word: u64) -> Option<Insn>
-    ensures found { IfSome result (λ i. UnitCode unit i word) }
-    ensures only { (i : Insn) → UnitCode unit i word → result ≡ Some i }
+/// The least word whose major opcode, the top four of its 41 bits, is 8: in M and I slots the A
+/// instructions have the words from here on, and the unit's own those below (volume 3, chapter 4,
+/// major opcodes).
+const FIRST_A_WORD: u64 = 1 << 40;
+
+/// The instruction of a B slot with this word.
+fn read_branch(slot: u8, word: u64) -> Option<Insn>
+    requires { slot < 3 }
+    ensures found { IfSome result (λ i. IsInSlot B slot i word) }
+    ensures only { (i : Insn) → IsInSlot B slot i word → result ≡ Some i }
 {
-    match unit {
-        Unit::M => match (decode_a(word), decode_m(word)) {
-            (None, own) => own,
-            (common, _) => common,
-        },
-        Unit::I => match (decode_a(word), decode_i(word)) {
-            (None, own) => own,
-            (common, _) => common,
-        },
-        Unit::F => decode_f(word),
-        Unit::B => decode_b(word),
-        Unit::L | Unit::X => None,
+    match decode_b(word) {
+        Some(insn) if is_branch_slot(insn.op, slot) => Some(insn),
+        _ => None,
     }
 }
 
-/// The instruction of a slot with this word.
-pub(crate) fn read_slot(unit: Unit, slot: u8, word: u64) -> Option<Insn>
+/// The instruction of a slot of this unit with this word.
+pub(crate) fn read_unit(unit: Unit, slot: u8, word: u64) -> Option<Insn>
+    requires { slot < 3 }
     ensures found { IfSome result (λ i. IsInSlot unit slot i word) }
     ensures only { (i : Insn) → IsInSlot unit slot i word → result ≡ Some i }
 {
-    match read_unit(unit, word) {
-        Some(insn) if fits(&insn, unit, slot) => Some(insn),
-        _ => None,
-    }
-}
-
-/// The long instruction with the words of an L and an X slot.
-pub(crate) fn read_long(l: u64, word: u64) -> Option<Insn>
-    ensures found { IfSome result (λ i. IsInSlots i l word) }
-    ensures only { (i : Insn) → IsInSlots i l word → result ≡ Some i }
-{
-    match decode_x(l, word) {
-        Some(insn) if fits(&insn, Unit::L, 1) => Some(insn),
-        _ => None,
+    opcode_is_high();
+    formats_m::opcode_is_low();
+    formats_i::opcode_is_low();
+    match unit {
+        Unit::M if word < FIRST_A_WORD => decode_m(word),
+        Unit::I if word < FIRST_A_WORD => decode_i(word),
+        Unit::M | Unit::I => decode_a(word),
+        Unit::F => decode_f(word),
+        Unit::B => read_branch(slot, word),
+        Unit::L | Unit::X => None,
     }
 }
 
 /// The word of an instruction of the unit.
-#[tactic(auto, using(crate::proofs::Families::not_a_and_m, crate::proofs::Families::not_a_and_i))]
 pub(crate) fn write_unit(unit: Unit, insn: &Insn) -> u64
     requires { IsOfUnit unit insn.now }
     ensures code { UnitCode unit insn.now result }
     ensures width { result < 2 ^ 41 }
-    ensures only { (w : ℕ) → UnitCode unit insn.now w → w ≡ result }
 {
     let word = match unit {
-        Unit::M => match encode_a(insn) {
-            None => encode_m(insn),
-            common => common,
-        },
-        Unit::I => match encode_a(insn) {
-            None => encode_i(insn),
-            common => common,
-        },
+        Unit::M => encode_a(insn).or_else(|| encode_m(insn)),
+        Unit::I => encode_a(insn).or_else(|| encode_i(insn)),
         Unit::F => encode_f(insn),
         Unit::B => encode_b(insn),
         Unit::L | Unit::X => None,
     };
-    match word {
-        Some(word) => word,
-        None => unreachable!(),
-    }
+    word.unwrap()
 }
 
 /// The words of a long instruction.
 pub(crate) fn write_long(insn: &Insn) -> LongWord
-    requires { Fits insn.now L 1 }
+    requires { IsListedX insn.now }
     ensures code { CodeX insn.now result.l result.word }
     ensures l { result.l < 2 ^ 41 }
     ensures word { result.word < 2 ^ 41 }
 {
-    match encode_x(insn) {
-        Some(words) => words,
-        None => unreachable!(),
-    }
+    encode_x(insn).unwrap()
 }

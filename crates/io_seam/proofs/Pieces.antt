@@ -4,7 +4,7 @@ use Rattle.std.proofs.Math.Seq.{drop-append_seam}
 use Rattle.std.proofs.lemmas.List.{drop-take}
 use Rattle.std.proofs.KnownBytes.{Appends-trans, Consumes-trans}
 use Rattle.std.specs.Io.KnownBytes.{Appends, Consumes}
-use Rattle.io_seam.specs.Bytes.{LosesFirst}
+use Rattle.io_seam.specs.Bytes.{LosesFirst, LosesAtMost}
 
 take-add : (i n : ℕ) (bytes : List ℕ) → take (i + n) bytes ≡ take i bytes ++ take n (drop i bytes)
 take-add i n bytes =
@@ -35,7 +35,7 @@ LosesFirst-next old mid new front piece n count within long before now =
     subst (λ k. IfSome old (λ left. LosesFirst k left new)) e (LosesFirst-consumed old new _ (Consumes-trans old mid new _ _ before now))
 
 pub at_most : (old new : Option (List ℕ)) (n most : ℕ) → n ≤ most → IfSome old (λ left. LosesFirst n left new)
-    → IfSome old (λ left. (count : ℕ) × (count ≤ most) × LosesFirst count left new)
+    → IfSome old (λ left. LosesAtMost most left new)
 at_most None new n most within h = tt
 at_most (Some left) new n most within h = (n, within, h)
 

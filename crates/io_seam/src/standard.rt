@@ -1,4 +1,5 @@
 ghost use Rattle.std.specs.Prelude.{◌≡◌, ℕ, ◌^◌, ◌<◌, ◌≤◌, None, length, IfOk, OnOk, OnErr};
+ghost use Rattle.std.specs.Io.KnownBytes.{ReadConsumes, WriteAppends};
 ghost use Rattle.io_seam.specs.Faults.{counted};
 
 use crate::sink::Sink;
@@ -59,7 +60,8 @@ impl<R: Read> Source for StdSource<R> {
 
 // One read, tried again where a signal interrupts it.
 fn read_once<R: Read>(reader: &mut R, piece: &mut [u8]) -> Result<usize, Failed>
-    ensures { IfOk result (λ count. count ≤ length piece.new) }
+    ensures within { IfOk result (λ count. count ≤ length piece.new) }
+    ensures bytes { ReadConsumes (R.remaining reader.old) (R.remaining reader.new) result piece.new }
 {
     for _ in 0..u64::MAX {
         match reader.read(piece) {
@@ -132,6 +134,7 @@ impl<W: Write> Sink for StdSink<W> {
 fn write_once<W: Write>(writer: &mut W, piece: &[u8]) -> Result<usize, Failed>
     ensures within { IfOk result (λ count. count ≤ length piece.now) }
     ensures some { IfOk result (λ count. 0 < length piece.now → 0 < count) }
+    ensures bytes { WriteAppends (W.contents writer.old) (W.contents writer.new) result piece.now }
 {
     for _ in 0..u64::MAX {
         match writer.write(piece) {

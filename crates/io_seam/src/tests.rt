@@ -106,7 +106,8 @@ fn a_failed_write_leaves_a_front(rt: HostRuntime) -> Result<(), Fail> {
     Ok(())
 }
 
-// A reader and a writer that a signal interrupts at first, and that fail at the end.
+// A reader and a writer that a signal interrupts at first. Then they move a byte, none, and a byte
+// again, and from there on they fail.
 #[derive(Drop)]
 struct Troubled {
     calls: u8,
@@ -119,7 +120,7 @@ impl Troubled {
         self.calls = self.calls.saturating_add(1);
         match self.calls {
             1 => Err(Error::from(ErrorKind::Interrupted)),
-            2 => Ok(1),
+            2 | 4 => Ok(1),
             3 => Ok(0),
             _ => Err(Error::from(ErrorKind::BrokenPipe)),
         }
@@ -152,7 +153,7 @@ fn standard_readers(rt: HostRuntime) -> Result<(), Fail> {
     let short = read_all(alloc, &mut StdSource::new(TEXT), 10);
     assert_eq!(rt; short.err(), Some(ReadError::TooLong));
 
-    // The signal is no fault, 0 bytes are the end, and the next read fails.
+    // The signal is no fault, 0 bytes are the end, and the next whole read fails after a byte.
     let mut source = StdSource::new(Troubled { calls: 0 });
     assert_eq!(rt; read_all(alloc, &mut source, 9)?.len(), 1);
     assert_eq!(rt;
@@ -168,10 +169,11 @@ fn standard_writers(rt: HostRuntime) -> Result<(), Fail> {
     write_all(&mut StdSink::new(&mut written), TEXT)?;
     assert_eq!(rt; written.as_slice(), TEXT);
 
-    // The signal is no fault, and a write that takes nothing is one.
+    // The signal is no fault. A write that takes nothing is one, and isn't tried again in that call.
     let mut sink = StdSink::new(Troubled { calls: 0 });
     assert_eq!(rt; sink.give(b"ab"), Ok(1));
     assert_eq!(rt; sink.give(b"b"), Err(Failed));
+    assert_eq!(rt; sink.give(b"b"), Ok(1));
     assert_eq!(rt; sink.give(b""), Err(Failed));
     Ok(())
 }

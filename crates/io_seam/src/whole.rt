@@ -1,7 +1,7 @@
 ghost use Rattle.std.specs.Prelude.{◌≡◌, ◌≢◌, ℕ, ◌+◌, ◌<◌, ◌≤◌, ◌↔◌, length, take, vec_len, IsSome, IfSome, IfOk, IfErr, OnOk, OnErr, IsErrOf};
 ghost use Rattle.std.specs.Io.KnownBytes.{Appends, IsAtEnd};
 ghost use Rattle.io_seam.specs.Faults.{Rose};
-ghost use Rattle.io_seam.specs.Bytes.{LosesFirst};
+ghost use Rattle.io_seam.specs.Bytes.{LosesFirst, LosesAtMost};
 
 use crate::sink::Sink;
 use crate::source::Source;
@@ -39,8 +39,10 @@ pub enum WriteError {
 /// # Errors
 ///
 /// `ReadFault` only where the source's count of faults rose in this call, `TooLong` exactly where
-/// more than `limit` bytes came, `Memory` where the bytes found no room. The bytes that were taken
-/// are gone after each of them.
+/// more than `limit` bytes came. `Memory`, where the bytes found no room, may come in place of any
+/// other answer. The bytes that were taken are gone after each of them, `limit + 1` after `TooLong`
+/// and at most `limit` after the others. The count of faults is as it was after `TooLong` and
+/// `Memory`.
 pub fn read_all<S: Source>(
     alloc: Global,
     source: &mut S,
@@ -57,7 +59,7 @@ pub fn read_all<S: Source>(
 
     // What is left, whatever the answer.
     ensures taken { IfSome (S.left source.old) (λ left.
-        (count : ℕ) × (count ≤ limit + 1) × LosesFirst count left (S.left source.new)) }
+        LosesAtMost (limit + 1) left (S.left source.new)) }
     ensures told { IsSome (S.left source.old) ↔ IsSome (S.left source.new) }
 
     // How often the source failed.

@@ -1,5 +1,6 @@
-use Rattle.ia64_top.specs.Reports.{rank, ReportsBelow}
+use Rattle.std.proofs.Common.{◌*◌, take}
+use Rattle.ia64_top.specs.Reports.{Adds, IsClash}
 use Rattle.ia64_top.proofs.checker.check_slot.Given as goal
 
-abbrev pub invariant-loop-first : goal.invariant-loop-first
-invariant-loop-first l = ReportsBelow l.program l.report (rank l.second l.first 0)
+abbrev pub invariant-loop-writer : goal.invariant-loop-writer
+invariant-loop-writer l = Adds (IsClash (take l.writer-index l.writers) l.second l.op) (2 * l.writer-index) l.initial.report l.report

@@ -1,4 +1,4 @@
-use Rattle.ia64_top.proofs.Reporting.{same_verdict}
+use Rattle.ia64_top.proofs.Walking.{same_verdict}
 use Rattle.ia64_top.proofs.checker.one_verdict.Goals as goal
 
 pub returns : goal.returns

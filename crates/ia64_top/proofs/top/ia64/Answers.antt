@@ -1,6 +1,6 @@
 use Rattle.std.proofs.Common.{◌≤◌, length, Err, sym, ap, arith}
 use Rattle.ia64_top.specs.Output.{input_limit}
-use Rattle.ia64_top.proofs.Answering.{too_long, answered, given_in_part, accepted_beyond, accepted_within, beyond}
+use Rattle.ia64_top.proofs.Answering.{too_long, answered, given_in_part, accepted_beyond, accepted_within, beyond, untouched, read_whole}
 use Rattle.ia64_top.proofs.top.ia64.Goals as goal
 
 pub returns-in-Err-TooLong-clause-output : goal.returns-in-Err-TooLong-clause-output
@@ -32,3 +32,11 @@ returns-clause-written_part g c u =
       c.in-Ok.ensures.quiet,
       given_in_part c.args.words.now c.in-Some.command (g.S.Source.left c.args.source.now) (g.K.Sink.given c.args.sink.now) (g.K.Sink.given c.write_all.new.sink) c.in-Ok.input.items c.in-Ok-respond.answer.bytes.items c.in-Ok-respond.answer.status (sym c.in-Some.ensures) c.in-Ok.ensures.whole within told.output written.prefix,
     )
+
+pub returns-in_default-clause-too_long : goal.returns-in_default-clause-too_long
+returns-in_default-clause-too_long g c = untouched (g.S.Source.left c.args.source.now)
+
+pub returns-in-Ok-write_all-clause-too_long : goal.returns-in-Ok-write_all-clause-too_long
+returns-in-Ok-write_all-clause-too_long g c =
+    let told = rw c.deref.ensures.value at c.in-Ok-respond.ensures in
+    read_whole _ c.in-Some.command (g.S.Source.left c.args.source.now) (g.S.Source.left c.read_all.new.source) c.in-Ok.input.items c.in-Ok-respond.answer.bytes.items c.in-Ok-respond.answer.status (λ e. cc) c.in-Ok.ensures.too_long told.output

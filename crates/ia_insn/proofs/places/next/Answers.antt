@@ -1,6 +1,6 @@
 use Rattle.std.proofs.Common.{rules, ◌≡◌, ◌≤◌, ◌<◌, ◌+◌, length}
 use Rattle.std.specs.Prelude.{slice_get, Some, None}
-use Rattle.ia_insn.specs.Places.{last_slot}
+use Rattle.ia_insn.specs.Bundles.{last_slot}
 use Rattle.ia_insn.proofs.InOrder.{next_slot, next_bundle, no_next, none_beyond}
 use Rattle.ia_insn.proofs.places.next.Goals as goal
 
@@ -9,8 +9,8 @@ returns-in_default c =
     let none : slice_get c.args.bundles.now c.args.place.bundle ≡ None = search rules in
     none_beyond c.args.bundles.now c.args.place none
 
-pub returns-then-place-last_slot : goal.returns-then-place-last_slot
-returns-then-place-last_slot c =
+pub returns-then-place-last : goal.returns-then-place-last
+returns-then-place-last c =
     let is : slice_get c.args.bundles.now c.args.place.bundle ≡ Some c.in-Some.bundle.now = search rules in
     let within : c.args.place.slot < last_slot c.in-Some.bundle.now.slots = search rules in
     next_slot c.args.bundles.now c.args.place c.in-Some.bundle.now is within

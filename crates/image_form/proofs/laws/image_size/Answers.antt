@@ -1,4 +1,4 @@
-use Rattle.image_form.proofs.Readings.{image_size}
+use Rattle.image_form.proofs.Wholes.{image_size}
 use Rattle.image_form.proofs.laws.image_size.Goals as goal
 
 pub returns : goal.returns

@@ -1,7 +1,7 @@
 use Rattle.ia_insn.specs.Programs.{Program}
 use Rattle.image_form.specs.Images.{RawSpells}
 use Rattle.image_form.specs.Faults.{HasRawFault}
-use Rattle.image_form.proofs.OneToOne.{only_program, only_fault}
+use Rattle.image_form.proofs.Answered.{only_program, only_fault}
 use Rattle.image_form.proofs.reading.wrap_raw.Goals as goal
 
 pub returns-clause-only : goal.returns-clause-only

@@ -1,20 +1,13 @@
-use Rattle.std.proofs.Common.{rules, ap}
-use Rattle.std.specs.Prelude.{◌≢◌, Ok}
+use Rattle.std.proofs.Common.{rules}
+use Rattle.std.specs.Prelude.{◌≢◌}
+use Rattle.std.proofs.lemmas.Result.{err_from_is_err_and}
 use Rattle.ia_insn.specs.declared.choices.Unit.TheVariants.{L}
-use Rattle.insn_codec.proofs.Slots.{second_is_short, second_of, stands_second, only_three}
+use Rattle.insn_codec.proofs.Faults.{third_unlisted}
 use Rattle.insn_codec.proofs.bundle.read_slots.Goals as goal
 
-pub returns-in_default-read_second-clause-only : goal.returns-in_default-read_second-clause-only
-returns-in_default-read_second-clause-only c slots s =
-    let e = c.in_default-read_second.ensures.only (second_of slots) (stands_second c.args.u c.args.v c.args.w slots c.args.raw.now.slots s) in
-    absurd cc
-
-pub returns-clause-found : goal.returns-clause-found
-returns-clause-found c =
+pub returns-in_err-third-clause-fault : goal.returns-in_err-third-clause-fault
+returns-in_err-third-clause-fault c =
     let other : c.args.v ≢ L = search rules in
-    (c.in-Some.ensures.found, second_is_short c.args.v c.in-Some-read_second.second c.args.raw.now.slots other c.in-Some-read_second.ensures.found, c.in-Some-read_slot.ensures.found)
-
-pub returns-clause-only : goal.returns-clause-only
-returns-clause-only c slots s =
-    let other : c.args.v ≢ L = search rules in
-    ap Ok (only_three c.args.u c.args.v c.args.w c.in-Some.first c.in-Some-read_second.second c.in-Some-read_slot.third c.args.raw.now.slots other c.in-Some.ensures.only c.in-Some-read_second.ensures.only c.in-Some-read_slot.ensures.only slots s)
+    let p = err_from_is_err_and c.from_residual-in_err-third.result c.from_residual-in_err-third.ensures.1 in
+    let why = c.in_err-third.ensures.fault in
+    rw (p.1, p.2) (third_unlisted c.args.u c.args.v c.args.w c.args.words.now c.in_err-third.field-0.0 other (c.in_ok-first.first, c.in_ok-first.ensures.found) (c.in_ok-second.second, c.in_ok-second.ensures.found) why.0 why.1)

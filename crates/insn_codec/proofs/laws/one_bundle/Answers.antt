@@ -1,5 +1,5 @@
-use Rattle.insn_codec.proofs.Spellings.{one-bundle}
+use Rattle.insn_codec.proofs.Spellings.{one_bundle}
 use Rattle.insn_codec.proofs.laws.one_bundle.Goals as goal
 
 pub returns : goal.returns
-returns c = one-bundle c.one_raw.ensures c.one_instruction.ensures c.one_instruction_x.ensures
+returns c = one_bundle c.one_raw.ensures c.one_instruction.ensures c.one_instruction_x.ensures

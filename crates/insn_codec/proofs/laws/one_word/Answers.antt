@@ -1,6 +1,6 @@
-use Rattle.insn_codec.proofs.Units.{one-word}
+use Rattle.insn_codec.proofs.Units.{one_word}
 use Rattle.insn_codec.proofs.laws.one_word.Goals as goal
 
 pub returns : goal.returns
 returns c =
-    one-word c.one_word.ensures c.one_word-2.ensures c.one_word-3.ensures c.one_word_f.ensures c.one_word_b.ensures
+    one_word c.one_word.ensures c.one_word-2.ensures c.one_word-3.ensures c.one_word_f.ensures c.one_word_b.ensures

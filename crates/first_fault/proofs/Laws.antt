@@ -1,0 +1,69 @@
+-- What each list of stages gives.
+use Rattle.std.proofs.Common.{◌≡◌, ◌⊎◌, inl, inr, List, [], ◌∷◌, Ok, Err, Result, refl, sym, ap, ◌∙◌}
+use Rattle.std.specs.Prelude.{IfOk, IfErr}
+use Rattle.first_fault.specs.Stages.{Stage, unless, IsFirstFault, ArePassed}
+
+-- A stage finds at most one fault, and none where it is passed.
+pub record IsSound {Fault : Type 0} (s : Stage Fault) : Type 0 where
+  pub one : (a b : s.Key) → s.Finds a → s.Finds b → a ≡ b
+  pub none : (a : s.Key) → s.Finds a → s.IsPassed → ⊥
+
+abbrev pub AreSound : {Fault : Type 0} → List (Stage Fault) → Type 0
+AreSound [] = Unit {0}
+AreSound (s ∷ later) = IsSound s × AreSound later
+
+pub unless_sound : {Fault : Type 0} (Holds : Type 0) (f : Fault) → IsSound (unless Holds f)
+unless_sound Holds f = record { one = λ a b fails also. refl; none = λ a fails holds. fails holds }
+
+-- there is at most one first fault
+pub one_fault : {Fault : Type 0} (stages : List (Stage Fault)) → AreSound stages → (f g : Fault) → IsFirstFault stages f → IsFirstFault stages g → f ≡ g
+one_fault [] sound f g a b = absurd a
+one_fault (s ∷ later) sound f g (inl a) (inl b) = a.1 ∙ ap s.fault (sound.0.one a.0 b.0 a.2 b.2) ∙ sym b.1
+one_fault (s ∷ later) sound f g (inl a) (inr b) = absurd (sound.0.none a.0 a.2 b.0)
+one_fault (s ∷ later) sound f g (inr a) (inl b) = absurd (sound.0.none b.0 b.2 a.0)
+one_fault (s ∷ later) sound f g (inr a) (inr b) = one_fault later sound.1 f g a.1 b.1
+
+-- there is none where every stage is passed
+pub no_fault : {Fault : Type 0} (stages : List (Stage Fault)) → AreSound stages → ArePassed stages → (f : Fault) → IsFirstFault stages f → ⊥
+no_fault [] sound passed f a = a
+no_fault (s ∷ later) sound passed f (inl a) = sound.0.none a.0 a.2 passed.0
+no_fault (s ∷ later) sound passed f (inr a) = no_fault later sound.1 passed.1 f a.1
+
+-- a stage finds a fault or is passed
+abbrev pub IsDecided : {Fault : Type 0} → Stage Fault → Type 0
+IsDecided s = ((key : s.Key) × s.Finds key) ⊎ s.IsPassed
+
+abbrev pub AreDecided : {Fault : Type 0} → List (Stage Fault) → Type 0
+AreDecided [] = Unit {0}
+AreDecided (s ∷ later) = IsDecided s × AreDecided later
+
+-- where each stage finds a fault or is passed, there is a first fault or every stage is passed
+pub some_fault : {Fault : Type 0} (stages : List (Stage Fault)) → AreDecided stages → ((f : Fault) × IsFirstFault stages f) ⊎ ArePassed stages
+some_fault [] decided = inr tt
+some_fault (s ∷ later) (inl found, others) = inl (s.fault found.0, inl (found.0, refl, found.1))
+some_fault (s ∷ later) (inr passed, others) = elim (some_fault later others) [
+  | inl (f, is) ↦ inl (f, inr (passed, is))
+  | inr all ↦ inr (passed, all)
+]
+
+-- the same of stages of which it can't be told: they aren't without a first fault unless every one is passed
+abbrev pub AreNotOpen : {Fault : Type 0} → List (Stage Fault) → Type 0
+AreNotOpen [] = Unit {0}
+AreNotOpen (s ∷ later) = (((key : s.Key) → s.Finds key → ⊥) → (s.IsPassed → ⊥) → ⊥) × AreNotOpen later
+
+pub not_without : {Fault : Type 0} (stages : List (Stage Fault)) → AreNotOpen stages → ((f : Fault) → IsFirstFault stages f → ⊥) → (ArePassed stages → ⊥) → ⊥
+not_without [] closed none go = go tt
+not_without (s ∷ later) closed none go =
+    closed.0
+    (λ key finds. none (s.fault key) (inl (key, refl, finds)))
+    (λ passed. not_without later closed.1 (λ f is. none f (inr (passed, is))) (λ others. go (passed, others)))
+
+-- an answer that is a fault only where it is the first is no fault where every stage is passed
+pub answers_ok : {Fault T : Type 0} (stages : List (Stage Fault)) (r : Result T Fault) → AreSound stages → IfErr r (IsFirstFault stages) → ArePassed stages → (t : T) × (r ≡ Ok t)
+answers_ok stages (Ok t) sound faults passed = (t, refl)
+answers_ok stages (Err f) sound faults passed = absurd (no_fault stages sound passed f faults)
+
+-- and where there is a first fault, it is that fault
+pub answers_err : {Fault T : Type 0} (stages : List (Stage Fault)) (r : Result T Fault) → AreSound stages → IfOk r (λ t. ArePassed stages) → IfErr r (IsFirstFault stages) → (f : Fault) → IsFirstFault stages f → r ≡ Err f
+answers_err stages (Ok t) sound found faults f is = absurd (no_fault stages sound found f is)
+answers_err stages (Err g) sound found faults f is = ap Err (one_fault stages sound g f faults is)

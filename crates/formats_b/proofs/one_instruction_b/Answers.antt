@@ -1,5 +1,0 @@
-use Rattle.formats_b.proofs.RowsB.{only_instruction}
-use Rattle.formats_b.proofs.one_instruction_b.Goals as goal
-
-pub returns : goal.returns
-returns c = only_instruction

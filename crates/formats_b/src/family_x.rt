@@ -1,0 +1,86 @@
+//! The long instructions, which stand over an L and an X slot (volume 3, chapter 4, instruction
+//! formats, X1, X2 and X5).
+
+ghost use Rattle.std.specs.Prelude.{◌≡◌, ◌<◌, ◌≤◌, ◌^◌, ◌↔◌, IsTrue, IsSome, IsNone, IfSome, Some};
+ghost use Rattle.ia_insn.specs.FormatsX.{CodeX, IsListedX};
+ghost use Rattle.ia_insn.specs.declared.insn.Insn.{Insn};
+ghost use Rattle.formats_b.specs.Laws.{OneInstructionX, OneLongWord};
+
+mod reading;
+mod writing;
+
+use ia_insn::{Insn, is_listed_x};
+
+/// The words of a long instruction, 41 bits each (volume 1, chapter 3, instruction encoding).
+#[derive(Clone, Copy, Debug, PartialEq, Eq)]
+pub struct LongWord {
+    /// That of the L slot, slot 1: bits of the immediate.
+    pub l: u64,
+    /// That of the X slot, slot 2.
+    pub word: u64,
+}
+
+/// The long instruction whose words these are, `l` that of the L slot and `word` that of the X
+/// slot, and None exactly where they are those of none (volume 3, chapter 4, instruction formats,
+/// X1, X2 and X5). The number of a `nop` or `break` has bit 36 of `word` on top, then `l`, then
+/// bits 25:6 of `word`.
+#[tactic(auto, using(crate::proofs::RowsX::read_back, crate::proofs::RowsX::code_is_below))]
+pub fn decode_x(l: u64, word: u64) -> Option<Insn>
+    // What is answered has these words.
+    ensures found { IfSome result (λ i. CodeX i l word) }
+
+    // An instruction that has these words is answered, so None comes only where none has them.
+    ensures only { (i : Insn) → CodeX i l word → result ≡ Some i }
+
+    // A slot has 41 bits, and no larger number is a word.
+    ensures beyond_l { 2 ^ 41 ≤ l → IsNone result }
+    ensures beyond_word { 2 ^ 41 ≤ word → IsNone result }
+{
+    let insn = reading::read(l, word);
+    if has_words(&insn, l, word) {
+        Some(insn)
+    } else {
+        None
+    }
+}
+
+/// Whether these are the words of the long instruction.
+fn has_words(insn: &Insn, l: u64, word: u64) -> bool
+    ensures { IsTrue result ↔ CodeX insn.now l word }
+{
+    encode_x(insn) == Some(LongWord { l, word })
+}
+
+/// The words of a long instruction, and None exactly where the instruction is of another family or
+/// an operand is not in its range (volume 3, chapter 4, instruction formats, X1, X2 and X5).
+#[tactic(auto, using(crate::proofs::RowsX::word_is_below, crate::proofs::RowsX::low_is_below))]
+pub fn encode_x(insn: &Insn) -> Option<LongWord>
+    // Words come exactly where it is a long instruction in its range.
+    ensures listed { IsSome result ↔ IsListedX insn.now }
+
+    // What is answered are its words.
+    ensures words { IfSome result (λ long. CodeX insn.now long.l long.word) }
+
+    // Each has the 41 bits of a slot.
+    ensures within_l { IfSome result (λ long. long.l < 2 ^ 41) }
+    ensures within_word { IfSome result (λ long. long.word < 2 ^ 41) }
+{
+    if is_listed_x(insn) {
+        Some(LongWord {
+            l: writing::write_l(insn.op),
+            word: writing::write(insn),
+        })
+    } else {
+        None
+    }
+}
+
+/// The law that two words are those of at most one long instruction. It does nothing.
+pub fn one_instruction_x()
+    ensures { OneInstructionX }
+{}
+
+/// The law that a long instruction has at most one word in each of its slots. It does nothing.
+pub fn one_long_word()
+    ensures { OneLongWord }
+{}

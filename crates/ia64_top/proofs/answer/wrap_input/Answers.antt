@@ -1,0 +1,10 @@
+use Rattle.std.proofs.Common.{◌∙◌, sym}
+use Rattle.ia64_top.proofs.Outputs.{if_ok, only_wrapped, is_raw_refusal}
+use Rattle.ia64_top.proofs.answer.wrap_input.Goals as goal
+
+pub returns-in_ok-write_image-in-Ok-clause-only : goal.returns-in_ok-write_image-in-Ok-clause-only
+returns-in_ok-write_image-in-Ok-clause-only c = λ bytes other o. only_wrapped c.no_fault_where_raw.ensures c.args.input.now _ c.in-Ok.ensures.found bytes other o
+
+pub returns-in-Err-clause-output : goal.returns-in-Err-clause-output
+returns-in-Err-clause-output c =
+    if_ok c.refuse.result c.refuse.ensures (λ x a. is_raw_refusal c.args.input.now c.in-Err.fault x.bytes.items x.status (c.in-Err.ensures.fault a.0) a.1 a.2)

@@ -1,0 +1,105 @@
+-- The ranges of the operands of a listed instruction.
+use Rattle.std.specs.Prelude.{◌≡◌, ◌≢◌, ◌⊎◌, ℕ, ◌*◌, ◌%◌, ◌<◌, ◌≤◌, ◌^◌, IsSome}
+use Rattle.bundle_bits.specs.Words.{bits}
+use Rattle.ia_insn.specs.Signed.{twos, FitsSigned}
+use Rattle.ia_insn.specs.declared.insn.Op.{Op}
+use Rattle.ia_insn.specs.declared.insn.Op.TheVariants as ops
+use Rattle.ia_insn.specs.declared.choices.Unit.{Unit as ExecutionUnit}
+use Rattle.ia_insn.specs.declared.choices.Unit.TheVariants.{M, I, B, L, X}
+use Rattle.ia_insn.specs.declared.choices.LoadKind.{LoadKind}
+use Rattle.ia_insn.specs.declared.choices.LoadKind.TheVariants as loads
+use Rattle.ia_insn.specs.declared.choices.StoreKind.{StoreKind}
+use Rattle.ia_insn.specs.declared.choices.StoreKind.TheVariants as stores
+use Rattle.ia_insn.specs.FormatsA.{imm8_codes, compare, parallel_op, zero_codes}
+use Rattle.ia_insn.specs.FormatsM.{IsLoadUpdate, IsStoreUpdate}
+
+-- the position and the length of a field of a register, of at most so many bits
+pub record IsBitField (pos len most : ℕ) : Type 0 where
+  pub position : pos ≤ 63
+  pub some : 1 ≤ len
+  pub within : len ≤ most
+
+-- 1, 2, 4 or 8 bytes
+abbrev pub IsAccessSize : ℕ → Type 0
+IsAccessSize size = (size ≡ 1) ⊎ ((size ≡ 2) ⊎ ((size ≡ 4) ⊎ (size ≡ 8)))
+
+-- a fill is of 8 bytes
+abbrev pub IsLoadSize : LoadKind → ℕ → Type 0
+IsLoadSize loads.Fill size = size ≡ 8
+IsLoadSize kind size = IsAccessSize size
+
+-- and so is a spill
+abbrev pub IsStoreSize : StoreKind → ℕ → Type 0
+IsStoreSize stores.Spill size = size ≡ 8
+IsStoreSize kind size = IsAccessSize size
+
+-- the number of a break or a nop of this unit
+abbrev pub IsNumberOf : ExecutionUnit → ℕ → Type 0
+IsNumberOf L imm = ⊥
+IsNumberOf X imm = imm < 2 ^ 62
+IsNumberOf unit imm = imm < 2 ^ 21
+
+-- the number of a hint of this unit
+abbrev pub IsHintOf : ExecutionUnit → ℕ → Type 0
+IsHintOf M imm = imm < 2 ^ 21
+IsHintOf I imm = imm < 2 ^ 21
+IsHintOf B imm = imm < 2 ^ 21
+IsHintOf unit imm = ⊥
+
+-- a speculation check stands in an M or an I slot
+abbrev pub IsCheckOf : ExecutionUnit → Type 0
+IsCheckOf M = Unit {0}
+IsCheckOf I = Unit {0}
+IsCheckOf unit = ⊥
+
+-- r0 is no target and two predicate targets differ; each number has its range, and each choice is one
+-- that the formats have a code for.
+abbrev pub HasRanges : Op → Type 0
+HasRanges (ops.Alu f r1 r2 r3) = r1 ≢ 0
+HasRanges (ops.ShlAdd p4 r1 r2 count r3) = (r1 ≢ 0) × (1 ≤ count) × (count ≤ 4)
+HasRanges (ops.AluImm8 f r1 imm r3) = (r1 ≢ 0) × FitsSigned 8 imm × IsSome (imm8_codes f)
+HasRanges (ops.AddImm14 p4 r1 imm r3) = (r1 ≢ 0) × FitsSigned 14 imm
+HasRanges (ops.AddImm22 r1 imm r3) = (r1 ≢ 0) × FitsSigned 22 imm × (r3 ≤ 3)
+HasRanges (ops.Cmp four rel kind p1 p2 r2 r3) = (p1 ≢ p2) × IsSome (compare kind rel)
+HasRanges (ops.CmpZero four rel kind p1 p2 r3) = (p1 ≢ p2) × IsSome (parallel_op kind) × IsSome (zero_codes rel)
+HasRanges (ops.CmpImm four rel kind p1 p2 imm r3) = (p1 ≢ p2) × FitsSigned 8 imm × IsSome (compare kind rel)
+HasRanges (ops.ShiftVar f r1 value count) = r1 ≢ 0
+HasRanges (ops.Popcnt r1 r3) = r1 ≢ 0
+HasRanges (ops.Shrp r1 r2 r3 count) = (r1 ≢ 0) × (count ≤ 63)
+HasRanges (ops.Extr signed r1 r3 pos len) = (r1 ≢ 0) × IsBitField pos len 64
+HasRanges (ops.DepZ r1 r2 pos len) = (r1 ≢ 0) × IsBitField pos len 64
+HasRanges (ops.DepZImm r1 imm pos len) = (r1 ≢ 0) × IsBitField pos len 64 × FitsSigned 8 imm
+HasRanges (ops.DepImm r1 ones r3 pos len) = (r1 ≢ 0) × IsBitField pos len 64
+HasRanges (ops.Dep r1 r2 r3 pos len) = (r1 ≢ 0) × IsBitField pos len 16
+HasRanges (ops.Tbit unc p1 p2 r3 pos) = (p1 ≢ p2) × (pos ≤ 63)
+HasRanges (ops.Tnat unc p1 p2 r3) = p1 ≢ p2
+HasRanges (ops.ChkS unit r2 disp) = IsCheckOf unit × FitsSigned 21 disp
+HasRanges (ops.MovToBr b1 r2 ret imp wh tag) = (wh ≤ 2) × FitsSigned 9 tag
+HasRanges (ops.MovFromBr r1 b2) = r1 ≢ 0
+HasRanges (ops.MovToPr r2 mask) = (mask < 2 ^ 17) × (mask % 2 ≡ 0)
+HasRanges (ops.MovToPrRot imm) = FitsSigned 44 imm × (bits 0 16 (twos 44 imm) ≡ 0)
+HasRanges (ops.MovFromIp r1) = r1 ≢ 0
+HasRanges (ops.MovFromPr r1) = r1 ≢ 0
+HasRanges (ops.MovToAr ar r2) = Unit {0}
+HasRanges (ops.MovToArImm ar imm) = FitsSigned 8 imm
+HasRanges (ops.MovFromAr r1 ar) = r1 ≢ 0
+HasRanges (ops.Ext signed size r1 r3) = (r1 ≢ 0) × ((size ≡ 1) ⊎ ((size ≡ 2) ⊎ (size ≡ 4)))
+HasRanges (ops.Load size kind hint r1 r3 update) =
+    (r1 ≢ 0) × IsLoadSize kind size × (hint ≤ 3) × (hint ≢ 2) × IsLoadUpdate r1 r3 update
+HasRanges (ops.Store size kind hint r3 r2 update) =
+    IsStoreSize kind size × ((hint ≡ 0) ⊎ (hint ≡ 3)) × IsStoreUpdate r3 update
+HasRanges (ops.ChkA clear r1 disp) = FitsSigned 21 disp
+HasRanges ops.Invala = Unit {0}
+HasRanges ops.Mf = Unit {0}
+HasRanges (ops.InvalaE r1) = Unit {0}
+HasRanges (ops.Alloc r1 sof sol sor) = (r1 ≢ 0) × (sof ≤ 96) × (sol ≤ sof) × (8 * sor ≤ sof)
+HasRanges (ops.Br kind wh many clr disp) = (wh ≤ 3) × FitsSigned 21 disp
+HasRanges (ops.BrCall b1 wh many clr disp) = (wh ≤ 3) × FitsSigned 21 disp
+HasRanges (ops.BrInd b2 wh many clr) = wh ≤ 3
+HasRanges (ops.BrRet b2 wh many clr) = wh ≤ 3
+HasRanges (ops.BrCallInd b1 b2 wh many clr) = wh ≤ 3
+HasRanges (ops.Clrrrb pred_only) = Unit {0}
+HasRanges (ops.Movl r1 imm) = (r1 ≢ 0) × (imm < 2 ^ 64)
+HasRanges (ops.Break unit imm) = IsNumberOf unit imm
+HasRanges (ops.Nop unit imm) = IsNumberOf unit imm
+HasRanges (ops.Hint unit imm) = IsHintOf unit imm

@@ -1,0 +1,17 @@
+-- How registers and places print.
+use Rattle.std.specs.Prelude.{ℕ, List, ◌∷◌, ◌++◌, decimal}
+use Rattle.ia_insn.specs.declared.place.Place.{Place}
+
+-- `r`, `p` or `b` and the number in decimal
+abbrev pub gr_text : ℕ → List ℕ
+gr_text r = 114 ∷ decimal r
+
+abbrev pub pr_text : ℕ → List ℕ
+pr_text p = 112 ∷ decimal p
+
+abbrev pub br_text : ℕ → List ℕ
+br_text b = 98 ∷ decimal b
+
+-- the bundle, a dot and the slot, in decimal
+abbrev pub place_text : Place → List ℕ
+place_text place = decimal place.bundle ++ (46 ∷ decimal place.slot)

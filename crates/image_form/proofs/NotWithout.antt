@@ -1,0 +1,192 @@
+-- Bytes that are the image or the bare bundles of no program are not without a fault.
+use Rattle.std.proofs.Common.{◌≡◌, inl, inr, ℕ, ◌+◌, ◌*◌, ◌/◌, ◌%◌, ◌<◌, ◌≤◌, List, [], ◌∷◌, length, take, drop, refl, sym, ap, ◌∙◌, subst, arith}
+use Rattle.std.proofs.lemmas.List.{take_all, length-take, length-drop}
+use Rattle.bundle_bits.specs.RawBundle.{AreBytes as AreSixteen}
+use Rattle.first_fault.specs.Stages.{Stage, unless, IsFirstFault, ArePassed}
+use Rattle.first_fault.proofs.Firsts.{none_first}
+use Rattle.ia_insn.specs.declared.place.Place.{Place}
+use Rattle.ia_insn.specs.Bundles.{Bundle}
+use Rattle.ia_insn.specs.Places.{place_number, place_at, IsPlaceOf, IsBefore, EachPlace, IsFirstBad}
+use Rattle.ia_insn.specs.Runs.{IsWithinRun}
+use Rattle.ia_insn.specs.Targets.{IsTargetInside}
+use Rattle.ia_insn.specs.Programs.{Program, AreInRange, AreEntries, IsEntryAt, IsProgram, AreBytes}
+use Rattle.ia_insn.proofs.InOrder.{slot_small, bundle_small}
+use Rattle.insn_codec.specs.Laws as codec
+use Rattle.image_form.specs.declared.fault.ImageFault.{ImageFault}
+use Rattle.image_form.specs.declared.fault.ImageFault.TheVariants.{Short, Magic, Counts, Length, Target, LongRun}
+use Rattle.image_form.specs.Images.{magic, AreSpelled, Spells, RawSpells}
+use Rattle.image_form.specs.Parts.{bundle_count, entry_count, entries_of, after_entries, bundle_bytes, data_of, image_length, AreCounts, HasHead}
+use Rattle.image_form.specs.Faults.{chunk, IsBundleBytes, entry_stage, spelling_stage, place_stage, bundle_stages, image_stages, raw_stages}
+use Rattle.image_form.specs.Laws.{FaultWhereNoneSpelled, FaultWhereNoneRaw}
+use Rattle.image_form.proofs.NumberBytes.{bytes_take, bytes_drop}
+use Rattle.image_form.proofs.Spelled.{spelled_length, same_bundles, all_spelled, spelled_fit}
+use Rattle.image_form.proofs.Wholes.{ArePartsOf, length-bundle_bytes, counts_right, entries_right, spells_of_parts, raw_counts}
+
+-- a stage isn't without a fault unless it is passed
+abbrev IsNotOpen : {Fault : Type 0} → Stage Fault → Type 0
+IsNotOpen s = ((key : s.Key) → s.Finds key → ⊥) → (s.IsPassed → ⊥) → ⊥
+
+-- the same of stages of which it is known where those before are passed
+abbrev AreNotOpen : {Fault : Type 0} → List (Stage Fault) → Type 0
+AreNotOpen [] = Unit {0}
+AreNotOpen (s ∷ later) = IsNotOpen s × (s.IsPassed → AreNotOpen later)
+
+not_without : {Fault : Type 0} (stages : List (Stage Fault)) → AreNotOpen stages → ((f : Fault) → IsFirstFault stages f → ⊥) → (ArePassed stages → ⊥) → ⊥
+not_without [] closed none go = go tt
+not_without (s ∷ later) closed none go =
+    closed.0
+    (λ key finds. none (s.fault key) (inl (key, refl, finds)))
+    (λ passed. not_without later (closed.1 passed) (λ f is. none f (inr (passed, is))) (λ others. go (passed, others)))
+
+unless_not_open : {Fault : Type 0} (Holds : Type 0) (f : Fault) → IsNotOpen (unless Holds f)
+unless_not_open Holds f = λ none go. none tt go
+
+-- sixteen bytes are bytes
+sixteen : (bytes : List ℕ) (n : ℕ) → 16 * n + 16 ≤ length bytes → AreBytes bytes → AreSixteen (chunk bytes n)
+sixteen bytes n inside are = record { count = simp (length-take, length-drop) (omega arith); small = bytes_take 16 (drop (16 * n) bytes) (bytes_drop (16 * n) bytes are) }
+
+spelling_not_open : codec.FaultWhereNoneSpelled → (bytes : List ℕ) (count : ℕ) → length bytes ≡ 16 * count → AreBytes bytes → IsNotOpen (spelling_stage bytes)
+spelling_not_open some bytes count size are none go =
+    none_first (λ k. IsBundleBytes (chunk bytes k)) count
+    (λ n less before unspelled.
+    let inside : 16 * n + 16 ≤ length bytes = omega arith in
+    some (chunk bytes n) (sixteen bytes n inside are) (λ b is. unspelled (b, is))
+    (λ why fault. none (n, why) (record { inside = inside; fault = fault; first = before })))
+    (λ each. let s = all_spelled bytes count each in go (s.0, subst (AreSpelled s.0) (take_all (16 * count) bytes (omega arith)) s.1, tt))
+
+place_back : (p : Place) → p.slot < 3 → place_at (place_number p) ≡ p
+place_back p small =
+    let b : place_number p / 3 ≡ p.bundle = omega arith in
+    let s : place_number p % 3 ≡ p.slot = omega arith in
+    λ i. record { bundle = b i; slot = s i }
+
+lower_number : (q : Place) (i : ℕ) → q.slot < 3 → IsBefore q (place_at i) → place_number q < i
+lower_number q i small (inl less) = omega arith
+lower_number q i small (inr less) = omega (arith, less.0, less.1)
+
+-- where no place is the first bad one, it can't be that not all are good
+none_first_bad : (bundles : List Bundle) (Good : Place → Type 0) → ((p : Place) → IsFirstBad bundles Good p → ⊥) → (EachPlace bundles Good → ⊥) → ⊥
+none_first_bad bundles Good none go =
+    none_first IsGood (3 * length bundles)
+    (λ i inside before bad. bad (λ is. absurd (none (place_at i) (record {
+      is = is;
+      bad = λ good. bad (λ also. good);
+      first = λ q p less. back q p (before (place_number q) (lower_number q i (slot_small bundles q p) less));
+    }))))
+    (λ all. go (λ q p. back q p (all (place_number q) (omega (arith, bundle_small bundles q p, slot_small bundles q p)))))
+  where
+    IsGood : ℕ → Type 0
+    IsGood i = IsPlaceOf bundles (place_at i) → Good (place_at i)
+
+    back : (q : Place) → IsPlaceOf bundles q → IsGood (place_number q) → Good q
+    back q p good = subst (λ (r : Place). IsPlaceOf bundles r → Good r) (place_back q (slot_small bundles q p)) good p
+
+place_not_open : (bytes : List ℕ) (fault : Place → ImageFault) (Good : List Bundle → Place → Type 0) → (bundles : List Bundle) → AreSpelled bundles bytes → IsNotOpen (place_stage bytes fault Good)
+place_not_open bytes fault Good bundles spelled none go =
+    none_first_bad bundles (Good bundles) (λ p first. none p (bundles, spelled, first)) (λ each. go (bundles, spelled, each))
+
+bundles_not_open : codec.FaultWhereNoneSpelled → (bytes : List ℕ) (count : ℕ) → length bytes ≡ 16 * count → AreBytes bytes → AreNotOpen (bundle_stages bytes)
+bundles_not_open some bytes count size are = (
+  spelling_not_open some bytes count size are,
+  λ s. (place_not_open bytes Target IsTargetInside s.0 s.1, λ targets. (place_not_open bytes LongRun IsWithinRun s.0 s.1, λ runs. tt)),
+)
+
+entry_not_open : (count : ℕ) (entries : List ℕ) → IsNotOpen (entry_stage count entries)
+entry_not_open count entries none go =
+    none_first (IsEntryAt count entries) (length entries) (λ n inside before bad. none n (record { inside = inside; misplaced = bad; first = before })) go
+
+after_entries_are : (bytes : List ℕ) → AreBytes bytes → AreBytes (after_entries bytes)
+after_entries_are bytes are = bytes_drop (4 * entry_count bytes) (drop 24 bytes) (bytes_drop 24 bytes are)
+
+bundle_bytes_are : (bytes : List ℕ) → AreBytes bytes → AreBytes (bundle_bytes bytes)
+bundle_bytes_are bytes are = bytes_take (16 * bundle_count bytes) (after_entries bytes) (after_entries_are bytes are)
+
+image_not_open : codec.FaultWhereNoneSpelled → (bytes : List ℕ) → AreBytes bytes → AreNotOpen (image_stages bytes)
+image_not_open some bytes are = (
+  unless_not_open (24 ≤ length bytes) Short,
+  λ long. (
+    unless_not_open (take 8 bytes ≡ magic) Magic,
+    λ begins. (
+      unless_not_open (AreCounts bytes) Counts,
+      λ counts. (
+        unless_not_open (length bytes ≡ image_length bytes) Length,
+        λ size. (
+          entry_not_open (bundle_count bytes) (entries_of bytes),
+          λ entries. bundles_not_open some (bundle_bytes bytes) (bundle_count bytes) (length-bundle_bytes bytes (record { long = long; begins = begins; counts = counts; size = size })) (bundle_bytes_are bytes are),
+        ),
+      ),
+    ),
+  ),
+)
+
+raw_not_open : codec.FaultWhereNoneSpelled → (bytes : List ℕ) → AreBytes bytes → AreNotOpen (raw_stages bytes)
+raw_not_open some bytes are = (
+  unless_not_open (AreInRange (length bytes / 16) 0 0) Counts,
+  λ counts. (unless_not_open (length bytes % 16 ≡ 0) Length, λ whole. bundles_not_open some bytes (length bytes / 16) (omega arith) are),
+)
+
+-- Bundles that have the bytes, with their targets inside and their runs not too long.
+record AreSoundBundles (bytes : List ℕ) : Type 0 where
+  bundles : List Bundle
+  spelled : AreSpelled bundles bytes
+  targets : EachPlace bundles (IsTargetInside bundles)
+  runs : EachPlace bundles (IsWithinRun bundles)
+
+bundles_of : codec.OneBundle → (bytes : List ℕ) → ArePassed (bundle_stages bytes) → AreSoundBundles bytes
+bundles_of one bytes (any, (targets, (runs, done))) = record {
+  bundles = targets.0;
+  spelled = targets.1;
+  targets = targets.2;
+  runs = subst (λ (l : List Bundle). EachPlace l (IsWithinRun l)) (same_bundles one bytes runs.0 targets.0 runs.1 targets.1) runs.2;
+}
+
+-- where every stage is passed, a program has the image
+image_of : codec.OneBundle → (bytes : List ℕ) → AreBytes bytes → ArePassed (image_stages bytes) → (p : Program) × Spells p bytes
+image_of one bytes are (long, (begins, (counts, (size, (entries, passed))))) = (p, spells_of_parts p bytes are program parts)
+  where
+    sound : AreSoundBundles (bundle_bytes bytes)
+    sound = bundles_of one (bundle_bytes bytes) passed
+
+    p : Program
+    p = record { bundles = sound.bundles; entries = entries_of bytes; bytes = data_of bytes }
+
+    parts : ArePartsOf p bytes
+    parts = record { head = record { long = long; begins = begins; counts = counts; size = size }; entries = refl; spelled = sound.spelled; rest = refl }
+
+    program : IsProgram p
+    program = record {
+      fit = spelled_fit sound.bundles (bundle_bytes bytes) sound.spelled;
+      counts = counts_right p bytes parts;
+      entries = entries_right p bytes parts entries;
+      targets = sound.targets;
+      runs = sound.runs;
+      bytes = bytes_drop (16 * bundle_count bytes) (after_entries bytes) (after_entries_are bytes are);
+    }
+
+-- and where every stage of bare bundles is passed, they are those of a program
+raw_of : codec.OneBundle → (bytes : List ℕ) → ArePassed (raw_stages bytes) → (p : Program) × RawSpells p bytes
+raw_of one bytes (counts, (whole, passed)) = (p, record { program = program; spelled = sound.spelled; no_entries = refl; no_data = refl })
+  where
+    sound : AreSoundBundles bytes
+    sound = bundles_of one bytes passed
+
+    p : Program
+    p = record { bundles = sound.bundles; entries = []; bytes = [] }
+
+    program : IsProgram p
+    program = record {
+      fit = spelled_fit sound.bundles bytes sound.spelled;
+      counts = raw_counts p bytes whole counts sound.spelled refl refl;
+      entries = λ n less. absurd (omega arith);
+      targets = sound.targets;
+      runs = sound.runs;
+      bytes = λ i. omega arith;
+    }
+
+pub fault_where_none_spelled : codec.OneBundle → codec.FaultWhereNoneSpelled → FaultWhereNoneSpelled
+fault_where_none_spelled one some bytes are none faultless =
+    not_without (image_stages bytes) (image_not_open some bytes are) faultless (λ passed. let is = image_of one bytes are passed in none is.0 is.1)
+
+pub fault_where_none_raw : codec.OneBundle → codec.FaultWhereNoneSpelled → FaultWhereNoneRaw
+fault_where_none_raw one some bytes are none faultless =
+    not_without (raw_stages bytes) (raw_not_open some bytes are) faultless (λ passed. let is = raw_of one bytes passed in none is.0 is.1)

@@ -1,6 +1,0 @@
-use Rattle.std.proofs.Common.{◌≡◌}
-use Rattle.image_form.specs.Faults.{numbers}
-use Rattle.image_form.proofs.parts.read_numbers.Given as goal
-
-abbrev pub invariant-loop-n : goal.invariant-loop-n
-invariant-loop-n l = l.read.items ≡ numbers l.n l.bytes

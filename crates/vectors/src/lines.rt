@@ -1,0 +1,43 @@
+//! A line of the input.
+
+ghost use Rattle.std.specs.Prelude.{◌↔◌, IsTrue, IsOk, IfOk};
+ghost use Rattle.insn_codec.specs.Spelling.{IsSpelled};
+ghost use Rattle.vectors.specs.Lines.{bytes_of};
+
+use hex::FromHex;
+use ia_insn::BundleOf;
+use insn_codec::{decode_bundle, encode_bundle};
+use std::alloc::{AllocError, Global};
+
+/// Whether the line is right: 32 hexadecimal digits, a space, and the debug text of what
+/// [`decode_bundle`] answers for these sixteen bytes, where a bundle has to have them again when it
+/// is encoded.
+pub fn is_right(alloc: Global, line: &str) -> Result<bool, AllocError>
+    ensures { IfOk result (λ right. IsTrue right → IsOk (bytes_of line.now)) }
+{
+    let Some((digits, wanted)) = line.split_once(' ') else {
+        return Ok(false);
+    };
+    match <[u8; 16]>::from_hex(digits) {
+        Ok(bytes) => decodes_to(alloc, &bytes, wanted),
+        Err(_) => Ok(false),
+    }
+}
+
+/// Whether the bytes are decoded to what has this debug text, and encoded to the same bytes.
+fn decodes_to(alloc: Global, bytes: &[u8; 16], wanted: &str) -> Result<bool, AllocError> {
+    let answer = decode_bundle(bytes);
+    let text = format!(in alloc; "{answer:?}")?;
+    let comes_back = match answer {
+        Ok(bundle) => is_spelled(&bundle, bytes),
+        Err(_) => true,
+    };
+    Ok(text.as_str() == wanted && comes_back)
+}
+
+/// Whether the bundle has these bytes when it is encoded.
+fn is_spelled(bundle: &BundleOf, bytes: &[u8; 16]) -> bool
+    ensures { IsTrue result ↔ IsSpelled bundle.now bytes.now }
+{
+    encode_bundle(bundle) == *bytes
+}
