@@ -41,7 +41,7 @@ HOMES = {"m": (0x0B, 0), "i": (0x01, 1), "f": (0x0D, 1), "b": (0x11, 2), "x": (0
 
 
 def stop(message):
-    sys.exit(f"make_vectors: {message}")
+    sys.exit(f"{Path(sys.argv[0]).stem}: {message}")
 
 
 def require_tools():
@@ -85,13 +85,8 @@ def source(code, texts, label):
 
 def assemble(bundles):
     """The template and the three words of each bundle, given as its code and its slots' texts."""
-    with tempfile.TemporaryDirectory() as folder:
-        text, made, raw = (Path(folder) / name for name in ("bundles.s", "bundles.o", "bundles"))
-        text.write_text("".join(
-            source(code, texts, f"bundle{index}") for index, (code, texts) in enumerate(bundles)))
-        run("as", *OPTIONS, str(text), "-o", str(made))
-        run("objcopy", "-O", "binary", "-j", ".text", str(made), str(raw))
-        data = raw.read_bytes()
+    data = assembled("".join(
+        source(code, texts, f"bundle{index}") for index, (code, texts) in enumerate(bundles)))
     if len(data) != 32 * len(bundles):
         stop(f"{len(bundles)} bundles and their separators have {len(data)} bytes")
     answers = [split(data[32 * index:32 * index + 16]) for index in range(len(bundles))]
@@ -99,6 +94,16 @@ def assemble(bundles):
         if code != made_code:
             stop(f"the assembler took template {made_code:02x} in place of {code:02x} for {texts}")
     return answers
+
+
+def assembled(text):
+    """The bytes of the bundles of a text."""
+    with tempfile.TemporaryDirectory() as folder:
+        source_file, made, raw = (Path(folder) / name for name in ("bundles.s", "bundles.o", "bundles"))
+        source_file.write_text(text)
+        run("as", *OPTIONS, str(source_file), "-o", str(made))
+        run("objcopy", "-O", "binary", "-j", ".text", str(made), str(raw))
+        return raw.read_bytes()
 
 
 def split(data):

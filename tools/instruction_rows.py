@@ -134,11 +134,15 @@ class Row:
 
     def draw(self, random, **fixed):
         """An instruction with these values for some operands, and drawn ones for the others."""
+        return self.spell(self.draw_values(random, **fixed))
+
+    def draw_values(self, random, **fixed):
+        """Values that go together: these for some operands, and drawn ones for the others."""
         while True:
             values = {name: fixed.get(name, operand.draw(random))
                       for name, operand in self.operands.items()}
             if self.keep(values):
-                return self.spell(values)
+                return values
 
     def draw_ends(self, random, **fixed):
         """An instruction with these values for some operands, and the others at an end each."""

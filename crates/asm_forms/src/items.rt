@@ -1,0 +1,267 @@
+//! What a form wants at one place of its operands.
+
+ghost use Rattle.std.specs.Prelude.{◌≡◌};
+ghost use Rattle.asm_forms.specs.Items.{accepts, holds, within, is_label, is_register, is_number, is_label_item, begins_with_letter, is_long_name, is_stop};
+
+use asm_words::Token;
+use ia_insn::Ar;
+
+/// A field for a number.
+#[derive(Clone, Copy, Debug, PartialEq, Eq)]
+pub enum NumberField {
+    /// -128 to 127.
+    Imm8,
+    /// -127 to 128: a number that is lowered by one.
+    Less8,
+    /// -256 to 255.
+    Imm9,
+    /// -8192 to 8191.
+    Imm14,
+    /// -2097152 to 2097151.
+    Imm22,
+    /// 0 to 2097151.
+    Imm21,
+    /// 0 to 4611686018427387903.
+    Imm62,
+    /// -9223372036854775808 to 18446744073709551615.
+    Imm64,
+    /// 1 to 4.
+    Count,
+    /// 0 to 63.
+    Position,
+    /// 1 to 64.
+    Length,
+    /// 1 to 16.
+    Length16,
+    /// 1 alone.
+    One,
+    /// -1 to 0.
+    MinusOne,
+    /// 0 to 96.
+    Frame,
+    /// 0 to 96 in eights.
+    Rotating,
+    /// -256 to 255, in bundles.
+    Tag,
+    /// -65536 to 131071.
+    Mask,
+    /// 44 bits, signed, in multiples of 65536.
+    RotatingMask,
+    /// 0 to 1048576.
+    Skip,
+    /// -128 to 255.
+    Data1,
+    /// -32768 to 65535.
+    Data2,
+    /// -2147483648 to 4294967295.
+    Data4,
+}
+
+/// What a form wants at one place.
+#[derive(Clone, Copy, Debug, PartialEq, Eq)]
+pub enum Item {
+    /// A general register.
+    Gr,
+    /// A predicate register.
+    Pr,
+    /// A branch register.
+    Br,
+    /// An application register.
+    Ar,
+    /// `ar.unat`.
+    Unat,
+    /// `ar.pfs`.
+    Pfs,
+    /// `r0`.
+    R0,
+    /// `pr`.
+    Predicates,
+    /// `pr.rot`.
+    RotatingPredicates,
+    /// `ip`.
+    Ip,
+    /// A number of this field.
+    Number(NumberField),
+    /// A label.
+    Label,
+    /// `=`
+    Equals,
+    /// `,`
+    Comma,
+    /// `[`
+    OpenBracket,
+    /// `]`
+    CloseBracket,
+    /// `(`
+    OpenParenthesis,
+    /// `)`
+    CloseParenthesis,
+}
+
+/// Whether a number from `-below` to `above` has this sign and magnitude.
+fn within(negative: bool, magnitude: u64, below: u64, above: u64) -> bool
+    ensures { result ≡ within negative magnitude below above }
+{
+    if negative {
+        magnitude <= below
+    } else {
+        magnitude <= above
+    }
+}
+
+/// Whether the field has room for the number of this sign and magnitude.
+pub fn holds(field: NumberField, negative: bool, magnitude: u64) -> bool
+    ensures { result ≡ holds field negative magnitude }
+{
+    match field {
+        NumberField::Imm8 => within(negative, magnitude, 128, 127),
+        NumberField::Less8 => within(negative, magnitude, 127, 128),
+        NumberField::Imm9 => within(negative, magnitude, 256, 255),
+        NumberField::Imm14 => within(negative, magnitude, 8_192, 8_191),
+        NumberField::Imm22 => within(negative, magnitude, 2_097_152, 2_097_151),
+        NumberField::Imm21 => within(negative, magnitude, 0, 2_097_151),
+        NumberField::Imm62 => within(negative, magnitude, 0, 4_611_686_018_427_387_903),
+        NumberField::Imm64 => within(
+            negative,
+            magnitude,
+            9_223_372_036_854_775_808,
+            18_446_744_073_709_551_615,
+        ),
+        NumberField::Count => within(negative, magnitude, 0, 4) && magnitude >= 1,
+        NumberField::Position => within(negative, magnitude, 0, 63),
+        NumberField::Length => within(negative, magnitude, 0, 64) && magnitude >= 1,
+        NumberField::Length16 => within(negative, magnitude, 0, 16) && magnitude >= 1,
+        NumberField::One => within(negative, magnitude, 0, 1) && magnitude >= 1,
+        NumberField::MinusOne => within(negative, magnitude, 1, 0),
+        NumberField::Frame => within(negative, magnitude, 0, 96),
+        NumberField::Rotating => within(negative, magnitude, 0, 96) && magnitude % 8 == 0,
+        NumberField::Tag => within(negative, magnitude, 256, 255),
+        NumberField::Mask => within(negative, magnitude, 65_536, 131_071),
+        NumberField::RotatingMask => {
+            within(negative, magnitude, 8_796_093_022_208, 8_796_093_022_207)
+                && magnitude % 65_536 == 0
+        }
+        NumberField::Skip => within(negative, magnitude, 0, 1_048_576),
+        NumberField::Data1 => within(negative, magnitude, 128, 255),
+        NumberField::Data2 => within(negative, magnitude, 32_768, 65_535),
+        NumberField::Data4 => within(negative, magnitude, 2_147_483_648, 4_294_967_295),
+    }
+}
+
+/// Whether the token is a name of at most 63 bytes: a label has any spelling.
+fn is_label(token: Token) -> bool
+    ensures { result ≡ is_label token }
+{
+    matches!(
+        token,
+        Token::Gr(_)
+            | Token::Pr(_)
+            | Token::Br(_)
+            | Token::Ar(_)
+            | Token::Predicates
+            | Token::RotatingPredicates
+            | Token::Ip
+            | Token::Name
+            | Token::Symbol
+    )
+}
+
+/// Whether the item is read from the token.
+pub fn accepts(item: Item, token: Token) -> bool
+    ensures { result ≡ accepts item token }
+{
+    match item {
+        Item::Gr => matches!(token, Token::Gr(_)),
+        Item::Pr => matches!(token, Token::Pr(_)),
+        Item::Br => matches!(token, Token::Br(_)),
+        Item::Ar => matches!(token, Token::Ar(_)),
+        Item::Unat => matches!(token, Token::Ar(Ar::Unat)),
+        Item::Pfs => matches!(token, Token::Ar(Ar::Pfs)),
+        Item::R0 => match token {
+            Token::Gr(register) => register.is_zero(),
+            _ => false,
+        },
+        Item::Predicates => matches!(token, Token::Predicates),
+        Item::RotatingPredicates => matches!(token, Token::RotatingPredicates),
+        Item::Ip => matches!(token, Token::Ip),
+        Item::Number(field) => match token {
+            Token::Number {
+                negative,
+                magnitude,
+            } => holds(field, negative, magnitude),
+            _ => false,
+        },
+        Item::Label => is_label(token),
+        Item::Equals => matches!(token, Token::Equals),
+        Item::Comma => matches!(token, Token::Comma),
+        Item::OpenBracket => matches!(token, Token::OpenBracket),
+        Item::CloseBracket => matches!(token, Token::CloseBracket),
+        Item::OpenParenthesis => matches!(token, Token::OpenParenthesis),
+        Item::CloseParenthesis => matches!(token, Token::CloseParenthesis),
+    }
+}
+
+/// Whether the item is a register.
+pub(crate) fn is_register(item: Item) -> bool
+    ensures { result ≡ is_register item }
+{
+    matches!(
+        item,
+        Item::Gr
+            | Item::Pr
+            | Item::Br
+            | Item::Ar
+            | Item::Unat
+            | Item::Pfs
+            | Item::R0
+            | Item::Predicates
+            | Item::RotatingPredicates
+            | Item::Ip
+    )
+}
+
+/// Whether the item is a number.
+pub(crate) fn is_number(item: Item) -> bool
+    ensures { result ≡ is_number item }
+{
+    matches!(item, Item::Number(_))
+}
+
+/// Whether the item is a label.
+pub(crate) fn is_label_item(item: Item) -> bool
+    ensures { result ≡ is_label_item item }
+{
+    matches!(item, Item::Label)
+}
+
+/// Whether the token is a name that begins with a letter.
+pub(crate) fn begins_with_letter(token: &Token) -> bool
+    ensures { result ≡ begins_with_letter token.now }
+{
+    matches!(
+        token,
+        Token::Gr(_)
+            | Token::Pr(_)
+            | Token::Br(_)
+            | Token::Ar(_)
+            | Token::Predicates
+            | Token::RotatingPredicates
+            | Token::Ip
+            | Token::Name
+            | Token::LongName
+    )
+}
+
+/// Whether the token is a name of 64 bytes or more.
+pub(crate) fn is_long_name(token: &Token) -> bool
+    ensures { result ≡ is_long_name token.now }
+{
+    matches!(token, Token::LongName | Token::LongSymbol)
+}
+
+/// Whether the token is a stop.
+pub(crate) fn is_stop(token: &Token) -> bool
+    ensures { result ≡ is_stop token.now }
+{
+    matches!(token, Token::Stop)
+}

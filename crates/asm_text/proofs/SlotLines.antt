@@ -1,0 +1,364 @@
+-- A printed slot line is read as the instruction that was printed, and its stop.
+use Rattle.std.proofs.Common.{◌≡◌, refl, sym, ◌∙◌, ap, ℕ, zero, suc, ◌+◌, ◌-◌, ◌<◌, ◌^◌, Bool, true, false, ◌&&◌, not, cond, eqb, List, [], ◌∷◌, ◌++◌, length, take, drop, Option, Some, None, Ok, Err, Result, arith, append_assoc, append-nil, codes}
+use Rattle.std.specs.Prelude.{ℤ, is_some, IfSome, unwrap_or, slice_get}
+use Rattle.std.specs.List.{AllByRecursion}
+use Rattle.std.specs.Option.{option_map}
+use Rattle.std.specs.Str.{bytes_eq}
+use Rattle.std.specs.Fmt.{decimal}
+use Rattle.std.proofs.lemmas.Bool.{eqb-true}
+use Rattle.std.proofs.lemmas.List.{length-append}
+use Rattle.asm_words.specs.declared.tokens.Token.{Token}
+use Rattle.asm_words.specs.declared.tokens.Token.TheVariants as t
+use Rattle.asm_words.specs.declared.word.WordKind.TheVariants as kind
+use Rattle.asm_words.specs.declared.fault.LineFault.{LineFault}
+use Rattle.asm_words.specs.declared.fault.LineFault.TheVariants as fault
+use Rattle.asm_words.specs.Bytes.{begins_letter, has_only_plain}
+use Rattle.asm_words.specs.Lexed.{lexed, is_end}
+use Rattle.asm_words.specs.Registers.{look_up, aliases, alias_of, numbered, numbered_register, register_of}
+use Rattle.asm_words.specs.Tokens.{name_token, other_name, token_of}
+use Rattle.asm_words.proofs.Bools.{left, right}
+use Rattle.asm_words.proofs.Lexing.{name_lexed}
+use Rattle.asm_words.proofs.Readings.{pr_reads, decimal_is_name_bytes, decimal_is_plain, name_bytes_are_plain, both_plain}
+use Rattle.asm_forms.specs.declared.form.Form.{Form}
+use Rattle.asm_forms.specs.declared.items.Item.{Item}
+use Rattle.asm_forms.specs.Items.{is_stop}
+use Rattle.asm_forms.specs.Matching.{read_form}
+use Rattle.asm_forms.specs.Naming.{mnemonic_of}
+use Rattle.asm_forms.specs.Rows.{row_of}
+use Rattle.ia_insn.specs.declared.insn.Insn.{Insn}
+use Rattle.ia_insn.specs.declared.insn.Op.{Op}
+use Rattle.ia_insn.specs.Targets.{displacement}
+use Rattle.asm_text.specs.declared.line.Draft.{Draft}
+use Rattle.asm_text.specs.declared.line.Line.{Line}
+use Rattle.asm_text.specs.declared.line.Line.TheVariants as line
+use Rattle.asm_text.specs.Canonical.{word_of, form_of, completers_of, tokens_of}
+use Rattle.asm_text.specs.Instructions.{op_of}
+use Rattle.asm_text.specs.Lines.{◌>>=◌, or_fault, KindAndText, tokens, label_name, is_open, is_close, lead_at, is_some_stop, ends_in_stop, without_stop, predicate_of, is_bare, draft_of, completers_or_none, slot_of, worded, led_by, led, is_name_word, is_colon, value_of, reading_of}
+use Rattle.asm_text.specs.ReadBack.{untargeted, completers_text, named_forms, ReadsBack, IsPrinted}
+use Rattle.asm_text.specs.SlotTexts.{label_text, operands_text, spaced, mnemonic_text, predicate_text, stop_text, target_of, slot_text}
+use Rattle.asm_text.proofs.Mnemonic.{mnemonic_back, completers_end, mnemonic_bytes, mnemonic_lexed}
+use Rattle.asm_text.proofs.OperandTexts.{are_apart, label_token, operands_plain, operands_back, label_found, label_missing}
+
+-- A name is never read as `(`.
+abbrev some_open : Option Token → Bool
+some_open None = false
+some_open (Some x) = is_open x
+
+abbrev none_open : List (List ℕ × Token) → Bool
+none_open [] = true
+none_open (e ∷ es) = not (is_open e.1) && none_open es
+
+not_false : (b : Bool) → not b ≡ true → b ≡ false
+not_false true h = sym h
+not_false false h = refl
+
+look_open : (es : List (List ℕ × Token)) (name : List ℕ) → none_open es ≡ true → some_open (look_up es name) ≡ false
+look_open [] name h = refl
+look_open (e ∷ es) name h = elim (bytes_eq name e.0) as (λ b. some_open (cond b (Some e.1) (look_up es name)) ≡ false) [ true ↦ not_false _ (left _ _ h) | false ↦ look_open es name (right (not (is_open e.1)) _ h) ]
+
+register_open : (f : ℕ → Token) → ((n : ℕ) → is_open (f n) ≡ false) → (r : Option ℕ) → some_open (option_map f r) ≡ false
+register_open f h None = refl
+register_open f h (Some n) = h n
+
+either_open : (b : Bool) (x y : Option Token) → some_open x ≡ false → some_open y ≡ false → some_open (cond b x y) ≡ false
+either_open true x y h k = h
+either_open false x y h k = k
+
+numbered_open : (name : List ℕ) → some_open (numbered_register name) ≡ false
+numbered_open [] = refl
+numbered_open (c ∷ ds) =
+    either_open (eqb c 114) _ _ (register_open (λ n. t.Gr n) (λ n. refl) (numbered 128 ds))
+    (either_open (eqb c 112) _ _ (register_open (λ n. t.Pr n) (λ n. refl) (numbered 64 ds))
+    (either_open (eqb c 98) _ _ (register_open (λ n. t.Br n) (λ n. refl) (numbered 8 ds)) refl))
+
+one_of : (b : Bool) (x y : Token) → is_open x ≡ false → is_open y ≡ false → is_open (cond b x y) ≡ false
+one_of true x y h k = h
+one_of false x y h k = k
+
+other_open : (name : List ℕ) → is_open (other_name name) ≡ false
+other_open name = one_of (begins_letter name) _ _ (one_of _ t.Name t.LongName refl refl) (one_of _ t.Symbol t.LongSymbol refl refl)
+
+abbrev or_numbered : Option Token → List ℕ → Option Token
+or_numbered (Some register) name = Some register
+or_numbered None name = numbered_register name
+
+abbrev or_other_name : Option Token → List ℕ → Token
+or_other_name (Some register) name = register
+or_other_name None name = other_name name
+
+or_numbered_open : (x : Option Token) (name : List ℕ) → some_open x ≡ false → some_open (or_numbered x name) ≡ false
+or_numbered_open (Some register) name h = h
+or_numbered_open None name h = numbered_open name
+
+or_other_open : (x : Option Token) (name : List ℕ) → some_open x ≡ false → is_open (or_other_name x name) ≡ false
+or_other_open (Some register) name h = h
+or_other_open None name h = other_open name
+
+pub name_is_not_open : (name : List ℕ) → is_open (name_token name) ≡ false
+name_is_not_open name = or_other_open (register_of name) name (or_numbered_open (alias_of name) name (look_open aliases name refl))
+
+-- the stop at the end
+abbrev stops : Bool → List Token
+stops stop = cond stop (t.Stop ∷ []) []
+
+go : (xs : List Token) (x : Token) → slice_get (xs ++ x ∷ []) (length xs) ≡ Some x
+go [] x = refl
+go (y ∷ xs) x = go xs x
+
+got_at : (xs : List Token) (x : Token) (n : ℕ) → n ≡ length xs → slice_get (xs ++ x ∷ []) n ≡ Some x
+got_at xs x n e = rw e (go xs x)
+
+took : (xs : List Token) (x : Token) → take (length xs) (xs ++ x ∷ []) ≡ xs
+took [] x = refl
+took (y ∷ xs) x = ap (λ ys. y ∷ ys) (took xs x)
+
+took_at : (xs : List Token) (x : Token) (n : ℕ) → n ≡ length xs → take n (xs ++ x ∷ []) ≡ xs
+took_at xs x n e = rw e (took xs x)
+
+last_of : (xs : List Token) (x : Token) → length (xs ++ x ∷ []) - 1 ≡ length xs
+last_of xs x = omega (arith, length-append xs (x ∷ []))
+
+-- No printed operand is a stop or a colon.
+not_stop : (x : Token) → IsPrinted x → is_stop x ≡ false
+not_stop t.Stop h = absurd h
+not_stop x h = refl
+
+not_colon : (x : Token) → IsPrinted x → is_colon x ≡ false
+not_colon t.Colon h = absurd h
+not_colon x h = refl
+
+no_stop_at : (xs : List Token) (n : ℕ) → AllByRecursion IsPrinted xs → is_some_stop (slice_get xs n) ≡ false
+no_stop_at [] n h = refl
+no_stop_at (x ∷ xs) zero h = not_stop x h.0
+no_stop_at (x ∷ xs) (suc n) h = no_stop_at xs n h.1
+
+ends_with : (xs : List Token) (stop : Bool) → AllByRecursion IsPrinted xs → ends_in_stop (xs ++ stops stop) ≡ stop
+ends_with xs true h = rw (got_at xs t.Stop (length (xs ++ t.Stop ∷ []) - 1) (last_of xs t.Stop)) refl
+ends_with xs false h = rw (append-nil xs) (no_stop_at xs (length xs - 1) h)
+
+without : (xs : List Token) (stop : Bool) → AllByRecursion IsPrinted xs → without_stop (xs ++ stops stop) ≡ xs
+without xs true h = rw (ends_with xs true h) (took_at xs t.Stop (length (xs ++ t.Stop ∷ []) - 1) (last_of xs t.Stop))
+without xs false h = rw (ends_with xs false h) (append-nil xs)
+
+-- A line whose second word is no colon is no label.
+abbrev begins_colon : List Token → Bool
+begins_colon [] = false
+begins_colon (x ∷ xs) = is_colon x
+
+operands_begin : (xs : List Token) (stop : Bool) → AllByRecursion IsPrinted xs → begins_colon (xs ++ stops stop) ≡ false
+operands_begin [] true h = refl
+operands_begin [] false h = refl
+operands_begin (x ∷ xs) stop h = not_colon x h.0
+
+neither : {A : Type 0} (a b : Bool) (x y : A) → b ≡ false → cond (a && b) x y ≡ y
+neither true b x y h = rw h refl
+neither false b x y h = refl
+
+no_label : (w : KindAndText) (ws : List KindAndText) → begins_colon (tokens ws) ≡ false → value_of (w ∷ ws) ≡ led (w ∷ ws)
+no_label w [] h = refl
+no_label w (x ∷ ws) h = neither (is_name_word w) (is_colon (token_of x.0 x.1)) _ _ h
+
+-- the words before the leading one
+otherwise : {A : Type 0} (b : Bool) (x y : A) → b ≡ false → cond b x y ≡ y
+otherwise b x y h = rw h refl
+
+lead_first : (m : List ℕ) (ws : List KindAndText) → lead_at (tokens ((kind.Name, m) ∷ ws)) ≡ Some 0
+lead_first m ws = otherwise (is_open (name_token m)) _ (Some 0) (name_is_not_open m)
+
+lead_fourth : (x : Token) (xs : List Token) → is_close x ≡ false → lead_at (t.OpenParenthesis ∷ x ∷ t.CloseParenthesis ∷ xs) ≡ Some 3
+lead_fourth x xs h = rw h refl
+
+-- the instruction of a slot line and its target
+abbrev draft : ℕ → Op → Option (List ℕ) → Bool → Draft
+draft qp x name bare = record { insn = record { qp = qp; op = x }; target = name; bare = bare }
+
+same_draft : (qp : ℕ) (x : Op) (name printed : Option (List ℕ)) (bare : Bool) → name ≡ printed → bare ≡ false → draft qp x name bare ≡ draft qp x printed false
+same_draft qp x name printed bare e f = rw (e, f) refl
+
+abbrev slot_by : Result ℕ LineFault → Result Form LineFault → (Form → Option Op) → (Form → ℕ → Op → Draft) → Bool → Result Line LineFault
+slot_by q r build drafted e = do
+  qp ← q
+  f ← r
+  x ← or_fault (build f) fault.Form
+  Ok (line.Slot (drafted f qp x) e)
+
+joined : (q : Result ℕ LineFault) (r : Result Form LineFault) (build : Form → Option Op) (drafted : Form → ℕ → Op → Draft) (e : Bool) (qp : ℕ) (f : Form) (x : Op) (d : Draft) (stop : Bool)
+    → q ≡ Ok qp → r ≡ Ok f → build f ≡ Some x → drafted f qp x ≡ d → e ≡ stop → slot_by q r build drafted e ≡ Ok (line.Slot d stop)
+joined q r build drafted e qp f x d stop eq er eb ed ee = rw (eq, er, eb, ed, ee) refl
+
+-- The words after the leading one are read as the instruction that was printed.
+slot_reads : (x : Op) (before after : List KindAndText) (qp : ℕ) (name : Option (List ℕ)) (stop : Bool) → ReadsBack x → AllByRecursion IsPrinted (tokens_of x) → predicate_of (tokens before) ≡ Ok qp
+    → tokens after ≡ tokens_of x ++ stops stop → label_name (row_of (form_of x)).1 after ≡ name
+    → slot_of (named_forms x) (completers_text x) before after ≡ Ok (line.Slot (draft qp (untargeted x) name false) stop)
+slot_reads x before after qp name stop back printed p seen n =
+    let w : without_stop (tokens after) ≡ tokens_of x = ap without_stop seen ∙ without (tokens_of x) stop printed in
+    let cs : completers_or_none (form_of x) (completers_text x) ≡ completers_of x = ap (λ o. unwrap_or o []) back.completers in
+    let bare : is_bare (form_of x) (completers_or_none (form_of x) (completers_text x)) ≡ false = ap (is_bare (form_of x)) cs ∙ back.bare in
+    joined (predicate_of (tokens before)) (read_form (named_forms x) (without_stop (tokens after)) (tokens after))
+    (λ f. op_of f (completers_or_none f (completers_text x)) (without_stop (tokens after)))
+    (λ f q y. draft_of f (completers_or_none f (completers_text x)) q after y) (ends_in_stop (tokens after))
+    qp (form_of x) (untargeted x) (draft qp (untargeted x) name false) stop
+    p
+    (ap (λ ys. read_form (named_forms x) ys (tokens after)) w ∙ back.form (tokens after))
+    (ap (op_of (form_of x) (completers_or_none (form_of x) (completers_text x))) w ∙ ap (λ q. op_of (form_of x) q (tokens_of x)) cs ∙ back.op)
+    (same_draft qp (untargeted x) (label_name (row_of (form_of x)).1 after) name (is_bare (form_of x) (completers_or_none (form_of x) (completers_text x))) n bare)
+    (ap ends_in_stop seen ∙ ends_with (tokens_of x) stop printed)
+
+-- and so with the mnemonic before them
+worded_reads : (x : Op) (before after : List KindAndText) (qp : ℕ) (name : Option (List ℕ)) (stop : Bool) → ReadsBack x → AllByRecursion IsPrinted (tokens_of x) → predicate_of (tokens before) ≡ Ok qp
+    → tokens after ≡ tokens_of x ++ stops stop → label_name (row_of (form_of x)).1 after ≡ name
+    → worded (mnemonic_of (mnemonic_text (word_of x) (completers_of x))) before after ≡ Ok (line.Slot (draft qp (untargeted x) name false) stop)
+worded_reads x before after qp name stop back printed p seen n =
+    ap (λ r. worded r before after) (mnemonic_back (word_of x) (completers_text x) (completers_end (completers_of x))) ∙ back.slot before after ∙ slot_reads x before after qp name stop back printed p seen n
+
+abbrev led_by_some : Option KindAndText → List KindAndText → List KindAndText → Result Line LineFault
+led_by_some None before after = Err fault.Name
+led_by_some (Some w) before after = led_by w before after
+
+abbrev led_at : List KindAndText → Option ℕ → Result Line LineFault
+led_at ws None = Err fault.Name
+led_at ws (Some k) = led_by_some (slice_get ws k) (take k ws) (drop (k + 1) ws)
+
+led_from : (ws : List KindAndText) (k : ℕ) → lead_at (tokens ws) ≡ Some k → led ws ≡ led_at ws (Some k)
+led_from ws k e = ap (led_at ws) e
+
+-- A line with no predicate: the mnemonic and what follows it.
+plain_value : (x : Op) (rest : List ℕ) (name : Option (List ℕ)) (stop : Bool) → ReadsBack x → AllByRecursion IsPrinted (tokens_of x) → is_end rest ≡ true
+    → tokens (lexed 0 rest) ≡ tokens_of x ++ stops stop → label_name (row_of (form_of x)).1 (lexed 0 rest) ≡ name
+    → value_of (lexed 0 (mnemonic_text (word_of x) (completers_of x) ++ rest)) ≡ Ok (line.Slot (draft 0 (untargeted x) name false) stop)
+plain_value x rest name stop back printed e seen n =
+    let m = mnemonic_text (word_of x) (completers_of x) in
+    let ws = lexed 0 rest in
+    ap value_of (mnemonic_lexed (word_of x) (completers_of x) rest e)
+    ∙ no_label (kind.Name, m) ws (ap begins_colon seen ∙ operands_begin (tokens_of x) stop printed)
+    ∙ led_from ((kind.Name, m) ∷ ws) 0 (lead_first m ws)
+    ∙ worded_reads x [] ws 0 name stop back printed refl seen n
+
+guarded_lexed : (qp : ℕ) (after : List ℕ) → qp < 64 → lexed 0 (codes "(p" ++ decimal qp ++ codes ") " ++ after) ≡ (kind.Mark, codes "(") ∷ (kind.Name, 112 ∷ decimal qp) ∷ (kind.Mark, codes ")") ∷ lexed 0 after
+guarded_lexed qp after small =
+    ap (λ y. lexed 0 (40 ∷ 112 ∷ y)) (append_assoc (decimal qp) (codes ") ") after)
+    ∙ ap (λ y. (kind.Mark, codes "(") ∷ y) (name_lexed 112 (decimal qp) (41 ∷ 32 ∷ after) refl refl (decimal_is_name_bytes qp (omega arith)) refl)
+
+-- A line with a predicate before the mnemonic.
+guarded_value : (x : Op) (qp : ℕ) (rest : List ℕ) (name : Option (List ℕ)) (stop : Bool) → ReadsBack x → AllByRecursion IsPrinted (tokens_of x) → qp < 64 → is_end rest ≡ true
+    → tokens (lexed 0 rest) ≡ tokens_of x ++ stops stop → label_name (row_of (form_of x)).1 (lexed 0 rest) ≡ name
+    → value_of (lexed 0 (codes "(p" ++ decimal qp ++ codes ") " ++ (mnemonic_text (word_of x) (completers_of x) ++ rest))) ≡ Ok (line.Slot (draft qp (untargeted x) name false) stop)
+guarded_value x qp rest name stop back printed small e seen n =
+    let m = mnemonic_text (word_of x) (completers_of x) in
+    let ws = lexed 0 rest in
+    let before : List KindAndText = (kind.Mark, codes "(") ∷ (kind.Name, 112 ∷ decimal qp) ∷ (kind.Mark, codes ")") ∷ [] in
+    let reads = pr_reads qp small in
+    let cut : lexed 0 (codes "(p" ++ decimal qp ++ codes ") " ++ (m ++ rest)) ≡ (kind.Mark, codes "(") ∷ (kind.Name, 112 ∷ decimal qp) ∷ (kind.Mark, codes ")") ∷ (kind.Name, m) ∷ ws =
+    guarded_lexed qp (m ++ rest) small ∙ ap (λ y. (kind.Mark, codes "(") ∷ (kind.Name, 112 ∷ decimal qp) ∷ (kind.Mark, codes ")") ∷ y) (mnemonic_lexed (word_of x) (completers_of x) rest e) in
+    let qualified : predicate_of (tokens before) ≡ Ok qp = ap (λ y. predicate_of (t.OpenParenthesis ∷ y ∷ t.CloseParenthesis ∷ [])) reads in
+    ap value_of cut
+    ∙ led_from ((kind.Mark, codes "(") ∷ (kind.Name, 112 ∷ decimal qp) ∷ (kind.Mark, codes ")") ∷ (kind.Name, m) ∷ ws) 3 (lead_fourth (token_of kind.Name (112 ∷ decimal qp)) (token_of kind.Name m ∷ tokens ws) (ap is_close reads))
+    ∙ worded_reads x before ws qp name stop back printed qualified seen n
+
+predicated : (b : Bool) (x : Op) (qp : ℕ) (rest : List ℕ) (name : Option (List ℕ)) (stop : Bool) → eqb qp 0 ≡ b → ReadsBack x → AllByRecursion IsPrinted (tokens_of x) → qp < 64 → is_end rest ≡ true
+    → tokens (lexed 0 rest) ≡ tokens_of x ++ stops stop → label_name (row_of (form_of x)).1 (lexed 0 rest) ≡ name
+    → value_of (lexed 0 (cond b [] (codes "(p" ++ decimal qp ++ codes ") ") ++ (mnemonic_text (word_of x) (completers_of x) ++ rest))) ≡ Ok (line.Slot (draft qp (untargeted x) name false) stop)
+predicated true x qp rest name stop z back printed small e seen n =
+    plain_value x rest name stop back printed e seen n ∙ ap (λ q. Ok (line.Slot (draft q (untargeted x) name false) stop)) (sym (eqb-true qp 0 z))
+predicated false x qp rest name stop z back printed small e seen n = guarded_value x qp rest name stop back printed small e seen n
+
+-- what stands after the mnemonic
+tail_ends : (text : List ℕ) (stop : Bool) → is_end (spaced text ++ stop_text stop) ≡ true
+tail_ends [] true = refl
+tail_ends [] false = refl
+tail_ends (c ∷ cs) stop = refl
+
+stop_ends : (stop : Bool) → is_end (stop_text stop) ≡ true
+stop_ends true = refl
+stop_ends false = refl
+
+stop_seen : (stop : Bool) → tokens (lexed 0 (stop_text stop)) ≡ stops stop
+stop_seen true = refl
+stop_seen false = refl
+
+spaced_lexed : (text cs : List ℕ) → lexed 0 (spaced text ++ cs) ≡ lexed 0 (text ++ cs)
+spaced_lexed [] cs = refl
+spaced_lexed (c ∷ text) cs = refl
+
+-- 0 where there is no target
+abbrev or_zero : Option ℕ → ℕ
+or_zero None = 0
+or_zero (Some n) = n
+
+small_target : (target : Option ℕ) → IfSome target (λ n. n < 2 ^ 34) → or_zero target < 2 ^ 34
+small_target None h = omega arith
+small_target (Some n) h = h
+
+-- the name of the line is the label of the target, where there is one
+label_back : (is : List Item) (xs : List Token) (cs : List ℕ) (target : Option ℕ) → IfSome target (λ n. n < 2 ^ 34) → length is ≡ length xs → AllByRecursion IsPrinted xs → are_apart xs ≡ true → is_end cs ≡ true
+    → label_token is xs ≡ option_map (λ n. t.Name) target → label_name is (lexed 0 (operands_text (or_zero target) is xs ++ cs)) ≡ option_map label_text target
+label_back is xs cs None l n p a e h = label_missing 0 is xs cs (small_target None tt) n p a e h
+label_back is xs cs (Some m) l n p a e h = label_found m is xs cs l n p a e h
+
+-- every byte of the line is plain
+spaced_plain : (cs : List ℕ) → has_only_plain cs ≡ true → has_only_plain (spaced cs) ≡ true
+spaced_plain [] h = refl
+spaced_plain (c ∷ cs) h = h
+
+stop_plain : (stop : Bool) → has_only_plain (stop_text stop) ≡ true
+stop_plain true = refl
+stop_plain false = refl
+
+predicate_plain : (b : Bool) (qp : ℕ) → qp < 64 → has_only_plain (cond b [] (codes "(p" ++ decimal qp ++ codes ") ")) ≡ true
+predicate_plain true qp h = refl
+predicate_plain false qp h = both_plain (decimal qp) (codes ") ") (decimal_is_plain qp (omega arith)) refl
+
+parts_plain : (pr m text : List ℕ) (stop : Bool) → has_only_plain pr ≡ true → has_only_plain m ≡ true → has_only_plain text ≡ true → has_only_plain (codes "  " ++ pr ++ m ++ spaced text ++ stop_text stop) ≡ true
+parts_plain pr m text stop hp hm ht =
+    both_plain (pr ++ m ++ spaced text) (stop_text stop) (both_plain (pr ++ m) (spaced text) (both_plain pr m hp hm) (spaced_plain text ht)) (stop_plain stop)
+
+-- the two spaces are no words
+parts_lexed : (pr m d s : List ℕ) → lexed 0 (codes "  " ++ pr ++ m ++ d ++ s) ≡ lexed 0 (pr ++ (m ++ (d ++ s)))
+parts_lexed pr m d s = ap (lexed 0) (append_assoc (pr ++ m) d s ∙ append_assoc pr m (d ++ s))
+
+chosen : {A : Type 0} (b : Bool) (x y : A) → b ≡ true → cond b x y ≡ x
+chosen b x y h = rw h refl
+
+read_plain : (bytes : List ℕ) → has_only_plain bytes ≡ true → reading_of bytes ≡ value_of (lexed 0 bytes)
+read_plain bytes h = chosen (has_only_plain bytes) _ _ h
+
+-- the operands of a line by the number of their target
+line_back : (x : Op) (qp : ℕ) (target : Option ℕ) (stop : Bool) → ReadsBack x → AllByRecursion IsPrinted (tokens_of x) → qp < 64 → are_apart (tokens_of x) ≡ true
+    → length (row_of (form_of x)).1 ≡ length (tokens_of x) → IfSome target (λ n. n < 2 ^ 34) → label_token (row_of (form_of x)).1 (tokens_of x) ≡ option_map (λ n. t.Name) target
+    → reading_of (codes "  " ++ predicate_text qp ++ mnemonic_text (word_of x) (completers_of x) ++ spaced (operands_text (or_zero target) (row_of (form_of x)).1 (tokens_of x)) ++ stop_text stop)
+    ≡ Ok (line.Slot (draft qp (untargeted x) (option_map label_text target) false) stop)
+line_back x qp target stop back printed small apart same near names =
+    let is = (row_of (form_of x)).1 in
+    let m = mnemonic_text (word_of x) (completers_of x) in
+    let text = operands_text (or_zero target) is (tokens_of x) in
+    let rest = spaced text ++ stop_text stop in
+    let l : or_zero target < 2 ^ 34 = small_target target near in
+    let seen : tokens (lexed 0 rest) ≡ tokens_of x ++ stops stop =
+    ap tokens (spaced_lexed text (stop_text stop)) ∙ operands_back (or_zero target) is (tokens_of x) (stop_text stop) l same printed apart (stop_ends stop) ∙ ap (λ ys. tokens_of x ++ ys) (stop_seen stop) in
+    let name : label_name is (lexed 0 rest) ≡ option_map label_text target =
+    ap (label_name is) (spaced_lexed text (stop_text stop)) ∙ label_back is (tokens_of x) (stop_text stop) target near same printed apart (stop_ends stop) names in
+    read_plain (codes "  " ++ predicate_text qp ++ m ++ spaced text ++ stop_text stop)
+    (parts_plain (predicate_text qp) m text stop (predicate_plain (eqb qp 0) qp small) (name_bytes_are_plain m (mnemonic_bytes (word_of x) (completers_of x))) (operands_plain (or_zero target) is (tokens_of x) l printed))
+    ∙ ap value_of (parts_lexed (predicate_text qp) m (spaced text) (stop_text stop))
+    ∙ predicated (eqb qp 0) x qp rest (option_map label_text target) stop refl back printed small (tail_ends text stop) seen name
+
+map_twice : {A B C : Type 0} (c : C) (f : A → B) (d : Option A) → option_map (λ a. c) d ≡ option_map (λ b. c) (option_map f d)
+map_twice c f None = refl
+map_twice c f (Some a) = refl
+
+names_of : (bundle : ℕ) (x : Op) → option_map (λ d. t.Name) (displacement x) ≡ option_map (λ n. t.Name) (target_of bundle x)
+names_of bundle x = map_twice t.Name _ (displacement x)
+
+-- The premise on the label, from what is known with and without a displacement.
+pub label_where : (d : Option ℤ) (r : Option Token) → (d ≡ None → r ≡ None) → (is_some d ≡ true → r ≡ Some t.Name) → r ≡ option_map (λ disp. t.Name) d
+label_where None r f g = f refl
+label_where (Some disp) r f g = g refl
+
+-- The canonical line of an instruction is read as that instruction, with the label of its target for the
+-- displacement, and its stop.
+pub slot_line_back : (i : Insn) (bundle : ℕ) (stop : Bool) → ReadsBack i.op → AllByRecursion IsPrinted (tokens_of i.op) → i.qp < 64 → are_apart (tokens_of i.op) ≡ true
+    → length (row_of (form_of i.op)).1 ≡ length (tokens_of i.op) → IfSome (target_of bundle i.op) (λ n. n < 2 ^ 34)
+    → label_token (row_of (form_of i.op)).1 (tokens_of i.op) ≡ option_map (λ disp. t.Name) (displacement i.op)
+    → reading_of (slot_text i bundle stop) ≡ Ok (line.Slot (record { insn = record { qp = i.qp; op = untargeted i.op }; target = option_map label_text (target_of bundle i.op); bare = false }) stop)
+slot_line_back i bundle stop back printed small apart same near names =
+    line_back i.op i.qp (target_of bundle i.op) stop back printed small apart same near (names ∙ names_of bundle i.op)

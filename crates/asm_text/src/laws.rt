@@ -1,0 +1,24 @@
+//! Laws of lines, each the contract of a function that does nothing.
+
+ghost use Rattle.std.specs.Prelude.{ℕ, ◌<◌, ◌^◌, Bool, List};
+ghost use Rattle.ia_insn.specs.declared.insn.Insn.{Insn};
+ghost use Rattle.ia_insn.specs.Listed.{IsListed};
+ghost use Rattle.asm_text.specs.Lines.{LineOf};
+ghost use Rattle.asm_text.specs.OneAnswer.{HasOneValue, HasOneFault, HasNoFault};
+ghost use Rattle.asm_text.specs.ReadBack.{printed_line};
+ghost use Rattle.asm_text.specs.SlotTexts.{slot_text};
+
+/// The law that a line has at most one value, at most one first fault, and not both. It does nothing.
+pub fn a_line_has_one_answer()
+    ensures value { (bytes : List ℕ) → HasOneValue bytes }
+    ensures fault { (bytes : List ℕ) → HasOneFault bytes }
+    ensures either { (bytes : List ℕ) → HasNoFault bytes }
+{}
+
+/// The law that the canonical line of a listed instruction reads as the instruction under its predicate,
+/// with its stop, and the label of its target where it has one. The displacement, or the number of a
+/// `movl` with a label, counts 0 until the name is put in. It does nothing.
+pub fn printed_slots_are_read_back()
+    ensures { (insn : Insn) (bundle : ℕ) (stop : Bool) → IsListed insn → bundle < 2 ^ 32
+        → LineOf (slot_text insn bundle stop) (printed_line insn bundle stop) }
+{}

@@ -1,0 +1,26 @@
+//! One line of assembly text both ways.
+//!
+//! A line is cut into words, and the leading word with its completers names one or more forms.
+//! `reading` finds the form that the operands have and the line's value, or the first fault;
+//! `instruction` is the table of what each form means. `canonical` and `canonical_tokens` are
+//! the table of how each instruction is printed, and `printing` prints it. Both tables stand in the order of the manual's formats.
+#![tactic(auto)]
+
+mod canonical;
+mod canonical_tokens;
+mod data;
+mod instruction;
+mod laws;
+mod line;
+mod operands;
+mod printing;
+mod reading;
+mod shape;
+
+pub use laws::{a_line_has_one_answer, printed_slots_are_read_back};
+pub use line::{Draft, Line, Shape, Values};
+pub use printing::print_slot;
+pub use reading::read_line;
+
+#[cfg(test)]
+mod printing_tests;

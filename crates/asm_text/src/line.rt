@@ -1,0 +1,131 @@
+//! What a line says.
+
+ghost use Rattle.std.specs.Prelude.{◌≡◌, ℕ, ◌≤◌, List, length};
+
+use arrayvec::ArrayVec;
+use asm_words::Name;
+use ia_insn::Insn;
+use std::marker::Model;
+
+/// What a line says.
+#[derive(Debug, Drop)]
+pub enum Line {
+    /// Nothing: a blank line.
+    Empty,
+    /// `name:`, the label of the next bundle or of the next data byte.
+    Label {
+        /// The name.
+        name: Name,
+    },
+    /// `.text`: bundles follow.
+    Text,
+    /// `.data`: data follow.
+    Data,
+    /// `.entry name`: the bundle of that label is a declared entry.
+    Entry {
+        /// The name of the label.
+        name: Name,
+    },
+    /// `.global`, `.proc` or `.endp` and a name, which have no effect.
+    Ignored,
+    /// `data1`, `data2`, `data4` or `data8` and numbers.
+    Numbers {
+        /// How many bytes each number has: 1, 2, 4 or 8.
+        size: u8,
+        /// The numbers, each modulo 256 to the power of the size.
+        values: Values,
+    },
+    /// `.skip n`: n zero bytes.
+    Skip {
+        /// How many, 0 to 1048576.
+        count: u32,
+    },
+    /// `{` and a template name, which open a bundle.
+    Open {
+        /// The template name.
+        shape: Shape,
+    },
+    /// An instruction.
+    Slot {
+        /// The instruction, and what is still to be put into it.
+        draft: Draft,
+        /// Whether a stop follows.
+        stop: bool,
+    },
+    /// `;;` alone: a stop after the slot before it.
+    Stop,
+    /// `}`, which closes a bundle.
+    Close,
+}
+
+/// The name of a template without its stops (volume 3, chapter 4, bundle formats).
+#[derive(Clone, Copy, Debug, PartialEq, Eq)]
+pub enum Shape {
+    /// `.mii`
+    Mii,
+    /// `.mlx`
+    Mlx,
+    /// `.mmi`
+    Mmi,
+    /// `.mfi`
+    Mfi,
+    /// `.mmf`
+    Mmf,
+    /// `.mib`
+    Mib,
+    /// `.mbb`
+    Mbb,
+    /// `.bbb`
+    Bbb,
+    /// `.mmb`
+    Mmb,
+    /// `.mfb`
+    Mfb,
+}
+
+/// 1 to 32 numbers. Contracts see their list.
+#[derive(Debug, Drop)]
+pub struct Values {
+    numbers: ArrayVec<u64, 32>,
+}
+
+impl Model for Values {
+    ghost Value = { List ℕ };
+
+    ghost view = { λ v. v.numbers.items };
+
+    ghost invariant = { λ v. (1 ≤ length v.numbers.items) × (length v.numbers.items ≤ 32) };
+
+    ghost inverse = { λ numbers. record { numbers = record { items = numbers } } };
+}
+
+impl Values {
+    /// The values with these numbers.
+    pub(crate) fn of_numbers(numbers: ArrayVec<u64, 32>) -> Self
+        requires { (1 ≤ length numbers.items) × (length numbers.items ≤ 32) }
+        ensures { result ≡ numbers.items }
+    {
+        Values { numbers }
+    }
+
+    /// Its numbers, of which there are 1 to 32.
+    pub fn numbers(&self) -> &[u64]
+        ensures value { result.now ≡ self.now }
+        ensures within { (1 ≤ length self.now) × (length self.now ≤ 32) }
+    {
+        self.numbers.as_slice()
+    }
+}
+
+/// An instruction as a line has it.
+#[derive(Debug, Drop)]
+pub struct Draft {
+    /// The instruction. Where the line names a target, its displacement, or the number of a `movl`, is
+    /// 0 until the name is put in.
+    pub insn: Insn,
+    /// The name of the target.
+    pub target: Option<Name>,
+    /// Whether the unit letter is missing. The unit is then X for a break or a nop and I for a hint or a
+    /// check, until that of the slot is put in.
+    pub bare: bool,
+}

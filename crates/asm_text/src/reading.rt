@@ -1,0 +1,473 @@
+//! Reading a line: from its words to its value or its first fault.
+
+ghost use Rattle.std.specs.Prelude.{◌≡◌, ◌≤◌, ◌<◌, ◌+◌, ◌-◌, ◌*◌, ◌^◌, ◌↔◌, IsTrue, IfOk, IfErr, IfSome, length, take, drop, map, slice_get, slice_range, Some, true, false};
+ghost use Rattle.asm_forms.specs.LeadingWords.{forms_of};
+ghost use Rattle.asm_forms.specs.Naming.{mnemonic_of, named_in};
+ghost use Rattle.asm_words.specs.Tokens.{token_of};
+ghost use Rattle.asm_words.specs.Words.{pick};
+ghost use Rattle.asm_text.specs.Lines.{AreParts, texts, tokens, name_of, label_name, lead_at, past_parenthesis, ends_in_stop, without_stop, predicate_of, is_bare, completers_or_none, slot_with, slot_of, directive_value, directive_of, alone, data_of, among, worded, marked, shape_of, opened, mark_led, led_by, led, led_at, is_colon, label_of, value_of, reading_of, IsListedLine, LineOf, FaultOf};
+
+use crate::data::data_of;
+use crate::instruction::op_of;
+use crate::line::{Draft, Line};
+use crate::operands::{is_present_at, pr_at, word_at};
+use crate::shape::shape_of;
+use arrayvec::ArrayVec;
+use asm_forms::{
+    AccessSize, Completer, Completers, Form, Item, LeadingWord, completers, leading_word, named,
+    read_form, row,
+};
+use asm_words::{LineFault, Name, Token, Word, WordKind, numbered_register, token, words};
+use ia_insn::{Insn, Pr, is_listed};
+
+type Tokens = ArrayVec<Token, 240>;
+
+/// What the words may be read as.
+fn tokens(line: &[u8], words: &[Word]) -> Tokens
+    requires few { length words.now ≤ 240 }
+    requires parts { AreParts line.now words.now }
+    ensures { result.items ≡ tokens (texts line.now words.now) }
+{
+    let mut list = Tokens::new();
+    for word in words {
+        list.push(token(word.kind, word.text(line)));
+    }
+    list
+}
+
+/// How many words stand before the leading one: a qualifying predicate, or nothing.
+fn lead_at(tokens: &[Token]) -> Option<usize>
+    ensures { result ≡ lead_at tokens.now }
+{
+    match tokens {
+        [] => None,
+        [Token::OpenParenthesis, ..] => past_parenthesis(tokens),
+        _ => Some(0),
+    }
+}
+
+/// How many tokens there are up to the first `)`.
+fn past_parenthesis(tokens: &[Token]) -> Option<usize>
+    ensures { result ≡ past_parenthesis tokens.now }
+{
+    for (at, token) in tokens.iter().enumerate() {
+        if matches!(token, Token::CloseParenthesis) {
+            return Some(at + 1);
+        }
+    }
+    None
+}
+
+fn ends_in_stop(tokens: &[Token]) -> bool
+    ensures value { result ≡ ends_in_stop tokens.now }
+    ensures some { IsTrue result → 0 < length tokens.now }
+{
+    match tokens.last() {
+        Some(token) => matches!(token, Token::Stop),
+        None => false,
+    }
+}
+
+/// The operands, without the stop after them.
+fn without_stop(tokens: &[Token]) -> &[Token]
+    ensures { result.now ≡ without_stop tokens.now }
+{
+    if ends_in_stop(tokens) {
+        &tokens[..tokens.len() - 1]
+    } else {
+        tokens
+    }
+}
+
+/// The qualifying predicate, p0 where none stands before the leading word.
+fn predicate(before: &[Token]) -> Result<Pr, LineFault>
+    ensures { result ≡ predicate_of before.now }
+{
+    if before.is_empty() {
+        return Ok(Pr::default());
+    }
+    read_form(&[Form::Predicate], before, before)?;
+    Ok(pr_at(before, 1))
+}
+
+/// Whether the unit letter is missing.
+fn is_bare(form: Form, completers: &[Completer]) -> bool
+    ensures { result ≡ is_bare form completers.now }
+{
+    match form {
+        Form::Break | Form::BreakLong | Form::Nop | Form::NopLong | Form::Hint | Form::HintImm =>
+            !is_present_at(completers, 0),
+        Form::ChkS => !is_present_at(completers, 1),
+        _ => false,
+    }
+}
+
+/// The completers of the form that this text is, and none where it is none.
+fn completers_or_none(form: Form, rest: &[u8]) -> Completers
+    ensures { result.items ≡ completers_or_none form rest.now }
+{
+    match completers(form, rest) {
+        Some(completers) => completers,
+        None => Completers::new(),
+    }
+}
+
+/// The name with these bytes, and None where they are not 1 to 63.
+fn name_of(text: &[u8]) -> Option<Name>
+    ensures { result ≡ name_of text.now }
+{
+    Name::of(text)
+}
+
+/// The name at the place of the label among these items.
+fn label_name(line: &[u8], items: &[Item], words: &[Word]) -> Option<Name>
+    requires { AreParts line.now words.now }
+    ensures { result ≡ label_name items.now (texts line.now words.now) }
+{
+    match (items, words) {
+        ([Item::Label, ..], [word, ..]) => name_of(word.text(line)),
+        ([_, items @ ..], [_, words @ ..]) => label_name(line, items, words),
+        _ => None,
+    }
+}
+
+/// A slot line by its tokens before and after the leading word, where `rest` is what follows the leading
+/// word within its name.
+fn slot_with(
+    forms: &[Form],
+    rest: &[u8],
+    before: &[Token],
+    tokens: &[Token],
+    line: &[u8],
+    words: &[Word],
+) -> Result<Line, LineFault>
+    requires { AreParts line.now words.now }
+    ensures { result ≡ slot_with forms.now rest.now before.now tokens.now (texts line.now words.now) }
+{
+    let qp = predicate(before)?;
+    let operands = without_stop(tokens);
+    let form = read_form(forms, operands, tokens)?;
+    let completers = completers_or_none(form, rest);
+    match op_of(form, &completers, operands) {
+        Some(op) => {
+            let target = label_name(line, row(form).1, words);
+            let bare = is_bare(form, &completers);
+            let draft = Draft {
+                insn: Insn { qp, op },
+                target,
+                bare,
+            };
+            Ok(Line::Slot {
+                draft,
+                stop: ends_in_stop(tokens),
+            })
+        }
+        None => Err(LineFault::Form),
+    }
+}
+
+/// The value of a directive's form.
+fn directive_value(
+    form: Form,
+    line: &[u8],
+    words: &[Word],
+    operands: &[Token],
+) -> Result<Line, LineFault>
+    requires parts { AreParts line.now words.now }
+    requires operands { operands.now ≡ tokens (texts line.now words.now) }
+    ensures { result ≡ directive_value form (texts line.now words.now) }
+{
+    match form {
+        Form::Text => Ok(Line::Text),
+        Form::Data => Ok(Line::Data),
+        Form::Entry => match label_name(line, row(Form::Entry).1, words) {
+            Some(name) => Ok(Line::Entry { name }),
+            None => Err(LineFault::Form),
+        },
+        Form::Ignored => Ok(Line::Ignored),
+        Form::Skip => Ok(Line::Skip {
+            count: word_at(operands, 0),
+        }),
+        _ => Err(LineFault::Form),
+    }
+}
+
+/// A directive, by its forms.
+fn directive_of(forms: &[Form], line: &[u8], words: &[Word]) -> Result<Line, LineFault>
+    requires few { length words.now ≤ 240 }
+    requires parts { AreParts line.now words.now }
+    ensures { result ≡ directive_of forms.now (texts line.now words.now) }
+{
+    let operands = tokens(line, words);
+    let form = read_form(forms, &operands, &operands)?;
+    directive_value(form, line, words, &operands)
+}
+
+/// A slot line, by its forms.
+fn slot_of(
+    forms: &[Form],
+    rest: &[u8],
+    line: &[u8],
+    before: &[Word],
+    after: &[Word],
+) -> Result<Line, LineFault>
+    requires few { (length before.now ≤ 240) × (length after.now ≤ 240) }
+    requires parts { AreParts line.now before.now × AreParts line.now after.now }
+    ensures { result ≡ slot_of forms.now rest.now (texts line.now before.now) (texts line.now after.now) }
+{
+    let read_before = tokens(line, before);
+    let read_after = tokens(line, after);
+    slot_with(forms, rest, &read_before, &read_after, line, after)
+}
+
+/// A data line, before which no predicate stands.
+fn data_line(
+    size: AccessSize,
+    line: &[u8],
+    before: &[Word],
+    after: &[Word],
+) -> Result<Line, LineFault>
+    requires few { length after.now ≤ 240 }
+    requires parts { AreParts line.now after.now }
+    ensures { result ≡ alone (texts line.now before.now) (data_of size (tokens (texts line.now after.now))) }
+{
+    match before {
+        [] => {
+            let numbers = tokens(line, after);
+            data_of(size, &numbers)
+        }
+        [_, ..] => Err(LineFault::Form),
+    }
+}
+
+/// A directive, before which no predicate stands.
+fn directive_line(
+    forms: &[Form],
+    line: &[u8],
+    before: &[Word],
+    after: &[Word],
+) -> Result<Line, LineFault>
+    requires few { length after.now ≤ 240 }
+    requires parts { AreParts line.now after.now }
+    ensures { result ≡ alone (texts line.now before.now) (directive_of forms.now (texts line.now after.now)) }
+{
+    match before {
+        [] => directive_of(forms, line, after),
+        [_, ..] => Err(LineFault::Form),
+    }
+}
+
+/// A line whose leading word names these forms, the first of which decides what the line is.
+fn among(
+    forms: &[Form],
+    rest: &[u8],
+    line: &[u8],
+    before: &[Word],
+    after: &[Word],
+) -> Result<Line, LineFault>
+    requires few { (length before.now ≤ 240) × (length after.now ≤ 240) }
+    requires parts { AreParts line.now before.now × AreParts line.now after.now }
+    ensures { result ≡ among forms.now rest.now (texts line.now before.now) (texts line.now after.now) }
+{
+    match forms {
+        [] => Err(LineFault::Name),
+        [Form::Numbers { size }, ..] => data_line(*size, line, before, after),
+        [
+            Form::Text | Form::Data | Form::Entry | Form::Ignored | Form::Skip,
+            ..
+        ] => directive_line(forms, line, before, after),
+        [_, ..] => slot_of(forms, rest, line, before, after),
+    }
+}
+
+/// A line that a name leads.
+fn worded(name: &[u8], line: &[u8], before: &[Word], after: &[Word]) -> Result<Line, LineFault>
+    requires few { (length before.now ≤ 240) × (length after.now ≤ 240) }
+    requires parts { AreParts line.now before.now × AreParts line.now after.now }
+    ensures { result ≡ worded (mnemonic_of name.now) (texts line.now before.now) (texts line.now after.now) }
+{
+    match leading_word(name) {
+        Some((word, rest)) => among(&named(word, rest), rest, line, before, after),
+        None => Err(LineFault::Name),
+    }
+}
+
+/// A mark that stands alone.
+fn marked(value: Line, line: &[u8], before: &[Word], after: &[Word]) -> Result<Line, LineFault>
+    ensures { result ≡ marked value (texts line.now before.now) (texts line.now after.now) }
+{
+    match (before, after) {
+        ([], []) => Ok(value),
+        _ => Err(LineFault::Form),
+    }
+}
+
+/// `{` and a template name.
+fn opened(line: &[u8], before: &[Word], after: &[Word]) -> Result<Line, LineFault>
+    requires { AreParts line.now after.now }
+    ensures { result ≡ opened (texts line.now before.now) (texts line.now after.now) }
+{
+    match after {
+        [word, rest @ ..] => match shape_of(word.text(line)) {
+            Some(shape) => marked(Line::Open { shape }, line, before, rest),
+            None => Err(LineFault::Name),
+        },
+        [] => Err(LineFault::Name),
+    }
+}
+
+/// A line that this word leads.
+fn led_by(word: &Word, line: &[u8], before: &[Word], after: &[Word]) -> Result<Line, LineFault>
+    requires few { (length before.now ≤ 240) × (length after.now ≤ 240) }
+    requires parts { AreParts line.now before.now × AreParts line.now after.now }
+    requires word { (word.now.start ≤ word.now.end) × (word.now.end ≤ length line.now) }
+    ensures { result ≡ led_by (word.now.kind, slice_range line.now word.now.start word.now.end) (texts line.now before.now) (texts line.now after.now) }
+{
+    let text = word.text(line);
+    match word.kind {
+        WordKind::Name => worded(text, line, before, after),
+        WordKind::Number => Err(LineFault::Name),
+        WordKind::Mark => match token(WordKind::Mark, text) {
+            Token::Stop => marked(Line::Stop, line, before, after),
+            Token::CloseBrace => marked(Line::Close, line, before, after),
+            Token::OpenBrace => opened(line, before, after),
+            _ => Err(LineFault::Name),
+        },
+    }
+}
+
+/// The words before a place.
+fn before(words: &[Word], at: usize) -> &[Word]
+    requires { at ≤ length words.now }
+    ensures { result.now ≡ take at words.now }
+{
+    &words[..at]
+}
+
+/// The words from a place on.
+fn from(words: &[Word], at: usize) -> &[Word]
+    requires { at ≤ length words.now }
+    ensures { result.now ≡ drop at words.now }
+{
+    &words[at..]
+}
+
+/// A line that is no label.
+fn led(line: &[u8], words: &[Word]) -> Result<Line, LineFault>
+    requires few { length words.now ≤ 240 }
+    requires parts { AreParts line.now words.now }
+    ensures { result ≡ led (texts line.now words.now) }
+{
+    let read = tokens(line, words);
+    match lead_at(&read) {
+        Some(lead) => led_at(line, words, lead),
+        None => Err(LineFault::Name),
+    }
+}
+
+/// A line whose leading word stands at this place.
+fn led_at(line: &[u8], words: &[Word], lead: usize) -> Result<Line, LineFault>
+    requires few { length words.now ≤ 240 }
+    requires parts { AreParts line.now words.now }
+    ensures { result ≡ led_at (texts line.now words.now) (Some lead) }
+{
+    if lead >= words.len() {
+        return Err(LineFault::Name);
+    }
+    led_by(
+        &words[lead],
+        line,
+        before(words, lead),
+        from(words, lead + 1),
+    )
+}
+
+/// A label: it stands alone, and is spelled as no register by number.
+fn label_of(text: &[u8], line: &[u8], rest: &[Word]) -> Result<Line, LineFault>
+    ensures { result ≡ label_of text.now (texts line.now rest.now) }
+{
+    match rest {
+        [] => {
+            if numbered_register(text).is_some() {
+                return Err(LineFault::Form);
+            }
+            match name_of(text) {
+                Some(name) => Ok(Line::Label { name }),
+                None => Err(LineFault::Form),
+            }
+        }
+        [_, ..] => Err(LineFault::Form),
+    }
+}
+
+/// Whether the word is a name.
+fn is_name(word: &Word) -> bool
+    ensures { result ≡ pick word.now.kind true false false }
+{
+    matches!(word.kind, WordKind::Name)
+}
+
+/// Whether the word is a colon.
+fn is_colon(word: &Word, line: &[u8]) -> bool
+    requires { (word.now.start ≤ word.now.end) × (word.now.end ≤ length line.now) }
+    ensures { result ≡ is_colon (token_of word.now.kind (slice_range line.now word.now.start word.now.end)) }
+{
+    matches!(token(word.kind, word.text(line)), Token::Colon)
+}
+
+/// What the words of a line say.
+fn value_of(line: &[u8], words: &[Word]) -> Result<Line, LineFault>
+    requires few { length words.now ≤ 240 }
+    requires parts { AreParts line.now words.now }
+    ensures { result ≡ value_of (texts line.now words.now) }
+{
+    match words {
+        [] => Ok(Line::Empty),
+        [_] => led(line, words),
+        [name, colon, rest @ ..] => {
+            if is_name(name) && is_colon(colon, line) {
+                label_of(name.text(line), line, rest)
+            } else {
+                led(line, words)
+            }
+        }
+    }
+}
+
+/// What a line says, but for whether its instruction is listed.
+fn reading_of(line: &[u8]) -> Result<Line, LineFault>
+    requires { length line.now ≤ 240 }
+    ensures { result ≡ reading_of line.now }
+{
+    let words = words(line)?;
+    value_of(line, &words)
+}
+
+/// Whether the instruction of a slot line is listed.
+fn is_listed_line(value: &Line) -> bool
+    ensures { IsTrue result ↔ IsListedLine value.now }
+{
+    match value {
+        Line::Slot { draft, .. } => is_listed(&draft.insn),
+        _ => true,
+    }
+}
+
+/// What a line says, or its first fault in the order of [`LineFault`].
+///
+/// The line is at most 240 bytes long, and has no line feed. A leading word names one or more forms. Its
+/// operands are followed as far as any of them goes, and what those that got there want next decides: a
+/// register, a number, or anything else. Form comes too where all is read and the instruction is none of
+/// the profile. It takes no memory.
+pub fn read_line(line: &[u8]) -> Result<Line, LineFault>
+    requires { length line.now ≤ 240 }
+    ensures ok { IfOk result (LineOf line.now) }
+    ensures err { IfErr result (FaultOf line.now) }
+{
+    let value = reading_of(line)?;
+    if is_listed_line(&value) {
+        Ok(value)
+    } else {
+        Err(LineFault::Form)
+    }
+}

@@ -1,0 +1,9 @@
+pub mod Bools
+pub mod Bridge
+pub mod Cutting
+pub mod Gaps
+pub mod HexDigits
+pub mod Lexing
+pub mod Numerals
+pub mod Readings
+pub mod Slicing

@@ -1,0 +1,7 @@
+pub mod Bytes
+pub mod Words
+pub mod Numbers
+pub mod Registers
+pub mod Tokens
+pub mod Lexed
+pub mod Slices

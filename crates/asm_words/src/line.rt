@@ -1,0 +1,133 @@
+//! The words of a line.
+
+ghost use Rattle.std.specs.Prelude.{◌≡◌, ◌≤◌, length, IfOk, IfErr, true, false, IsTrue, ◌<◌, ◌+◌};
+ghost use Rattle.asm_words.specs.Bytes.{has_only_plain};
+ghost use Rattle.asm_words.specs.Slices.{AreSlices, LeavesOutGaps};
+ghost use Rattle.asm_words.specs.Words.{name_run, kind_at, more_at, has_sharp, sharp_at, begins_comment, words_from};
+
+use crate::bytes::{
+    begins_digit, begins_with, has_only_plain, is_blank, is_digit_byte, is_name_byte,
+};
+use crate::fault::LineFault;
+use crate::word::{Word, WordKind};
+use arrayvec::ArrayVec;
+
+/// The words of a line, in order; or Char where a byte is neither a tab nor one from 0x20 to 0x7e,
+/// in a comment too. The words are parts of the line, in order; what they leave out is spaces, tabs,
+/// a `#` directly after a name, and the comment from `//` to the end.
+pub fn words(line: &[u8]) -> Result<ArrayVec<Word, 240>, LineFault>
+    requires { length line.now ≤ 240 }
+    ensures ok { IfOk result (λ ws. (has_only_plain line.now ≡ true) × (ws.items ≡ words_from 0 0 line.now)) }
+    ensures slices { IfOk result (λ ws. AreSlices line.now ws.items) }
+    ensures left_out { IfOk result (λ ws. LeavesOutGaps line.now false 0 ws.items) }
+    ensures err { IfErr result (λ e. (has_only_plain line.now ≡ false) × (e ≡ LineFault.Char)) }
+{
+    if !has_only_plain(line) {
+        return Err(LineFault::Char);
+    }
+    Ok(cut(line))
+}
+
+fn cut(line: &[u8]) -> ArrayVec<Word, 240>
+    requires { length line.now ≤ 240 }
+    ensures { result.items ≡ words_from 0 0 line.now }
+{
+    let mut words = ArrayVec::new();
+    let mut at = 0;
+    while at < line.len() {
+        let first = line[at];
+        let rest = &line[at + 1..];
+        if is_blank(first) {
+            at += 1;
+        } else if begins_comment(first, rest) {
+            return words;
+        } else {
+            let (kind, more, sharp) = word_at(first, rest);
+            words.push(Word {
+                kind,
+                start: at,
+                end: at + 1 + more,
+            });
+            at = at + 1 + more + sharp;
+        }
+    }
+    words
+}
+
+// The word that begins with a byte: its kind, how many more bytes it has, and how many that follow
+// belong to no word.
+fn word_at(first: u8, rest: &[u8]) -> (WordKind, usize, usize)
+    ensures kind { result.0 ≡ kind_at first rest.now }
+    ensures more { result.1 ≡ more_at first rest.now }
+    ensures sharp { result.2 ≡ sharp_at first rest.now }
+    ensures bound { result.1 + result.2 ≤ length rest.now }
+{
+    let kind = kind_at(first, rest);
+    let more = more_at(first, rest);
+    let after = &rest[more..];
+    if has_sharp(kind, after) {
+        (kind, more, 1)
+    } else {
+        (kind, more, 0)
+    }
+}
+
+fn kind_at(first: u8, rest: &[u8]) -> WordKind
+    ensures { result ≡ kind_at first rest.now }
+{
+    if is_digit_byte(first) {
+        WordKind::Number
+    } else if is_name_byte(first) {
+        WordKind::Name
+    } else if first == b'-' && begins_digit(rest) {
+        WordKind::Number
+    } else {
+        WordKind::Mark
+    }
+}
+
+// How many bytes after the first belong to the word.
+fn more_at(first: u8, rest: &[u8]) -> usize
+    ensures value { result ≡ more_at first rest.now }
+    ensures bound { result ≤ length rest.now }
+{
+    match kind_at(first, rest) {
+        WordKind::Mark => {
+            if first == b';' && begins_with(b';', rest) {
+                1
+            } else {
+                0
+            }
+        }
+        _ => name_run(rest),
+    }
+}
+
+// How many bytes at the front belong to names and numbers.
+fn name_run(bytes: &[u8]) -> usize
+    ensures value { result ≡ name_run bytes.now }
+    ensures bound { result ≤ length bytes.now }
+{
+    let mut at = 0;
+    while at < bytes.len() && is_name_byte(bytes[at]) {
+        at += 1;
+    }
+    at
+}
+
+// Whether a sharp follows a name.
+fn has_sharp(kind: WordKind, rest: &[u8]) -> bool
+    ensures value { result ≡ has_sharp kind rest.now }
+    ensures bound { IsTrue result → 0 < length rest.now }
+{
+    match kind {
+        WordKind::Name => begins_with(b'#', rest),
+        _ => false,
+    }
+}
+
+fn begins_comment(first: u8, rest: &[u8]) -> bool
+    ensures { result ≡ begins_comment first rest.now }
+{
+    first == b'/' && begins_with(b'/', rest)
+}

@@ -1,0 +1,51 @@
+//! A word of a line.
+
+ghost use Rattle.std.specs.Prelude.{◌≡◌, ◌≤◌, length, slice_range};
+
+/// The three kinds of words.
+#[derive(Clone, Copy, Debug, PartialEq, Eq)]
+pub enum WordKind {
+    /// A longest run of letters, digits, `_`, `.` and `$` that begins with no digit.
+    Name,
+    /// A longest run of the same bytes that begins with a digit, and a `-` directly before it.
+    Number,
+    /// `;;`, or any other single byte that is no space and no tab.
+    Mark,
+}
+
+/// A word is the bytes of its line from `start` to before `end`.
+#[derive(Clone, Copy, Debug, PartialEq, Eq)]
+pub struct Word {
+    /// What kind of word it is.
+    pub kind: WordKind,
+    /// The place of its first byte.
+    pub start: usize,
+    /// The place after its last byte.
+    pub end: usize,
+}
+
+impl Default for Word {
+    ghost use Rattle.std.specs.Prelude.{◌≡◌};
+    ghost use Rattle.asm_words.specs.declared.word.WordKind.TheVariants as kind;
+
+    ghost is_default = { λ w. (w.kind ≡ kind.Mark) × (w.start ≡ 0) × (w.end ≡ 0) };
+
+    /// A mark of no bytes.
+    fn default() -> Self {
+        Word {
+            kind: WordKind::Mark,
+            start: 0,
+            end: 0,
+        }
+    }
+}
+
+impl Word {
+    /// Its bytes in the line that it is a word of.
+    pub fn text<'a>(&self, line: &'a [u8]) -> &'a [u8]
+        requires { (self.now.start ≤ self.now.end) × (self.now.end ≤ length line.now) }
+        ensures { result.now ≡ slice_range line.now self.now.start self.now.end }
+    {
+        &line[self.start..self.end]
+    }
+}

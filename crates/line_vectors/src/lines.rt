@@ -1,0 +1,124 @@
+//! The rows of faults, and of lines that aren't slots.
+
+use asm_text::{Line, Shape, read_line};
+use asm_words::{LineFault, Name};
+
+/// How many bytes a line has at most.
+const LONGEST: usize = 240;
+
+/// Whether the line has the fault of this name.
+pub fn has_fault(line: &str, fault: &str) -> bool {
+    if line.len() > LONGEST {
+        return false;
+    }
+    match read_line(line.as_bytes()) {
+        Err(found) => fault == fault_name(found),
+        Ok(_) => false,
+    }
+}
+
+/// The name of a fault in the input.
+fn fault_name(fault: LineFault) -> &'static str {
+    match fault {
+        LineFault::Char => "char",
+        LineFault::Name => "name",
+        LineFault::Register => "register",
+        LineFault::Number => "number",
+        LineFault::Range => "range",
+        LineFault::Form => "form",
+    }
+}
+
+/// Whether a row of a line that isn't a slot's is right: what the line is, a `|`, and the line.
+pub fn is_line(rest: &str) -> bool {
+    let Some((what, line)) = rest.split_once('|') else {
+        return false;
+    };
+    if line.len() > LONGEST {
+        return false;
+    }
+    match read_line(line.as_bytes()) {
+        Ok(read) => is_what(&read, what),
+        Err(_) => false,
+    }
+}
+
+/// Whether a line is what the row says: a word, and after it what the line holds.
+fn is_what(line: &Line, what: &str) -> bool {
+    let (kind, held) = what.split_once(' ').unwrap_or((what, ""));
+    kind == kind_of(line)
+        && match line {
+            Line::Label { name } | Line::Entry { name } => is_named(name, held),
+            Line::Numbers { size, values } => are_numbers(*size, values.numbers(), held),
+            Line::Skip { count } => held.parse::<u32>() == Ok(*count),
+            Line::Open { shape } => held == shape_name(shape),
+            _ => held.is_empty(),
+        }
+}
+
+/// The word of the input for a kind of line.
+fn kind_of(line: &Line) -> &'static str {
+    match line {
+        Line::Empty => "empty",
+        Line::Label { .. } => "label",
+        Line::Text => "text",
+        Line::Data => "data",
+        Line::Entry { .. } => "entry",
+        Line::Ignored => "ignored",
+        Line::Numbers { .. } => "numbers",
+        Line::Skip { .. } => "skip",
+        Line::Open { .. } => "open",
+        Line::Slot { .. } => "slot",
+        Line::Stop => "stop",
+        Line::Close => "close",
+    }
+}
+
+/// Whether a name has these bytes.
+fn is_named(name: &Name, bytes: &str) -> bool {
+    name.bytes() == bytes.as_bytes()
+}
+
+/// The name of a template in the input.
+fn shape_name(shape: &Shape) -> &'static str {
+    match shape {
+        Shape::Mii => "mii",
+        Shape::Mlx => "mlx",
+        Shape::Mmi => "mmi",
+        Shape::Mfi => "mfi",
+        Shape::Mmf => "mmf",
+        Shape::Mib => "mib",
+        Shape::Mbb => "mbb",
+        Shape::Bbb => "bbb",
+        Shape::Mmb => "mmb",
+        Shape::Mfb => "mfb",
+    }
+}
+
+/// Whether these are the size and then the numbers of the text, with blanks between them.
+fn are_numbers(size: u8, numbers: &[u64], text: &str) -> bool {
+    let mut words = text.split_whitespace();
+    if words.next() != Some(size_name(size)) {
+        return false;
+    }
+    for number in numbers {
+        let Some(word) = words.next() else {
+            return false;
+        };
+        if word.parse::<u64>() != Ok(*number) {
+            return false;
+        }
+    }
+    words.next().is_none()
+}
+
+/// The size of a number in the input.
+fn size_name(size: u8) -> &'static str {
+    match size {
+        1 => "1",
+        2 => "2",
+        4 => "4",
+        8 => "8",
+        _ => "",
+    }
+}
