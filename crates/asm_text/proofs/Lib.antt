@@ -20,6 +20,7 @@ mod ReadsBackB
 mod ReadsBackI
 mod ReadsBackM
 mod ReadsBackX
+mod Short
 mod SlotLines
 mod Spaced
 mod TargetTexts

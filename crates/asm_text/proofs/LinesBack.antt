@@ -1,5 +1,5 @@
 -- The canonical line of a listed instruction is read back.
-use Rattle.std.proofs.Common.{ℕ, ◌<◌, ◌^◌, Bool}
+use Rattle.std.proofs.Common.{ℕ, ◌<◌, ◌≤◌, ◌^◌, Bool, length}
 use Rattle.ia_insn.specs.declared.insn.Insn.{Insn}
 use Rattle.ia_insn.specs.Listed.{IsListed}
 use Rattle.ia_insn.proofs.OperandRanges.{ranges_of_listed}
@@ -14,6 +14,7 @@ use Rattle.asm_text.proofs.Labels.{same_length, has_no_label_token, has_label_to
 use Rattle.asm_text.proofs.OperandTexts.{label_token}
 use Rattle.asm_text.proofs.Printed.{printed}
 use Rattle.asm_text.proofs.ReadsBack.{reads_back}
+use Rattle.asm_text.proofs.Short.{slot_line_is_short}
 use Rattle.asm_text.proofs.SlotLines.{slot_line_back, label_where}
 use Rattle.asm_text.proofs.Targets.{target_is_near}
 use Rattle.asm_text.proofs.Untargeted.{still_listed}
@@ -27,3 +28,10 @@ line_back i bundle stop listed low =
       reading = slot_line_back i bundle stop (reads_back i.op ranges) ready.1 ready.0 (spaced_apart i.op) (same_length i.op ranges) (target_is_near bundle i.op low ranges) label;
       listed = still_listed i listed;
     }
+
+-- and it is short enough to be read
+pub line_short : (i : Insn) (bundle : ℕ) (stop : Bool) → IsListed i → bundle < 2 ^ 32 → length (slot_text i bundle stop) ≤ 240
+line_short i bundle stop listed low =
+    let ready = printed i listed in
+    let ranges = ranges_of_listed i listed in
+    slot_line_is_short i bundle stop ready.1 (same_length i.op ranges) ready.0 (target_is_near bundle i.op low ranges)

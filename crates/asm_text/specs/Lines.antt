@@ -128,17 +128,18 @@ draft_of f cs qp after x =
 abbrev pub completers_or_none : Form → List ℕ → List Completer
 completers_or_none f rest = unwrap_or (completers_in (row_of f).0 rest) []
 
--- A slot line by its tokens before and after the leading word: the predicate is read first, and then the
--- operands. `rest` is what follows the leading word within its name.
-abbrev pub slot_with : List Form → List ℕ → List Token → List Token → List KindAndText → Result Line LineFault
-slot_with forms rest before xs after = do
-  qp ← predicate_of before
+-- A slot line under a predicate by its tokens after the leading word. `rest` is what follows the leading
+-- word within its name.
+abbrev pub slot_under : ℕ → List Form → List ℕ → List Token → List KindAndText → Result Line LineFault
+slot_under qp forms rest xs after = do
   f ← read_form forms (without_stop xs) xs
   x ← or_fault (op_of f (completers_or_none f rest) (without_stop xs)) fault.Form
   Ok (line.Slot (draft_of f (completers_or_none f rest) qp after x) (ends_in_stop xs))
 
+-- a slot line: the predicate is read first, and then the operands
 abbrev pub slot_of : List Form → List ℕ → List KindAndText → List KindAndText → Result Line LineFault
-slot_of forms rest before after = slot_with forms rest (tokens before) (tokens after) after
+slot_of forms rest before after =
+    predicate_of (tokens before) >>= λ qp. slot_under qp forms rest (tokens after) after
 
 -- A data line has 1 to 32 numbers in turn with commas.
 abbrev pub data_field : AccessSize → NumberField

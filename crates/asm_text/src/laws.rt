@@ -1,6 +1,6 @@
 //! Laws of lines, each the contract of a function that does nothing.
 
-ghost use Rattle.std.specs.Prelude.{ℕ, ◌<◌, ◌^◌, Bool, List};
+ghost use Rattle.std.specs.Prelude.{ℕ, ◌<◌, ◌≤◌, ◌^◌, Bool, List, length};
 ghost use Rattle.ia_insn.specs.declared.insn.Insn.{Insn};
 ghost use Rattle.ia_insn.specs.Listed.{IsListed};
 ghost use Rattle.asm_text.specs.Lines.{LineOf};
@@ -16,9 +16,11 @@ pub fn a_line_has_one_answer()
 {}
 
 /// The law that the canonical line of a listed instruction reads as the instruction under its predicate,
-/// with its stop, and the label of its target where it has one. The displacement, or the number of a
-/// `movl` with a label, counts 0 until the name is put in. It does nothing.
+/// with its stop, and the label of its target where it has one; and that it is short enough for
+/// [`read_line`](crate::read_line). The displacement counts 0 until the name is put in. It does nothing.
 pub fn printed_slots_are_read_back()
-    ensures { (insn : Insn) (bundle : ℕ) (stop : Bool) → IsListed insn → bundle < 2 ^ 32
+    ensures back { (insn : Insn) (bundle : ℕ) (stop : Bool) → IsListed insn → bundle < 2 ^ 32
         → LineOf (slot_text insn bundle stop) (printed_line insn bundle stop) }
+    ensures short { (insn : Insn) (bundle : ℕ) (stop : Bool) → IsListed insn → bundle < 2 ^ 32
+        → length (slot_text insn bundle stop) ≤ 240 }
 {}

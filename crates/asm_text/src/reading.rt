@@ -5,7 +5,7 @@ ghost use Rattle.asm_forms.specs.LeadingWords.{forms_of};
 ghost use Rattle.asm_forms.specs.Naming.{mnemonic_of, named_in};
 ghost use Rattle.asm_words.specs.Tokens.{token_of};
 ghost use Rattle.asm_words.specs.Words.{pick};
-ghost use Rattle.asm_text.specs.Lines.{AreParts, texts, tokens, name_of, label_name, lead_at, past_parenthesis, ends_in_stop, without_stop, predicate_of, is_bare, completers_or_none, slot_with, slot_of, directive_value, directive_of, alone, data_of, among, worded, marked, shape_of, opened, mark_led, led_by, led, led_at, is_colon, label_of, value_of, reading_of, IsListedLine, LineOf, FaultOf};
+ghost use Rattle.asm_text.specs.Lines.{AreParts, texts, tokens, name_of, label_name, lead_at, past_parenthesis, ends_in_stop, without_stop, predicate_of, is_bare, completers_or_none, slot_under, slot_of, directive_value, directive_of, alone, data_of, among, worded, marked, shape_of, opened, mark_led, led_by, led, led_at, is_colon, is_open, is_close, label_of, value_of, reading_of, IsListedLine, LineOf, FaultOf};
 
 use crate::data::data_of;
 use crate::instruction::op_of;
@@ -36,22 +36,45 @@ fn tokens(line: &[u8], words: &[Word]) -> Tokens
 }
 
 /// How many words stand before the leading one: a qualifying predicate, or nothing.
-fn lead_at(tokens: &[Token]) -> Option<usize>
-    ensures { result ≡ lead_at tokens.now }
+fn lead_at(line: &[u8], words: &[Word]) -> Option<usize>
+    requires { AreParts line.now words.now }
+    ensures { result ≡ lead_at (tokens (texts line.now words.now)) }
 {
-    match tokens {
+    match words {
         [] => None,
-        [Token::OpenParenthesis, ..] => past_parenthesis(tokens),
-        _ => Some(0),
+        [first, ..] => {
+            if is_open(first, line) {
+                past_parenthesis(line, words)
+            } else {
+                Some(0)
+            }
+        }
     }
 }
 
-/// How many tokens there are up to the first `)`.
-fn past_parenthesis(tokens: &[Token]) -> Option<usize>
-    ensures { result ≡ past_parenthesis tokens.now }
+/// Whether the word is `(`.
+fn is_open(word: &Word, line: &[u8]) -> bool
+    requires { (word.now.start ≤ word.now.end) × (word.now.end ≤ length line.now) }
+    ensures { result ≡ is_open (token_of word.now.kind (slice_range line.now word.now.start word.now.end)) }
 {
-    for (at, token) in tokens.iter().enumerate() {
-        if matches!(token, Token::CloseParenthesis) {
+    matches!(token(word.kind, word.text(line)), Token::OpenParenthesis)
+}
+
+/// Whether the word is `)`.
+fn is_close(word: &Word, line: &[u8]) -> bool
+    requires { (word.now.start ≤ word.now.end) × (word.now.end ≤ length line.now) }
+    ensures { result ≡ is_close (token_of word.now.kind (slice_range line.now word.now.start word.now.end)) }
+{
+    matches!(token(word.kind, word.text(line)), Token::CloseParenthesis)
+}
+
+/// How many words there are up to the first `)`.
+fn past_parenthesis(line: &[u8], words: &[Word]) -> Option<usize>
+    requires { AreParts line.now words.now }
+    ensures { result ≡ past_parenthesis (tokens (texts line.now words.now)) }
+{
+    for (at, word) in words.iter().enumerate() {
+        if is_close(word, line) {
             return Some(at + 1);
         }
     }
@@ -79,15 +102,20 @@ fn without_stop(tokens: &[Token]) -> &[Token]
     }
 }
 
-/// The qualifying predicate, p0 where none stands before the leading word.
-fn predicate(before: &[Token]) -> Result<Pr, LineFault>
-    ensures { result ≡ predicate_of before.now }
+/// The qualifying predicate, p0 where no word stands before the leading one.
+fn predicate(line: &[u8], before: &[Word]) -> Result<Pr, LineFault>
+    requires few { length before.now ≤ 240 }
+    requires parts { AreParts line.now before.now }
+    ensures { result ≡ predicate_of (tokens (texts line.now before.now)) }
 {
-    if before.is_empty() {
-        return Ok(Pr::default());
+    match before {
+        [] => Ok(Pr::default()),
+        [_, ..] => {
+            let read = tokens(line, before);
+            read_form(&[Form::Predicate], &read, &read)?;
+            Ok(pr_at(&read, 1))
+        }
     }
-    read_form(&[Form::Predicate], before, before)?;
-    Ok(pr_at(before, 1))
 }
 
 /// Whether the unit letter is missing.
@@ -131,20 +159,19 @@ fn label_name(line: &[u8], items: &[Item], words: &[Word]) -> Option<Name>
     }
 }
 
-/// A slot line by its tokens before and after the leading word, where `rest` is what follows the leading
-/// word within its name.
-fn slot_with(
+/// A slot line under a predicate by its tokens after the leading word, where `rest` is what follows the
+/// leading word within its name.
+fn slot_under(
+    qp: Pr,
     forms: &[Form],
     rest: &[u8],
-    before: &[Token],
     tokens: &[Token],
     line: &[u8],
     words: &[Word],
 ) -> Result<Line, LineFault>
     requires { AreParts line.now words.now }
-    ensures { result ≡ slot_with forms.now rest.now before.now tokens.now (texts line.now words.now) }
+    ensures { result ≡ slot_under qp forms.now rest.now tokens.now (texts line.now words.now) }
 {
-    let qp = predicate(before)?;
     let operands = without_stop(tokens);
     let form = read_form(forms, operands, tokens)?;
     let completers = completers_or_none(form, rest);
@@ -215,9 +242,9 @@ fn slot_of(
     requires parts { AreParts line.now before.now × AreParts line.now after.now }
     ensures { result ≡ slot_of forms.now rest.now (texts line.now before.now) (texts line.now after.now) }
 {
-    let read_before = tokens(line, before);
-    let read_after = tokens(line, after);
-    slot_with(forms, rest, &read_before, &read_after, line, after)
+    let qp = predicate(line, before)?;
+    let read = tokens(line, after);
+    slot_under(qp, forms, rest, &read, line, after)
 }
 
 /// A data line, before which no predicate stands.
@@ -358,8 +385,7 @@ fn led(line: &[u8], words: &[Word]) -> Result<Line, LineFault>
     requires parts { AreParts line.now words.now }
     ensures { result ≡ led (texts line.now words.now) }
 {
-    let read = tokens(line, words);
-    match lead_at(&read) {
+    match lead_at(line, words) {
         Some(lead) => led_at(line, words, lead),
         None => Err(LineFault::Name),
     }
