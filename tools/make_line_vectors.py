@@ -444,9 +444,14 @@ def lines():
     return [f"line {what}|{text}\n" for what, text in LINES]
 
 
+# A bundle of three nops.
+NOPS = "00000000010000000002000000000400"
+
+
 def wrong_on_purpose(rows):
-    """Rows that a program which always agrees would not tell from the others: another
-    instruction, another label, another fault, another line, and a stop that isn't there."""
+    """Rows that a program which looks at less than it has to would not tell from the others: another
+    instruction, another label, another fault, another line, a stop that isn't there, another number or
+    size of data, another count, another template, and another number without a unit letter."""
     plain = re.compile(r"\w{32} \d (\(p\d+\) )?add r\d+=r\d+,r\d+\n")
     digits, slot, text = next(row for row in rows if plain.fullmatch(row)).split(" ", 2)
     named = next(row for row in rows if ":bundle" in row)
@@ -457,6 +462,11 @@ def wrong_on_purpose(rows):
         fault.replace("register", "number", 1),
         "line label loop|loops:\n",
         f"{digits} {slot} {text.rstrip()} ;;\n",
+        "line numbers 1 2|data1 1\n",
+        "line numbers 2 1|data1 1\n",
+        "line skip 5|.skip 6\n",
+        "line open mii|{ .mmi\n",
+        f"{NOPS} 1 nop 1\n",
     ]
 
 

@@ -5,7 +5,7 @@ use Rattle.asm_words.specs.declared.tokens.Token.TheVariants as t
 use Rattle.asm_forms.specs.declared.items.Item.{Item}
 use Rattle.asm_forms.specs.declared.items.Item.TheVariants as i
 use Rattle.asm_forms.specs.declared.items.NumberField.{NumberField}
-use Rattle.asm_forms.specs.declared.items.NumberField.TheVariants.{Imm8, Less8, Imm9, Imm14, Imm22, Imm21, Imm62, Imm64, Count, Position, Length, Length16, One, MinusOne, Frame, Rotating, Tag, Mask, RotatingMask, Skip, Data1, Data2, Data4}
+use Rattle.asm_forms.specs.declared.items.NumberField.TheVariants.{Imm8, Less8, Imm9, Imm14, Imm22, Imm21, Imm62, Imm64, Count, Position, Length, Length16, One, ZeroOrMinusOne, Frame, Rotating, Tag, Mask, RotatingMask, Skip, Data1, Data2, Data4}
 use Rattle.ia_insn.specs.declared.registers.Ar.TheVariants as ar
 
 -- from -below to above
@@ -27,7 +27,7 @@ holds Position s m = within s m 0 63
 holds Length s m = within s m 0 64 && nat_le 1 m
 holds Length16 s m = within s m 0 16 && nat_le 1 m
 holds One s m = within s m 0 1 && nat_le 1 m
-holds MinusOne s m = within s m 1 0
+holds ZeroOrMinusOne s m = within s m 1 0
 holds Frame s m = within s m 0 96
 holds Rotating s m = within s m 0 96 && (m % 8 == 0)
 holds Tag s m = within s m 256 255

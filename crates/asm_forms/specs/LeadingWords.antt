@@ -67,7 +67,7 @@ word_text word.Data2 = codes "data2"
 word_text word.Data4 = codes "data4"
 word_text word.Data8 = codes "data8"
 
--- the forms that a word leads
+-- The forms that a word leads. The first that the operands have is read: a branch register before a label.
 abbrev pub forms_of : LeadingWord → List Form
 forms_of word.Add = form.Alu alu.Add ∷ form.AluOne alu.Add1 ∷ form.AddImm ∷ []
 forms_of word.Sub = form.Alu alu.Sub ∷ form.AluOne alu.Sub1 ∷ form.AluImm8 alu.Sub ∷ []
@@ -126,7 +126,3 @@ forms_of word.Data1 = form.Numbers size.One ∷ []
 forms_of word.Data2 = form.Numbers size.Two ∷ []
 forms_of word.Data4 = form.Numbers size.Four ∷ []
 forms_of word.Data8 = form.Numbers size.Eight ∷ []
-
-abbrev pub all_words : List LeadingWord
-all_words =
-    word.Add ∷ word.Sub ∷ word.Addp4 ∷ word.And ∷ word.Andcm ∷ word.Or ∷ word.Xor ∷ word.Shladd ∷ word.Shladdp4 ∷ word.Adds ∷ word.Addl ∷ word.Cmp ∷ word.Cmp4 ∷ word.Shr ∷ word.Shl ∷ word.Popcnt ∷ word.Shrp ∷ word.Extr ∷ word.Dep ∷ word.Tbit ∷ word.Tnat ∷ word.Chk ∷ word.Mov ∷ word.Zxt1 ∷ word.Zxt2 ∷ word.Zxt4 ∷ word.Sxt1 ∷ word.Sxt2 ∷ word.Sxt4 ∷ word.Ld1 ∷ word.Ld2 ∷ word.Ld4 ∷ word.Ld8 ∷ word.St1 ∷ word.St2 ∷ word.St4 ∷ word.St8 ∷ word.Invala ∷ word.Mf ∷ word.Alloc ∷ word.Br ∷ word.Clrrrb ∷ word.Movl ∷ word.Break ∷ word.Nop ∷ word.Hint ∷ word.Text ∷ word.Data ∷ word.Entry ∷ word.Global ∷ word.Proc ∷ word.Endp ∷ word.Skip ∷ word.Data1 ∷ word.Data2 ∷ word.Data4 ∷ word.Data8 ∷ []

@@ -6,7 +6,8 @@ use Rattle.asm_forms.specs.declared.completer.CompleterSet.{CompleterSet}
 use Rattle.asm_forms.specs.declared.form.Form.{Form}
 use Rattle.asm_forms.specs.declared.leading.LeadingWord.{LeadingWord}
 use Rattle.asm_forms.specs.Completers.{text_of, members}
-use Rattle.asm_forms.specs.LeadingWords.{word_text, all_words}
+use Rattle.asm_forms.specs.LeadingWords.{word_text}
+use Rattle.asm_forms.specs.declared.leading.TheConstants.{ALL}
 use Rattle.asm_forms.specs.Rows.{row_of}
 
 -- a dot or nothing follows
@@ -34,7 +35,7 @@ completers_in (s ∷ ss) name =
 
 -- the leading word of a name, and what follows it
 abbrev pub mnemonic_of : List ℕ → Option (LeadingWord × List ℕ)
-mnemonic_of name = option_map (λ w. (w, drop (length (word_text w)) name)) (find (λ w. begins name (word_text w)) all_words)
+mnemonic_of name = option_map (λ w. (w, drop (length (word_text w)) name)) (find (λ w. begins name (word_text w)) ALL)
 
 -- the forms whose completers this is
 abbrev pub named_in : List Form → List ℕ → List Form

@@ -5,7 +5,7 @@ use Rattle.asm_forms.specs.declared.completer.CompleterSet.{CompleterSet}
 use Rattle.asm_forms.specs.declared.completer.CompleterSet.TheVariants as set
 use Rattle.asm_forms.specs.declared.items.Item.{Item}
 use Rattle.asm_forms.specs.declared.items.Item.TheVariants.{Gr, Pr, Br, Ar, Unat, Pfs, R0, Predicates, RotatingPredicates, Ip, Number, Label, Equals, Comma, OpenBracket, CloseBracket, OpenParenthesis, CloseParenthesis}
-use Rattle.asm_forms.specs.declared.items.NumberField.TheVariants.{Imm8, Less8, Imm9, Imm14, Imm22, Imm21, Imm62, Imm64, Count, Position, Length, Length16, One, MinusOne, Frame, Rotating, Tag, Mask, RotatingMask, Skip}
+use Rattle.asm_forms.specs.declared.items.NumberField.TheVariants.{Imm8, Less8, Imm9, Imm14, Imm22, Imm21, Imm62, Imm64, Count, Position, Length, Length16, One, ZeroOrMinusOne, Frame, Rotating, Tag, Mask, RotatingMask, Skip}
 use Rattle.asm_forms.specs.declared.form.Form.{Form}
 use Rattle.asm_forms.specs.declared.form.Form.TheVariants as form
 use Rattle.asm_forms.specs.declared.choices.AccessSize.TheVariants as size
@@ -58,7 +58,7 @@ row_of form.DepZ = (set.Z ∷ [], Gr ∷ Equals ∷ Gr ∷ Comma ∷ Number Posi
 -- I13: zero and deposit of an immediate of 8 bits
 row_of form.DepZImm = (set.Z ∷ [], Gr ∷ Equals ∷ Number Imm8 ∷ Comma ∷ Number Position ∷ Comma ∷ Number Length ∷ [])
 -- I14: deposit of an immediate of one bit
-row_of form.DepImm = ([], Gr ∷ Equals ∷ Number MinusOne ∷ Comma ∷ Gr ∷ Comma ∷ Number Position ∷ Comma ∷ Number Length ∷ [])
+row_of form.DepImm = ([], Gr ∷ Equals ∷ Number ZeroOrMinusOne ∷ Comma ∷ Gr ∷ Comma ∷ Number Position ∷ Comma ∷ Number Length ∷ [])
 -- I15: deposit
 row_of form.Dep = ([], Gr ∷ Equals ∷ Gr ∷ Comma ∷ Gr ∷ Comma ∷ Number Position ∷ Comma ∷ Number Length16 ∷ [])
 -- I16: test a bit
@@ -138,18 +138,18 @@ row_of form.MovToAr = ([], Ar ∷ Equals ∷ Gr ∷ [])
 -- pseudo-operation of I28 and M31: the register decides the unit
 row_of form.MovFromAr = ([], Gr ∷ Equals ∷ Ar ∷ [])
 -- B formats
--- B4: indirect branch
-row_of form.BrInd = (set.Cond ∷ set.Whether ∷ set.Phase ∷ set.DeallocClr ∷ [], Br ∷ [])
 -- B1: branch
-row_of form.Br = (set.Cond ∷ set.Whether ∷ set.Phase ∷ set.DeallocClr ∷ [], Label ∷ [])
+row_of form.Br = (set.Cond ∷ set.Whether ∷ set.Prefetch ∷ set.DeallocClr ∷ [], Label ∷ [])
 -- B1 and B2: loop branch
-row_of form.BrLoop = (set.Loop ∷ set.Whether ∷ set.Phase ∷ set.DeallocClr ∷ [], Label ∷ [])
--- B5: indirect call
-row_of form.BrCallInd = (set.Call ∷ set.Whether ∷ set.Phase ∷ set.DeallocClr ∷ [], Br ∷ Equals ∷ Br ∷ [])
+row_of form.BrLoop = (set.Loop ∷ set.Whether ∷ set.Prefetch ∷ set.DeallocClr ∷ [], Label ∷ [])
 -- B3: call
-row_of form.BrCall = (set.Call ∷ set.Whether ∷ set.Phase ∷ set.DeallocClr ∷ [], Br ∷ Equals ∷ Label ∷ [])
+row_of form.BrCall = (set.Call ∷ set.Whether ∷ set.Prefetch ∷ set.DeallocClr ∷ [], Br ∷ Equals ∷ Label ∷ [])
+-- B4: indirect branch
+row_of form.BrInd = (set.Cond ∷ set.Whether ∷ set.Prefetch ∷ set.DeallocClr ∷ [], Br ∷ [])
 -- B4: return
-row_of form.BrRet = (set.Return ∷ set.Whether ∷ set.Phase ∷ set.DeallocClr ∷ [], Br ∷ [])
+row_of form.BrRet = (set.Return ∷ set.Whether ∷ set.Prefetch ∷ set.DeallocClr ∷ [], Br ∷ [])
+-- B5: indirect call
+row_of form.BrCallInd = (set.Call ∷ set.Whether ∷ set.Prefetch ∷ set.DeallocClr ∷ [], Br ∷ Equals ∷ Br ∷ [])
 -- B8: clearing of the rotating register bases
 row_of form.Clrrrb = ([], [])
 -- B8: clearing of the predicates' base

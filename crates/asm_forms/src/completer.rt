@@ -1,6 +1,7 @@
 //! The completers of a mnemonic: their texts, and which may stand at one place.
 
 ghost use Rattle.std.specs.Prelude.{◌≡◌, ◌≤◌, length};
+ghost use Rattle.asm_forms.specs.declared.completer.Completer.TheVariants as c;
 ghost use Rattle.asm_forms.specs.Completers.{text_of, members};
 
 use crate::choices::{CacheHint, Relation, Whether};
@@ -60,6 +61,9 @@ pub enum Completer {
 }
 
 impl Default for Completer {
+    ghost is_default = { λ completer. completer ≡ c.Absent };
+
+    /// No completer.
     fn default() -> Self {
         Completer::Absent
     }
@@ -68,44 +72,83 @@ impl Default for Completer {
 /// A place for a completer: which may stand there.
 #[derive(Clone, Copy, Debug, PartialEq, Eq)]
 pub enum CompleterSet {
+    /// `.eq` and nine others: a compare of two registers.
     Relation,
+    /// Those of a compare of a number and a register.
     RelationImm,
+    /// `.le` or `.gt`: a number that is lowered by one.
     RelationLess,
+    /// `.eq` or `.ne`, of a parallel compare.
     Equality,
+    /// `.gt`, `.le`, `.ge` or `.lt`, of a parallel compare with r0.
     Order,
+    /// `.unc` or nothing.
     Unc,
+    /// `.and`, `.or` or `.or.andcm`.
     Parallel,
+    /// `.u` or nothing.
     U,
+    /// `.z`.
     Z,
+    /// `.nz`.
     Nz,
+    /// `.s`.
     S,
+    /// `.i`, `.m` or nothing.
     CheckUnit,
+    /// `.ret` or nothing, of a move.
     Ret,
+    /// `.sptk`, `.dptk` or nothing (mwh).
     MoveWhether,
+    /// `.imp` or nothing (ih).
     Imp,
+    /// `.i`.
     UnitI,
+    /// `.m`.
     UnitM,
+    /// A load type (ldtype) but fill, or nothing.
     LoadType,
+    /// A load type (ldtype), or nothing.
     LoadTypeFill,
+    /// `.nt1`, `.nta` or nothing (ldhint).
     LoadHint,
+    /// `.rel` or nothing (sttype).
     StoreType,
+    /// `.rel`, `.spill` or nothing (sttype).
     StoreTypeSpill,
+    /// `.nta` or nothing (sthint).
     StoreHint,
+    /// `.a`.
     A,
+    /// `.nc`.
     Nc,
+    /// `.clr`.
     Clr,
+    /// `.e`.
     E,
+    /// `.cond` or nothing.
     Cond,
+    /// `.wexit`, `.wtop`, `.cloop`, `.cexit` or `.ctop` (btype).
     Loop,
+    /// `.call`.
     Call,
+    /// `.ret`, of a branch.
     Return,
+    /// `.sptk`, `.spnt`, `.dptk`, `.dpnt` or nothing (bwh).
     Whether,
-    Phase,
+    /// `.few`, `.many` or nothing (ph).
+    Prefetch,
+    /// `.clr` or nothing (dh).
     DeallocClr,
+    /// `.pr`.
     Pr,
+    /// `.m`, `.i`, `.f`, `.b`, `.x` or nothing.
     AnyUnit,
+    /// `.m`, `.i`, `.f` or `.b`.
     ShortUnit,
+    /// `.x` or nothing.
     LongUnit,
+    /// `.m`, `.i`, `.b` or nothing.
     HintUnit,
 }
 
@@ -308,7 +351,7 @@ pub fn members(set: CompleterSet) -> &'static [Completer]
             Completer::Whether(Whether::Dpnt),
             Completer::Absent,
         ],
-        CompleterSet::Phase => &[Completer::Few, Completer::Many, Completer::Absent],
+        CompleterSet::Prefetch => &[Completer::Few, Completer::Many, Completer::Absent],
         CompleterSet::DeallocClr => &[Completer::Clr, Completer::Absent],
         CompleterSet::Pr => &[Completer::Pr],
         CompleterSet::AnyUnit => &[

@@ -1,5 +1,8 @@
 //! The forms of lines.
 
+ghost use Rattle.std.specs.Prelude.{◌≡◌};
+ghost use Rattle.asm_forms.specs.declared.form.Form.TheVariants as forms;
+
 use crate::choices::AccessSize;
 use ia_insn::AluFn;
 
@@ -178,18 +181,18 @@ pub enum Form {
     MovToAr,
     /// `mov r1=ar`: `mov.i` or `mov.m`, by the register.
     MovFromAr,
-    /// `br[.cond][.bwh][.ph][.clr] b2` (B4).
-    BrInd,
     /// `br[.cond][.bwh][.ph][.clr] label` (B1).
     Br,
     /// `br.wexit[.bwh][.ph][.clr] label`, and `wtop` (B1), `cloop`, `cexit`, `ctop` (B2).
     BrLoop,
-    /// `br.call[.bwh][.ph][.clr] b1=b2` (B5).
-    BrCallInd,
     /// `br.call[.bwh][.ph][.clr] b1=label` (B3).
     BrCall,
+    /// `br[.cond][.bwh][.ph][.clr] b2` (B4).
+    BrInd,
     /// `br.ret[.bwh][.ph][.clr] b2` (B4).
     BrRet,
+    /// `br.call[.bwh][.ph][.clr] b1=b2` (B5).
+    BrCallInd,
     /// `clrrrb` (B8).
     Clrrrb,
     /// `clrrrb.pr` (B8).
@@ -234,6 +237,9 @@ pub enum Form {
 }
 
 impl Default for Form {
+    ghost is_default = { λ form. form ≡ forms.Predicate };
+
+    /// The qualifying predicate.
     fn default() -> Self {
         Form::Predicate
     }

@@ -36,7 +36,7 @@ pub enum NumberField {
     /// 1 alone.
     One,
     /// -1 to 0.
-    MinusOne,
+    ZeroOrMinusOne,
     /// 0 to 96.
     Frame,
     /// 0 to 96 in eights.
@@ -132,7 +132,7 @@ pub fn holds(field: NumberField, negative: bool, magnitude: u64) -> bool
         NumberField::Length => within(negative, magnitude, 0, 64) && magnitude >= 1,
         NumberField::Length16 => within(negative, magnitude, 0, 16) && magnitude >= 1,
         NumberField::One => within(negative, magnitude, 0, 1) && magnitude >= 1,
-        NumberField::MinusOne => within(negative, magnitude, 1, 0),
+        NumberField::ZeroOrMinusOne => within(negative, magnitude, 1, 0),
         NumberField::Frame => within(negative, magnitude, 0, 96),
         NumberField::Rotating => within(negative, magnitude, 0, 96) && magnitude % 8 == 0,
         NumberField::Tag => within(negative, magnitude, 256, 255),

@@ -1,7 +1,7 @@
 //! The words that lead a line, and the forms of each.
 
 ghost use Rattle.std.specs.Prelude.{◌≡◌, ◌≤◌, length};
-ghost use Rattle.asm_forms.specs.LeadingWords.{word_text, forms_of, all_words};
+ghost use Rattle.asm_forms.specs.LeadingWords.{word_text, forms_of};
 
 use crate::choices::AccessSize;
 use crate::form::Form;
@@ -252,7 +252,8 @@ pub fn word_text(word: LeadingWord) -> &'static [u8]
     }
 }
 
-/// The forms that it leads, with whatever completers.
+/// The forms that it leads, with whatever completers. The first that the operands have is read: a
+/// branch register before a label.
 pub fn forms(word: LeadingWord) -> &'static [Form]
     ensures value { result.now ≡ forms_of word }
     ensures few { length result.now ≤ 20 }

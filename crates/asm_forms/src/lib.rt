@@ -23,6 +23,6 @@ pub use completer::{Completer, CompleterSet, members, text};
 pub use form::Form;
 pub use items::{Item, NumberField, accepts, holds};
 pub use leading::{LeadingWord, forms, word_text};
-pub use matching::{agreed, fault_at, read_form};
+pub use matching::{fault_at, read_form};
 pub use naming::{Completers, Named, completers, leading_word, named};
 pub use rows::row;

@@ -74,7 +74,7 @@ fn is_stop_at(tokens: &[Token], at: usize) -> bool
 /// On how many tokens at the front a form with these items agrees: on a stop too where it stands after
 /// all of them.
 #[tactic(auto, unfolding(crate::specs::Matching::agreed))]
-pub fn agreed(items: &[Item], tokens: &[Token]) -> usize
+fn agreed(items: &[Item], tokens: &[Token]) -> usize
     ensures value { result ≡ agreed items.now tokens.now }
     ensures bound { result ≤ length tokens.now }
 {

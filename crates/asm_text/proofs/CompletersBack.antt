@@ -1,5 +1,5 @@
 -- The forms that a printed mnemonic names, and what is read from them.
-use Rattle.std.proofs.Common.{◌≡◌, ◌≢◌, ◌⊎◌, inl, inr, refl, ℕ, ◌≤◌, Bool, true, false, cond, eqb, List, [], ◌∷◌, Some, None, Ok, length, drop, arith, flat_map}
+use Rattle.std.proofs.Common.{◌≡◌, ◌≢◌, ◌⊎◌, inl, inr, refl, ℕ, ◌≤◌, Bool, true, false, List, [], ◌∷◌, Some, None, Ok, length, drop, arith, flat_map}
 use Rattle.std.specs.List.{find}
 use Rattle.asm_words.specs.declared.tokens.Token.{Token}
 use Rattle.asm_forms.specs.declared.completer.Completer.{Completer}
@@ -20,7 +20,7 @@ use Rattle.ia_insn.specs.declared.choices.LoadKind.{LoadKind}
 use Rattle.ia_insn.specs.declared.choices.LoadKind.TheVariants as load
 use Rattle.ia_insn.specs.declared.choices.StoreKind.{StoreKind}
 use Rattle.ia_insn.specs.declared.choices.StoreKind.TheVariants as store
-use Rattle.asm_text.specs.Canonical.{form_of, completers_of, tokens_of, when}
+use Rattle.asm_text.specs.Canonical.{form_of, completers_of, tokens_of, when, prefetch_hint, cache_hint, whether as whether_numbered}
 use Rattle.asm_text.specs.Instructions.{op_of}
 use Rattle.asm_text.specs.Lines.{KindAndText, among, slot_of, is_bare}
 use Rattle.asm_text.specs.Operands.{hint_of, is_many, is_present, whether}
@@ -62,20 +62,8 @@ reads_by x fs e s c f b o = record {
 pub headed : (s : CompleterSet) (ss : List CompleterSet) (x : Completer) (xs : List Completer) (name tail : List ℕ) → find (λ y. begins name (text_of y)) (members s) ≡ Some x → drop (length (text_of x)) name ≡ tail → completers_in ss tail ≡ Some xs → completers_in (s ∷ ss) name ≡ Some (x ∷ xs)
 headed s ss x xs name tail e d m = rw (e, d, m) refl
 
--- the prefetch hint that is printed
-abbrev pub phase : Bool → Completer
-phase many = cond many c.Many c.Few
-
--- the whether hint that is printed
-abbrev pub whether_numbered : ℕ → Whether
-whether_numbered n = cond (eqb n 0) wh.Sptk (cond (eqb n 1) wh.Spnt (cond (eqb n 2) wh.Dptk wh.Dpnt))
-
--- the cache hint that is printed
-abbrev pub cache_hint : ℕ → CacheHint
-cache_hint n = cond (eqb n 0) hint.None (cond (eqb n 1) hint.Nt1 hint.Nta)
-
 -- the hints of a branch after its first completer
-pub branch_tail : (w : Whether) (many clr : Bool) → completers_in (set.Whether ∷ set.Phase ∷ set.DeallocClr ∷ []) (flat_map text_of (c.Whether w ∷ phase many ∷ when clr c.Clr ∷ [])) ≡ Some (c.Whether w ∷ phase many ∷ when clr c.Clr ∷ [])
+pub branch_tail : (w : Whether) (many clr : Bool) → completers_in (set.Whether ∷ set.Prefetch ∷ set.DeallocClr ∷ []) (flat_map text_of (c.Whether w ∷ prefetch_hint many ∷ when clr c.Clr ∷ [])) ≡ Some (c.Whether w ∷ prefetch_hint many ∷ when clr c.Clr ∷ [])
 branch_tail wh.Sptk true true = refl
 branch_tail wh.Sptk true false = refl
 branch_tail wh.Sptk false true = refl
@@ -94,14 +82,14 @@ branch_tail wh.Dpnt false true = refl
 branch_tail wh.Dpnt false false = refl
 
 -- which begin a part of their own
-pub branch_tail_ends : (w : Whether) (many clr : Bool) → ends_part (flat_map text_of (c.Whether w ∷ phase many ∷ when clr c.Clr ∷ [])) ≡ true
+pub branch_tail_ends : (w : Whether) (many clr : Bool) → ends_part (flat_map text_of (c.Whether w ∷ prefetch_hint many ∷ when clr c.Clr ∷ [])) ≡ true
 branch_tail_ends wh.Sptk many clr = refl
 branch_tail_ends wh.Spnt many clr = refl
 branch_tail_ends wh.Dptk many clr = refl
 branch_tail_ends wh.Dpnt many clr = refl
 
 -- the hints' numbers come back
-pub many_back : (many : Bool) → is_many (phase many) ≡ many
+pub many_back : (many : Bool) → is_many (prefetch_hint many) ≡ many
 many_back true = refl
 many_back false = refl
 

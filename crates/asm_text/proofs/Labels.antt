@@ -1,7 +1,14 @@
 -- The rows of the printed forms: an item for each printed operand, and a label just where the
 -- instruction has a target.
-use Rattle.std.proofs.Common.{◌≡◌, refl, ◌∙◌, ap, true, false, cond, ◌||◌, List, [], ◌∷◌, length, Some, None, is_some}
-use Rattle.std.specs.List.{list_any}
+use Rattle.std.proofs.Common.{◌≡◌, refl, ◌∙◌, ap, Bool, true, false, cond, ◌||◌, Option, Ok, List, [], ◌∷◌, length, Some, None, is_some}
+use Rattle.std.specs.List.{find, list_any}
+use Rattle.std.specs.Cmp.Lexicographic.{pointwise}
+use Rattle.asm_words.specs.declared.fault.LineFault.{LineFault}
+use Rattle.asm_words.proofs.Bools.{right}
+use Rattle.asm_forms.specs.declared.form.Form.{Form}
+use Rattle.asm_forms.specs.Matching.{is_spelled, fault_of}
+use Rattle.asm_text.specs.Lines.{or_fault}
+use Rattle.asm_text.specs.ReadBack.{ReadsBack, named_forms}
 use Rattle.asm_words.specs.declared.tokens.Token.{Token}
 use Rattle.asm_words.specs.declared.tokens.Token.TheVariants as t
 use Rattle.asm_forms.specs.declared.choices.AccessSize.{AccessSize}
@@ -10,7 +17,7 @@ use Rattle.asm_forms.specs.declared.form.Form.TheVariants as form
 use Rattle.asm_forms.specs.declared.items.Item.{Item}
 use Rattle.asm_forms.specs.declared.items.Item.TheVariants as i
 use Rattle.asm_forms.specs.declared.items.NumberField.TheVariants.{Imm9}
-use Rattle.asm_forms.specs.Items.{is_label_item}
+use Rattle.asm_forms.specs.Items.{accepts, is_label_item}
 use Rattle.asm_forms.specs.Rows.{row_of}
 use Rattle.ia_insn.specs.declared.insn.Op.{Op}
 use Rattle.ia_insn.specs.declared.insn.Op.TheVariants as op
@@ -21,7 +28,6 @@ use Rattle.ia_insn.specs.declared.registers.Ar.TheVariants as ar
 use Rattle.ia_insn.specs.declared.choices.BranchKind.TheVariants as branch
 use Rattle.ia_insn.specs.declared.choices.Unit.TheVariants as unit
 use Rattle.ia_insn.specs.declared.choices.Update.TheVariants as update
-use Rattle.ia_insn.specs.Ranges.{HasRanges}
 use Rattle.ia_insn.specs.Targets.{displacement}
 use Rattle.asm_text.specs.Canonical.{form_of, tokens_of, size_of}
 use Rattle.asm_text.proofs.OperandTexts.{label_token}
@@ -57,102 +63,30 @@ store_imm_items size.Two = refl
 store_imm_items size.Four = refl
 store_imm_items size.Eight = refl
 
--- an operand for each item
-pub same_length : (x : Op) → HasRanges x → length (row_of (form_of x)).1 ≡ length (tokens_of x)
-same_length (op.Alu alu.Add r1 r2 r3) h = refl
-same_length (op.Alu alu.Add1 r1 r2 r3) h = refl
-same_length (op.Alu alu.Sub r1 r2 r3) h = refl
-same_length (op.Alu alu.Sub1 r1 r2 r3) h = refl
-same_length (op.Alu alu.Addp4 r1 r2 r3) h = refl
-same_length (op.Alu alu.And r1 r2 r3) h = refl
-same_length (op.Alu alu.Andcm r1 r2 r3) h = refl
-same_length (op.Alu alu.Or r1 r2 r3) h = refl
-same_length (op.Alu alu.Xor r1 r2 r3) h = refl
-same_length (op.ShlAdd p4 r1 r2 count r3) h = refl
-same_length (op.AluImm8 f r1 imm r3) h = refl
-same_length (op.AddImm14 p4 r1 imm r3) h = refl
-same_length (op.AddImm22 r1 imm r3) h = refl
-same_length (op.Cmp four rel cmp.Normal p1 p2 r2 r3) h = refl
-same_length (op.Cmp four rel cmp.Unc p1 p2 r2 r3) h = refl
-same_length (op.Cmp four rel cmp.And p1 p2 r2 r3) h = refl
-same_length (op.Cmp four rel cmp.Or p1 p2 r2 r3) h = refl
-same_length (op.Cmp four rel cmp.OrAndcm p1 p2 r2 r3) h = refl
-same_length (op.CmpZero four rel kind p1 p2 r3) h = refl
-same_length (op.CmpImm four rel cmp.Normal p1 p2 imm r3) h = refl
-same_length (op.CmpImm four rel cmp.Unc p1 p2 imm r3) h = refl
-same_length (op.CmpImm four rel cmp.And p1 p2 imm r3) h = refl
-same_length (op.CmpImm four rel cmp.Or p1 p2 imm r3) h = refl
-same_length (op.CmpImm four rel cmp.OrAndcm p1 p2 imm r3) h = refl
-same_length (op.ShiftVar shift.Shr r1 value count) h = refl
-same_length (op.ShiftVar shift.ShrU r1 value count) h = refl
-same_length (op.ShiftVar shift.Shl r1 value count) h = refl
-same_length (op.Popcnt r1 r3) h = refl
-same_length (op.Shrp r1 r2 r3 count) h = refl
-same_length (op.Extr signed r1 r3 lowest len) h = refl
-same_length (op.DepZ r1 r2 lowest len) h = refl
-same_length (op.DepZImm r1 imm lowest len) h = refl
-same_length (op.DepImm r1 ones r3 lowest len) h = refl
-same_length (op.Dep r1 r2 r3 lowest len) h = refl
-same_length (op.Tbit unc p1 p2 r3 lowest) h = refl
-same_length (op.Tnat unc p1 p2 r3) h = refl
-same_length (op.ChkS unit r2 disp) h = refl
-same_length (op.MovToBr b1 r2 ret imp wh tag) h = refl
-same_length (op.MovFromBr r1 b2) h = refl
-same_length (op.MovToPr r2 mask) h = refl
-same_length (op.MovToPrRot imm) h = refl
-same_length (op.MovFromIp r1) h = refl
-same_length (op.MovFromPr r1) h = refl
-same_length (op.MovToAr ar.Unat r2) h = refl
-same_length (op.MovToAr ar.Pfs r2) h = refl
-same_length (op.MovToAr ar.Lc r2) h = refl
-same_length (op.MovToAr ar.Ec r2) h = refl
-same_length (op.MovToArImm ar.Unat imm) h = refl
-same_length (op.MovToArImm ar.Pfs imm) h = refl
-same_length (op.MovToArImm ar.Lc imm) h = refl
-same_length (op.MovToArImm ar.Ec imm) h = refl
-same_length (op.MovFromAr r1 ar.Unat) h = refl
-same_length (op.MovFromAr r1 ar.Pfs) h = refl
-same_length (op.MovFromAr r1 ar.Lc) h = refl
-same_length (op.MovFromAr r1 ar.Ec) h = refl
-same_length (op.Ext signed size r1 r3) h = refl
-same_length (op.Load size kind hint r1 r3 update.None) h = ap length (load_items (size_of size))
-same_length (op.Load size kind hint r1 r3 (update.Reg r2)) h = ap length (load_reg_items (size_of size))
-same_length (op.Load size kind hint r1 r3 (update.Imm imm)) h = ap length (load_imm_items (size_of size))
-same_length (op.Store size kind hint r3 r2 update.None) h = ap length (store_items (size_of size))
-same_length (op.Store size kind hint r3 r2 (update.Reg r)) h = absurd h.2
-same_length (op.Store size kind hint r3 r2 (update.Imm imm)) h = ap length (store_imm_items (size_of size))
-same_length (op.ChkA true r1 disp) h = refl
-same_length (op.ChkA false r1 disp) h = refl
-same_length op.Invala h = refl
-same_length op.Mf h = refl
-same_length (op.InvalaE r1) h = refl
-same_length (op.Alloc r1 sof sol sor) h = refl
-same_length (op.Br branch.Cond wh many clr disp) h = refl
-same_length (op.Br branch.Wexit wh many clr disp) h = refl
-same_length (op.Br branch.Wtop wh many clr disp) h = refl
-same_length (op.Br branch.Cloop wh many clr disp) h = refl
-same_length (op.Br branch.Cexit wh many clr disp) h = refl
-same_length (op.Br branch.Ctop wh many clr disp) h = refl
-same_length (op.BrCall b1 wh many clr disp) h = refl
-same_length (op.BrInd b2 wh many clr) h = refl
-same_length (op.BrRet b2 wh many clr) h = refl
-same_length (op.BrCallInd b1 b2 wh many clr) h = refl
-same_length (op.Clrrrb true) h = refl
-same_length (op.Clrrrb false) h = refl
-same_length (op.Movl r1 imm) h = refl
-same_length (op.Break unit.M imm) h = refl
-same_length (op.Break unit.I imm) h = refl
-same_length (op.Break unit.F imm) h = refl
-same_length (op.Break unit.B imm) h = refl
-same_length (op.Break unit.L imm) h = refl
-same_length (op.Break unit.X imm) h = refl
-same_length (op.Nop unit.M imm) h = refl
-same_length (op.Nop unit.I imm) h = refl
-same_length (op.Nop unit.F imm) h = refl
-same_length (op.Nop unit.B imm) h = refl
-same_length (op.Nop unit.L imm) h = refl
-same_length (op.Nop unit.X imm) h = refl
-same_length (op.Hint unit imm) h = refl
+-- operands that are accepted are as many as the items
+as_many : (is : List Item) (xs : List Token) → pointwise accepts is xs ≡ true → length is ≡ length xs
+as_many [] [] h = refl
+as_many [] (x ∷ xs) h = cc
+as_many (i ∷ is) [] h = cc
+as_many (i ∷ is) (x ∷ xs) h = rw (as_many is xs (right (accepts i x) _ h)) refl
+
+-- what is found passes
+passes : (p : Form → Bool) (fs : List Form) (f : Form) → find p fs ≡ Some f → p f ≡ true
+passes p [] f h = cc
+passes p (g ∷ gs) f h =
+    elim (p g) as (λ b. p g ≡ b → cond b (Some g) (find p gs) ≡ Some f → p f ≡ true) [
+      | true ↦ λ e k. cc
+      | false ↦ λ e k. passes p gs f k
+    ] refl h
+
+found_of : (r : Option Form) (e : LineFault) (f : Form) → or_fault r e ≡ Ok f → r ≡ Some f
+found_of None e f h = cc
+found_of (Some g) e f h = cc
+
+-- an operand for each item, since the operands are read as the form
+pub same_length : (x : Op) → ReadsBack x → length (row_of (form_of x)).1 ≡ length (tokens_of x)
+same_length x back =
+    as_many (row_of (form_of x)).1 (tokens_of x) (passes (is_spelled (tokens_of x)) (named_forms x) (form_of x) (found_of (find (is_spelled (tokens_of x)) (named_forms x)) (fault_of (named_forms x) []) (form_of x) (back.form [])))
 
 -- a label where the instruction has a target
 wants_label : (x : Op) → list_any is_label_item (row_of (form_of x)).1 ≡ is_some (displacement x)

@@ -25,7 +25,7 @@ line_back i bundle stop listed low =
     let ready = printed i listed in
     let label = label_where (displacement i.op) (label_token (row_of (form_of i.op)).1 (tokens_of i.op)) (has_no_label_token i.op) (has_label_token i.op) in
     record {
-      reading = slot_line_back i bundle stop (reads_back i.op ranges) ready.1 ready.0 (spaced_apart i.op) (same_length i.op ranges) (target_is_near bundle i.op low ranges) label;
+      reading = slot_line_back i bundle stop (reads_back i.op ranges) ready.1 ready.0 (spaced_apart i.op) (same_length i.op (reads_back i.op ranges)) (target_is_near bundle i.op low ranges) label;
       listed = still_listed i listed;
     }
 
@@ -34,4 +34,4 @@ pub line_short : (i : Insn) (bundle : ℕ) (stop : Bool) → IsListed i → bund
 line_short i bundle stop listed low =
     let ready = printed i listed in
     let ranges = ranges_of_listed i listed in
-    slot_line_is_short i bundle stop ready.1 (same_length i.op ranges) ready.0 (target_is_near bundle i.op low ranges)
+    slot_line_is_short i bundle stop ready.1 (same_length i.op (reads_back i.op ranges)) ready.0 (target_is_near bundle i.op low ranges)

@@ -5,7 +5,7 @@ use Rattle.std.specs.List.{list_all}
 use Rattle.std.proofs.lemmas.Bool.{eqb-true}
 use Rattle.asm_words.specs.declared.word.WordKind.TheVariants as kind
 use Rattle.asm_words.specs.Bytes.{is_name_byte, is_digit_byte}
-use Rattle.asm_words.specs.Lexed.{lexed, is_end}
+use Rattle.asm_words.proofs.Lexed.{lexed, is_end}
 use Rattle.asm_words.proofs.Bools.{left, right}
 use Rattle.asm_words.proofs.Lexing.{name_lexed}
 use Rattle.asm_forms.specs.declared.choices.Relation.TheVariants as rel

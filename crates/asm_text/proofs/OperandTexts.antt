@@ -12,7 +12,7 @@ use Rattle.asm_words.specs.declared.tokens.Token.TheVariants as t
 use Rattle.asm_words.specs.declared.word.WordKind.{WordKind}
 use Rattle.asm_words.specs.declared.word.WordKind.TheVariants as kind
 use Rattle.asm_words.specs.Bytes.{is_name_byte, is_digit_byte, has_only_plain}
-use Rattle.asm_words.specs.Lexed.{lexed, is_end}
+use Rattle.asm_words.proofs.Lexed.{lexed, is_end}
 use Rattle.asm_words.specs.Tokens.{token_of}
 use Rattle.asm_words.proofs.Bools.{left, right}
 use Rattle.asm_words.proofs.Lexing.{name_lexed}

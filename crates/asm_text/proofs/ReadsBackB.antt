@@ -15,17 +15,17 @@ use Rattle.ia_insn.specs.declared.insn.Op.{Op}
 use Rattle.ia_insn.specs.declared.insn.Op.TheVariants as op
 use Rattle.ia_insn.specs.declared.choices.BranchKind.{BranchKind}
 use Rattle.ia_insn.specs.declared.choices.BranchKind.TheVariants as branch
-use Rattle.asm_text.specs.Canonical.{when}
+use Rattle.asm_text.specs.Canonical.{when, prefetch_hint, whether as whether_numbered}
 use Rattle.asm_text.specs.ReadBack.{ReadsBack}
-use Rattle.asm_text.proofs.CompletersBack.{named_yes, named_no, reads_by, headed, phase, whether_numbered, branch_tail, branch_tail_ends, many_back, clr_back, whether_back}
+use Rattle.asm_text.proofs.CompletersBack.{named_yes, named_no, reads_by, headed, branch_tail, branch_tail_ends, many_back, clr_back, whether_back}
 
 -- the completers of a branch after the first
 abbrev hints : Whether → Bool → Bool → List Completer
-hints w many clr = c.Whether w ∷ phase many ∷ when clr c.Clr ∷ []
+hints w many clr = c.Whether w ∷ prefetch_hint many ∷ when clr c.Clr ∷ []
 
 -- their sets
 abbrev hint_sets : List CompleterSet
-hint_sets = set.Whether ∷ set.Phase ∷ set.DeallocClr ∷ []
+hint_sets = set.Whether ∷ set.Prefetch ∷ set.DeallocClr ∷ []
 
 -- each first completer is found before a part of its own
 cond_found : (tail : List ℕ) → ends_part tail ≡ true → find (λ y. begins (text_of c.Cond ++ tail) (text_of y)) (members set.Cond) ≡ Some c.Cond

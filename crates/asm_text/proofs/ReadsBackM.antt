@@ -11,8 +11,6 @@ use Rattle.asm_forms.specs.declared.form.Form.TheVariants as form
 use Rattle.asm_forms.specs.declared.choices.CacheHint.{CacheHint}
 use Rattle.asm_forms.specs.declared.choices.AccessSize.{AccessSize}
 use Rattle.asm_forms.specs.declared.choices.AccessSize.TheVariants as size
-use Rattle.asm_forms.specs.declared.leading.LeadingWord.{LeadingWord}
-use Rattle.asm_forms.specs.declared.leading.LeadingWord.TheVariants as word
 use Rattle.asm_forms.specs.Completers.{text_of}
 use Rattle.asm_forms.specs.LeadingWords.{forms_of}
 use Rattle.asm_forms.specs.Matching.{read_form}
@@ -28,11 +26,11 @@ use Rattle.ia_insn.specs.declared.choices.Update.TheVariants as update
 use Rattle.ia_insn.specs.Signed.{FitsSigned}
 use Rattle.ia_insn.specs.FormatsM.{IsLoadUpdate, IsStoreUpdate}
 use Rattle.ia_insn.specs.Ranges.{IsAccessSize, IsLoadSize, IsStoreSize}
-use Rattle.asm_text.specs.Canonical.{size_of, number}
+use Rattle.asm_text.specs.Canonical.{size_of, number, load_word, store_word, cache_hint}
 use Rattle.asm_text.specs.Operands.{bytes, hint_of, signed, is_negative, magnitude}
 use Rattle.asm_text.specs.ReadBack.{ReadsBack}
 use Rattle.asm_text.proofs.FieldRanges.{signed_back, is_below, is_short, has_imm9}
-use Rattle.asm_text.proofs.CompletersBack.{named_two, named_three, reads_by, cache_hint, hint_back, is_fill, is_spill, is_store_hint, load_fill_back, load_plain_back, store_spill_back, store_plain_back}
+use Rattle.asm_text.proofs.CompletersBack.{named_two, named_three, reads_by, hint_back, is_fill, is_spill, is_store_hint, load_fill_back, load_plain_back, store_spill_back, store_plain_back}
 
 -- the size of an access comes back
 size_cases : (n : ℕ) → IsAccessSize n → bytes (size_of n) ≡ n
@@ -58,13 +56,6 @@ load_size load.CClrAcq n s = s
 not_fill : (k : LoadKind) (n : ℕ) → IsLoadSize k n → n ≢ 8 → is_fill k ≡ false
 not_fill load.Fill n e d = absurd (d e)
 not_fill k n s d = refl
-
--- the word of a load
-abbrev load_word : AccessSize → LeadingWord
-load_word size.One = word.Ld1
-load_word size.Two = word.Ld2
-load_word size.Four = word.Ld4
-load_word size.Eight = word.Ld8
 
 -- the forms of loads of a size
 abbrev loads : AccessSize → List Form
@@ -152,13 +143,6 @@ store_size store.Rel n s = s
 not_spill : (k : StoreKind) (n : ℕ) → IsStoreSize k n → n ≢ 8 → is_spill k ≡ false
 not_spill store.Spill n e d = absurd (d e)
 not_spill k n s d = refl
-
--- the word of a store
-abbrev store_word : AccessSize → LeadingWord
-store_word size.One = word.St1
-store_word size.Two = word.St2
-store_word size.Four = word.St4
-store_word size.Eight = word.St8
 
 -- the forms of stores of a size
 abbrev stores : AccessSize → List Form

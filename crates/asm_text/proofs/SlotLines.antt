@@ -1,5 +1,5 @@
 -- A printed slot line is read as the instruction that was printed, and its stop.
-use Rattle.std.proofs.Common.{◌≡◌, refl, sym, ◌∙◌, ap, ℕ, zero, suc, ◌+◌, ◌-◌, ◌<◌, ◌^◌, Bool, true, false, ◌&&◌, not, cond, eqb, List, [], ◌∷◌, ◌++◌, length, take, drop, Option, Some, None, Ok, Err, Result, arith, append_assoc, append-nil, codes}
+use Rattle.std.proofs.Common.{◌≡◌, refl, sym, ◌∙◌, ap, ℕ, zero, suc, ◌-◌, ◌<◌, ◌^◌, Bool, true, false, ◌&&◌, not, cond, eqb, List, [], ◌∷◌, ◌++◌, length, take, Option, Some, None, Ok, Result, arith, append_assoc, append-nil, codes}
 use Rattle.std.specs.Prelude.{ℤ, is_some, IfSome, unwrap_or, slice_get}
 use Rattle.std.specs.List.{AllByRecursion}
 use Rattle.std.specs.Option.{option_map}
@@ -13,10 +13,11 @@ use Rattle.asm_words.specs.declared.word.WordKind.TheVariants as kind
 use Rattle.asm_words.specs.declared.fault.LineFault.{LineFault}
 use Rattle.asm_words.specs.declared.fault.LineFault.TheVariants as fault
 use Rattle.asm_words.specs.Bytes.{begins_letter, has_only_plain}
-use Rattle.asm_words.specs.Lexed.{lexed, is_end}
+use Rattle.asm_words.proofs.Lexed.{lexed, is_end}
 use Rattle.asm_words.specs.Registers.{look_up, aliases, alias_of, numbered, numbered_register, register_of}
 use Rattle.asm_words.specs.Tokens.{name_token, other_name, token_of}
 use Rattle.asm_words.proofs.Bools.{left, right}
+use Rattle.asm_words.proofs.Bridge.{words_lexed}
 use Rattle.asm_words.proofs.Lexing.{name_lexed}
 use Rattle.asm_words.proofs.Readings.{pr_reads, decimal_is_name_bytes, decimal_is_plain, name_bytes_are_plain, both_plain}
 use Rattle.asm_forms.specs.declared.form.Form.{Form}
@@ -33,9 +34,9 @@ use Rattle.asm_text.specs.declared.line.Line.{Line}
 use Rattle.asm_text.specs.declared.line.Line.TheVariants as line
 use Rattle.asm_text.specs.Canonical.{word_of, form_of, completers_of, tokens_of}
 use Rattle.asm_text.specs.Instructions.{op_of}
-use Rattle.asm_text.specs.Lines.{◌>>=◌, or_fault, KindAndText, tokens, label_name, is_open, is_close, lead_at, is_some_stop, ends_in_stop, without_stop, predicate_of, is_bare, draft_of, completers_or_none, slot_of, worded, led_by, led, is_name_word, is_colon, value_of, reading_of}
+use Rattle.asm_text.specs.Lines.{◌>>=◌, or_fault, KindAndText, tokens, label_name, is_open, is_close, lead_at, led_at, is_some_stop, ends_in_stop, without_stop, predicate_of, is_bare, draft_of, completers_or_none, slot_of, worded, led, is_name_word, is_colon, value_of, reading_of}
 use Rattle.asm_text.specs.ReadBack.{untargeted, completers_text, named_forms, ReadsBack, IsPrinted}
-use Rattle.asm_text.specs.SlotTexts.{label_text, operands_text, spaced, mnemonic_text, predicate_text, stop_text, target_of, slot_text}
+use Rattle.asm_text.specs.SlotTexts.{label_text, operands_text, spaced, mnemonic_text, predicate_text, stop_text, target_of, or_zero, slot_text}
 use Rattle.asm_text.proofs.Mnemonic.{mnemonic_back, completers_end, mnemonic_bytes, mnemonic_lexed}
 use Rattle.asm_text.proofs.OperandTexts.{are_apart, label_token, operands_plain, operands_back, label_found, label_missing}
 
@@ -211,14 +212,6 @@ worded_reads : (x : Op) (before after : List KindAndText) (qp : ℕ) (name : Opt
 worded_reads x before after qp name stop back printed p seen n =
     ap (λ r. worded r before after) (mnemonic_back (word_of x) (completers_text x) (completers_end (completers_of x))) ∙ back.slot before after ∙ slot_reads x before after qp name stop back printed p seen n
 
-abbrev led_by_some : Option KindAndText → List KindAndText → List KindAndText → Result Line LineFault
-led_by_some None before after = Err fault.Name
-led_by_some (Some w) before after = led_by w before after
-
-abbrev led_at : List KindAndText → Option ℕ → Result Line LineFault
-led_at ws None = Err fault.Name
-led_at ws (Some k) = led_by_some (slice_get ws k) (take k ws) (drop (k + 1) ws)
-
 led_from : (ws : List KindAndText) (k : ℕ) → lead_at (tokens ws) ≡ Some k → led ws ≡ led_at ws (Some k)
 led_from ws k e = ap (led_at ws) e
 
@@ -280,11 +273,6 @@ spaced_lexed : (text cs : List ℕ) → lexed 0 (spaced text ++ cs) ≡ lexed 0 
 spaced_lexed [] cs = refl
 spaced_lexed (c ∷ text) cs = refl
 
--- 0 where there is no target
-abbrev or_zero : Option ℕ → ℕ
-or_zero None = 0
-or_zero (Some n) = n
-
 small_target : (target : Option ℕ) → IfSome target (λ n. n < 2 ^ 34) → or_zero target < 2 ^ 34
 small_target None h = omega arith
 small_target (Some n) h = h
@@ -320,7 +308,7 @@ chosen : {A : Type 0} (b : Bool) (x y : A) → b ≡ true → cond b x y ≡ x
 chosen b x y h = rw h refl
 
 read_plain : (bytes : List ℕ) → has_only_plain bytes ≡ true → reading_of bytes ≡ value_of (lexed 0 bytes)
-read_plain bytes h = chosen (has_only_plain bytes) _ _ h
+read_plain bytes h = chosen (has_only_plain bytes) _ _ h ∙ ap value_of (words_lexed bytes)
 
 -- the operands of a line by the number of their target
 line_back : (x : Op) (qp : ℕ) (target : Option ℕ) (stop : Bool) → ReadsBack x → AllByRecursion IsPrinted (tokens_of x) → qp < 64 → are_apart (tokens_of x) ≡ true

@@ -6,7 +6,6 @@ use Rattle.asm_words.specs.declared.word.Word.{Word}
 use Rattle.asm_words.specs.declared.fault.LineFault.TheVariants as fault
 use Rattle.asm_words.specs.Bytes.{has_only_plain}
 use Rattle.asm_words.specs.Words.{words_from}
-use Rattle.asm_words.proofs.Bridge.{words_lexed}
 use Rattle.asm_text.specs.Lines.{KindAndText, texts, value_of, led, led_at, led_by, label_of, reading_of}
 
 -- a label has nothing after its colon
@@ -32,4 +31,4 @@ led_there line ws before after k d h front rest =
 
 -- the words of a line are read by their kinds and texts
 pub read_by_text : (line : List ℕ) (ws : List Word) → ws ≡ words_from 0 0 line → has_only_plain line ≡ true → value_of (texts line ws) ≡ reading_of line
-read_by_text line ws e plain = rw (e, plain, words_lexed line) refl
+read_by_text line ws e plain = rw (e, plain) refl

@@ -270,8 +270,8 @@ whether n = if n == 0 then wh.Sptk else (if n == 1 then wh.Spnt else (if n == 2 
 abbrev pub cache_hint : ℕ → CacheHint
 cache_hint n = if n == 0 then hint.None else (if n == 1 then hint.Nt1 else hint.Nta)
 
-abbrev pub phase : Bool → Completer
-phase many = if many then c.Many else c.Few
+abbrev pub prefetch_hint : Bool → Completer
+prefetch_hint many = if many then c.Many else c.Few
 
 abbrev pub clear_of : Bool → Completer
 clear_of clear = if clear then c.Clr else c.Nc
@@ -330,11 +330,11 @@ completers_of op.Mf = []
 completers_of (op.InvalaE r1) = c.E ∷ []
 completers_of (op.Alloc r1 sof sol sor) = []
 -- B formats
-completers_of (op.Br kind wh many clr disp) = branch_kind kind ∷ (c.Whether (whether wh)) ∷ phase many ∷ when clr c.Clr ∷ []
-completers_of (op.BrCall b1 wh many clr disp) = c.Call ∷ (c.Whether (whether wh)) ∷ phase many ∷ when clr c.Clr ∷ []
-completers_of (op.BrInd b2 wh many clr) = c.Cond ∷ (c.Whether (whether wh)) ∷ phase many ∷ when clr c.Clr ∷ []
-completers_of (op.BrRet b2 wh many clr) = c.Ret ∷ (c.Whether (whether wh)) ∷ phase many ∷ when clr c.Clr ∷ []
-completers_of (op.BrCallInd b1 b2 wh many clr) = c.Call ∷ (c.Whether (whether wh)) ∷ phase many ∷ when clr c.Clr ∷ []
+completers_of (op.Br kind wh many clr disp) = branch_kind kind ∷ (c.Whether (whether wh)) ∷ prefetch_hint many ∷ when clr c.Clr ∷ []
+completers_of (op.BrCall b1 wh many clr disp) = c.Call ∷ (c.Whether (whether wh)) ∷ prefetch_hint many ∷ when clr c.Clr ∷ []
+completers_of (op.BrInd b2 wh many clr) = c.Cond ∷ (c.Whether (whether wh)) ∷ prefetch_hint many ∷ when clr c.Clr ∷ []
+completers_of (op.BrRet b2 wh many clr) = c.Ret ∷ (c.Whether (whether wh)) ∷ prefetch_hint many ∷ when clr c.Clr ∷ []
+completers_of (op.BrCallInd b1 b2 wh many clr) = c.Call ∷ (c.Whether (whether wh)) ∷ prefetch_hint many ∷ when clr c.Clr ∷ []
 completers_of (op.Clrrrb pred_only) = clrrrb_completers pred_only
 -- X formats
 completers_of (op.Movl r1 imm) = []

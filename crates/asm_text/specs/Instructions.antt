@@ -1,6 +1,6 @@
 -- The instruction that the completers and the operands of a form make: a row a form, in the order of the
 -- manual's formats (volume 3, chapter 2). A target that is a label counts 0 until its name is put in.
-use Rattle.std.specs.Prelude.{ℕ, ◌+◌, ◌/◌, ℤ, pos, ◌-ℤ◌, Bool, true, false, not, nat_lt, if◌then◌else◌, List, Option, Some, None}
+use Rattle.std.specs.Prelude.{ℕ, ◌+◌, ◌/◌, ℤ, pos, ◌-ℤ◌, Bool, true, false, not, nat_lt, ◌==◌, if◌then◌else◌, List, Option, Some, None}
 use Rattle.asm_words.specs.declared.tokens.Token.{Token}
 use Rattle.asm_forms.specs.declared.completer.Completer.{Completer}
 use Rattle.asm_forms.specs.declared.choices.Relation.{Relation}
@@ -79,7 +79,7 @@ parallel_imm four (Some r) kind p q n b = Some (op.CmpImm four r kind p q n b)
 abbrev pub sum : Bool → ℕ → ℕ → ℤ → ℕ → Op
 sum negative magnitude r1 n r3 = if holds Imm14 negative magnitude then op.AddImm14 false r1 n r3 else op.AddImm22 r1 n r3
 
--- the registers of an application register that I slots move
+-- a move of an application register, where I slots move it
 abbrev pub of_i_slot : Ar → Op → Option Op
 of_i_slot ar.Unat x = None
 of_i_slot _ x = Some x
@@ -113,7 +113,7 @@ op_of form.Shrp cs ts = Some (op.Shrp (gr_at ts 0) (gr_at ts 2) (gr_at ts 4) (sm
 op_of form.Extr cs ts = Some (op.Extr (not (is_present_at cs 0)) (gr_at ts 0) (gr_at ts 2) (small_at ts 4) (small_at ts 6))
 op_of form.DepZ cs ts = Some (op.DepZ (gr_at ts 0) (gr_at ts 2) (small_at ts 4) (small_at ts 6))
 op_of form.DepZImm cs ts = Some (op.DepZImm (gr_at ts 0) (signed_at ts 2) (small_at ts 4) (small_at ts 6))
-op_of form.DepImm cs ts = Some (op.DepImm (gr_at ts 0) (is_negative_at ts 2) (gr_at ts 4) (small_at ts 6) (small_at ts 8))
+op_of form.DepImm cs ts = Some (op.DepImm (gr_at ts 0) (not (magnitude_at ts 2 == 0)) (gr_at ts 4) (small_at ts 6) (small_at ts 8))
 op_of form.Dep cs ts = Some (op.Dep (gr_at ts 0) (gr_at ts 2) (gr_at ts 4) (small_at ts 6) (small_at ts 8))
 op_of form.Tbit cs ts = Some (op.Tbit (is_unc_at cs 1) (pr_at ts 0) (pr_at ts 2) (gr_at ts 4) (small_at ts 6))
 op_of form.Tnat cs ts = Some (op.Tnat (is_unc_at cs 1) (pr_at ts 0) (pr_at ts 2) (gr_at ts 4))
@@ -152,12 +152,12 @@ op_of form.Alloc cs ts = allocation (gr_at ts 0) (small_at ts 4) (small_at ts 6)
 op_of form.MovToAr cs ts = Some (op.MovToAr (ar_at ts 0) (gr_at ts 2))
 op_of form.MovFromAr cs ts = Some (op.MovFromAr (gr_at ts 0) (ar_at ts 2))
 -- B formats
-op_of form.BrInd cs ts = Some (op.BrInd (br_at ts 0) (whether_at cs 1) (is_many_at cs 2) (is_present_at cs 3))
 op_of form.Br cs ts = Some (op.Br branch.Cond (whether_at cs 1) (is_many_at cs 2) (is_present_at cs 3) (pos 0))
 op_of form.BrLoop cs ts = Some (op.Br (loop_kind_at cs 0) (whether_at cs 1) (is_many_at cs 2) (is_present_at cs 3) (pos 0))
-op_of form.BrCallInd cs ts = Some (op.BrCallInd (br_at ts 0) (br_at ts 2) (whether_at cs 1) (is_many_at cs 2) (is_present_at cs 3))
 op_of form.BrCall cs ts = Some (op.BrCall (br_at ts 0) (whether_at cs 1) (is_many_at cs 2) (is_present_at cs 3) (pos 0))
+op_of form.BrInd cs ts = Some (op.BrInd (br_at ts 0) (whether_at cs 1) (is_many_at cs 2) (is_present_at cs 3))
 op_of form.BrRet cs ts = Some (op.BrRet (br_at ts 0) (whether_at cs 1) (is_many_at cs 2) (is_present_at cs 3))
+op_of form.BrCallInd cs ts = Some (op.BrCallInd (br_at ts 0) (br_at ts 2) (whether_at cs 1) (is_many_at cs 2) (is_present_at cs 3))
 op_of form.Clrrrb cs ts = Some (op.Clrrrb false)
 op_of form.ClrrrbPr cs ts = Some (op.Clrrrb true)
 -- X formats

@@ -12,11 +12,10 @@ use Rattle.asm_words.specs.declared.fault.LineFault.{LineFault}
 use Rattle.asm_words.specs.declared.fault.LineFault.TheVariants as fault
 use Rattle.asm_words.specs.declared.word.Word.{Word}
 use Rattle.asm_words.specs.Bytes.{has_only_plain}
-use Rattle.asm_words.specs.Lexed.{lexed}
 use Rattle.asm_words.specs.Registers.{numbered_register}
 use Rattle.asm_words.specs.Slices.{IsPart}
 use Rattle.asm_words.specs.Tokens.{token_of}
-use Rattle.asm_words.specs.Words.{pick}
+use Rattle.asm_words.specs.Words.{pick, words_from}
 use Rattle.asm_forms.specs.declared.choices.AccessSize.{AccessSize}
 use Rattle.asm_forms.specs.declared.choices.AccessSize.TheVariants as size
 use Rattle.asm_forms.specs.declared.completer.Completer.{Completer}
@@ -40,7 +39,7 @@ use Rattle.asm_text.specs.declared.line.Draft.{Draft}
 use Rattle.asm_text.specs.declared.line.Shape.{Shape}
 use Rattle.asm_text.specs.declared.line.Shape.TheVariants as shape
 use Rattle.asm_text.specs.Instructions.{op_of}
-use Rattle.asm_text.specs.Operands.{pr_at, word_at, magnitude, is_negative, wrapped, bytes, completer_at, is_present}
+use Rattle.asm_text.specs.Operands.{pr_at, u32_at, magnitude, is_negative, wrapped, bytes, completer_at, is_present}
 
 infixl 10 ◌>>=◌
 abbrev pub ◌>>=◌ : {A B : Type 0} → Result A LineFault → (A → Result B LineFault) → Result B LineFault
@@ -184,7 +183,7 @@ directive_value form.Text after = Ok line.Text
 directive_value form.Data after = Ok line.Data
 directive_value form.Entry after = named (label_name (row_of form.Entry).1 after) (λ name. line.Entry name)
 directive_value form.Ignored after = Ok line.Ignored
-directive_value form.Skip after = Ok (line.Skip (word_at (tokens after) 0))
+directive_value form.Skip after = Ok (line.Skip (u32_at (tokens after) 0))
 directive_value _ after = Err fault.Form
 
 abbrev pub directive_of : List Form → List KindAndText → Result Line LineFault
@@ -293,7 +292,7 @@ value_of (w ∷ x ∷ ws) =
 
 -- what the bytes of a line say, but for whether its instruction is listed
 abbrev pub reading_of : List ℕ → Result Line LineFault
-reading_of bytes = if has_only_plain bytes then value_of (lexed 0 bytes) else Err fault.Char
+reading_of bytes = if has_only_plain bytes then value_of (texts bytes (words_from 0 0 bytes)) else Err fault.Char
 
 -- the instruction of a slot line is listed
 abbrev pub IsListedLine : Line → Type 0

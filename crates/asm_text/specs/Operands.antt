@@ -79,8 +79,8 @@ abbrev pub small_at : List Token → ℕ → ℕ
 small_at ts k = if nat_lt (magnitude_at ts k) 256 then magnitude_at ts k else 0
 
 -- a number below 2^32
-abbrev pub word_at : List Token → ℕ → ℕ
-word_at ts k = if nat_lt (magnitude_at ts k) (2 ^ 32) then magnitude_at ts k else 0
+abbrev pub u32_at : List Token → ℕ → ℕ
+u32_at ts k = if nat_lt (magnitude_at ts k) (2 ^ 32) then magnitude_at ts k else 0
 
 -- how much is left of 64
 abbrev pub left_at : List Token → ℕ → ℕ

@@ -9,7 +9,7 @@ ghost use Rattle.ia_insn.specs.declared.choices.Update.TheVariants as update;
 ghost use Rattle.asm_forms.specs.declared.completer.Completer.TheVariants as c;
 ghost use Rattle.asm_forms.specs.declared.choices.Whether.TheVariants as wh;
 ghost use Rattle.asm_forms.specs.declared.choices.CacheHint.TheVariants as hint;
-ghost use Rattle.asm_text.specs.Canonical.{alu_word, ext_word, load_word, store_word, size_of, word_of, form_of, when, unc_of, move_whether, whether, cache_hint, phase, clear_of, completers_of};
+ghost use Rattle.asm_text.specs.Canonical.{alu_word, ext_word, load_word, store_word, size_of, word_of, form_of, when, unc_of, move_whether, whether, cache_hint, prefetch_hint, clear_of, completers_of};
 
 use asm_forms::{
     AccessSize, CacheHint, Completer, Completers, Form, LeadingWord, Relation, Whether,
@@ -351,8 +351,8 @@ fn cache_hint(n: u8) -> CacheHint
 }
 
 /// The prefetch hint.
-fn phase(many: bool) -> Completer
-    ensures { result ≡ phase many }
+fn prefetch_hint(many: bool) -> Completer
+    ensures { result ≡ prefetch_hint many }
 {
     if many {
         Completer::Many
@@ -462,7 +462,7 @@ pub(crate) fn completers_of(op: &Op) -> Completers
         } => completers(&[
             Completer::Cond,
             Completer::Whether(whether(wh)),
-            phase(many),
+            prefetch_hint(many),
             when(clr, Completer::Clr),
         ]),
         Op::Br {
@@ -474,31 +474,31 @@ pub(crate) fn completers_of(op: &Op) -> Completers
         } => completers(&[
             Completer::Loop(kind),
             Completer::Whether(whether(wh)),
-            phase(many),
+            prefetch_hint(many),
             when(clr, Completer::Clr),
         ]),
         Op::BrCall { wh, many, clr, .. } => completers(&[
             Completer::Call,
             Completer::Whether(whether(wh)),
-            phase(many),
+            prefetch_hint(many),
             when(clr, Completer::Clr),
         ]),
         Op::BrInd { wh, many, clr, .. } => completers(&[
             Completer::Cond,
             Completer::Whether(whether(wh)),
-            phase(many),
+            prefetch_hint(many),
             when(clr, Completer::Clr),
         ]),
         Op::BrRet { wh, many, clr, .. } => completers(&[
             Completer::Ret,
             Completer::Whether(whether(wh)),
-            phase(many),
+            prefetch_hint(many),
             when(clr, Completer::Clr),
         ]),
         Op::BrCallInd { wh, many, clr, .. } => completers(&[
             Completer::Call,
             Completer::Whether(whether(wh)),
-            phase(many),
+            prefetch_hint(many),
             when(clr, Completer::Clr),
         ]),
         Op::Clrrrb { pred_only } => if pred_only {

@@ -5,7 +5,7 @@ ghost use Rattle.asm_text.specs.Lines.{data_field, data_item, agreed_data, numbe
 ghost use Rattle.asm_text.specs.Operands.{wrapped, bytes, is_negative, magnitude};
 
 use crate::line::{Line, Values};
-use crate::operands::bytes;
+use crate::operands::{bytes, wrapped_below};
 use arrayvec::ArrayVec;
 use asm_forms::{AccessSize, Item, NumberField, accepts, fault_at};
 use asm_words::{LineFault, Token};
@@ -43,19 +43,6 @@ fn agreed_data(field: NumberField, tokens: &[Token]) -> usize
         at += 1;
     }
     at
-}
-
-/// A number of this sign modulo a power of two.
-fn wrapped_below(modulus: u64, negative: bool, magnitude: u64) -> u64
-    requires { 1 ≤ modulus }
-    ensures { result ≡ wrapped modulus negative magnitude }
-{
-    let low = magnitude % modulus;
-    if negative {
-        (modulus - low) % modulus
-    } else {
-        low
-    }
 }
 
 /// A number of this sign modulo what so many bytes hold.

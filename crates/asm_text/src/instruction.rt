@@ -376,7 +376,7 @@ pub(crate) fn op_of(form: Form, completers: &[Completer], tokens: &[Token]) -> O
         }),
         Form::DepImm => Some(Op::DepImm {
             r1: gr_at(tokens, 0),
-            ones: is_negative_at(tokens, 2),
+            ones: magnitude_at(tokens, 2) != 0,
             r3: gr_at(tokens, 4),
             pos: small_at(tokens, 6),
             len: small_at(tokens, 8),
@@ -580,12 +580,6 @@ pub(crate) fn op_of(form: Form, completers: &[Completer], tokens: &[Token]) -> O
             ar: ar_at(tokens, 2),
         }),
         // B formats
-        Form::BrInd => Some(Op::BrInd {
-            b2: br_at(tokens, 0),
-            wh: whether_at(completers, 1),
-            many: is_many_at(completers, 2),
-            clr: is_present_at(completers, 3),
-        }),
         Form::Br => Some(Op::Br {
             kind: BranchKind::Cond,
             wh: whether_at(completers, 1),
@@ -600,13 +594,6 @@ pub(crate) fn op_of(form: Form, completers: &[Completer], tokens: &[Token]) -> O
             clr: is_present_at(completers, 3),
             disp: 0,
         }),
-        Form::BrCallInd => Some(Op::BrCallInd {
-            b1: br_at(tokens, 0),
-            b2: br_at(tokens, 2),
-            wh: whether_at(completers, 1),
-            many: is_many_at(completers, 2),
-            clr: is_present_at(completers, 3),
-        }),
         Form::BrCall => Some(Op::BrCall {
             b1: br_at(tokens, 0),
             wh: whether_at(completers, 1),
@@ -614,8 +601,21 @@ pub(crate) fn op_of(form: Form, completers: &[Completer], tokens: &[Token]) -> O
             clr: is_present_at(completers, 3),
             disp: 0,
         }),
+        Form::BrInd => Some(Op::BrInd {
+            b2: br_at(tokens, 0),
+            wh: whether_at(completers, 1),
+            many: is_many_at(completers, 2),
+            clr: is_present_at(completers, 3),
+        }),
         Form::BrRet => Some(Op::BrRet {
             b2: br_at(tokens, 0),
+            wh: whether_at(completers, 1),
+            many: is_many_at(completers, 2),
+            clr: is_present_at(completers, 3),
+        }),
+        Form::BrCallInd => Some(Op::BrCallInd {
+            b1: br_at(tokens, 0),
+            b2: br_at(tokens, 2),
             wh: whether_at(completers, 1),
             many: is_many_at(completers, 2),
             clr: is_present_at(completers, 3),

@@ -1,9 +1,11 @@
 //! Laws of lines, each the contract of a function that does nothing.
 
-ghost use Rattle.std.specs.Prelude.{ℕ, ◌<◌, ◌≤◌, ◌^◌, Bool, List, length};
+ghost use Rattle.std.specs.Prelude.{◌≡◌, ℕ, ◌<◌, ◌≤◌, ◌^◌, Bool, List, length};
 ghost use Rattle.ia_insn.specs.declared.insn.Insn.{Insn};
 ghost use Rattle.ia_insn.specs.Listed.{IsListed};
-ghost use Rattle.asm_text.specs.Lines.{LineOf};
+ghost use Rattle.asm_words.specs.Bytes.{has_only_plain};
+ghost use Rattle.asm_words.specs.Words.{words_from};
+ghost use Rattle.asm_text.specs.Lines.{LineOf, texts, reading_of};
 ghost use Rattle.asm_text.specs.OneAnswer.{HasOneValue, HasOneFault, HasNoFault};
 ghost use Rattle.asm_text.specs.ReadBack.{printed_line};
 ghost use Rattle.asm_text.specs.SlotTexts.{slot_text};
@@ -23,4 +25,10 @@ pub fn printed_slots_are_read_back()
         → LineOf (slot_text insn bundle stop) (printed_line insn bundle stop) }
     ensures short { (insn : Insn) (bundle : ℕ) (stop : Bool) → IsListed insn → bundle < 2 ^ 32
         → length (slot_text insn bundle stop) ≤ 240 }
+{}
+
+/// The law that lines with the same words say the same. It does nothing.
+pub fn a_line_is_read_by_its_words()
+    ensures { (a b : List ℕ) → has_only_plain a ≡ has_only_plain b → texts a (words_from 0 0 a) ≡ texts b (words_from 0 0 b)
+        → reading_of a ≡ reading_of b }
 {}

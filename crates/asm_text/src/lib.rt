@@ -17,7 +17,7 @@ mod printing;
 mod reading;
 mod shape;
 
-pub use laws::{a_line_has_one_answer, printed_slots_are_read_back};
+pub use laws::{a_line_has_one_answer, a_line_is_read_by_its_words, printed_slots_are_read_back};
 pub use line::{Draft, Line, Shape, Values};
 pub use printing::print_slot;
 pub use reading::read_line;

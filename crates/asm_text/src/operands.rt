@@ -2,7 +2,7 @@
 //! completer stands there, the answer is the first value of the kind.
 
 ghost use Rattle.std.specs.Prelude.{◌≡◌, ◌<◌, ◌≤◌};
-ghost use Rattle.asm_text.specs.Operands.{token_at, gr_at, pr_at, br_at, ar_at, magnitude_at, is_negative_at, small_at, word_at, left_at, signed_at, short_at, wrapped, wrapped_at, mask_at, completer_at, is_present_at, relation_at, compare_at, is_unc_at, shift_right_at, load_kind_at, store_kind_at, hint_at, whether_at, move_whether_at, is_many_at, loop_kind_at, unit_at, bytes};
+ghost use Rattle.asm_text.specs.Operands.{token_at, gr_at, pr_at, br_at, ar_at, magnitude_at, is_negative_at, small_at, u32_at, left_at, signed_at, short_at, wrapped, wrapped_at, mask_at, completer_at, is_present_at, relation_at, compare_at, is_unc_at, shift_right_at, load_kind_at, store_kind_at, hint_at, whether_at, move_whether_at, is_many_at, loop_kind_at, unit_at, bytes};
 
 use asm_forms::{AccessSize, CacheHint, Completer, Relation, Whether};
 use asm_words::Token;
@@ -86,8 +86,8 @@ pub(crate) fn small_at(tokens: &[Token], at: usize) -> u8
 }
 
 /// The number at a place, where it is below 2^32.
-pub(crate) fn word_at(tokens: &[Token], at: usize) -> u32
-    ensures { result ≡ word_at tokens.now at }
+pub(crate) fn u32_at(tokens: &[Token], at: usize) -> u32
+    ensures { result ≡ u32_at tokens.now at }
 {
     let magnitude = magnitude_at(tokens, at);
     if magnitude < 4_294_967_296 {
@@ -132,14 +132,15 @@ pub(crate) fn short_at(tokens: &[Token], at: usize) -> i16
     }
 }
 
-/// A number of this sign modulo 2^17.
-fn wrapped_mask(negative: bool, magnitude: u64) -> u64
-    ensures value { result ≡ wrapped 131072 negative magnitude }
-    ensures bound { result < 131072 }
+/// A number of this sign modulo a power of two.
+pub(crate) fn wrapped_below(modulus: u64, negative: bool, magnitude: u64) -> u64
+    requires { 1 ≤ modulus }
+    ensures value { result ≡ wrapped modulus negative magnitude }
+    ensures bound { result < modulus }
 {
-    let low = magnitude % 131_072;
+    let low = magnitude % modulus;
     if negative {
-        (131_072 - low) % 131_072
+        (modulus - low) % modulus
     } else {
         low
     }
@@ -149,7 +150,11 @@ fn wrapped_mask(negative: bool, magnitude: u64) -> u64
 pub(crate) fn mask_at(tokens: &[Token], at: usize) -> u32
     ensures { result ≡ mask_at tokens.now at }
 {
-    let mask = wrapped_mask(is_negative_at(tokens, at), magnitude_at(tokens, at));
+    let mask = wrapped_below(
+        131_072,
+        is_negative_at(tokens, at),
+        magnitude_at(tokens, at),
+    );
     (mask - mask % 2) as u32
 }
 

@@ -37,9 +37,9 @@ fn hex_digit(digit: u64) -> u8
     ensures { result ≡ digit_glyph false digit }
 {
     if digit < 10 {
-        48 + digit as u8
+        b'0' + digit as u8
     } else {
-        87 + digit as u8
+        b'a' - 10 + digit as u8
     }
 }
 

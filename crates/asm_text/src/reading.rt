@@ -10,7 +10,7 @@ ghost use Rattle.asm_text.specs.Lines.{AreParts, texts, tokens, name_of, label_n
 use crate::data::data_of;
 use crate::instruction::op_of;
 use crate::line::{Draft, Line};
-use crate::operands::{is_present_at, pr_at, word_at};
+use crate::operands::{is_present_at, pr_at, u32_at};
 use crate::shape::shape_of;
 use arrayvec::ArrayVec;
 use asm_forms::{
@@ -213,7 +213,7 @@ fn directive_value(
         },
         Form::Ignored => Ok(Line::Ignored),
         Form::Skip => Ok(Line::Skip {
-            count: word_at(operands, 0),
+            count: u32_at(operands, 0),
         }),
         _ => Err(LineFault::Form),
     }

@@ -7,7 +7,7 @@ use Rattle.asm_words.specs.declared.word.WordKind.{WordKind}
 use Rattle.asm_words.specs.Bytes.{is_blank}
 use Rattle.asm_words.specs.Words.{begins_comment, kind_at, more_at, sharp_at, words_from}
 use Rattle.asm_words.specs.Tokens.{token_of}
-use Rattle.asm_words.specs.Lexed.{lexed, token_in}
+use Rattle.asm_words.proofs.Lexed.{lexed, token_in}
 
 abbrev pair_in : List ℕ → Word → WordKind × List ℕ
 pair_in line w = (w.kind, slice_range line w.start w.end)

@@ -6,7 +6,7 @@ use Rattle.asm_words.specs.declared.word.WordKind.{WordKind}
 use Rattle.asm_words.specs.declared.word.WordKind.TheVariants as word
 use Rattle.asm_words.specs.Bytes.{is_blank, begins_with, is_name_byte, is_digit_byte}
 use Rattle.asm_words.specs.Words.{begins_comment, name_run, kind_at, more_at, sharp_at}
-use Rattle.asm_words.specs.Lexed.{lexed, is_end}
+use Rattle.asm_words.proofs.Lexed.{lexed, is_end}
 use Rattle.asm_words.proofs.Bools.{left, right}
 
 -- a run of name bytes before such an end

@@ -1,3 +1,4 @@
+pub mod Lexed
 pub mod Bools
 pub mod Bridge
 pub mod Cutting

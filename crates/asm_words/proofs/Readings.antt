@@ -12,7 +12,7 @@ use Rattle.asm_words.specs.declared.tokens.Token.{Token}
 use Rattle.asm_words.specs.declared.tokens.Token.TheVariants as t
 use Rattle.asm_words.specs.declared.word.WordKind.TheVariants as word
 use Rattle.asm_words.specs.Bytes.{begins_digit, is_name_byte, is_digit_byte, is_plain_byte, has_only_plain}
-use Rattle.asm_words.specs.Lexed.{lexed, is_end}
+use Rattle.asm_words.proofs.Lexed.{lexed, is_end}
 use Rattle.asm_words.specs.Numbers.{number_token, unsigned_token, based, are_digits, numeral}
 use Rattle.asm_words.specs.Tokens.{token_of, name_token}
 use Rattle.asm_words.proofs.Bools.{left, right, all_below, below_is}

@@ -3,5 +3,4 @@ pub mod Words
 pub mod Numbers
 pub mod Registers
 pub mod Tokens
-pub mod Lexed
 pub mod Slices

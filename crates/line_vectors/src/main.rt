@@ -2,7 +2,7 @@
 //!
 //! Standard input has a line a row: the sixteen bytes of a bundle, as the GNU assembler for IA-64 makes
 //! them, a slot, and the text that has to be read as the instruction of this slot; or a line and the
-//! fault that it has; or a line that isn't a slot's, and what it is. The last five lines are wrong on
+//! fault that it has; or a line that isn't a slot's, and what it is. The last ten lines are wrong on
 //! purpose, so that it shows that a difference is seen. The file is written by
 //! `tools/make_line_vectors.py`. The program names the first ten lines that differ, and then says how
 //! many were read and how many of them differ.
