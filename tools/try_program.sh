@@ -32,6 +32,10 @@ head -c 100 /dev/zero > "$dir/no_image"
 
 try accepted 0 "$dir/accepted" examples/three_nops.image check
 try wrap 0 examples/three_nops.image examples/three_nops.bundles wrap
+printf '{ .mii\n  nop.m 0x0\n  nop.i 0x0\n  nop.i 0x0 ;;\n}\n' > "$dir/text"
+try show 0 "$dir/text" examples/three_nops.image show
+printf '{ .mii\n  nop.m 0x0\n  add r8=r9,r10\n  add r11=r8,r9 ;;\n}\n' > "$dir/adds"
+try show_adds 0 "$dir/adds" examples/read_after_write.image show
 try violated 1 "$dir/raw" examples/read_after_write.image check
 try no_words 2 "$dir/nothing" examples/three_nops.image
 try unknown_word 2 "$dir/nothing" examples/three_nops.image Check
@@ -54,6 +58,8 @@ nops='\x01\0\0\0\x01\0\0\0\0\x02\0\0\0\0\x04\0'
 open='\0\0\0\0\x01\0\0\0\0\x02\0\0\0\0\x04\0'
 
 refused 'short' check 'IA64IMG1'
+refused 'short' show ''
+refused 'magic' show 'IA64IMG2\x01\0\0\0\0\0\0\0\0\0\0\0\0\0\0\0'
 refused 'entry 0' check 'IA64IMG1\x01\0\0\0\x01\0\0\0\0\0\0\0\0\0\0\0\x01\0\0\0'"$nops"
 refused 'bundle 1: template' wrap "$nops"'\x06\0\0\0\0\0\0\0\0\0\0\0\0\0\0\0'
 refused 'bundle 0 slot 2: unlisted' wrap '\x01\0\0\0\x01\0\0\0\0\x02\x80\xff\xff\xff\xff\xff'
@@ -70,6 +76,8 @@ note $(($? != 6)) "write_fault: another status than 6"
 note $? "README: check"
 ./ia64 wrap < examples/three_nops.bundles 2> /dev/null | cmp -s - examples/three_nops.image
 note $? "README: wrap"
+./ia64 show < examples/three_nops.image 2> /dev/null | cmp -s - "$dir/text"
+note $? "README: show"
 ./ia64 check < examples/read_after_write.image 2> /dev/null | cmp -s - "$dir/raw"
 note $? "README: a hazard"
 ./ia64 2> "$dir/err" < /dev/null

@@ -12,6 +12,7 @@ mod data;
 mod instruction;
 mod laws;
 mod line;
+mod numerals;
 mod operands;
 mod printing;
 mod reading;
@@ -19,6 +20,7 @@ mod shape;
 
 pub use laws::{a_line_has_one_answer, a_line_is_read_by_its_words, printed_slots_are_read_back};
 pub use line::{Draft, Line, Shape, Values};
+pub use numerals::{push_bytes, push_decimal, push_hex};
 pub use printing::print_slot;
 pub use reading::read_line;
 

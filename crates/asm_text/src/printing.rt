@@ -1,7 +1,6 @@
 //! The canonical slot line.
 
 ghost use Rattle.std.specs.Prelude.{◌≡◌, ◌++◌, ◌∷◌, ◌<◌, OnOk, OnErr, Some, false, codes, decimal, flat_map};
-ghost use Rattle.std.specs.Fmt.{digits, digit_glyph};
 ghost use Rattle.std.specs.Io.{StartsWith};
 ghost use Rattle.asm_forms.specs.Completers.{text_of};
 ghost use Rattle.ia_insn.specs.Listed.{IsListed};
@@ -11,48 +10,11 @@ ghost use Rattle.asm_forms.specs.Rows.{row_of};
 
 use crate::canonical::{completers_of, form_of, word_of};
 use crate::canonical_tokens::tokens_of;
+use crate::numerals::{push_bytes, push_decimal, push_hex};
 use asm_forms::{Completer, Item, NumberField, row, text, word_text};
 use asm_words::Token;
 use ia_insn::{Ar, Insn, Op, Place, Pr};
-use itoa::Buffer;
 use std::alloc::AllocError;
-
-fn push_bytes(out: &mut Vec<u8>, bytes: &[u8]) -> Result<(), AllocError>
-    ensures ok { OnOk result (out.new.items ≡ out.old.items ++ bytes.now) }
-    ensures err { OnErr result (StartsWith out.new.items out.old.items) }
-{
-    out.extend_from_slice(bytes)
-}
-
-fn push_decimal(out: &mut Vec<u8>, n: u64) -> Result<(), AllocError>
-    ensures ok { OnOk result (out.new.items ≡ out.old.items ++ decimal n) }
-    ensures err { OnErr result (StartsWith out.new.items out.old.items) }
-{
-    let mut buffer = Buffer::new();
-    push_bytes(out, buffer.format(n).as_bytes())
-}
-
-fn hex_digit(digit: u64) -> u8
-    requires { digit < 16 }
-    ensures { result ≡ digit_glyph false digit }
-{
-    if digit < 10 {
-        b'0' + digit as u8
-    } else {
-        b'a' - 10 + digit as u8
-    }
-}
-
-#[tactic(auto, using(asm_words::proofs::HexDigits::hex_step, asm_words::proofs::HexDigits::hex_one, crate::proofs::Kept::kept_before, std::proofs::lemmas::Grind::common_steps))]
-fn push_hex(out: &mut Vec<u8>, n: u64) -> Result<(), AllocError>
-    ensures ok { OnOk result (out.new.items ≡ out.old.items ++ digits 16 false n) }
-    ensures err { OnErr result (StartsWith out.new.items out.old.items) }
-{
-    if n >= 16 {
-        push_hex(out, n / 16)?;
-    }
-    push_bytes(out, &[hex_digit(n % 16)])
-}
 
 #[tactic(auto, using(crate::proofs::Kept::kept_before))]
 fn push_number(

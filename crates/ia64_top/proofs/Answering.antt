@@ -6,7 +6,7 @@ use Rattle.std.proofs.KnownBytes.{Appends-nil}
 use Rattle.std.proofs.lemmas.Bool.{lt-ltb, le-ltb}
 use Rattle.io_seam.specs.Bytes.{LosesFirst}
 use Rattle.ia64_top.specs.declared.words.Command.{Command}
-use Rattle.ia64_top.specs.declared.words.Command.TheVariants.{Wrap, Check}
+use Rattle.ia64_top.specs.declared.words.Command.TheVariants.{Wrap, Show, Check}
 use Rattle.ia64_top.specs.declared.status.Status.{Status}
 use Rattle.ia64_top.specs.declared.status.Status.TheVariants.{Done, Words, TooLong}
 use Rattle.ia64_top.specs.Words.{command_of}
@@ -62,6 +62,7 @@ untouched (Some l) = (λ e. cc, λ loses. let e : l ≡ drop (input_limit + 1) l
 -- what a command answers to an input within the limit is never that it is too long
 not_too_long : (command : Command) (input bytes : List ℕ) → IsCommandOutput command input bytes TooLong → ⊥
 not_too_long Wrap input bytes o = o
+not_too_long Show input bytes o = o
 not_too_long Check input bytes o = o
 
 pub read_whole : (P : Type 0) (command : Command) (left new : Option (List ℕ)) (input bytes : List ℕ) (status : Status) → ¬ P → IfSome left (λ l. P ↔ LosesFirst (input_limit + 1) l new) → IsCommandOutput command input bytes status → IfSome left (λ l. (status ≡ TooLong) ↔ LosesFirst (input_limit + 1) l new)

@@ -15,7 +15,7 @@ use Rattle.ia64_top.specs.Programs.{IsPlain}
 use Rattle.ia64_top.specs.Violations.{IsFree}
 use Rattle.ia64_top.specs.Verdicts.{IsVerdict}
 use Rattle.ia64_top.specs.Judgements.{TellsWhether, IsJudgement, IsProgramAnswer}
-use Rattle.ia64_top.specs.Output.{BeginsAsImage, IsWrapOutput, IsUnjudged, IsCheckOutput}
+use Rattle.ia64_top.specs.Output.{BeginsAsImage, IsWrapOutput, IsShowOutput, IsUnjudged, IsCheckOutput}
 
 -- what is there where a call went well, told by what its contract tells
 pub if_ok : {T E : Type 0} {P Q : T → Type 0} (result : Result T E) → IfOk result P → ((x : T) → P x → Q x) → IfOk result Q
@@ -109,6 +109,21 @@ pub only_raw_refused : NoFaultWhereRaw → (input : List ℕ) (fault : ImageFaul
 only_raw_refused none input fault f bytes Done o = absurd (none o.0 input fault o.1 f)
 only_raw_refused none input fault f bytes Refused o = refl
 only_raw_refused none input fault f bytes other o = absurd o
+
+-- an image has its text for output, and nothing else
+pub only_shown : NoFaultWhereSpelled → (input : List ℕ) (p : Program) → Spells p input → (bytes : List ℕ) (other : Status) → IsShowOutput input bytes other → other ≡ Done
+only_shown none input p s bytes Done o = refl
+only_shown none input p s bytes Refused o = absurd (none p input o.0 s o.1)
+only_shown none input p s bytes other o = absurd o
+
+-- and one with a fault its refusal
+pub only_show_refused : NoFaultWhereSpelled → (input : List ℕ) (fault : ImageFault) → HasImageFault input fault → (bytes : List ℕ) (other : Status) → IsShowOutput input bytes other → other ≡ Refused
+only_show_refused none input fault f bytes Done o = absurd (none o.0 input fault o.1 f)
+only_show_refused none input fault f bytes Refused o = refl
+only_show_refused none input fault f bytes other o = absurd o
+
+pub is_show_refusal : (input : List ℕ) (fault : ImageFault) (bytes : List ℕ) (status : Status) → HasImageFault input fault → bytes ≡ refusal_text fault → status ≡ Refused → IsShowOutput input bytes status
+is_show_refusal input fault bytes status f printed e = subst (IsShowOutput input bytes) (sym e) (fault, f, printed)
 
 -- the output of a refusal is one of the fault that it tells
 pub is_raw_refusal : (input : List ℕ) (fault : ImageFault) (bytes : List ℕ) (status : Status) → HasRawFault input fault → bytes ≡ refusal_text fault → status ≡ Refused → IsWrapOutput input bytes status

@@ -2,13 +2,14 @@
 use Rattle.std.specs.Prelude.{◌≡◌, ℕ, ◌<◌, ◌⊎◌, nat_lt, List, [], length, take, Option, MatchOption, MatchBool}
 use Rattle.std.specs.Io.KnownBytes.{Appends}
 use Rattle.ia64_top.specs.declared.words.Command.{Command}
-use Rattle.ia64_top.specs.declared.words.Command.TheVariants.{Wrap, Check}
+use Rattle.ia64_top.specs.declared.words.Command.TheVariants.{Wrap, Show, Check}
 use Rattle.ia64_top.specs.declared.status.Status.{Status}
 use Rattle.ia64_top.specs.declared.status.Status.TheVariants.{Done, Violated, Words, Refused, TooLong, NotYet}
 use Rattle.ia_insn.specs.Programs.{Program}
 use Rattle.image_form.specs.declared.fault.ImageFault.{ImageFault}
 use Rattle.image_form.specs.Images.{magic, Spells, RawSpells}
 use Rattle.image_form.specs.Faults.{HasImageFault, HasRawFault}
+use Rattle.asm_build.specs.CanonicalText.{canonical_text}
 use Rattle.ia64_top.specs.Words.{command_of}
 use Rattle.ia64_top.specs.Programs.{IsPlain}
 use Rattle.ia64_top.specs.Judgements.{IsJudgement}
@@ -27,6 +28,12 @@ abbrev pub IsWrapOutput : List ℕ → List ℕ → Status → Type 0
 IsWrapOutput input bytes Done = (program : Program) × RawSpells program input × Spells program bytes
 IsWrapOutput input bytes Refused = (fault : ImageFault) × HasRawFault input fault × (bytes ≡ refusal_text fault)
 IsWrapOutput input bytes status = ⊥
+
+-- What `show` writes and answers.
+abbrev pub IsShowOutput : List ℕ → List ℕ → Status → Type 0
+IsShowOutput input bytes Done = (program : Program) × Spells program input × (bytes ≡ canonical_text program)
+IsShowOutput input bytes Refused = (fault : ImageFault) × HasImageFault input fault × (bytes ≡ refusal_text fault)
+IsShowOutput input bytes status = ⊥
 
 -- an input that isn't judged yet: no image, or that of a program that isn't plain
 abbrev pub IsUnjudged : List ℕ → Type 0
@@ -49,6 +56,7 @@ IsSilent status bytes answer = (bytes ≡ []) × (answer ≡ status)
 
 abbrev pub IsCommandOutput : Command → List ℕ → List ℕ → Status → Type 0
 IsCommandOutput Wrap input bytes status = IsWrapOutput input bytes status
+IsCommandOutput Show input bytes status = IsShowOutput input bytes status
 IsCommandOutput Check input bytes status = IsCheckOutput input bytes status
 
 -- The bytes that are written and the status that is answered, for these words and this input.

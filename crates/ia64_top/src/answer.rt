@@ -6,7 +6,7 @@ ghost use Rattle.image_form.specs.Images.{Spells};
 ghost use Rattle.ia64_top.specs.Programs.{IsPlain};
 ghost use Rattle.ia64_top.specs.Violations.{IsFree};
 ghost use Rattle.ia64_top.specs.Judgements.{IsJudgement, IsProgramAnswer};
-ghost use Rattle.ia64_top.specs.Output.{IsWrapOutput, IsCheckOutput, IsCommandOutput};
+ghost use Rattle.ia64_top.specs.Output.{IsWrapOutput, IsShowOutput, IsCheckOutput, IsCommandOutput};
 ghost use Rattle.ia64_top.specs.Texts.{refusal_text};
 ghost use Rattle.ia64_top.specs.declared.status.Status.{Status};
 
@@ -15,6 +15,7 @@ use crate::program::is_plain;
 use crate::status::Status;
 use crate::text::{refusal, verdict};
 use crate::words::Command;
+use asm_build::disassemble;
 use ia_insn::Program;
 use image_form::{
     ImageFault, is_image, no_fault_where_raw, no_fault_where_spelled, one_program, read_image,
@@ -85,6 +86,21 @@ fn wrap_input(alloc: Global, input: &[u8]) -> Result<Answer, AllocError>
     }
 }
 
+/// The answer of `show` to an input within the limit.
+fn show_input(alloc: Global, input: &[u8]) -> Result<Answer, AllocError>
+    ensures output { IfOk result (λ answer. IsShowOutput input.now answer.bytes.items answer.status) }
+    ensures only { IfOk result (λ answer. (bytes : List ℕ) (status : Status) → IsShowOutput input.now bytes status → status ≡ answer.status) }
+{
+    no_fault_where_spelled();
+    match read_image(alloc, input) {
+        Ok(program) => Ok(Answer {
+            bytes: disassemble(alloc, &program)?,
+            status: Status::Done,
+        }),
+        Err(fault) => refuse(alloc, fault),
+    }
+}
+
 /// The answer of `check` to a program.
 fn check_program(alloc: Global, program: &Program) -> Result<Answer, AllocError>
     ensures { IfOk result (λ answer. IsProgramAnswer program.now answer.bytes.items answer.status) }
@@ -120,6 +136,7 @@ pub(crate) fn respond(alloc: Global, command: Command, input: &[u8]) -> Result<A
 {
     match command {
         Command::Wrap => wrap_input(alloc, input),
+        Command::Show => show_input(alloc, input),
         Command::Check => check_input(alloc, input),
     }
 }

@@ -11,6 +11,8 @@ use std::marker::Model;
 pub enum Command {
     /// Makes an image of bare bundles.
     Wrap,
+    /// Gives the canonical text of a program.
+    Show,
     /// Checks the groups of a program.
     Check,
 }
@@ -49,12 +51,13 @@ impl Words {
         Ok(())
     }
 
-    /// The command that the words are, by the table: `wrap` or `check` alone, in lower case.
+    /// The command that the words are, by the table: `wrap`, `show` or `check` alone, in lower case.
     pub fn command(&self) -> Option<Command>
         ensures { result ≡ command_of self.now }
     {
         match self.words.as_slice() {
             [word] if word.as_slice() == b"wrap".as_slice() => Some(Command::Wrap),
+            [word] if word.as_slice() == b"show".as_slice() => Some(Command::Show),
             [word] if word.as_slice() == b"check".as_slice() => Some(Command::Check),
             _ => None,
         }

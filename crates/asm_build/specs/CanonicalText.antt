@@ -1,0 +1,94 @@
+-- The canonical text of a program: its bundles in order, and its data.
+use Rattle.std.specs.Prelude.{ℕ, ◌+◌, ◌*◌, ◌%◌, ◌==◌, ◌||◌, Bool, true, false, if◌then◌else◌, List, [], ◌∷◌, ◌++◌, map, codes, Option, Some, None}
+use Rattle.std.specs.List.{list_any}
+use Rattle.std.specs.Fmt.{digits}
+use Rattle.ia_insn.specs.declared.choices.Unit.{Unit as ExecutionUnit}
+use Rattle.ia_insn.specs.declared.choices.Unit.TheVariants as unit
+use Rattle.ia_insn.specs.declared.bundle.Slots.{Slots}
+use Rattle.ia_insn.specs.declared.bundle.Slots.TheVariants.{Three, Long}
+use Rattle.ia_insn.specs.Bundles.{Bundle}
+use Rattle.ia_insn.specs.Programs.{Program}
+use Rattle.ia_insn.specs.Templates.{units_of, stops_of}
+use Rattle.asm_text.specs.SlotTexts.{label_text, slot_text, target_of}
+
+-- the number is one of them
+abbrev pub is_among : List ℕ → ℕ → Bool
+is_among numbers n = list_any (λ m. m == n) numbers
+
+abbrev pub listed_once : Option ℕ → List ℕ
+listed_once None = []
+listed_once (Some n) = n ∷ []
+
+-- the targets of the instructions of the n-th bundle, by slot
+abbrev pub bundle_targets : ℕ → Slots → List ℕ
+bundle_targets n (Three a b c) = listed_once (target_of n a.op) ++ (listed_once (target_of n b.op) ++ listed_once (target_of n c.op))
+bundle_targets n (Long first long) = listed_once (target_of n first.op) ++ listed_once (target_of n long.op)
+
+-- the targets of bundles, the first of which is the n-th
+abbrev pub targets_from : ℕ → List Bundle → List ℕ
+targets_from n [] = []
+targets_from n (b ∷ bs) = bundle_targets n b.slots ++ targets_from (n + 1) bs
+
+-- a stop of the template follows the slot
+abbrev pub has_stop : ℕ → ℕ → Bool
+has_stop template slot = is_among (stops_of template) slot
+
+abbrev pub line : List ℕ → List ℕ
+line text = text ++ 10 ∷ []
+
+-- the lines of the slots; the stop of a long instruction follows slot 2 of its template
+abbrev pub slots_text : ℕ → ℕ → Slots → List ℕ
+slots_text n template (Three a b c) =
+    line (slot_text a n (has_stop template 0)) ++ (line (slot_text b n (has_stop template 1)) ++ line (slot_text c n (has_stop template 2)))
+slots_text n template (Long first long) = line (slot_text first n false) ++ line (slot_text long n (has_stop template 2))
+
+abbrev pub unit_letter : ExecutionUnit → ℕ
+unit_letter unit.M = 109
+unit_letter unit.I = 105
+unit_letter unit.F = 102
+unit_letter unit.B = 98
+unit_letter unit.L = 108
+unit_letter unit.X = 120
+
+-- `{ .mii` and so on
+abbrev pub head_text : ℕ → List ℕ
+head_text template = line (codes "{ ." ++ map unit_letter (units_of template))
+
+-- A bundle: that it is a declared entry, its label where it is one or a target, and its slots.
+abbrev pub bundle_text : List ℕ → List ℕ → ℕ → Bundle → List ℕ
+bundle_text entries targets n b =
+    (if is_among entries n then line (codes ".entry " ++ label_text n) else [])
+    ++ ((if is_among entries n || is_among targets n then line (label_text n ++ codes ":") else [])
+    ++ (head_text b.template ++ (slots_text n b.template b.slots ++ line (codes "}"))))
+
+abbrev pub bundles_text : List ℕ → List ℕ → ℕ → List Bundle → List ℕ
+bundles_text entries targets n [] = []
+bundles_text entries targets n (b ∷ bs) = bundle_text entries targets n b ++ bundles_text entries targets (n + 1) bs
+
+-- a word of eight bytes, the lowest first
+abbrev pub word_of : ℕ → ℕ → ℕ → ℕ → ℕ → ℕ → ℕ → ℕ → ℕ
+word_of a b c d e f g h = a + 256 * (b + 256 * (c + 256 * (d + 256 * (e + 256 * (f + 256 * (g + 256 * h))))))
+
+-- the words of data, whose length is a multiple of eight
+abbrev pub words_of : List ℕ → List ℕ
+words_of (a ∷ b ∷ c ∷ d ∷ e ∷ f ∷ g ∷ h ∷ rest) = word_of a b c d e f g h ∷ words_of rest
+words_of _ = []
+
+abbrev pub is_nothing : List ℕ → Bool
+is_nothing [] = true
+is_nothing (w ∷ ws) = false
+
+-- Words, the first of which is the k-th: lines of eight, and the last may have fewer.
+abbrev pub words_text : ℕ → List ℕ → List ℕ
+words_text k [] = []
+words_text k (w ∷ ws) =
+    (if k % 8 == 0 then codes "data8 " else codes ",") ++ (48 ∷ 120 ∷ digits 16 false w)
+    ++ ((if (k % 8 == 7) || is_nothing ws then 10 ∷ [] else []) ++ words_text (k + 1) ws)
+
+abbrev pub data_text : List ℕ → List ℕ
+data_text [] = []
+data_text (b ∷ bytes) = line (codes ".data") ++ words_text 0 (words_of (b ∷ bytes))
+
+-- the canonical text
+abbrev pub canonical_text : Program → List ℕ
+canonical_text p = bundles_text p.entries (targets_from 0 p.bundles) 0 p.bundles ++ data_text p.bytes

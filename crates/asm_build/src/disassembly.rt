@@ -1,0 +1,25 @@
+//! The canonical text of a program.
+
+ghost use Rattle.std.specs.Prelude.{◌≡◌, IfOk};
+ghost use Rattle.asm_build.specs.CanonicalText.{canonical_text};
+
+use crate::bundles::push_bundles;
+use crate::data::push_data;
+use crate::labels::{entry_marks, target_marks};
+use ia_insn::Program;
+use std::alloc::{AllocError, Global};
+
+/// The canonical text of a program: its bundles in order, each with its label where it is a declared
+/// entry or a target, and its data. The error is want of memory.
+#[tactic(auto, using(crate::proofs::Soundness::all_sound, crate::proofs::Marking::texts_alike))]
+pub fn disassemble(alloc: Global, program: &Program) -> Result<Vec<u8>, AllocError>
+    ensures { IfOk result (λ text. text.items ≡ canonical_text program.now) }
+{
+    let bundles = program.bundles();
+    let entries = entry_marks(alloc, program.bundle_count() as usize, program.entries())?;
+    let targets = target_marks(alloc, bundles)?;
+    let mut out = Vec::new(alloc);
+    push_bundles(&mut out, bundles, &entries, &targets)?;
+    push_data(&mut out, program.data())?;
+    Ok(out)
+}
