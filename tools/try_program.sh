@@ -71,7 +71,8 @@ refused 'bundle 64 slot 0: long run' wrap "$long"
 "$program" check < examples/three_nops.image > /dev/full 2> /dev/null
 note $(($? != 6)) "write_fault: another status than 6"
 
-# The wrapper, on the commands of the README.
+# The wrapper, on the commands of the README. Its first call builds the program, as it does for a user.
+rm -f "$program"
 [ "$(./ia64 check < examples/three_nops.image 2> /dev/null)" = accepted ]
 note $? "README: check"
 ./ia64 wrap < examples/three_nops.bundles 2> /dev/null | cmp -s - examples/three_nops.image
