@@ -7,6 +7,7 @@ mod Labels
 mod LinesBack
 mod Mnemonic
 mod OperandTexts
+mod Orders
 mod Printed
 mod PrintedA
 mod PrintedB

@@ -1,11 +1,12 @@
 //! Laws of lines, each the contract of a function that does nothing.
 
-ghost use Rattle.std.specs.Prelude.{◌≡◌, ℕ, ◌<◌, ◌≤◌, ◌^◌, Bool, List, length};
+ghost use Rattle.std.specs.Prelude.{◌≡◌, ◌↔◌, ℕ, ◌<◌, ◌≤◌, ◌^◌, Bool, false, List, length};
 ghost use Rattle.ia_insn.specs.declared.insn.Insn.{Insn};
 ghost use Rattle.ia_insn.specs.Listed.{IsListed};
+ghost use Rattle.asm_words.specs.declared.fault.LineFault.TheVariants as fault;
 ghost use Rattle.asm_words.specs.Bytes.{has_only_plain};
 ghost use Rattle.asm_words.specs.Words.{words_from};
-ghost use Rattle.asm_text.specs.Lines.{LineOf, texts, reading_of};
+ghost use Rattle.asm_text.specs.Lines.{LineOf, FaultOf, texts, reading_of};
 ghost use Rattle.asm_text.specs.OneAnswer.{HasOneValue, HasOneFault, HasNoFault};
 ghost use Rattle.asm_text.specs.ReadBack.{printed_line};
 ghost use Rattle.asm_text.specs.SlotTexts.{slot_text};
@@ -31,4 +32,10 @@ pub fn printed_slots_are_read_back()
 pub fn a_line_is_read_by_its_words()
     ensures { (a b : List ℕ) → has_only_plain a ≡ has_only_plain b → texts a (words_from 0 0 a) ≡ texts b (words_from 0 0 b)
         → reading_of a ≡ reading_of b }
+{}
+
+/// The law that Char is a line's first fault exactly where a byte is neither a tab nor one of 0x20 to 0x7e.
+/// It does nothing.
+pub fn char_comes_first()
+    ensures { (bytes : List ℕ) → FaultOf bytes fault.Char ↔ (has_only_plain bytes ≡ false) }
 {}

@@ -18,7 +18,10 @@ mod printing;
 mod reading;
 mod shape;
 
-pub use laws::{a_line_has_one_answer, a_line_is_read_by_its_words, printed_slots_are_read_back};
+pub use laws::{
+    a_line_has_one_answer, a_line_is_read_by_its_words, char_comes_first,
+    printed_slots_are_read_back,
+};
 pub use line::{Draft, Line, Shape, Values};
 pub use numerals::{push_bytes, push_decimal, push_hex};
 pub use printing::print_slot;
