@@ -1,2 +1,10 @@
 pub mod CanonicalText
 pub mod Marks
+pub mod Reasons
+pub mod Addresses
+pub mod TemplateNames
+pub mod Drafts
+pub mod Sources
+pub mod Names
+pub mod TextReading
+pub mod Laws

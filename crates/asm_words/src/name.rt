@@ -8,7 +8,7 @@ use std::marker::Model;
 
 /// A name of 1 to 63 bytes, which owns its bytes and takes no memory beside itself. Contracts see
 /// the list of its bytes.
-#[derive(Clone, Debug, PartialEq, Eq, Drop)]
+#[derive(Clone, Debug, PartialEq, Eq, PartialOrd, Ord, Drop)]
 pub struct Name {
     bytes: ArrayVec<u8, 63>,
 }

@@ -1,0 +1,47 @@
+-- What holds of the address of each label.
+use Rattle.std.proofs.Common.{◌≡◌, ℕ, Bool, true, false, cond, List, [], ◌∷◌, Some}
+use Rattle.std.specs.Prelude.{IfSome}
+use Rattle.std.specs.List.{AllByRecursion}
+use Rattle.std.specs.Map.{lookup, values_of}
+use Rattle.std.specs.BTreeMap.{insert_entry, is_at}
+use Rattle.std.specs.Cmp.Lexicographic.{slice_cmp}
+use Rattle.std.specs.Ordering.{nat_cmp, match_ordering}
+use Rattle.std.specs.declared.cmp.Ordering.TheVariants.{Less, Equal, Greater}
+use Rattle.asm_build.specs.declared.address.Address.{Address}
+use Rattle.asm_build.specs.Addresses.{IsWithin}
+use Rattle.asm_build.specs.declared.source.Section.{Section}
+use Rattle.asm_build.specs.declared.source.Section.TheVariants as section
+use Rattle.asm_build.specs.Sources.{State, Labels, label_of, IsWithinLimits, place_in, here}
+
+-- holds of what is found
+pub found_among : (P : Address → Type 0) (test : List ℕ → Bool) (labels : Labels) → AllByRecursion P (values_of labels) → IfSome (lookup test labels) P
+found_among P test [] all = tt
+found_among P test (e ∷ es) all =
+    elim (test e.0) as (λ b. IfSome (cond b (Some e.1) (lookup test es)) P) [ true ↦ all.0 | false ↦ found_among P test es all.1 ]
+
+pub label_within : (P : Address → Type 0) (labels : Labels) (name : List ℕ) → AllByRecursion P (values_of labels) → IfSome (label_of labels name) P
+label_within P labels name all = found_among P (is_at (slice_cmp nat_cmp name)) labels all
+
+-- and of one more
+pub kept_among : (P : Address → Type 0) (labels : Labels) (name : List ℕ) (a : Address) → AllByRecursion P (values_of labels) → P a
+    → AllByRecursion P (values_of (insert_entry (slice_cmp nat_cmp) labels name a))
+kept_among P [] name a all p = (p, tt)
+kept_among P (e ∷ es) name a all p =
+    elim (slice_cmp nat_cmp name e.0) as (λ o. AllByRecursion P (values_of (match_ordering o ((name, a) ∷ e ∷ es) ((e.0, a) ∷ es) (e ∷ insert_entry (slice_cmp nat_cmp) es name a)))) [
+      | Less ↦ (p, all)
+      | Equal ↦ (p, all.1)
+      | Greater ↦ (all.0, kept_among P es name a all.1 p)
+    ]
+
+place_within : (section : Section) (s : State) → IsWithinLimits s → IsWithin (place_in section s)
+place_within section.Text s h = h.bundles
+place_within section.Data s h = h.bytes
+
+-- what a label names that stands here is within a program
+pub here_within : (s : State) → IsWithinLimits s → IsWithin (here s)
+here_within s h = place_within s.section s h
+
+-- so labels stay within with one more
+pub label_added : (s : State) (name : List ℕ) (a : Address) (labels : Labels) → IsWithinLimits s → a ≡ here s → labels ≡ insert_entry (slice_cmp nat_cmp) s.labels name a
+    → AllByRecursion IsWithin (values_of labels)
+label_added s name a labels h is grown = rw (grown, is) (kept_among IsWithin s.labels name (here s) h.labels (here_within s h))

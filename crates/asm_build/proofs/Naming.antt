@@ -1,0 +1,61 @@
+-- Bundles with the addresses of their names: they fit their templates, and their targets are bundles.
+use Rattle.std.proofs.Common.{ℕ, ◌≤◌, Bool, true, false, if◌then◌else◌, List, [], ◌∷◌, Option, Some, None}
+use Rattle.std.specs.Prelude.{IfSome, is_some, unwrap_or}
+use Rattle.std.specs.List.{AllByRecursion}
+use Rattle.std.specs.Map.{values_of}
+use Rattle.ia_insn.specs.declared.insn.Insn.{Insn}
+use Rattle.ia_insn.specs.declared.insn.Op.{Op}
+use Rattle.ia_insn.specs.declared.choices.Unit.{Unit as ExecutionUnit}
+use Rattle.ia_insn.specs.declared.bundle.Slots.{Slots}
+use Rattle.ia_insn.specs.declared.bundle.Slots.TheVariants.{Three, Long}
+use Rattle.ia_insn.specs.Bundles.{FitUnits}
+use Rattle.ia_insn.specs.Fits.{Fits}
+use Rattle.ia_insn.specs.Targets.{displacement}
+use Rattle.asm_build.specs.declared.address.Address.{Address}
+use Rattle.asm_build.specs.declared.draft.BundleLines.{BundleLines}
+use Rattle.asm_build.specs.declared.draft.SlotName.{SlotName}
+use Rattle.asm_build.specs.Addresses.{IsWithin}
+use Rattle.asm_build.specs.Names.{addressed_by, named, put_in, slots_named}
+use Rattle.asm_build.specs.Sources.{Labels, label_of}
+use Rattle.asm_build.proofs.Addressed.{fit_stays}
+use Rattle.asm_build.proofs.LabelValues.{label_within}
+
+-- the addresses of the labels are those of a program
+abbrev pub AreFoundWithin : Labels → Type 0
+AreFoundWithin labels = AllByRecursion IsWithin (values_of labels)
+
+or_same : (i : Insn) (u : ExecutionUnit) (slot : ℕ) (o : Option Op) → Fits i u slot → IfSome o (λ y. Fits (record { qp = i.qp; op = y }) u slot) → Fits (record { qp = i.qp; op = unwrap_or o i.op }) u slot
+or_same i u slot None f h = f
+or_same i u slot (Some y) f h = h
+
+fits_addressed : (i : Insn) (o : Option Address) (n : ℕ) (u : ExecutionUnit) (slot : ℕ) → IfSome o IsWithin → n ≤ 4096 → Fits i u slot
+    → IfSome (addressed_by o i.op n) (λ y. Fits (record { qp = i.qp; op = y }) u slot)
+fits_addressed i None n u slot h k f = tt
+fits_addressed i (Some a) n u slot h k f = fit_stays i a n u slot h k f
+
+plain : (P : Op → Type 0) (branches : Bool) (x : Op) → P x → IfSome (if branches then None else Some x) P
+plain P true x p = tt
+plain P false x p = p
+
+fits_target : (labels : Labels) (n : ℕ) (i : Insn) (target : Option (List ℕ)) (u : ExecutionUnit) (slot : ℕ) → AreFoundWithin labels → n ≤ 4096
+    → Fits i u slot → IfSome (named labels n i.op target) (λ y. Fits (record { qp = i.qp; op = y }) u slot)
+fits_target labels n i None u slot within k f = plain _ (is_some (displacement i.op)) i.op f
+fits_target labels n i (Some name) u slot within k f = fits_addressed i (label_of labels name) n u slot (label_within IsWithin labels name within) k f
+
+fits_put_in : (labels : Labels) (n : ℕ) (i : Insn) (name : SlotName) (u : ExecutionUnit) (slot : ℕ) → AreFoundWithin labels → n ≤ 4096
+    → Fits i u slot → Fits (put_in labels n i name) u slot
+fits_put_in labels n i name u slot within k f =
+    or_same i u slot (named labels n i.op name.target) f (fits_target labels n i name.target u slot within k f)
+
+-- the slots of a bundle fit its units as before
+pub fit_named : (labels : Labels) (n : ℕ) (units : List ExecutionUnit) (slots : Slots) (b : BundleLines) → AreFoundWithin labels → n ≤ 4096
+    → FitUnits units slots → FitUnits units (slots_named labels n slots b)
+fit_named labels n (u ∷ v ∷ w ∷ []) (Three i j k) b within few f = (
+  fits_put_in labels n i b.first u 0 within few f.0,
+  fits_put_in labels n j b.second v 1 within few f.1,
+  fits_put_in labels n k b.third w 2 within few f.2,
+  f.3,
+)
+fit_named labels n (u ∷ v ∷ w ∷ []) (Long i j) b within few f =
+    (fits_put_in labels n i b.first u 0 within few f.0, fits_put_in labels n j b.second v 1 within few f.1, f.2)
+fit_named labels n _ slots b within few f = absurd f

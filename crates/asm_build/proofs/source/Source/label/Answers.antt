@@ -1,0 +1,16 @@
+use Rattle.std.proofs.Common.{rules, inr, ◌∙◌, sym}
+use Rattle.asm_build.specs.declared.reason.Reason.TheVariants.{Twice}
+use Rattle.asm_build.proofs.LabelValues.{label_added}
+use Rattle.asm_build.proofs.ValueFaults.{twice_there}
+use Rattle.asm_build.proofs.source.Source.label.Goals as goal
+
+pub returns-then-contains_key-clause-err : goal.returns-then-contains_key-clause-err
+returns-then-contains_key-clause-err c =
+    let there = sym c.contains_key.ensures ∙ c.if-contains_key.true in
+    inr (Twice, c.fault-then-contains_key.ensures, twice_there c.args.self.now c.args.name (search rules) (rw (sym c.self.view_is) there))
+
+pub invariant_of-self-2 : goal.invariant_of-self-2
+invariant_of-self-2 c =
+    let h = c.self.invariant in
+    let labels = label_added _ c.args.name c.address-address.result _ h (rw (sym c.self.view_is) at c.address-address.ensures) c.in_ok-insert.ensures.entries in
+    record { current = h.current; bundles = h.bundles; labels = labels; bytes = h.bytes }

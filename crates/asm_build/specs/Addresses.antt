@@ -1,0 +1,27 @@
+-- What a label names, and what its name means in an instruction.
+use Rattle.std.specs.Prelude.{ℕ, ◌+◌, ◌*◌, ◌<◌, ◌≤◌, pos, ◌-ℤ◌, Option, Some, None, ⊤}
+use Rattle.ia_insn.specs.declared.insn.Op.{Op}
+use Rattle.ia_insn.specs.declared.insn.Op.TheVariants as op
+use Rattle.asm_build.specs.declared.address.Address.{Address}
+use Rattle.asm_build.specs.declared.address.Address.TheVariants.{Bundle, Byte}
+
+-- an address that a program may have, or the end of its bundles or data
+abbrev pub IsWithin : Address → Type 0
+IsWithin (Bundle n) = n ≤ 4096
+IsWithin (Byte at) = at ≤ 1048576
+
+-- a bundle that has the label is one of so many
+abbrev pub IsInside : ℕ → Address → Type 0
+IsInside count (Bundle n) = n < count
+IsInside count (Byte at) = ⊤
+
+-- The operation in the n-th bundle with an address put in: a direct branch or check takes a bundle, as the
+-- distance to it, and `movl` a bundle or a byte of data, as the address at which it stands.
+abbrev pub addressed : Op → Address → ℕ → Option Op
+addressed (op.ChkS unit r2 disp) (Bundle m) n = Some (op.ChkS unit r2 (pos m -ℤ pos n))
+addressed (op.ChkA clear r1 disp) (Bundle m) n = Some (op.ChkA clear r1 (pos m -ℤ pos n))
+addressed (op.Br kind wh many clr disp) (Bundle m) n = Some (op.Br kind wh many clr (pos m -ℤ pos n))
+addressed (op.BrCall b1 wh many clr disp) (Bundle m) n = Some (op.BrCall b1 wh many clr (pos m -ℤ pos n))
+addressed (op.Movl r1 imm) (Bundle m) n = Some (op.Movl r1 (0x10000 + 16 * m))
+addressed (op.Movl r1 imm) (Byte at) n = Some (op.Movl r1 (0x100000 + at))
+addressed x address n = None

@@ -1,0 +1,125 @@
+-- Bundles as their lines have them.
+use Rattle.std.specs.Prelude.{ℕ, Bool, true, false, if◌then◌else◌, slice_index_or, Option, None, IsSomeAnd, ⊤}
+use Rattle.std.specs.Option.{option_map}
+use Rattle.ia_insn.specs.declared.choices.Unit.{Unit as ExecutionUnit}
+use Rattle.ia_insn.specs.declared.choices.Unit.TheVariants as unit
+use Rattle.ia_insn.specs.declared.insn.Insn.{Insn}
+use Rattle.ia_insn.specs.declared.insn.Op.{Op}
+use Rattle.ia_insn.specs.declared.insn.Op.TheVariants as op
+use Rattle.ia_insn.specs.declared.bundle.Slots.TheVariants.{Three, Long}
+use Rattle.ia_insn.specs.Bundles.{IsBundle}
+use Rattle.ia_insn.specs.Fits.{Fits}
+use Rattle.asm_text.specs.declared.line.Draft.{Draft}
+use Rattle.asm_text.specs.declared.line.Shape.{Shape}
+use Rattle.asm_text.specs.declared.line.Shape.TheVariants as shape
+use Rattle.asm_build.specs.declared.draft.BundleLines.{BundleLines}
+use Rattle.asm_build.specs.declared.draft.Open.{Open}
+use Rattle.asm_build.specs.declared.draft.SlotLine.{SlotLine}
+use Rattle.asm_build.specs.declared.draft.SlotLines.{SlotLines}
+use Rattle.asm_build.specs.declared.draft.SlotLines.TheVariants as slots
+use Rattle.asm_build.specs.declared.draft.SlotName.{SlotName}
+use Rattle.asm_build.specs.TemplateNames.{units_named, template_of}
+
+-- the unit that an instruction without a unit letter takes from its slot: a long one's is X
+abbrev pub letter_of : ExecutionUnit → ExecutionUnit
+letter_of unit.L = unit.X
+letter_of u = u
+
+abbrev pub lettered : ExecutionUnit → Op → Op
+lettered u (op.Break v imm) = op.Break u imm
+lettered u (op.Nop v imm) = op.Nop u imm
+lettered u (op.Hint v imm) = op.Hint u imm
+lettered u (op.ChkS v r2 disp) = op.ChkS u r2 disp
+lettered u x = x
+
+-- the instruction of a draft in a slot of this unit
+abbrev pub completed : Draft → ExecutionUnit → Insn
+completed d u =
+    if d.bare then record { qp = d.insn.qp; op = lettered (letter_of u) d.insn.op } else d.insn
+
+abbrev pub count_of : SlotLines → ℕ
+count_of slots.Zero = 0
+count_of (slots.One a) = 1
+count_of (slots.Two a b) = 2
+count_of (slots.Three a b c) = 3
+
+-- there is no fourth
+abbrev pub one_more : SlotLines → SlotLine → SlotLines
+one_more slots.Zero s = slots.One s
+one_more (slots.One a) s = slots.Two a s
+one_more (slots.Two a b) s = slots.Three a b s
+one_more (slots.Three a b c) s = slots.Three a b c
+
+abbrev pub line_stopped : SlotLine → SlotLine
+line_stopped s = record { line = s.line; insn = s.insn; target = s.target; stop = true }
+
+-- a stop after the last
+abbrev pub last_stopped : SlotLines → SlotLines
+last_stopped slots.Zero = slots.Zero
+last_stopped (slots.One a) = slots.One (line_stopped a)
+last_stopped (slots.Two a b) = slots.Two a (line_stopped b)
+last_stopped (slots.Three a b c) = slots.Three a b (line_stopped c)
+
+abbrev pub HasSome : SlotLines → Type 0
+HasSome slots.Zero = ⊥
+HasSome lines = ⊤
+
+abbrev pub HasSlot : Open → Type 0
+HasSlot o = HasSome o.slots
+
+abbrev pub IsShort : Shape → Type 0
+IsShort shape.Mlx = ⊥
+IsShort s = ⊤
+
+abbrev pub HasRoomIn : Shape → SlotLines → Type 0
+HasRoomIn s slots.Zero = ⊤
+HasRoomIn s (slots.One a) = ⊤
+HasRoomIn s (slots.Two a b) = IsShort s
+HasRoomIn s (slots.Three a b c) = ⊥
+
+-- one more slot line may follow: three, or two where the second is a long one
+abbrev pub HasSlotRoom : Open → Type 0
+HasSlotRoom o = HasRoomIn o.shape o.slots
+
+abbrev pub next_unit : Open → ExecutionUnit
+next_unit o = slice_index_or (units_named o.shape) (count_of o.slots) unit.X
+
+-- the instruction fits the next slot
+abbrev pub FitsNext : Open → Draft → Type 0
+FitsNext o d = Fits (completed d (next_unit o)) (next_unit o) (count_of o.slots)
+
+-- the bundle with one more slot line
+abbrev pub added : Open → ℕ → Draft → Bool → Open
+added o line d stop =
+    record { shape = o.shape; slots = one_more o.slots (record { line = line; insn = completed d (next_unit o); target = d.target; stop = stop }) }
+
+-- the bundle with a stop after its last slot line
+abbrev pub stopped : Open → Open
+stopped o = record { shape = o.shape; slots = last_stopped o.slots }
+
+abbrev pub name_of : SlotLine → SlotName
+name_of s = record { line = s.line; target = s.target }
+
+abbrev pub no_name : SlotLine → SlotName
+no_name s = record { line = s.line; target = None }
+
+abbrev pub three : SlotLine → SlotLine → SlotLine → ℕ → BundleLines
+three a b c template =
+    record { bundle = record { template = template; slots = Three a.insn b.insn c.insn }; first = name_of a; second = name_of b; third = name_of c }
+
+abbrev pub long : SlotLine → SlotLine → ℕ → BundleLines
+long a b template =
+    record { bundle = record { template = template; slots = Long a.insn b.insn }; first = name_of a; second = name_of b; third = no_name b }
+
+abbrev pub closed_as : Shape → SlotLines → Option BundleLines
+closed_as shape.Mlx (slots.Two a b) = option_map (long a b) (template_of shape.Mlx a.stop false b.stop)
+closed_as s (slots.Three a b c) = option_map (three a b c) (template_of s a.stop b.stop c.stop)
+closed_as s lines = None
+
+-- The bundle that its lines give: the one with this template's name and these stops.
+abbrev pub closed : Open → Option BundleLines
+closed o = closed_as o.shape o.slots
+
+-- they give one
+abbrev pub IsWhole : Open → Type 0
+IsWhole o = IsSomeAnd (closed o) (λ b. IsBundle b.bundle)

@@ -1,0 +1,17 @@
+-- A text reads as one program or has one first fault, and not both.
+use Rattle.std.specs.Prelude.{◌≡◌, ℕ, List}
+use Rattle.ia_insn.specs.Programs.{Program}
+use Rattle.asm_build.specs.declared.reason.TextError.{TextError}
+use Rattle.asm_build.specs.TextReading.{Reads, HasTextFault}
+
+-- a text reads as at most one program
+abbrev pub OneTextProgram : Type 0
+OneTextProgram = (text : List ℕ) (p q : Program) → Reads text p → Reads text q → p ≡ q
+
+-- a text has at most one first fault
+abbrev pub OneTextFault : Type 0
+OneTextFault = (text : List ℕ) (e f : TextError) → HasTextFault text e → HasTextFault text f → e ≡ f
+
+-- a text that reads as a program has none
+abbrev pub NoFaultWhereRead : Type 0
+NoFaultWhereRead = (text : List ℕ) (p : Program) (e : TextError) → Reads text p → HasTextFault text e → ⊥

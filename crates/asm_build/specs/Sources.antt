@@ -1,0 +1,165 @@
+-- What the lines of a text say, one after the other.
+use Rattle.std.specs.Prelude.{◌≡◌, ℕ, ◌+◌, ◌<◌, ◌≤◌, List, [], ◌∷◌, ◌++◌, length, take, flat_map, replicate, Option, Some, None, IsSome, IsSomeAnd, IfSome, ⊤, ◌⊎◌}
+use Rattle.std.specs.List.{AllByRecursion}
+use Rattle.std.specs.Option.{option_map}
+use Rattle.std.specs.Int.{w64, to_le_bytes}
+use Rattle.std.specs.Map.{lookup, values_of}
+use Rattle.std.specs.BTreeMap.{insert_entry, is_at}
+use Rattle.std.specs.Cmp.Lexicographic.{slice_cmp}
+use Rattle.std.specs.Ordering.{nat_cmp}
+use Rattle.first_fault.specs.Stages.{Stage, unless, IsFirstFault}
+use Rattle.asm_text.specs.declared.line.Line.{Line}
+use Rattle.asm_text.specs.declared.line.Line.TheVariants as line
+use Rattle.asm_build.specs.declared.address.Address.{Address}
+use Rattle.asm_build.specs.declared.address.Address.TheVariants.{Bundle, Byte}
+use Rattle.asm_build.specs.declared.draft.BundleLines.{BundleLines}
+use Rattle.asm_build.specs.declared.draft.Open.{Open}
+use Rattle.asm_build.specs.declared.draft.SlotLines.TheVariants as slots
+use Rattle.asm_build.specs.declared.source.EntryLine.{EntryLine}
+use Rattle.asm_build.specs.declared.source.Section.{Section}
+use Rattle.asm_build.specs.declared.source.Section.TheVariants as section
+use Rattle.asm_build.specs.declared.reason.Reason.{Reason}
+use Rattle.asm_build.specs.declared.reason.Reason.TheVariants.{Misplaced, Twice, Template, SlotKind, Limit}
+use Rattle.asm_build.specs.declared.reason.TextError.{TextError}
+use Rattle.asm_build.specs.declared.reason.TextError.TheVariants as error
+use Rattle.asm_build.specs.Addresses.{IsInside, IsWithin}
+use Rattle.asm_build.specs.Drafts.{HasSlot, HasSlotRoom, FitsNext, added, stopped, closed, IsWhole}
+
+-- labels and what they name, in the order of the labels
+abbrev pub Labels : Type 0
+Labels = List (List ℕ × Address)
+
+-- What the lines so far say: whether bundles or data are being written, the bundle that is open, the
+-- bundles, the declared entries, the labels, and the data.
+pub record State : Type 0 where
+  pub section : Section
+  pub current : Option Open
+  pub bundles : List BundleLines
+  pub entries : List EntryLine
+  pub labels : Labels
+  pub bytes : List ℕ
+
+-- what no lines say
+abbrev pub start : State
+start = record { section = section.Text; current = None; bundles = []; entries = []; labels = []; bytes = [] }
+
+-- what a label names
+abbrev pub label_of : Labels → List ℕ → Option Address
+label_of labels name = lookup (is_at (slice_cmp nat_cmp name)) labels
+
+-- the numbers of a data line, each in so many bytes, the lowest first
+abbrev pub numbers_bytes : ℕ → List ℕ → List ℕ
+numbers_bytes size values = flat_map (λ v. take size (to_le_bytes w64 v)) values
+
+-- the same with another section, open bundle, labels or data
+abbrev pub turned : State → Section → State
+turned s section = record { section = section; current = s.current; bundles = s.bundles; entries = s.entries; labels = s.labels; bytes = s.bytes }
+
+abbrev pub with_open : State → Option Open → State
+with_open s bundle = record { section = s.section; current = bundle; bundles = s.bundles; entries = s.entries; labels = s.labels; bytes = s.bytes }
+
+abbrev pub with_label : State → List ℕ → Address → State
+with_label s name address = record { section = s.section; current = s.current; bundles = s.bundles; entries = s.entries; labels = insert_entry (slice_cmp nat_cmp) s.labels name address; bytes = s.bytes }
+
+abbrev pub with_bytes : State → List ℕ → State
+with_bytes s more = record { section = s.section; current = s.current; bundles = s.bundles; entries = s.entries; labels = s.labels; bytes = s.bytes ++ more }
+
+abbrev pub with_entry : State → EntryLine → State
+with_entry s entry = record { section = s.section; current = s.current; bundles = s.bundles; entries = s.entries ++ entry ∷ []; labels = s.labels; bytes = s.bytes }
+
+abbrev pub with_bundle : State → Option BundleLines → State
+with_bundle s None = s
+with_bundle s (Some b) = record { section = s.section; current = None; bundles = s.bundles ++ b ∷ []; entries = s.entries; labels = s.labels; bytes = s.bytes }
+
+abbrev pub closed_of : Option Open → Option BundleLines
+closed_of None = None
+closed_of (Some o) = closed o
+
+-- what a label that stands here names: the next bundle, or the next byte of data
+abbrev pub place_in : Section → State → Address
+place_in section.Text s = Bundle (length s.bundles)
+place_in section.Data s = Byte (length s.bytes)
+
+abbrev pub here : State → Address
+here s = place_in s.section s
+
+-- What the lines say after one more, the n-th.
+abbrev pub after : State → ℕ → Line → State
+after s n line.Empty = s
+after s n (line.Label name) = with_label s name (here s)
+after s n line.Text = turned s section.Text
+after s n line.Data = turned s section.Data
+after s n (line.Entry name) = with_entry s (record { line = n; name = name })
+after s n line.Ignored = s
+after s n (line.Numbers size values) = with_bytes s (numbers_bytes size values)
+after s n (line.Skip count) = with_bytes s (replicate count 0)
+after s n (line.Open shape) = with_open s (Some (record { shape = shape; slots = slots.Zero }))
+after s n (line.Slot draft stop) = with_open s (option_map (λ o. added o n draft stop) s.current)
+after s n line.Stop = with_open s (option_map stopped s.current)
+after s n line.Close = with_bundle s (closed_of s.current)
+
+-- outside a bundle, where bundles or data are being written
+pub record IsIn (section : Section) (s : State) : Type 0 where
+  pub closed : s.current ≡ None
+  pub same : s.section ≡ section
+
+-- A line may stand here: slots, stops and `}` within a bundle, and a stop after a slot; bundles in text,
+-- data in data, all else but blank lines outside a bundle.
+abbrev pub MayStand : State → Line → Type 0
+MayStand s line.Empty = ⊤
+MayStand s (line.Numbers size values) = IsIn section.Data s
+MayStand s (line.Skip count) = IsIn section.Data s
+MayStand s (line.Open shape) = IsIn section.Text s
+MayStand s (line.Slot draft stop) = IsSome s.current
+MayStand s line.Stop = IsSomeAnd s.current HasSlot
+MayStand s line.Close = IsSome s.current
+MayStand s value = s.current ≡ None
+
+-- a label is not there yet
+abbrev pub IsNew : State → Line → Type 0
+IsNew s (line.Label name) = label_of s.labels name ≡ None
+IsNew s value = ⊤
+
+-- the open bundle has room for one more slot, and is whole where it is closed
+abbrev pub HasTemplate : State → Line → Type 0
+HasTemplate s (line.Slot draft stop) = IfSome s.current HasSlotRoom
+HasTemplate s line.Close = IfSome s.current IsWhole
+HasTemplate s value = ⊤
+
+-- an instruction fits its slot
+abbrev pub FitsSlot : State → Line → Type 0
+FitsSlot s (line.Slot draft stop) = IfSome s.current (λ o. FitsNext o draft)
+FitsSlot s value = ⊤
+
+-- there is room for a bundle and for data
+abbrev pub HasRoom : State → Line → Type 0
+HasRoom s (line.Open shape) = length s.bundles < 4096
+HasRoom s (line.Numbers size values) = length s.bytes + length (numbers_bytes size values) ≤ 1048576
+HasRoom s (line.Skip count) = length s.bytes + count ≤ 1048576
+HasRoom s value = ⊤
+
+-- What is looked for in what a line says, after the lines before it, in this order.
+abbrev pub value_stages : State → Line → List (Stage Reason)
+value_stages s value =
+    unless (MayStand s value) Misplaced
+    ∷ unless (IsNew s value) Twice
+    ∷ unless (HasTemplate s value) Template
+    ∷ unless (FitsSlot s value) SlotKind
+    ∷ unless (HasRoom s value) Limit
+    ∷ []
+
+-- the error of what the n-th line says: its first fault, or want of memory
+abbrev pub IsValueError : State → ℕ → Line → TextError → Type 0
+IsValueError s n value e =
+    (e ≡ error.Memory) ⊎ ((reason : Reason) × (e ≡ error.Fault n reason) × IsFirstFault (value_stages s value) reason)
+
+-- each label of the text has a bundle
+abbrev pub AreLabelsInside : State → Type 0
+AreLabelsInside s = AllByRecursion (IsInside (length s.bundles)) (values_of s.labels)
+
+-- At most as many bundles as a program may have, with the open one, and as many data, and labels of these.
+pub record IsWithinLimits (s : State) : Type 0 where
+  pub current : IsSome s.current → length s.bundles < 4096
+  pub bundles : length s.bundles ≤ 4096
+  pub labels : AllByRecursion IsWithin (values_of s.labels)
+  pub bytes : length s.bytes ≤ 1048576

@@ -1,0 +1,106 @@
+//! What a label names.
+
+ghost use Rattle.std.specs.Prelude.{◌≡◌, ◌↔◌, ◌<◌, ◌≤◌, pos, ◌-ℤ◌, IsTrue};
+ghost use Rattle.asm_build.specs.declared.address.Address.TheVariants as address;
+ghost use Rattle.asm_build.specs.Addresses.{IsInside, IsWithin, addressed};
+
+use ia_insn::Op;
+
+/// What a label names: the next bundle, or the next byte of data.
+#[derive(Clone, Copy)]
+pub(crate) enum Address {
+    /// A bundle, by its number.
+    Bundle { n: u32 },
+    /// A byte of data, by how many stand before it.
+    Byte { at: u32 },
+}
+
+impl Address {
+    /// Whether a bundle that has the label is one of so many.
+    pub fn is_inside(&self, count: u32) -> bool
+        ensures { IsTrue result ↔ IsInside count self.now }
+    {
+        match self {
+            Address::Bundle { n } => *n < count,
+            Address::Byte { .. } => true,
+        }
+    }
+}
+
+/// How many bundles from the n-th the m-th is.
+fn distance(m: u32, n: u32) -> i32
+    requires { (m ≤ 4096) × (n ≤ 4096) }
+    ensures { result ≡ (pos m -ℤ pos n) }
+{
+    m as i32 - n as i32
+}
+
+/// The operation in the n-th bundle with the address of its name put in: as the distance of a branch or
+/// check, which take a bundle alone, or as the number of a `movl`. None for any other.
+pub(crate) fn addressed(op: &Op, address: Address, n: u32) -> Option<Op>
+    requires here { n ≤ 4096 }
+    requires there { IsWithin address }
+    ensures { result ≡ addressed op.now address n }
+{
+    match address {
+        Address::Bundle { n: there } => with_bundle(op, there, n),
+        Address::Byte { at } => match op {
+            Op::Movl { r1, .. } => Some(Op::Movl {
+                r1: *r1,
+                imm: 0x100000 + u64::from(at),
+            }),
+            _ => None,
+        },
+    }
+}
+
+/// The operation in the n-th bundle with another bundle for its name.
+fn with_bundle(op: &Op, there: u32, n: u32) -> Option<Op>
+    requires { (there ≤ 4096) × (n ≤ 4096) }
+    ensures { result ≡ addressed op.now (address.Bundle there) n }
+{
+    let disp = distance(there, n);
+    Some(match op {
+        Op::ChkS { unit, r2, .. } => Op::ChkS {
+            unit: *unit,
+            r2: *r2,
+            disp,
+        },
+        Op::ChkA { clear, r1, .. } => Op::ChkA {
+            clear: *clear,
+            r1: *r1,
+            disp,
+        },
+        Op::Br {
+            kind,
+            wh,
+            many,
+            clr,
+            ..
+        } => Op::Br {
+            kind: *kind,
+            wh: *wh,
+            many: *many,
+            clr: *clr,
+            disp,
+        },
+        Op::BrCall {
+            b1,
+            wh,
+            many,
+            clr,
+            ..
+        } => Op::BrCall {
+            b1: *b1,
+            wh: *wh,
+            many: *many,
+            clr: *clr,
+            disp,
+        },
+        Op::Movl { r1, .. } => Op::Movl {
+            r1: *r1,
+            imm: 0x10000 + 16 * u64::from(there),
+        },
+        _ => return None,
+    })
+}

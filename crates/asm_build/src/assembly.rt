@@ -1,0 +1,227 @@
+//! The program that a text says.
+
+ghost use Rattle.std.specs.Prelude.{◌≡◌, ◌≢◌, ◌⊎◌, ◌<◌, ◌+◌, ◌^◌, None, Some, Ok, Err, IfOk, IfErr, OnOk, length};
+ghost use Rattle.first_fault.specs.Stages.{ArePassed, IsFirstFault};
+ghost use Rattle.ia_insn.specs.declared.place.Place.{Place as PlaceOf};
+ghost use Rattle.ia_insn.specs.Places.{EachPlace, IsFirstBad};
+ghost use Rattle.ia_insn.specs.Programs.{Program as ProgramOf, AreInRange, AreEntries};
+ghost use Rattle.ia_insn.specs.Runs.{IsWithinRun};
+ghost use Rattle.ia_insn.specs.Targets.{IsTargetInside};
+ghost use Rattle.asm_text.specs.declared.line.Line.{Line as LineValue};
+ghost use Rattle.asm_build.specs.declared.reason.Reason.{Reason as ReasonOf};
+ghost use Rattle.asm_build.specs.declared.reason.Reason.TheVariants as reason;
+ghost use Rattle.asm_build.specs.declared.reason.TextError.{TextError as ErrorOf};
+ghost use Rattle.asm_build.specs.declared.reason.TextError.TheVariants as error;
+ghost use Rattle.asm_build.specs.Names.{name_fault, program_of, padded, line_at, earlier_of};
+ghost use Rattle.asm_build.specs.Sources.{AreLabelsInside, after, start};
+ghost use Rattle.asm_build.specs.TextReading.{IsRefused, IsTaken, ComesTo, text_lines, Reads, HasTextFault, end_stages};
+
+use crate::draft::BundleLines;
+use crate::laws::{no_fault_where_read, one_text_fault, one_text_program};
+use crate::names::{all_declared, bundles_named};
+use crate::reason::{Reason, TextError, reason_of};
+use crate::source::Source;
+use asm_text::read_line;
+use bstr::ByteSlice;
+use ia_insn::{BundleOf, Place, Program, ProgramFault};
+use std::alloc::{AllocError, Global};
+use std::collections::BTreeSet;
+
+/// The longest line, in bytes.
+const LINE_LIMIT: usize = 240;
+
+/// Takes the n-th line.
+fn take_line(source: &mut Source, n: u32, line: &[u8]) -> Result<(), TextError>
+    ensures ok { OnOk result ((value : LineValue) × IsTaken source.old line.now value × (source.new ≡ after source.old n value)) }
+    ensures err { IfErr result (λ e. (e ≡ error.Memory) ⊎ ((why : ReasonOf) × (e ≡ error.Fault n why) × IsRefused source.old line.now why)) }
+{
+    if line.len() > LINE_LIMIT {
+        return Err(TextError::Fault {
+            line: n,
+            reason: Reason::Limit,
+        });
+    }
+    match read_line(line) {
+        Ok(value) => source.take(n, value),
+        Err(fault) => Err(TextError::Fault {
+            line: n,
+            reason: reason_of(fault),
+        }),
+    }
+}
+
+/// What is read of a text: what its lines say, and how many there are.
+#[derive(Drop)]
+struct Lines {
+    source: Source,
+    count: u32,
+}
+
+/// Takes the lines of a text.
+fn take_lines(alloc: Global, text: &[u8]) -> Result<Lines, TextError>
+    requires { length text.now + 1 < 2 ^ 32 }
+    ensures ok { IfOk result (λ lines. ComesTo start 1 (text_lines text.now) (Ok lines.source) × (lines.count ≡ length (text_lines text.now))) }
+    ensures err { IfErr result (λ e. (e ≡ error.Memory) ⊎ ComesTo start 1 (text_lines text.now) (Err e)) }
+{
+    let mut source = Source::new(alloc);
+    let mut count = 0;
+    for line in text.lines() {
+        count += 1;
+        take_line(&mut source, count, line)?;
+    }
+    Ok(Lines { source, count })
+}
+
+/// Of two faults of lines, that of the earlier line.
+fn earlier(first: TextError, second: TextError) -> TextError
+    ensures { result ≡ earlier_of first second }
+{
+    match (first, second) {
+        (TextError::Fault { line, .. }, TextError::Fault { line: other, .. }) if other < line =>
+            second,
+        _ => first,
+    }
+}
+
+/// Bundles and declared entries.
+#[derive(Drop)]
+struct Parts {
+    bundles: Vec<BundleOf>,
+    entries: BTreeSet<u32>,
+}
+
+/// The bundles and the declared entries with the addresses of their names, or the first line's fault.
+fn named_parts(alloc: Global, source: &Source) -> Result<Parts, TextError>
+    requires { AreLabelsInside source.now }
+    ensures ok { IfOk result (λ parts. (name_fault source.now ≡ None) × (parts.bundles.items ≡ (program_of source.now).bundles) × (parts.entries.keys ≡ (program_of source.now).entries)) }
+    ensures err { IfErr result (λ e. (e ≡ error.Memory) ⊎ (name_fault source.now ≡ Some e)) }
+{
+    let bundles = bundles_named(alloc, &source.labels, &source.bundles);
+    let entries = all_declared(alloc, &source.labels, &source.entries);
+    match (bundles, entries) {
+        (Ok(bundles), Ok(entries)) => Ok(Parts { bundles, entries }),
+        (Err(TextError::Memory), _) | (_, Err(TextError::Memory)) => Err(TextError::Memory),
+        (Err(error), Ok(_)) | (Ok(_), Err(error)) => Err(error),
+        (Err(first), Err(second)) => Err(earlier(first, second)),
+    }
+}
+
+/// The numbers of a set, rising.
+fn rising(alloc: Global, set: &BTreeSet<u32>) -> Result<Vec<u32>, AllocError>
+    ensures { IfOk result (λ numbers. numbers.items ≡ set.now.keys) }
+{
+    let mut numbers = Vec::with_capacity(alloc, set.len())?;
+    for number in set {
+        numbers.push(*number)?;
+    }
+    Ok(numbers)
+}
+
+/// The data with zeros up to a multiple of eight.
+fn padded(mut data: Vec<u8>) -> Result<Vec<u8>, AllocError>
+    ensures { IfOk result (λ bytes. bytes.items ≡ padded data.items) }
+{
+    let more = (8 - data.len() % 8) % 8;
+    data.resize(data.len() + more, 0)?;
+    Ok(data)
+}
+
+/// The line of a slot.
+fn line_at(bundles: &[BundleLines], place: Place) -> u32
+    ensures { result ≡ line_at bundles.now place }
+{
+    match bundles.get(place.bundle as usize) {
+        Some(lines) => lines.line(place.slot),
+        None => 0,
+    }
+}
+
+/// The program of these, whose counts, entries and targets are right, or the fault of the first slot of a
+/// run that is too long, at its line.
+fn checked(
+    lines: &[BundleLines],
+    bundles: Vec<BundleOf>,
+    entries: Vec<u32>,
+    bytes: Vec<u8>,
+) -> Result<Program, TextError>
+    requires counts { AreInRange (length bundles.items) (length entries.items) (length bytes.items) }
+    requires entries { AreEntries (length bundles.items) entries.items }
+    requires targets { EachPlace bundles.items (IsTargetInside bundles.items) }
+    ensures ok { IfOk result (λ p. (p ≡ record { bundles = bundles.items; entries = entries.items; bytes = bytes.items }) × EachPlace bundles.items (IsWithinRun bundles.items)) }
+    ensures err { IfErr result (λ e. (place : PlaceOf) × IsFirstBad bundles.items (IsWithinRun bundles.items) place × (e ≡ error.Fault (line_at lines.now place) reason.LongRun)) }
+{
+    match Program::of_checked(bundles, entries, bytes) {
+        Ok(program) => Ok(program),
+        Err(ProgramFault::LongRun { place }) => Err(TextError::Fault {
+            line: line_at(lines, place),
+            reason: Reason::LongRun,
+        }),
+        Err(_) => unreachable!(),
+    }
+}
+
+/// The program that the lines of a text say, or the first fault after the last of them.
+fn finish(alloc: Global, lines: Lines) -> Result<Program, TextError>
+    requires { lines.count + 1 < 2 ^ 32 }
+    ensures ok { IfOk result (λ p. ArePassed (end_stages lines.count lines.source) × (p ≡ program_of lines.source)) }
+    ensures err { IfErr result (λ e. (e ≡ error.Memory) ⊎ IsFirstFault (end_stages lines.count lines.source) e) }
+{
+    let Lines { source, count } = lines;
+    let end = count + 1;
+    if source.current.is_some() || !source.are_labels_inside() {
+        return Err(TextError::Fault {
+            line: end,
+            reason: Reason::Misplaced,
+        });
+    }
+    if !source.has_bundles() {
+        return Err(TextError::Fault {
+            line: end,
+            reason: Reason::Empty,
+        });
+    }
+    let parts = named_parts(alloc, &source)?;
+    let entries = rising(alloc, &parts.entries)?;
+    let bytes = padded(source.data)?;
+    checked(&source.bundles, parts.bundles, entries, bytes)
+}
+
+/// The program that a text says, or its first fault.
+fn read(alloc: Global, text: &[u8]) -> Result<Program, TextError>
+    requires { length text.now + 1 < 2 ^ 32 }
+    ensures found { IfOk result (Reads text.now) }
+    ensures fault { IfErr result (λ e. (e ≡ error.Memory) ⊎ HasTextFault text.now e) }
+{
+    let lines = take_lines(alloc, text)?;
+    finish(alloc, lines)
+}
+
+/// The program that a text says.
+///
+/// # Errors
+///
+/// The first fault of the text. Lines are taken in order, and the fault of a line is the first of its length
+/// ([`Reason::Limit`]), of the line by itself ([`Reason::Char`] to [`Reason::Form`]), `Misplaced`, `Twice`,
+/// `Template`, `SlotKind`, and `Limit` for a bundle or for data. After the last come `Misplaced` and `Empty`,
+/// at the line one past it; then, in the order of their lines, names without a label that fits and declared
+/// entries past the limit; and last `LongRun`. Or want of memory, which may come in place of any other answer.
+pub fn assemble(alloc: Global, text: &[u8]) -> Result<Program, TextError>
+    requires { length text.now + 1 < 2 ^ 32 }
+
+    // What is answered is what the text says.
+    ensures found { IfOk result (Reads text.now) }
+
+    // What the text says is answered, so a fault comes only where it says no program.
+    ensures only { (p : ProgramOf) → Reads text.now p → (result ≡ Ok p) ⊎ (result ≡ Err error.Memory) }
+
+    // The fault is the first one of the text.
+    ensures fault { IfErr result (λ e. e ≢ error.Memory → HasTextFault text.now e) }
+
+    // A fault that the text has is answered, since it has no other.
+    ensures only_fault { (e : ErrorOf) → HasTextFault text.now e → (result ≡ Err e) ⊎ (result ≡ Err error.Memory) }
+{
+    one_text_program();
+    one_text_fault();
+    no_fault_where_read();
+    read(alloc, text)
+}

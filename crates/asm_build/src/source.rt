@@ -1,0 +1,306 @@
+//! What the lines of a text say, one after the other.
+
+ghost use Rattle.std.specs.Prelude.{◌≡◌, ◌↔◌, ◌≤◌, ◌+◌, ◌++◌, None, IsTrue, OnOk, IfErr, length};
+ghost use Rattle.first_fault.specs.Stages.{ArePassed};
+ghost use Rattle.asm_text.specs.declared.line.Line.TheVariants as line;
+ghost use Rattle.asm_build.specs.declared.reason.Reason.TheVariants as reason;
+ghost use Rattle.asm_build.specs.declared.reason.TextError.TheVariants as error;
+ghost use Rattle.asm_build.specs.Sources.{State, start, IsWithinLimits, after, value_stages, IsValueError, AreLabelsInside, here, turned, IsIn, numbers_bytes};
+ghost use Rattle.asm_build.specs.declared.source.Section.TheVariants as section;
+
+use crate::address::Address;
+use crate::draft::{BundleLines, Open};
+use crate::reason::{Reason, TextError};
+use asm_text::{Draft, Line, Shape, Values};
+use asm_words::Name;
+use std::alloc::{AllocError, Global};
+use std::collections::BTreeMap;
+use std::marker::Model;
+
+/// The most bundles of a program.
+const BUNDLE_LIMIT: usize = 4096;
+
+/// The most bytes of data.
+const DATA_LIMIT: usize = 1_048_576;
+
+/// What is being written: bundles, or data.
+#[derive(Clone, Copy, PartialEq, Eq)]
+pub(crate) enum Section {
+    Text,
+    Data,
+}
+
+/// A line that declares an entry.
+#[derive(Drop)]
+pub(crate) struct EntryLine {
+    /// Its number, from 1.
+    pub line: u32,
+    /// The name of a label of the text.
+    pub name: Name,
+}
+
+/// What the lines so far say. Contracts see its lists, and the labels in the order of their names.
+#[derive(Drop)]
+pub(crate) struct Source {
+    pub section: Section,
+    pub current: Option<Open>,
+    pub bundles: Vec<BundleLines>,
+    pub entries: Vec<EntryLine>,
+    pub labels: BTreeMap<Name, Address>,
+    pub data: Vec<u8>,
+}
+
+impl Model for Source {
+    ghost Value = { State };
+
+    ghost view = { λ s. record { section = s.section; current = s.current; bundles = s.bundles.items; entries = s.entries.items; labels = s.labels.entries; bytes = s.data.items } };
+
+    ghost invariant = { λ s. IsWithinLimits (record { section = s.section; current = s.current; bundles = s.bundles.items; entries = s.entries.items; labels = s.labels.entries; bytes = s.data.items }) };
+}
+
+/// The fault of a line.
+fn fault(line: u32, reason: Reason) -> TextError
+    ensures { result ≡ error.Fault line reason }
+{
+    TextError::Fault { line, reason }
+}
+
+impl Source {
+    /// What no lines say.
+    pub fn new(alloc: Global) -> Self
+        ensures { result ≡ start }
+    {
+        Source {
+            section: Section::Text,
+            current: None,
+            bundles: Vec::new(alloc),
+            entries: Vec::new(alloc),
+            labels: BTreeMap::new(alloc),
+            data: Vec::new(alloc),
+        }
+    }
+
+    /// Takes what the n-th line says.
+    ///
+    /// # Errors
+    ///
+    /// The first fault of the line after those before it, or want of memory.
+    pub fn take(&mut self, n: u32, value: Line) -> Result<(), TextError>
+        ensures ok { OnOk result (ArePassed (value_stages self.old value) × (self.new ≡ after self.old n value)) }
+        ensures err { IfErr result (IsValueError self.old n value) }
+    {
+        match value {
+            Line::Empty => Ok(()),
+            Line::Label { name } => self.label(n, name),
+            Line::Text => self.turn_to(n, Section::Text),
+            Line::Data => self.turn_to(n, Section::Data),
+            Line::Entry { name } => self.entry(n, name),
+            Line::Ignored => self.ignored(n),
+            Line::Numbers { size, values } => self.numbers(n, size, &values),
+            Line::Skip { count } => self.skip(n, count),
+            Line::Open { shape } => self.begin(n, shape),
+            Line::Slot { draft, stop } => self.slot(n, draft, stop),
+            Line::Stop => self.stop(n),
+            Line::Close => self.close(n),
+        }
+    }
+
+    #[tactic(auto, using(crate::proofs::ValueFaults::twice_there, crate::proofs::LabelValues::kept_among))]
+    fn label(&mut self, n: u32, name: Name) -> Result<(), TextError>
+        ensures ok { OnOk result (ArePassed (value_stages self.old (line.Label name)) × (self.new ≡ after self.old n (line.Label name))) }
+        ensures err { IfErr result (IsValueError self.old n (line.Label name)) }
+    {
+        if self.current.is_some() {
+            return Err(fault(n, Reason::Misplaced));
+        }
+        if self.labels.contains_key(&name) {
+            return Err(fault(n, Reason::Twice));
+        }
+        let address = self.address();
+        self.labels.insert(name, address)?;
+        Ok(())
+    }
+
+    /// What a label names that stands here.
+    fn address(&self) -> Address
+        ensures { result ≡ here self.now }
+    {
+        match self.section {
+            Section::Text => Address::Bundle {
+                n: self.bundles.len() as u32,
+            },
+            Section::Data => Address::Byte {
+                at: self.data.len() as u32,
+            },
+        }
+    }
+
+    fn turn_to(&mut self, n: u32, section: Section) -> Result<(), TextError>
+        ensures ok { OnOk result ((self.old.current ≡ None) × (self.new ≡ turned self.old section)) }
+        ensures err { IfErr result (λ e. (e ≡ error.Fault n reason.Misplaced) × ¬ (self.old.current ≡ None)) }
+    {
+        if self.current.is_some() {
+            return Err(fault(n, Reason::Misplaced));
+        }
+        self.section = section;
+        Ok(())
+    }
+
+    fn entry(&mut self, n: u32, name: Name) -> Result<(), TextError>
+        ensures ok { OnOk result (ArePassed (value_stages self.old (line.Entry name)) × (self.new ≡ after self.old n (line.Entry name))) }
+        ensures err { IfErr result (IsValueError self.old n (line.Entry name)) }
+    {
+        if self.current.is_some() {
+            return Err(fault(n, Reason::Misplaced));
+        }
+        self.entries.push(EntryLine { line: n, name })?;
+        Ok(())
+    }
+
+    fn ignored(&self, n: u32) -> Result<(), TextError>
+        ensures ok { OnOk result (ArePassed (value_stages self.now line.Ignored)) }
+        ensures err { IfErr result (IsValueError self.now n line.Ignored) }
+    {
+        if self.current.is_some() {
+            return Err(fault(n, Reason::Misplaced));
+        }
+        Ok(())
+    }
+
+    /// Whether data may stand here.
+    fn is_in_data(&self) -> bool
+        ensures { IsTrue result ↔ IsIn section.Data self.now }
+    {
+        self.current.is_none() && self.section == Section::Data
+    }
+
+    /// Whether a bundle may begin here.
+    fn is_in_text(&self) -> bool
+        ensures { IsTrue result ↔ IsIn section.Text self.now }
+    {
+        self.current.is_none() && self.section == Section::Text
+    }
+
+    #[tactic(auto, using(crate::proofs::Numbers::most_numbers, crate::proofs::Numbers::length_numbers, crate::proofs::ValueFaults::data_full))]
+    fn numbers(&mut self, n: u32, size: u8, values: &Values) -> Result<(), TextError>
+        ensures ok { OnOk result (ArePassed (value_stages self.old (line.Numbers size values.now)) × (self.new ≡ after self.old n (line.Numbers size values.now))) }
+        ensures err { IfErr result (IsValueError self.old n (line.Numbers size values.now)) }
+    {
+        if !self.is_in_data() {
+            return Err(fault(n, Reason::Misplaced));
+        }
+        let size = usize::from(size).min(8);
+        let numbers = values.numbers();
+        if self.data.len() + numbers.len() * size > DATA_LIMIT {
+            return Err(fault(n, Reason::Limit));
+        }
+        push_numbers(&mut self.data, numbers, size)?;
+        Ok(())
+    }
+
+    fn skip(&mut self, n: u32, count: u32) -> Result<(), TextError>
+        ensures ok { OnOk result (ArePassed (value_stages self.old (line.Skip count)) × (self.new ≡ after self.old n (line.Skip count))) }
+        ensures err { IfErr result (IsValueError self.old n (line.Skip count)) }
+    {
+        if !self.is_in_data() {
+            return Err(fault(n, Reason::Misplaced));
+        }
+        let end = self.data.len() + count as usize;
+        if end > DATA_LIMIT {
+            return Err(fault(n, Reason::Limit));
+        }
+        self.data.resize(end, 0)?;
+        Ok(())
+    }
+
+    fn begin(&mut self, n: u32, shape: Shape) -> Result<(), TextError>
+        ensures ok { OnOk result (ArePassed (value_stages self.old (line.Open shape)) × (self.new ≡ after self.old n (line.Open shape))) }
+        ensures err { IfErr result (IsValueError self.old n (line.Open shape)) }
+    {
+        if !self.is_in_text() {
+            return Err(fault(n, Reason::Misplaced));
+        }
+        if self.bundles.len() >= BUNDLE_LIMIT {
+            return Err(fault(n, Reason::Limit));
+        }
+        self.current = Some(Open::new(shape));
+        Ok(())
+    }
+
+    fn slot(&mut self, n: u32, draft: Draft, stop: bool) -> Result<(), TextError>
+        ensures ok { OnOk result (ArePassed (value_stages self.old (line.Slot draft stop)) × (self.new ≡ after self.old n (line.Slot draft stop))) }
+        ensures err { IfErr result (IsValueError self.old n (line.Slot draft stop)) }
+    {
+        let Some(open) = self.current.take() else {
+            return Err(fault(n, Reason::Misplaced));
+        };
+        if !open.has_room() {
+            return Err(fault(n, Reason::Template));
+        }
+        if !open.fits_next(&draft) {
+            return Err(fault(n, Reason::SlotKind));
+        }
+        self.current = Some(open.with(n, draft, stop));
+        Ok(())
+    }
+
+    fn stop(&mut self, n: u32) -> Result<(), TextError>
+        ensures ok { OnOk result (ArePassed (value_stages self.old line.Stop) × (self.new ≡ after self.old n line.Stop)) }
+        ensures err { IfErr result (IsValueError self.old n line.Stop) }
+    {
+        match self.current.take() {
+            Some(open) if open.has_slot() => {
+                self.current = Some(open.stopped());
+                Ok(())
+            }
+            _ => Err(fault(n, Reason::Misplaced)),
+        }
+    }
+
+    fn close(&mut self, n: u32) -> Result<(), TextError>
+        ensures ok { OnOk result (ArePassed (value_stages self.old line.Close) × (self.new ≡ after self.old n line.Close)) }
+        ensures err { IfErr result (IsValueError self.old n line.Close) }
+    {
+        let Some(open) = self.current.take() else {
+            return Err(fault(n, Reason::Misplaced));
+        };
+        let Some(bundle) = open.close() else {
+            return Err(fault(n, Reason::Template));
+        };
+        self.bundles.push(bundle)?;
+        Ok(())
+    }
+
+    /// Whether there is a bundle.
+    pub fn has_bundles(&self) -> bool
+        ensures { IsTrue result ↔ (1 ≤ length self.now.bundles) }
+    {
+        !self.bundles.is_empty()
+    }
+
+    /// Whether each label of the text has a bundle.
+    pub fn are_labels_inside(&self) -> bool
+        ensures { IsTrue result ↔ AreLabelsInside self.now }
+    {
+        let count = self.bundles.len() as u32;
+        for address in self.labels.values() {
+            if !address.is_inside(count) {
+                return false;
+            }
+        }
+        true
+    }
+}
+
+/// Appends the lowest bytes of each number.
+#[tactic(auto, using(crate::proofs::Steps::number_put, crate::proofs::Numbers::shorter))]
+fn push_numbers(data: &mut Vec<u8>, numbers: &[u64], size: usize) -> Result<(), AllocError>
+    requires { size ≤ 8 }
+    ensures ok { OnOk result (data.new.items ≡ data.old.items ++ numbers_bytes size numbers.now) }
+    ensures grows { length data.new.items ≤ length data.old.items + length (numbers_bytes size numbers.now) }
+{
+    for number in numbers {
+        data.extend_from_slice(&number.to_le_bytes()[..size])?;
+    }
+    Ok(())
+}
