@@ -3,6 +3,7 @@ pub mod Soundness
 pub mod Words
 mod ValueFaults
 mod Steps
+mod Listed
 mod Addressed
 mod LabelValues
 mod Naming
@@ -12,3 +13,20 @@ mod Entries
 mod Finishing
 mod OneOutcome
 mod Answering
+mod Choices
+mod TextLines
+mod PrintedLines
+mod PrintedNumbers
+mod Taking
+mod PutIn
+mod LabelsSoFar
+mod EntriesSoFar
+mod NamedTemplates
+mod UntargetedSlots
+mod WrittenBundles
+mod WrittenTexts
+mod NamesPutIn
+mod DataBack
+mod WrittenData
+mod ReadBack
+mod TextLength

@@ -1,5 +1,6 @@
 pub mod CanonicalText
 pub mod Marks
+pub mod Listing
 pub mod Reasons
 pub mod Addresses
 pub mod TemplateNames
@@ -8,3 +9,4 @@ pub mod Sources
 pub mod Names
 pub mod TextReading
 pub mod Laws
+pub mod RoundTrip

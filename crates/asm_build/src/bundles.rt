@@ -41,7 +41,7 @@ fn push_slot(
 }
 
 /// The lines of a bundle's instructions. The stop of a long one follows slot 2 of its template.
-fn push_slots(
+pub(crate) fn push_slots(
     out: &mut Vec<u8>,
     count: usize,
     bundle: u32,
@@ -88,7 +88,8 @@ fn push_slots(
     }
 }
 
-fn unit_letter(unit: Unit) -> u8
+/// The letter of a unit.
+pub(crate) fn unit_letter(unit: Unit) -> u8
     ensures { result ≡ unit_letter unit }
 {
     match unit {

@@ -1,8 +1,10 @@
 //! The laws of texts.
 
+ghost use Rattle.ia_insn.specs.Programs.{Program};
 ghost use Rattle.asm_build.specs.Laws.{OneTextProgram, OneTextFault, NoFaultWhereRead};
+ghost use Rattle.asm_build.specs.RoundTrip.{CanonicalTextReads, CanonicalTextIsShort};
 
-use asm_text::a_line_has_one_answer;
+use asm_text::{a_line_has_one_answer, printed_slots_are_read_back};
 
 /// The law that a text reads as at most one program. It does nothing.
 pub fn one_text_program()
@@ -23,4 +25,13 @@ pub fn no_fault_where_read()
     ensures { NoFaultWhereRead }
 {
     a_line_has_one_answer();
+}
+
+/// The law that the canonical text of a program reads as the program, and is short enough for
+/// [`assemble`](crate::assemble). It does nothing.
+pub fn canonical_texts_are_read_back()
+    ensures back { (p : Program) → CanonicalTextReads p }
+    ensures short { (p : Program) → CanonicalTextIsShort p }
+{
+    printed_slots_are_read_back();
 }

@@ -6,7 +6,7 @@ mod Kept
 mod Labels
 mod LinesBack
 mod Mnemonic
-mod OperandTexts
+pub mod OperandTexts
 mod Orders
 mod Printed
 mod PrintedA
@@ -21,10 +21,10 @@ mod ReadsBackB
 mod ReadsBackI
 mod ReadsBackM
 mod ReadsBackX
-mod Short
-mod SlotLines
+pub mod Short
+pub mod SlotLines
 mod Spaced
 mod TargetTexts
 mod Targets
-mod Untargeted
+pub mod Untargeted
 mod WordLists

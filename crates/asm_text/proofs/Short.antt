@@ -319,7 +319,7 @@ hex_either true n most e l s =
 hex_either false n most e l s = let d = ap length (hex_one n (leb-false 16 n e)) in omega (arith, d)
 
 -- A number below a power of 16 has no more hexadecimal digits than the exponent.
-hex_is_short : (k n : ℕ) → n < 16 ^ suc k → n < 2 ^ 64 → length (digits 16 false n) ≤ suc k
+pub hex_is_short : (k n : ℕ) → n < 16 ^ suc k → n < 2 ^ 64 → length (digits 16 false n) ≤ suc k
 hex_is_short zero n h l = let d = ap length (hex_one n (omega (arith, h))) in omega (arith, d)
 hex_is_short (suc k) n h l =
     let p : 16 ^ suc (suc k) ≡ 16 ^ suc k * 16 = pow-suc 16 (suc k) in

@@ -307,7 +307,7 @@ parts_lexed pr m d s = ap (lexed 0) (append_assoc (pr ++ m) d s ∙ append_assoc
 chosen : {A : Type 0} (b : Bool) (x y : A) → b ≡ true → cond b x y ≡ x
 chosen b x y h = rw h refl
 
-read_plain : (bytes : List ℕ) → has_only_plain bytes ≡ true → reading_of bytes ≡ value_of (lexed 0 bytes)
+pub read_plain : (bytes : List ℕ) → has_only_plain bytes ≡ true → reading_of bytes ≡ value_of (lexed 0 bytes)
 read_plain bytes h = chosen (has_only_plain bytes) _ _ h ∙ ap value_of (words_lexed bytes)
 
 -- the operands of a line by the number of their target

@@ -6,15 +6,15 @@ use Rattle.std.proofs.KnownBytes.{Appends-nil}
 use Rattle.std.proofs.lemmas.Bool.{lt-ltb, le-ltb}
 use Rattle.io_seam.specs.Bytes.{LosesFirst}
 use Rattle.ia64_top.specs.declared.words.Command.{Command}
-use Rattle.ia64_top.specs.declared.words.Command.TheVariants.{Wrap, Show, Check}
+use Rattle.ia64_top.specs.declared.words.Command.TheVariants as command
+use Rattle.ia64_top.specs.declared.words.Command.TheVariants.{Check}
 use Rattle.ia64_top.specs.declared.status.Status.{Status}
 use Rattle.ia64_top.specs.declared.status.Status.TheVariants.{Done, Words, TooLong}
 use Rattle.ia64_top.specs.Words.{command_of}
 use Rattle.ia_insn.specs.Programs.{Program}
-use Rattle.image_form.specs.Images.{Spells}
-use Rattle.image_form.specs.Laws.{ImageSize}
 use Rattle.ia64_top.specs.Programs.{IsPlain}
 use Rattle.ia64_top.specs.Violations.{IsFree}
+use Rattle.ia64_top.specs.Readings.{as_either}
 use Rattle.ia64_top.specs.Output.{input_limit, IsCommandOutput, IsOutput, GivesOutput, GivesPart}
 
 -- the output of a command for an input within the limit
@@ -37,17 +37,19 @@ pub given_in_part : (words : List (List ℕ)) (command : Command) (left given ne
 given_in_part words command None given new input bytes status e whole within o part = tt
 given_in_part words command (Some l) given new input bytes status e whole within o part = (bytes, status, subst (λ (i : List ℕ). IsOutput words i bytes status) whole (output_within words command input bytes status e within o), part)
 
--- an image is short
-short_image : ImageSize → (p : Program) (input : List ℕ) → Spells p input → length input ≤ input_limit
-short_image size p input s = let n = size p input s in let r = s.program.counts in omega (arith, n, r.bundles, r.entries, r.bytes)
+-- what is accepted, of an input that is too long and of one within the limit
+abbrev AcceptsFree : List (List ℕ) → Status → List ℕ → Type 0
+AcceptsFree words status input =
+    command_of words ≡ Some Check → length input ≤ input_limit → (p : Program) → as_either.Gives input p → IsPlain p → ((status ≡ Done) ↔ IsFree p)
 
-pub accepted_beyond : ImageSize → (words : List (List ℕ)) (left : Option (List ℕ)) → IfSome left (λ l. input_limit < length l) → IfSome left (λ input. command_of words ≡ Some Check → (p : Program) → Spells p input → IsPlain p → ((TooLong ≡ Done) ↔ IsFree p))
-accepted_beyond size words None h = tt
-accepted_beyond size words (Some input) h = λ e p s plain. absurd (let m = short_image size p input s in omega arith)
+pub accepted_beyond : (words : List (List ℕ)) (left : Option (List ℕ)) → IfSome left (λ l. input_limit < length l) → IfSome left (AcceptsFree words TooLong)
+accepted_beyond words None h = tt
+accepted_beyond words (Some input) h = λ e within p g plain. absurd (omega (arith, h, within))
 
-pub accepted_within : (words : List (List ℕ)) (command : Command) (left : Option (List ℕ)) (input : List ℕ) (status : Status) → command_of words ≡ Some command → IfSome left (λ l. input ≡ l) → (command ≡ Check → (p : Program) → Spells p input → IsPlain p → ((status ≡ Done) ↔ IsFree p)) → IfSome left (λ i. command_of words ≡ Some Check → (p : Program) → Spells p i → IsPlain p → ((status ≡ Done) ↔ IsFree p))
+pub accepted_within : (words : List (List ℕ)) (command : Command) (left : Option (List ℕ)) (input : List ℕ) (status : Status) → command_of words ≡ Some command → IfSome left (λ l. input ≡ l)
+    → (command ≡ Check → (p : Program) → as_either.Gives input p → IsPlain p → ((status ≡ Done) ↔ IsFree p)) → IfSome left (AcceptsFree words status)
 accepted_within words command None input status e whole h = tt
-accepted_within words command (Some l) input status e whole h = λ f p s plain. h (let g : Some command ≡ Some Check = sym e ∙ f in cc) p (subst (Spells p) (sym whole) s) plain
+accepted_within words command (Some l) input status e whole h = λ f within p g plain. h (let same : Some command ≡ Some Check = sym e ∙ f in cc) p (subst (λ i. as_either.Gives i p) (sym whole) g) plain
 
 -- more bytes than the limit were there where more were taken
 pub beyond : (P : Type 0) (left new : Option (List ℕ)) → P → IfSome left (λ l. P ↔ LosesFirst (input_limit + 1) l new) → IfSome left (λ l. input_limit < length l)
@@ -61,8 +63,10 @@ untouched (Some l) = (λ e. cc, λ loses. let e : l ≡ drop (input_limit + 1) l
 
 -- what a command answers to an input within the limit is never that it is too long
 not_too_long : (command : Command) (input bytes : List ℕ) → IsCommandOutput command input bytes TooLong → ⊥
-not_too_long Wrap input bytes o = o
-not_too_long Show input bytes o = o
+not_too_long command.Build input bytes o = o
+not_too_long command.Show input bytes o = o
+not_too_long command.List input bytes o = o
+not_too_long command.Wrap input bytes o = o
 not_too_long Check input bytes o = o
 
 pub read_whole : (P : Type 0) (command : Command) (left new : Option (List ℕ)) (input bytes : List ℕ) (status : Status) → ¬ P → IfSome left (λ l. P ↔ LosesFirst (input_limit + 1) l new) → IsCommandOutput command input bytes status → IfSome left (λ l. (status ≡ TooLong) ↔ LosesFirst (input_limit + 1) l new)

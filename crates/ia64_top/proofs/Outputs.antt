@@ -2,135 +2,133 @@
 use Rattle.std.proofs.Common.{◌≡◌, ℕ, ◌<◌, inl, inr, List, [], ◌∷◌, length, take, refl, sym, subst, arith}
 use Rattle.std.specs.Prelude.{◌↔◌, Contains, IfOk, Result, Ok, Err}
 use Rattle.ia_insn.specs.Programs.{Program}
-use Rattle.image_form.specs.declared.fault.ImageFault.{ImageFault}
-use Rattle.image_form.specs.Images.{magic, Spells, RawSpells}
-use Rattle.image_form.specs.Faults.{HasImageFault, HasRawFault}
 use Rattle.image_form.specs.Laws.{OneProgram, NoFaultWhereSpelled, NoFaultWhereRaw}
+use Rattle.asm_build.specs.Laws.{OneTextProgram, NoFaultWhereRead}
 use Rattle.ia64_top.specs.declared.status.Status.{Status}
 use Rattle.ia64_top.specs.declared.status.Status.TheVariants.{Done, Violated, Refused, NotYet}
 use Rattle.ia64_top.specs.declared.violation.Violation.{Violation}
 use Rattle.ia64_top.specs.declared.violation.Report.{Report}
-use Rattle.ia64_top.specs.Texts.{verdict_text, refusal_text}
+use Rattle.ia64_top.specs.Texts.{verdict_text}
 use Rattle.ia64_top.specs.Programs.{IsPlain}
 use Rattle.ia64_top.specs.Violations.{IsFree}
 use Rattle.ia64_top.specs.Verdicts.{IsVerdict}
 use Rattle.ia64_top.specs.Judgements.{TellsWhether, IsJudgement, IsProgramAnswer}
-use Rattle.ia64_top.specs.Output.{BeginsAsImage, IsWrapOutput, IsShowOutput, IsUnjudged, IsCheckOutput}
+use Rattle.ia64_top.specs.Readings.{Reading, as_image, as_bundles, as_text, as_either, BeginsAsImage}
+use Rattle.ia64_top.specs.Output.{IsMadeOutput, IsCheckedAs}
 
 -- what is there where a call went well, told by what its contract tells
 pub if_ok : {T E : Type 0} {P Q : T → Type 0} (result : Result T E) → IfOk result P → ((x : T) → P x → Q x) → IfOk result Q
 if_ok (Ok x) p tell = tell x p
 if_ok (Err e) p tell = tt
 
-begins : (p : Program) (input : List ℕ) → Spells p input → BeginsAsImage input
-begins p input s = subst (λ (l : List ℕ). take 8 l ≡ magic) (sym s.whole) refl
+-- An input that is read in this way isn't refused.
+abbrev pub RefusesNone : Reading → Type 0
+RefusesNone r = (input : List ℕ) (p : Program) (bytes : List ℕ) → r.Gives input p → r.Refuses input bytes → ⊥
 
--- the answer on the program of an image is that on the image
-pub output_of_answer : (input : List ℕ) (p : Program) (bytes : List ℕ) (status : Status) → Spells p input → IsProgramAnswer p bytes status → IsCheckOutput input bytes status
-output_of_answer input p bytes Done s a = (p, s, a.0, a.1)
-output_of_answer input p bytes Violated s a = (p, s, a.0, a.1)
-output_of_answer input p bytes NotYet s a = (inr (p, s, a.0), a.1)
-output_of_answer input p bytes status s a = absurd a
+pub image_refuses_none : NoFaultWhereSpelled → RefusesNone as_image
+image_refuses_none none input p bytes given refused = none p input refused.0 given refused.1
+
+pub bundles_refuse_none : NoFaultWhereRaw → RefusesNone as_bundles
+bundles_refuse_none none input p bytes given refused = none p input refused.0 given refused.1
+
+pub text_refuses_none : NoFaultWhereRead → RefusesNone as_text
+text_refuses_none none input p bytes given refused = none input p refused.0 given refused.1
+
+pub either_refuses_none : NoFaultWhereSpelled → NoFaultWhereRead → RefusesNone as_either
+either_refuses_none spelled read input p bytes (inl g) (inl r) = image_refuses_none spelled input p bytes g.1 r.1
+either_refuses_none spelled read input p bytes (inl g) (inr r) = absurd (r.0 g.0)
+either_refuses_none spelled read input p bytes (inr g) (inl r) = absurd (g.0 r.0)
+either_refuses_none spelled read input p bytes (inr g) (inr r) = text_refuses_none read input p bytes g.1 r.1
+
+-- It is read as one program.
+abbrev pub GivesOne : Reading → Type 0
+GivesOne r = (input : List ℕ) (p q : Program) → r.Gives input p → r.Gives input q → p ≡ q
+
+pub either_gives_one : OneProgram → OneTextProgram → GivesOne as_either
+either_gives_one image text input p q (inl a) (inl b) = image input p q a.1 b.1
+either_gives_one image text input p q (inl a) (inr b) = absurd (b.0 a.0)
+either_gives_one image text input p q (inr a) (inl b) = absurd (a.0 b.0)
+either_gives_one image text input p q (inr a) (inr b) = text input p q a.1 b.1
+
+-- What is made of an input that is read has no other status, and neither has what is refused.
+pub only_made : (r : Reading) (Makes : Program → List ℕ → Type 0) → RefusesNone r → (input : List ℕ) (p : Program) → r.Gives input p
+    → (bytes : List ℕ) (other : Status) → IsMadeOutput r Makes input bytes other → other ≡ Done
+only_made r Makes none input p given bytes Done o = refl
+only_made r Makes none input p given bytes Refused o = absurd (none input p bytes given o)
+only_made r Makes none input p given bytes other o = absurd o
+
+pub only_refused : (r : Reading) (Makes : Program → List ℕ → Type 0) → RefusesNone r → (input mine : List ℕ) → r.Refuses input mine
+    → (bytes : List ℕ) (other : Status) → IsMadeOutput r Makes input bytes other → other ≡ Refused
+only_refused r Makes none input mine refused bytes Done o = absurd (none input o.0 mine o.1 refused)
+only_refused r Makes none input mine refused bytes Refused o = refl
+only_refused r Makes none input mine refused bytes other o = absurd o
+
+-- the output of a refusal
+pub is_refusal : (r : Reading) (Makes : Program → List ℕ → Type 0) (input bytes : List ℕ) (status : Status) → r.Refuses input bytes → status ≡ Refused
+    → IsMadeOutput r Makes input bytes status
+is_refusal r Makes input bytes status refused e = subst (IsMadeOutput r Makes input bytes) (sym e) refused
+
+pub is_checked_refusal : (r : Reading) (input bytes : List ℕ) (status : Status) → r.Refuses input bytes → status ≡ Refused → IsCheckedAs r input bytes status
+is_checked_refusal r input bytes status refused e = subst (IsCheckedAs r input bytes) (sym e) refused
+
+-- the answer on the program that an input is read as is that on the input
+pub checked_of_answer : (r : Reading) (input : List ℕ) (p : Program) (bytes : List ℕ) (status : Status) → r.Gives input p → IsProgramAnswer p bytes status → IsCheckedAs r input bytes status
+checked_of_answer r input p bytes Done g a = (p, g, a.0, a.1)
+checked_of_answer r input p bytes Violated g a = (p, g, a.0, a.1)
+checked_of_answer r input p bytes NotYet g a = (p, g, a.0, a.1)
+checked_of_answer r input p bytes status g a = absurd a
+
+-- an input that begins as an image does is checked as one, and any other as a text
+pub checked_image : (input bytes : List ℕ) (status : Status) → BeginsAsImage input → IsCheckedAs as_image input bytes status → IsCheckedAs as_either input bytes status
+checked_image input bytes Done m o = (o.0, inl (m, o.1), o.2, o.3)
+checked_image input bytes Violated m o = (o.0, inl (m, o.1), o.2, o.3)
+checked_image input bytes Refused m o = inl (m, o)
+checked_image input bytes NotYet m o = (o.0, inl (m, o.1), o.2, o.3)
+checked_image input bytes status m o = absurd o
+
+pub checked_text : (input bytes : List ℕ) (status : Status) → ¬ BeginsAsImage input → IsCheckedAs as_text input bytes status → IsCheckedAs as_either input bytes status
+checked_text input bytes Done m o = (o.0, inr (m, o.1), o.2, o.3)
+checked_text input bytes Violated m o = (o.0, inr (m, o.1), o.2, o.3)
+checked_text input bytes Refused m o = inr (m, o)
+checked_text input bytes NotYet m o = (o.0, inr (m, o.1), o.2, o.3)
+checked_text input bytes status m o = absurd o
 
 free_and_not : (p q : Program) → p ≡ q → IsFree p → (IsFree q → ⊥) → ⊥
 free_and_not p q e f n = n (subst IsFree e f)
 
--- an input whose program is plain is judged
-plain_is_judged : OneProgram → (input : List ℕ) (p : Program) → Spells p input → IsPlain p → IsUnjudged input → ⊥
-plain_is_judged one input p s plain (inl n) = n (begins p input s)
-plain_is_judged one input p s plain (inr n) = n.2 (subst IsPlain (one input p n.0 s n.1) plain)
-
--- no other status is stated where the program is free, where it isn't, and where it isn't plain
-only_done : OneProgram → NoFaultWhereSpelled → (input : List ℕ) (p : Program) → Spells p input → IsPlain p → IsFree p → (bytes : List ℕ) (other : Status) → IsCheckOutput input bytes other → other ≡ Done
-only_done one none input p s plain free bytes Done o = refl
-only_done one none input p s plain free bytes Violated o = absurd (free_and_not p o.0 (one input p o.0 s o.1) free o.3.tells)
-only_done one none input p s plain free bytes NotYet o = absurd (plain_is_judged one input p s plain o.0)
-only_done one none input p s plain free bytes Refused o = absurd (none p input o.1.0 s o.1.1)
-only_done one none input p s plain free bytes other o = absurd o
-
-only_violated : OneProgram → NoFaultWhereSpelled → (input : List ℕ) (p : Program) → Spells p input → IsPlain p → (IsFree p → ⊥) → (bytes : List ℕ) (other : Status) → IsCheckOutput input bytes other → other ≡ Violated
-only_violated one none input p s plain not bytes Done o = absurd (free_and_not o.0 p (one input o.0 p o.1 s) o.3.tells not)
-only_violated one none input p s plain not bytes Violated o = refl
-only_violated one none input p s plain not bytes NotYet o = absurd (plain_is_judged one input p s plain o.0)
-only_violated one none input p s plain not bytes Refused o = absurd (none p input o.1.0 s o.1.1)
-only_violated one none input p s plain not bytes other o = absurd o
-
-only_not_plain : OneProgram → NoFaultWhereSpelled → (input : List ℕ) (p : Program) → Spells p input → (IsPlain p → ⊥) → (bytes : List ℕ) (other : Status) → IsCheckOutput input bytes other → other ≡ NotYet
-only_not_plain one none input p s not bytes Done o = absurd (not (subst IsPlain (one input o.0 p o.1 s) o.2))
-only_not_plain one none input p s not bytes Violated o = absurd (not (subst IsPlain (one input o.0 p o.1 s) o.2))
-only_not_plain one none input p s not bytes NotYet o = refl
-only_not_plain one none input p s not bytes Refused o = absurd (none p input o.1.0 s o.1.1)
-only_not_plain one none input p s not bytes other o = absurd o
-
-pub only_answer : OneProgram → NoFaultWhereSpelled → (input : List ℕ) (p : Program) (mine : List ℕ) (status : Status) → Spells p input → IsProgramAnswer p mine status → (bytes : List ℕ) (other : Status) → IsCheckOutput input bytes other → other ≡ status
-only_answer one none input p mine Done s a = only_done one none input p s a.0 a.1.tells
-only_answer one none input p mine Violated s a = only_violated one none input p s a.0 a.1.tells
-only_answer one none input p mine NotYet s a = only_not_plain one none input p s a.0
-only_answer one none input p mine status s a = absurd a
-
--- an image with a fault has the output of its refusal alone
-pub only_refused : NoFaultWhereSpelled → (input : List ℕ) (fault : ImageFault) → BeginsAsImage input → HasImageFault input fault → (bytes : List ℕ) (other : Status) → IsCheckOutput input bytes other → other ≡ Refused
-only_refused none input fault m f bytes Done o = absurd (none o.0 input fault o.1 f)
-only_refused none input fault m f bytes Violated o = absurd (none o.0 input fault o.1 f)
-only_refused none input fault m f bytes Refused o = refl
-only_refused none input fault m f bytes NotYet o = absurd (judged o.0)
-  where
-    judged : IsUnjudged input → ⊥
-    judged (inl n) = n m
-    judged (inr n) = none n.0 input fault n.1 f
-only_refused none input fault m f bytes other o = absurd o
-
--- and an input that doesn't begin as an image does isn't judged
-pub only_unjudged : (input : List ℕ) → ¬ BeginsAsImage input → (bytes : List ℕ) (other : Status) → IsCheckOutput input bytes other → other ≡ NotYet
-only_unjudged input n bytes Done o = absurd (n (begins o.0 input o.1))
-only_unjudged input n bytes Violated o = absurd (n (begins o.0 input o.1))
-only_unjudged input n bytes Refused o = absurd (n o.0)
-only_unjudged input n bytes NotYet o = refl
-only_unjudged input n bytes other o = absurd o
+-- no other status is stated for what is checked
+pub only_checked : (r : Reading) → GivesOne r → RefusesNone r → (input mine : List ℕ) (status : Status) → IsCheckedAs r input mine status
+    → (bytes : List ℕ) (other : Status) → IsCheckedAs r input bytes other → other ≡ status
+only_checked r one none input mine Done m bytes Done o = refl
+only_checked r one none input mine Done m bytes Violated o = absurd (free_and_not m.0 o.0 (one input m.0 o.0 m.1 o.1) m.3.tells o.3.tells)
+only_checked r one none input mine Done m bytes Refused o = absurd (none input m.0 bytes m.1 o)
+only_checked r one none input mine Done m bytes NotYet o = absurd (o.2 (subst IsPlain (one input m.0 o.0 m.1 o.1) m.2))
+only_checked r one none input mine Done m bytes other o = absurd o
+only_checked r one none input mine Violated m bytes Done o = absurd (free_and_not o.0 m.0 (one input o.0 m.0 o.1 m.1) o.3.tells m.3.tells)
+only_checked r one none input mine Violated m bytes Violated o = refl
+only_checked r one none input mine Violated m bytes Refused o = absurd (none input m.0 bytes m.1 o)
+only_checked r one none input mine Violated m bytes NotYet o = absurd (o.2 (subst IsPlain (one input m.0 o.0 m.1 o.1) m.2))
+only_checked r one none input mine Violated m bytes other o = absurd o
+only_checked r one none input mine Refused m bytes Done o = absurd (none input o.0 mine o.1 m)
+only_checked r one none input mine Refused m bytes Violated o = absurd (none input o.0 mine o.1 m)
+only_checked r one none input mine Refused m bytes Refused o = refl
+only_checked r one none input mine Refused m bytes NotYet o = absurd (none input o.0 mine o.1 m)
+only_checked r one none input mine Refused m bytes other o = absurd o
+only_checked r one none input mine NotYet m bytes Done o = absurd (m.2 (subst IsPlain (one input o.0 m.0 o.1 m.1) o.2))
+only_checked r one none input mine NotYet m bytes Violated o = absurd (m.2 (subst IsPlain (one input o.0 m.0 o.1 m.1) o.2))
+only_checked r one none input mine NotYet m bytes Refused o = absurd (none input m.0 bytes m.1 o)
+only_checked r one none input mine NotYet m bytes NotYet o = refl
+only_checked r one none input mine NotYet m bytes other o = absurd o
+only_checked r one none input mine status m bytes other o = absurd m
 
 -- `Done` is the answer on a plain program exactly where it is free
-pub done_where_free : OneProgram → (input : List ℕ) (q : Program) (bytes : List ℕ) (status : Status) → Spells q input → IsProgramAnswer q bytes status → (p : Program) → Spells p input → IsPlain p → ((status ≡ Done) ↔ IsFree p)
-done_where_free one input q bytes Done s a p t plain = (λ d. subst IsFree (one input q p s t) a.1.tells, λ f. refl)
-done_where_free one input q bytes Violated s a p t plain = (λ d. cc, λ f. absurd (a.1.tells (subst IsFree (one input p q t s) f)))
-done_where_free one input q bytes NotYet s a p t plain = absurd (a.0 (subst IsPlain (one input p q t s) plain))
-done_where_free one input q bytes status s a p t plain = absurd a
-
-pub none_spelled_unjudged : (input : List ℕ) (p : Program) → ¬ BeginsAsImage input → Spells p input → ⊥
-none_spelled_unjudged input p n s = n (begins p input s)
-
--- bare bundles of a program have its image for output, and nothing else
-pub only_wrapped : NoFaultWhereRaw → (input : List ℕ) (p : Program) → RawSpells p input → (bytes : List ℕ) (other : Status) → IsWrapOutput input bytes other → other ≡ Done
-only_wrapped none input p s bytes Done o = refl
-only_wrapped none input p s bytes Refused o = absurd (none p input o.0 s o.1)
-only_wrapped none input p s bytes other o = absurd o
-
--- and those with a fault its refusal
-pub only_raw_refused : NoFaultWhereRaw → (input : List ℕ) (fault : ImageFault) → HasRawFault input fault → (bytes : List ℕ) (other : Status) → IsWrapOutput input bytes other → other ≡ Refused
-only_raw_refused none input fault f bytes Done o = absurd (none o.0 input fault o.1 f)
-only_raw_refused none input fault f bytes Refused o = refl
-only_raw_refused none input fault f bytes other o = absurd o
-
--- an image has its text for output, and nothing else
-pub only_shown : NoFaultWhereSpelled → (input : List ℕ) (p : Program) → Spells p input → (bytes : List ℕ) (other : Status) → IsShowOutput input bytes other → other ≡ Done
-only_shown none input p s bytes Done o = refl
-only_shown none input p s bytes Refused o = absurd (none p input o.0 s o.1)
-only_shown none input p s bytes other o = absurd o
-
--- and one with a fault its refusal
-pub only_show_refused : NoFaultWhereSpelled → (input : List ℕ) (fault : ImageFault) → HasImageFault input fault → (bytes : List ℕ) (other : Status) → IsShowOutput input bytes other → other ≡ Refused
-only_show_refused none input fault f bytes Done o = absurd (none o.0 input fault o.1 f)
-only_show_refused none input fault f bytes Refused o = refl
-only_show_refused none input fault f bytes other o = absurd o
-
-pub is_show_refusal : (input : List ℕ) (fault : ImageFault) (bytes : List ℕ) (status : Status) → HasImageFault input fault → bytes ≡ refusal_text fault → status ≡ Refused → IsShowOutput input bytes status
-is_show_refusal input fault bytes status f printed e = subst (IsShowOutput input bytes) (sym e) (fault, f, printed)
-
--- the output of a refusal is one of the fault that it tells
-pub is_raw_refusal : (input : List ℕ) (fault : ImageFault) (bytes : List ℕ) (status : Status) → HasRawFault input fault → bytes ≡ refusal_text fault → status ≡ Refused → IsWrapOutput input bytes status
-is_raw_refusal input fault bytes status f printed e = subst (IsWrapOutput input bytes) (sym e) (fault, f, printed)
-
-pub is_refusal : (input : List ℕ) (fault : ImageFault) (bytes : List ℕ) (status : Status) → BeginsAsImage input → HasImageFault input fault → bytes ≡ refusal_text fault → status ≡ Refused → IsCheckOutput input bytes status
-is_refusal input fault bytes status m f printed e = subst (IsCheckOutput input bytes) (sym e) (m, (fault, f, printed))
+pub done_where_free : (r : Reading) → GivesOne r → RefusesNone r → (input bytes : List ℕ) (status : Status) → IsCheckedAs r input bytes status
+    → (p : Program) → r.Gives input p → IsPlain p → ((status ≡ Done) ↔ IsFree p)
+done_where_free r one none input bytes Done o p g plain = (λ d. subst IsFree (one input o.0 p o.1 g) o.3.tells, λ f. refl)
+done_where_free r one none input bytes Violated o p g plain = (λ d. cc, λ f. absurd (o.3.tells (subst IsFree (one input p o.0 g o.1) f)))
+done_where_free r one none input bytes Refused o p g plain = absurd (none input p bytes g o)
+done_where_free r one none input bytes NotYet o p g plain = absurd (o.2 (subst IsPlain (one input p o.0 g o.1) plain))
+done_where_free r one none input bytes status o p g plain = absurd o
 
 free_of_none : (p : Program) (report : Report) → IsVerdict p report → report.total ≡ 0 → IsFree p
 free_of_none p report v none w x = let c = v.list.has w x in omega (arith, c.1, v.shows.total)

@@ -6,4 +6,5 @@ pub mod Verdicts
 pub mod Reports
 pub mod Texts
 pub mod Judgements
+pub mod Readings
 pub mod Output

@@ -1,63 +1,58 @@
 -- The stated output: what the words and the input give. Each command has a table of its own, a row for each status.
-use Rattle.std.specs.Prelude.{◌≡◌, ℕ, ◌<◌, ◌⊎◌, nat_lt, List, [], length, take, Option, MatchOption, MatchBool}
+use Rattle.std.specs.Prelude.{◌≡◌, ℕ, ◌<◌, nat_lt, List, [], length, take, Option, MatchOption, MatchBool}
 use Rattle.std.specs.Io.KnownBytes.{Appends}
 use Rattle.ia64_top.specs.declared.words.Command.{Command}
-use Rattle.ia64_top.specs.declared.words.Command.TheVariants.{Wrap, Show, Check}
+use Rattle.ia64_top.specs.declared.words.Command.TheVariants as command
 use Rattle.ia64_top.specs.declared.status.Status.{Status}
 use Rattle.ia64_top.specs.declared.status.Status.TheVariants.{Done, Violated, Words, Refused, TooLong, NotYet}
 use Rattle.ia_insn.specs.Programs.{Program}
-use Rattle.image_form.specs.declared.fault.ImageFault.{ImageFault}
-use Rattle.image_form.specs.Images.{magic, Spells, RawSpells}
-use Rattle.image_form.specs.Faults.{HasImageFault, HasRawFault}
+use Rattle.image_form.specs.Images.{Spells}
 use Rattle.asm_build.specs.CanonicalText.{canonical_text}
+use Rattle.asm_build.specs.Listing.{IsListing}
 use Rattle.ia64_top.specs.Words.{command_of}
 use Rattle.ia64_top.specs.Programs.{IsPlain}
 use Rattle.ia64_top.specs.Judgements.{IsJudgement}
-use Rattle.ia64_top.specs.Texts.{refusal_text}
+use Rattle.ia64_top.specs.Readings.{Reading, as_image, as_bundles, as_text, as_either}
 
 -- the longest input that is taken, in bytes
 abbrev pub input_limit : ℕ
 input_limit = 4194304
 
--- the input begins as an image does
-abbrev pub BeginsAsImage : List ℕ → Type 0
-BeginsAsImage input = take 8 input ≡ magic
+-- What a command writes and answers that makes something of the program that its input is read as: a row for
+-- each status, with where it comes.
+abbrev pub IsMadeOutput : Reading → (Program → List ℕ → Type 0) → List ℕ → List ℕ → Status → Type 0
+IsMadeOutput reading Makes input bytes Done = (program : Program) × reading.Gives input program × Makes program bytes
+IsMadeOutput reading Makes input bytes Refused = reading.Refuses input bytes
+IsMadeOutput reading Makes input bytes status = ⊥
 
--- What `wrap` writes and answers: a row for each status, with where it comes.
-abbrev pub IsWrapOutput : List ℕ → List ℕ → Status → Type 0
-IsWrapOutput input bytes Done = (program : Program) × RawSpells program input × Spells program bytes
-IsWrapOutput input bytes Refused = (fault : ImageFault) × HasRawFault input fault × (bytes ≡ refusal_text fault)
-IsWrapOutput input bytes status = ⊥
+-- the text is the canonical one of the program
+abbrev pub IsCanonical : Program → List ℕ → Type 0
+IsCanonical program text = text ≡ canonical_text program
 
--- What `show` writes and answers.
-abbrev pub IsShowOutput : List ℕ → List ℕ → Status → Type 0
-IsShowOutput input bytes Done = (program : Program) × Spells program input × (bytes ≡ canonical_text program)
-IsShowOutput input bytes Refused = (fault : ImageFault) × HasImageFault input fault × (bytes ≡ refusal_text fault)
-IsShowOutput input bytes status = ⊥
-
--- an input that isn't judged yet: no image, or that of a program that isn't plain
-abbrev pub IsUnjudged : List ℕ → Type 0
-IsUnjudged input = ¬ BeginsAsImage input ⊎ ((program : Program) × Spells program input × ¬ IsPlain program)
-
--- What `check` writes and answers.
-abbrev pub IsCheckOutput : List ℕ → List ℕ → Status → Type 0
-IsCheckOutput input bytes Done =
-    (program : Program) × Spells program input × IsPlain program × IsJudgement program bytes Done
-IsCheckOutput input bytes Violated =
-    (program : Program) × Spells program input × IsPlain program × IsJudgement program bytes Violated
-IsCheckOutput input bytes Refused =
-    BeginsAsImage input × ((fault : ImageFault) × HasImageFault input fault × (bytes ≡ refusal_text fault))
-IsCheckOutput input bytes NotYet = IsUnjudged input × (bytes ≡ [])
-IsCheckOutput input bytes status = ⊥
+-- What `check` writes and answers of an input that is read in a way.
+abbrev pub IsCheckedAs : Reading → List ℕ → List ℕ → Status → Type 0
+IsCheckedAs reading input bytes Done =
+    (program : Program) × reading.Gives input program × IsPlain program × IsJudgement program bytes Done
+IsCheckedAs reading input bytes Violated =
+    (program : Program) × reading.Gives input program × IsPlain program × IsJudgement program bytes Violated
+IsCheckedAs reading input bytes Refused = reading.Refuses input bytes
+IsCheckedAs reading input bytes NotYet =
+    (program : Program) × reading.Gives input program × (¬ IsPlain program) × (bytes ≡ [])
+IsCheckedAs reading input bytes status = ⊥
 
 -- a status that prints nothing
 abbrev pub IsSilent : Status → List ℕ → Status → Type 0
 IsSilent status bytes answer = (bytes ≡ []) × (answer ≡ status)
 
+-- `build` and `wrap` make the image of a program, `show` its canonical text, and `list` its listing. `check` takes
+-- an image or a text.
 abbrev pub IsCommandOutput : Command → List ℕ → List ℕ → Status → Type 0
-IsCommandOutput Wrap input bytes status = IsWrapOutput input bytes status
-IsCommandOutput Show input bytes status = IsShowOutput input bytes status
-IsCommandOutput Check input bytes status = IsCheckOutput input bytes status
+IsCommandOutput command.Build input bytes status = IsMadeOutput as_text Spells input bytes status
+IsCommandOutput command.Show input bytes status =
+    IsMadeOutput as_image IsCanonical input bytes status
+IsCommandOutput command.List input bytes status = IsMadeOutput as_image IsListing input bytes status
+IsCommandOutput command.Wrap input bytes status = IsMadeOutput as_bundles Spells input bytes status
+IsCommandOutput command.Check input bytes status = IsCheckedAs as_either input bytes status
 
 -- The bytes that are written and the status that is answered, for these words and this input.
 abbrev pub IsOutput : List (List ℕ) → List ℕ → List ℕ → Status → Type 0

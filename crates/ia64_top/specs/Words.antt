@@ -1,13 +1,15 @@
 -- The table of words: which list of words is which command.
 use Rattle.std.specs.Prelude.{ℕ, List, [], ◌∷◌, Option, Some, None, if◌then◌else◌, codes, bytes_eq}
 use Rattle.ia64_top.specs.declared.words.Command.{Command}
-use Rattle.ia64_top.specs.declared.words.Command.TheVariants.{Wrap, Show, Check}
+use Rattle.ia64_top.specs.declared.words.Command.TheVariants.{Build, Show, List as Listing, Wrap, Check}
 
--- The command that the words are, where they are one: `wrap`, `show` or `check` alone. Upper and
--- lower case differ.
+-- The command that the words are, where they are one: `build`, `show`, `list`, `wrap` or `check` alone.
+-- Upper and lower case differ.
 abbrev pub command_of : List (List ℕ) → Option Command
 command_of (word ∷ []) =
-    if bytes_eq word (codes "wrap") then Some Wrap
+    if bytes_eq word (codes "build") then Some Build
     else if bytes_eq word (codes "show") then Some Show
+    else if bytes_eq word (codes "list") then Some Listing
+    else if bytes_eq word (codes "wrap") then Some Wrap
     else if bytes_eq word (codes "check") then Some Check else None
 command_of words = None

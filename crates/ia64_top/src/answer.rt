@@ -1,21 +1,23 @@
 //! The answers of the commands.
 
-ghost use Rattle.std.specs.Prelude.{◌≡◌, ◌≢◌, ◌↔◌, ℕ, List, [], IfOk};
+ghost use Rattle.std.specs.Prelude.{◌≡◌, ◌≢◌, ◌↔◌, ◌≤◌, ℕ, List, [], length, IfOk};
 ghost use Rattle.ia_insn.specs.Programs.{Program as Parts};
 ghost use Rattle.image_form.specs.Images.{Spells};
+ghost use Rattle.asm_build.specs.Listing.{IsListing};
 ghost use Rattle.ia64_top.specs.Programs.{IsPlain};
 ghost use Rattle.ia64_top.specs.Violations.{IsFree};
 ghost use Rattle.ia64_top.specs.Judgements.{IsJudgement, IsProgramAnswer};
-ghost use Rattle.ia64_top.specs.Output.{IsWrapOutput, IsShowOutput, IsCheckOutput, IsCommandOutput};
-ghost use Rattle.ia64_top.specs.Texts.{refusal_text};
+ghost use Rattle.ia64_top.specs.Output.{input_limit, IsCanonical, IsMadeOutput, IsCheckedAs, IsCommandOutput};
+ghost use Rattle.ia64_top.specs.Readings.{as_image, as_bundles, as_text, as_either};
+ghost use Rattle.ia64_top.specs.Texts.{refusal_text, text_refusal_text};
 ghost use Rattle.ia64_top.specs.declared.status.Status.{Status};
 
 use crate::checker::check;
 use crate::program::is_plain;
 use crate::status::Status;
-use crate::text::{refusal, verdict};
+use crate::text::{refusal, text_refusal, verdict};
 use crate::words::Command;
-use asm_build::disassemble;
+use asm_build::{TextError, assemble, disassemble, list, no_fault_where_read, one_text_program};
 use ia_insn::Program;
 use image_form::{
     ImageFault, is_image, no_fault_where_raw, no_fault_where_spelled, one_program, read_image,
@@ -47,7 +49,7 @@ fn judge(alloc: Global, program: &Program) -> Result<Answer, AllocError>
     })
 }
 
-/// The answer to an input with a fault.
+/// The answer to an image or bare bundles with a fault.
 fn refuse(alloc: Global, fault: ImageFault) -> Result<Answer, AllocError>
     ensures { IfOk result (λ answer. (fault ≢ ImageFault.Memory) × (answer.bytes.items ≡ refusal_text fault) × (answer.status ≡ Status.Refused)) }
 {
@@ -58,6 +60,19 @@ fn refuse(alloc: Global, fault: ImageFault) -> Result<Answer, AllocError>
         bytes: refusal(alloc, fault)?.into_bytes(),
         status: Status::Refused,
     })
+}
+
+/// The answer to a text with a fault.
+fn refuse_text(alloc: Global, error: TextError) -> Result<Answer, AllocError>
+    ensures { IfOk result (λ answer. (error ≢ TextError.Memory) × (answer.bytes.items ≡ text_refusal_text error) × (answer.status ≡ Status.Refused)) }
+{
+    match error {
+        TextError::Fault { line, reason } => Ok(Answer {
+            bytes: text_refusal(alloc, line, reason)?.into_bytes(),
+            status: Status::Refused,
+        }),
+        TextError::Memory => Err(AllocError),
+    }
 }
 
 /// The answer to an input that isn't judged yet.
@@ -71,30 +86,61 @@ fn unjudged(alloc: Global) -> Answer
     }
 }
 
-/// The answer of `wrap` to an input within the limit.
-fn wrap_input(alloc: Global, input: &[u8]) -> Result<Answer, AllocError>
-    ensures output { IfOk result (λ answer. IsWrapOutput input.now answer.bytes.items answer.status) }
-    ensures only { IfOk result (λ answer. (bytes : List ℕ) (status : Status) → IsWrapOutput input.now bytes status → status ≡ answer.status) }
+/// The answer of `build` to an input within the limit.
+fn build_input(alloc: Global, input: &[u8]) -> Result<Answer, AllocError>
+    requires { length input.now ≤ input_limit }
+    ensures output { IfOk result (λ answer. IsMadeOutput as_text Spells input.now answer.bytes.items answer.status) }
+    ensures only { IfOk result (λ answer. (bytes : List ℕ) (status : Status) → IsMadeOutput as_text Spells input.now bytes status → status ≡ answer.status) }
 {
-    no_fault_where_raw();
-    match wrap_raw(alloc, input) {
+    no_fault_where_read();
+    match assemble(alloc, input) {
         Ok(program) => Ok(Answer {
             bytes: write_image(alloc, &program)?,
+            status: Status::Done,
+        }),
+        Err(error) => refuse_text(alloc, error),
+    }
+}
+
+/// The answer of `show` to an input within the limit.
+fn show_input(alloc: Global, input: &[u8]) -> Result<Answer, AllocError>
+    ensures output { IfOk result (λ answer. IsMadeOutput as_image IsCanonical input.now answer.bytes.items answer.status) }
+    ensures only { IfOk result (λ answer. (bytes : List ℕ) (status : Status) → IsMadeOutput as_image IsCanonical input.now bytes status → status ≡ answer.status) }
+{
+    no_fault_where_spelled();
+    match read_image(alloc, input) {
+        Ok(program) => Ok(Answer {
+            bytes: disassemble(alloc, &program)?,
             status: Status::Done,
         }),
         Err(fault) => refuse(alloc, fault),
     }
 }
 
-/// The answer of `show` to an input within the limit.
-fn show_input(alloc: Global, input: &[u8]) -> Result<Answer, AllocError>
-    ensures output { IfOk result (λ answer. IsShowOutput input.now answer.bytes.items answer.status) }
-    ensures only { IfOk result (λ answer. (bytes : List ℕ) (status : Status) → IsShowOutput input.now bytes status → status ≡ answer.status) }
+/// The answer of `list` to an input within the limit.
+fn list_input(alloc: Global, input: &[u8]) -> Result<Answer, AllocError>
+    ensures output { IfOk result (λ answer. IsMadeOutput as_image IsListing input.now answer.bytes.items answer.status) }
+    ensures only { IfOk result (λ answer. (bytes : List ℕ) (status : Status) → IsMadeOutput as_image IsListing input.now bytes status → status ≡ answer.status) }
 {
     no_fault_where_spelled();
     match read_image(alloc, input) {
         Ok(program) => Ok(Answer {
-            bytes: disassemble(alloc, &program)?,
+            bytes: list(alloc, &program)?,
+            status: Status::Done,
+        }),
+        Err(fault) => refuse(alloc, fault),
+    }
+}
+
+/// The answer of `wrap` to an input within the limit.
+fn wrap_input(alloc: Global, input: &[u8]) -> Result<Answer, AllocError>
+    ensures output { IfOk result (λ answer. IsMadeOutput as_bundles Spells input.now answer.bytes.items answer.status) }
+    ensures only { IfOk result (λ answer. (bytes : List ℕ) (status : Status) → IsMadeOutput as_bundles Spells input.now bytes status → status ≡ answer.status) }
+{
+    no_fault_where_raw();
+    match wrap_raw(alloc, input) {
+        Ok(program) => Ok(Answer {
+            bytes: write_image(alloc, &program)?,
             status: Status::Done,
         }),
         Err(fault) => refuse(alloc, fault),
@@ -111,32 +157,65 @@ fn check_program(alloc: Global, program: &Program) -> Result<Answer, AllocError>
     judge(alloc, program)
 }
 
-/// The answer of `check` to an input within the limit.
-fn check_input(alloc: Global, input: &[u8]) -> Result<Answer, AllocError>
-    ensures output { IfOk result (λ answer. IsCheckOutput input.now answer.bytes.items answer.status) }
-    ensures only { IfOk result (λ answer. (bytes : List ℕ) (status : Status) → IsCheckOutput input.now bytes status → status ≡ answer.status) }
-    ensures accepted { IfOk result (λ answer. (p : Parts) → Spells p input.now → IsPlain p → ((answer.status ≡ Status.Done) ↔ IsFree p)) }
+/// The answer of `check` to an image.
+fn check_image(alloc: Global, input: &[u8]) -> Result<Answer, AllocError>
+    ensures { IfOk result (λ answer. IsCheckedAs as_image input.now answer.bytes.items answer.status) }
 {
-    one_program();
-    no_fault_where_spelled();
-    if !is_image(input) {
-        return Ok(unjudged(alloc));
-    }
     match read_image(alloc, input) {
         Ok(program) => check_program(alloc, &program),
         Err(fault) => refuse(alloc, fault),
     }
 }
 
+/// The answer of `check` to a text.
+fn check_text(alloc: Global, input: &[u8]) -> Result<Answer, AllocError>
+    requires { length input.now ≤ input_limit }
+    ensures { IfOk result (λ answer. IsCheckedAs as_text input.now answer.bytes.items answer.status) }
+{
+    match assemble(alloc, input) {
+        Ok(program) => check_program(alloc, &program),
+        Err(error) => refuse_text(alloc, error),
+    }
+}
+
+/// The answer of `check` to an image where the input begins as one, and else to a text.
+fn check_either(alloc: Global, input: &[u8]) -> Result<Answer, AllocError>
+    requires { length input.now ≤ input_limit }
+    ensures { IfOk result (λ answer. IsCheckedAs as_either input.now answer.bytes.items answer.status) }
+{
+    if is_image(input) {
+        check_image(alloc, input)
+    } else {
+        check_text(alloc, input)
+    }
+}
+
+/// The answer of `check` to an input within the limit.
+fn check_input(alloc: Global, input: &[u8]) -> Result<Answer, AllocError>
+    requires { length input.now ≤ input_limit }
+    ensures output { IfOk result (λ answer. IsCheckedAs as_either input.now answer.bytes.items answer.status) }
+    ensures only { IfOk result (λ answer. (bytes : List ℕ) (status : Status) → IsCheckedAs as_either input.now bytes status → status ≡ answer.status) }
+    ensures accepted { IfOk result (λ answer. (p : Parts) → as_either.Gives input.now p → IsPlain p → ((answer.status ≡ Status.Done) ↔ IsFree p)) }
+{
+    one_program();
+    one_text_program();
+    no_fault_where_spelled();
+    no_fault_where_read();
+    check_either(alloc, input)
+}
+
 /// The answer of a command to an input within the limit.
 pub(crate) fn respond(alloc: Global, command: Command, input: &[u8]) -> Result<Answer, AllocError>
+    requires { length input.now ≤ input_limit }
     ensures output { IfOk result (λ answer. IsCommandOutput command input.now answer.bytes.items answer.status) }
     ensures only { IfOk result (λ answer. (bytes : List ℕ) (status : Status) → IsCommandOutput command input.now bytes status → status ≡ answer.status) }
-    ensures accepted { IfOk result (λ answer. command ≡ Command.Check → (p : Parts) → Spells p input.now → IsPlain p → ((answer.status ≡ Status.Done) ↔ IsFree p)) }
+    ensures accepted { IfOk result (λ answer. command ≡ Command.Check → (p : Parts) → as_either.Gives input.now p → IsPlain p → ((answer.status ≡ Status.Done) ↔ IsFree p)) }
 {
     match command {
-        Command::Wrap => wrap_input(alloc, input),
+        Command::Build => build_input(alloc, input),
         Command::Show => show_input(alloc, input),
+        Command::List => list_input(alloc, input),
+        Command::Wrap => wrap_input(alloc, input),
         Command::Check => check_input(alloc, input),
     }
 }

@@ -165,6 +165,24 @@ const MISPLACED: Parts<'static> = Parts {
     end: b"",
 };
 
+/// The canonical text of the bundle whose second sum reads what the first writes.
+const CLASH_TEXT: &str = "{ .mii
+  nop.m 0x0
+  add r8=r9,r10
+  add r11=r8,r9 ;;
+}
+";
+
+/// A label again, before a bundle that is open at the end.
+const TWICE_TEXT: &str = "{ .mii
+nop.m 0
+nop.i 0
+nop.i 0 ;;
+}
+x:
+x:
+{";
+
 #[test]
 fn commands_have_their_output(rt: HostRuntime) -> Result<(), Fail> {
     let alloc = rt.alloc();
@@ -179,11 +197,38 @@ fn commands_have_their_output(rt: HostRuntime) -> Result<(), Fail> {
             1,
             text("violations 1\nRAW r8 0.1 0.2\n"),
         ),
-        // A stop inside its bundle, a branch, and no image: not judged yet.
+        // A stop inside its bundle and a branch: not judged yet.
         ("check", image(1, INNER), 10, text("")),
         ("check", BRANCHING, 10, text("")),
-        ("check", text("{ .mii"), 10, text("")),
-        ("check", text(""), 10, text("")),
+        // Texts.
+        (
+            "check",
+            text(CLASH_TEXT),
+            1,
+            text("violations 1\nRAW r8 0.1 0.2\n"),
+        ),
+        ("check", text("{ .mii"), 3, text("line 2: misplaced\n")),
+        ("check", text(""), 3, text("line 1: empty\n")),
+        ("build", text(CLASH_TEXT), 0, image(1, CLASH)),
+        ("build", text(TWICE_TEXT), 3, text("line 7: twice\n")),
+        (
+            "build",
+            text("{ .mii\nbr x"),
+            3,
+            text("line 2: slot kind\n"),
+        ),
+        ("build", text(""), 3, text("line 1: empty\n")),
+        ("show", image(1, CLASH), 0, text(CLASH_TEXT)),
+        ("show", text(""), 3, text("image: short\n")),
+        (
+            "list",
+            image(1, NOPS),
+            0,
+            text(
+                "0 01000000010000000002000000000400 mii\n  nop.m 0x0\n  nop.i 0x0\n  nop.i 0x0 ;;\n",
+            ),
+        ),
+        ("list", text(""), 3, text("image: short\n")),
         // An input of 4,194,304 bytes is read, and no longer one.
         ("check", long, 3, text("image: length\n")),
         ("check", too_long, 4, text("")),

@@ -1,9 +1,11 @@
 //! What is printed.
 
 ghost use Rattle.std.specs.Prelude.{◌≡◌, ◌++◌, IfOk, Some, string_bytes};
-ghost use Rattle.ia64_top.specs.Texts.{rule_text, violation_text, verdict_text, slot_text, fault_text, refusal_text};
+ghost use Rattle.ia64_top.specs.Texts.{rule_text, violation_text, verdict_text, slot_text, fault_text, refusal_text, reason_text, text_fault_text, text_refusal_text};
+ghost use Rattle.asm_build.specs.declared.reason.TextError.TheVariants as error;
 
 use crate::violation::{Report, Rule, Violation};
+use asm_build::Reason;
 use ia_insn::Place;
 use image_form::ImageFault;
 use insn_codec::SlotFault;
@@ -106,5 +108,63 @@ pub(crate) fn refusal(alloc: Global, fault: ImageFault) -> Result<String, AllocE
     ensures { IfOk result (λ text. string_bytes text ≡ refusal_text fault) }
 {
     let shown = FaultText { fault };
+    format!(in alloc; "{shown}\n")
+}
+
+/// Why a text is no program, as it is printed.
+#[derive(Clone, Copy, Debug)]
+struct ReasonText {
+    reason: Reason,
+}
+
+impl fmt::Display for ReasonText {
+    ghost output = { λ shown. Some (reason_text shown.reason) };
+
+    /// The reason's name.
+    fn fmt<W: fmt::Write>(&self, f: &mut fmt::Formatter<W>) -> fmt::Result {
+        match self.reason {
+            Reason::Char => write!(f, "char"),
+            Reason::Name => write!(f, "name"),
+            Reason::Register => write!(f, "register"),
+            Reason::Number => write!(f, "number"),
+            Reason::Range => write!(f, "range"),
+            Reason::Form => write!(f, "form"),
+            Reason::Template => write!(f, "template"),
+            Reason::SlotKind => write!(f, "slot kind"),
+            Reason::Twice => write!(f, "twice"),
+            Reason::NoLabel => write!(f, "no label"),
+            Reason::Limit => write!(f, "limit"),
+            Reason::LongRun => write!(f, "long run"),
+            Reason::Misplaced => write!(f, "misplaced"),
+            Reason::Empty => write!(f, "empty"),
+        }
+    }
+}
+
+/// A text's fault, as it is printed.
+#[derive(Clone, Copy, Debug)]
+struct LineText {
+    line: u32,
+    reason: Reason,
+}
+
+impl fmt::Display for LineText {
+    ghost output = { λ shown. Some (text_fault_text (error.Fault shown.line shown.reason)) };
+
+    /// The line's number, and what is wrong with it.
+    fn fmt<W: fmt::Write>(&self, f: &mut fmt::Formatter<W>) -> fmt::Result {
+        let line = self.line;
+        let why = ReasonText {
+            reason: self.reason,
+        };
+        write!(f, "line {line}: {why}")
+    }
+}
+
+/// What is printed of a text's fault.
+pub(crate) fn text_refusal(alloc: Global, line: u32, reason: Reason) -> Result<String, AllocError>
+    ensures { IfOk result (λ text. string_bytes text ≡ text_refusal_text (error.Fault line reason)) }
+{
+    let shown = LineText { line, reason };
     format!(in alloc; "{shown}\n")
 }

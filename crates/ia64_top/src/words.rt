@@ -9,10 +9,14 @@ use std::marker::Model;
 /// What the program is asked to do.
 #[derive(Clone, Copy, Debug, PartialEq, Eq)]
 pub enum Command {
-    /// Makes an image of bare bundles.
-    Wrap,
+    /// Makes an image of a text.
+    Build,
     /// Gives the canonical text of a program.
     Show,
+    /// Lists the bundles of a program.
+    List,
+    /// Makes an image of bare bundles.
+    Wrap,
     /// Checks the groups of a program.
     Check,
 }
@@ -51,13 +55,16 @@ impl Words {
         Ok(())
     }
 
-    /// The command that the words are, by the table: `wrap`, `show` or `check` alone, in lower case.
+    /// The command that the words are, by the table: `build`, `show`, `list`, `wrap` or `check` alone, in lower
+    /// case.
     pub fn command(&self) -> Option<Command>
         ensures { result ≡ command_of self.now }
     {
         match self.words.as_slice() {
-            [word] if word.as_slice() == b"wrap".as_slice() => Some(Command::Wrap),
+            [word] if word.as_slice() == b"build".as_slice() => Some(Command::Build),
             [word] if word.as_slice() == b"show".as_slice() => Some(Command::Show),
+            [word] if word.as_slice() == b"list".as_slice() => Some(Command::List),
+            [word] if word.as_slice() == b"wrap".as_slice() => Some(Command::Wrap),
             [word] if word.as_slice() == b"check".as_slice() => Some(Command::Check),
             _ => None,
         }

@@ -1,0 +1,128 @@
+-- The declared entries before a bundle, and that entries that rise are declared in turn.
+use Rattle.std.proofs.Common.{◌≡◌, ◌∙◌, ℕ, zero, suc, ◌+◌, ◌<◌, ◌≤◌, ◌⊎◌, false, ◌==◌, List, [], ◌∷◌, ◌++◌, length, map, Some, Ok, Greater, refl, sym, ap, inl, inr, arith, append_assoc, append-nil, length-append}
+use Rattle.std.specs.Prelude.{if◌then◌else◌, slice_index, nat_lt}
+use Rattle.std.specs.List.{AllByRecursion}
+use Rattle.std.specs.BTreeSet.{insert_key}
+use Rattle.std.specs.Ordering.{nat_cmp}
+use Rattle.std.proofs.lemmas.Bool.{ne_eqb, eq-eqb, lt-ltb, le-ltb}
+use Rattle.ia_insn.specs.Programs.{IsEntryAt, AreEntries}
+use Rattle.asm_text.specs.SlotTexts.{label_text}
+use Rattle.asm_build.specs.declared.address.Address.TheVariants.{Bundle}
+use Rattle.asm_build.specs.declared.source.EntryLine.{EntryLine}
+use Rattle.asm_build.specs.CanonicalText.{is_among}
+use Rattle.asm_build.specs.Names.{declared, declared_by, bundle_at, within_limit, all_declared, and_then}
+use Rattle.asm_build.specs.Sources.{Labels, label_of}
+
+-- each is at least the floor, and above the one before it
+abbrev pub Rise : ℕ → List ℕ → Type 0
+Rise low [] = Unit {0}
+Rise low (x ∷ xs) = (low ≤ x) × Rise (x + 1) xs
+
+rise_lower : (low other : ℕ) (xs : List ℕ) → other ≤ low → Rise low xs → Rise other xs
+rise_lower low other [] h r = tt
+rise_lower low other (x ∷ xs) h r = (omega (arith, h, r.0), r.1)
+
+-- what the n-th is above
+abbrev above_what : ℕ → List ℕ → ℕ → ℕ
+above_what low xs zero = low
+above_what low xs (suc n) = slice_index xs n
+
+rise_from : (low : ℕ) (xs : List ℕ) → ((n : ℕ) → n < length xs → above_what low xs n < slice_index xs n) → Rise (low + 1) xs
+rise_from low [] h = tt
+rise_from low (x ∷ xs) h =
+    let here : low < x = h 0 (omega arith) in
+    (omega (arith, here), rise_from x xs (λ n less. after n (h (suc n) (omega (arith, less)))))
+  where
+    after : (n : ℕ) → above_what low (x ∷ xs) (suc n) < slice_index (x ∷ xs) (suc n) → above_what x xs n < slice_index xs n
+    after zero h = h
+    after (suc n) h = h
+
+-- the entries of a program rise
+pub entries_rise : (count : ℕ) (xs : List ℕ) → AreEntries count xs → Rise 1 xs
+entries_rise count xs h = rise_from 0 xs (λ n less. at n (h n less))
+  where
+    at : (n : ℕ) → IsEntryAt count xs n → above_what 0 xs n < slice_index xs n
+    at zero e = e.rises
+    at (suc n) e = e.rises
+
+-- the entries before the n-th bundle
+abbrev pub below : ℕ → List ℕ → List ℕ
+below n [] = []
+below n (x ∷ xs) = if nat_lt x n then x ∷ below n xs else below n xs
+
+none_below : (low n : ℕ) (xs : List ℕ) → n ≤ low → Rise low xs → below n xs ≡ []
+none_below low n [] h r = refl
+none_below low n (x ∷ xs) h r = rw (le-ltb x n (omega (arith, h, r.0))) (none_below (x + 1) n xs (omega (arith, h, r.0)) r.1)
+
+none_among : (low n : ℕ) (xs : List ℕ) → n < low → Rise low xs → is_among xs n ≡ false
+none_among low n [] h r = refl
+none_among low n (x ∷ xs) h r =
+    let other : (x == n) ≡ false = ne_eqb x n (λ e. omega (arith, h, r.0, e)) in
+    rw other (none_among (x + 1) n xs (omega (arith, h, r.0)) r.1)
+
+three_ways : (x n : ℕ) → (x < n) ⊎ ((x ≡ n) ⊎ (n < x))
+three_ways x n = grind arith
+
+-- one bundle more
+pub one_below : (low n : ℕ) (xs : List ℕ) → Rise low xs → below (n + 1) xs ≡ below n xs ++ (if is_among xs n then n ∷ [] else [])
+one_below low n [] r = refl
+one_below low n (x ∷ xs) r = by (three_ways x n) (one_below (x + 1) n xs r.1)
+  where
+    by : (x < n) ⊎ ((x ≡ n) ⊎ (n < x)) → below (n + 1) xs ≡ below n xs ++ (if is_among xs n then n ∷ [] else []) → below (n + 1) (x ∷ xs) ≡ below n (x ∷ xs) ++ (if is_among (x ∷ xs) n then n ∷ [] else [])
+    by (inl less) later =
+        let other : (x == n) ≡ false = ne_eqb x n (λ e. omega (arith, less, e)) in
+        rw (lt-ltb x n less, lt-ltb x (n + 1) (omega (arith, less)), other) (ap (λ ys. x ∷ ys) later)
+    by (inr (inl e)) later =
+        rw (eq-eqb x n e, le-ltb x n (omega (arith, e)), lt-ltb x (n + 1) (omega (arith, e)), none_below (x + 1) n xs (omega (arith, e)) r.1, none_below (x + 1) (n + 1) xs (omega (arith, e)) r.1) (ap (λ y. y ∷ []) e)
+    by (inr (inr more)) later =
+        let other : (x == n) ≡ false = ne_eqb x n (λ e. omega (arith, more, e)) in
+        rw (other, le-ltb x n (omega (arith, more)), le-ltb x (n + 1) (omega (arith, more)), none_below (x + 1) n xs (omega (arith, more)) r.1, none_below (x + 1) (n + 1) xs (omega (arith, more)) r.1, none_among (x + 1) n xs (omega (arith, more)) r.1) refl
+
+-- none before the first
+pub none_first : (xs : List ℕ) → below 0 xs ≡ []
+none_first [] = refl
+none_first (x ∷ xs) = rw (le-ltb x 0 (omega arith)) (none_first xs)
+
+-- all of them
+pub all_below : (n : ℕ) (xs : List ℕ) → ((k : ℕ) → k < length xs → slice_index xs k < n) → below n xs ≡ xs
+all_below n [] h = refl
+all_below n (x ∷ xs) h =
+    let here : x < n = h 0 (omega arith) in
+    rw (lt-ltb x n here) (ap (λ ys. x ∷ ys) (all_below n xs (λ k less. h (suc k) (omega (arith, less)))))
+
+-- a number above all goes to the end
+at_end : (xs : List ℕ) (n : ℕ) → AllByRecursion (λ m. m < n) xs → insert_key nat_cmp xs n ≡ xs ++ n ∷ []
+at_end [] n h = refl
+at_end (x ∷ xs) n h =
+    let above : nat_cmp n x ≡ Greater = rw (le-ltb n x (omega (arith, h.0)), ne_eqb n x (λ e. omega (arith, h.0, e))) refl in
+    rw above (ap (λ ys. x ∷ ys) (at_end xs n h.1))
+
+lower_all : (m n : ℕ) (xs : List ℕ) → m ≤ n → AllByRecursion (λ k. k < m) xs → AllByRecursion (λ k. k < n) xs
+lower_all m n [] le h = tt
+lower_all m n (x ∷ xs) le h = (omega (arith, le, h.0), lower_all m n xs le h.1)
+
+push_below : (xs : List ℕ) (n : ℕ) → AllByRecursion (λ m. m < n) xs → AllByRecursion (λ m. m < n + 1) (xs ++ n ∷ [])
+push_below [] n h = (omega arith, tt)
+push_below (x ∷ xs) n h = (omega (arith, h.0), push_below xs n h.1)
+
+one_declared : (xs : List ℕ) (n line : ℕ) → AllByRecursion (λ m. m < n) xs → 1 ≤ n → length xs < 1024 → within_limit line (declared xs n) ≡ Ok (xs ++ n ∷ [])
+one_declared xs n line h some few =
+    let e : declared xs n ≡ xs ++ n ∷ [] = rw (ne_eqb n 0 (λ z. omega (arith, z, some))) (at_end xs n h) in
+    let room : nat_lt 1024 (length (xs ++ n ∷ [])) ≡ false = le-ltb 1024 _ (omega (arith, few, length-append xs (n ∷ []))) in
+    rw (e, room) refl
+
+-- Entries that rise, each with a line whose name is its label, are declared in turn.
+pub declared_in_turn : (labels : Labels) (done rest : List ℕ) (lines : List EntryLine) → map (λ e. e.name) lines ≡ map label_text rest → ((k : ℕ) → k < length rest → label_of labels (label_text (slice_index rest k)) ≡ Some (Bundle (slice_index rest k)))
+    → (low : ℕ) → 1 ≤ low → AllByRecursion (λ m. m < low) done → Rise low rest → length done + length rest ≤ 1024 → all_declared labels done lines ≡ Ok (done ++ rest)
+declared_in_turn labels done [] [] names found low some before rise few = ap (λ xs. Ok xs) (sym (append-nil done))
+declared_in_turn labels done (n ∷ rest) [] names found low some before rise few = cc
+declared_in_turn labels done [] (l ∷ lines) names found low some before rise few = cc
+declared_in_turn labels done (n ∷ rest) (l ∷ lines) names found low some before rise few =
+    let name : l.name ≡ label_text n = cc in
+    let others : map (λ e. e.name) lines ≡ map label_text rest = cc in
+    let here : label_of labels l.name ≡ Some (Bundle n) = ap (label_of labels) name ∙ found 0 (omega arith) in
+    let lower = lower_all low n done rise.0 before in
+    let one : declared_by (bundle_at (label_of labels l.name)) l.line done ≡ Ok (done ++ n ∷ []) = ap (λ o. declared_by (bundle_at o) l.line done) here ∙ one_declared done n l.line lower (omega (arith, some, rise.0)) (omega (arith, few)) in
+    ap (λ r. and_then r (λ more. all_declared labels more lines)) one
+    ∙ declared_in_turn labels (done ++ n ∷ []) rest lines others (λ k less. found (suc k) (omega (arith, less))) (n + 1) (omega arith) (push_below done n lower) rise.1 (omega (arith, few, length-append done (n ∷ [])))
+    ∙ ap (λ xs. Ok xs) (append_assoc done (n ∷ []) rest)

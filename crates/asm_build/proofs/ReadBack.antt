@@ -1,0 +1,113 @@
+-- The canonical text of a program is read as the program.
+use Rattle.std.proofs.Common.{◌≡◌, ◌∙◌, ℕ, zero, suc, ◌-◌, ◌<◌, ◌≤◌, ◌%◌, true, ◌==◌, List, [], ◌∷◌, ◌++◌, length, map, codes, replicate, Some, None, Ok, refl, sym, ap, subst, arith, append-nil}
+use Rattle.std.specs.Prelude.{slice_index}
+use Rattle.std.specs.List.{AllByRecursion}
+use Rattle.std.specs.Map.{values_of}
+use Rattle.std.proofs.lemmas.Bool.{eq-eqb}
+use Rattle.bstr.specs.Text.{without_terminator}
+use Rattle.bstr.proofs.lemmas.LineLemmas.{lines-nil}
+use Rattle.ia_insn.specs.Bundles.{Bundle}
+use Rattle.ia_insn.specs.Places.{EachPlace}
+use Rattle.ia_insn.specs.Programs.{Program, IsProgram, AreBytes}
+use Rattle.ia_insn.specs.Runs.{IsWithinRun}
+use Rattle.asm_text.specs.SlotTexts.{label_text}
+use Rattle.asm_build.specs.declared.address.Address.TheVariants as address
+use Rattle.asm_build.specs.declared.draft.BundleLines.{BundleLines}
+use Rattle.asm_build.specs.declared.source.EntryLine.{EntryLine}
+use Rattle.asm_build.specs.declared.source.Section.{Section}
+use Rattle.asm_build.specs.declared.source.Section.TheVariants as section
+use Rattle.asm_build.specs.Addresses.{IsInside}
+use Rattle.asm_build.specs.CanonicalText.{line as text_line, is_among, targets_from, bundles_text, words_of, words_text, data_text, canonical_text}
+use Rattle.asm_build.specs.Names.{all_declared, bundles_named, earlier, name_fault, or_none, padded, unnamed_bundle}
+use Rattle.asm_build.specs.RoundTrip.{CanonicalTextReads}
+use Rattle.asm_build.specs.Sources.{State, Labels, start, label_of, AreLabelsInside}
+use Rattle.asm_build.specs.TextReading.{text_lines, ComesTo, AllSay, Reads}
+use Rattle.asm_build.proofs.Choices.{true_or, or_true}
+use Rattle.asm_build.proofs.DataBack.{words_small, words_back}
+use Rattle.asm_build.proofs.EntriesSoFar.{none_first, all_below, entries_rise, declared_in_turn}
+use Rattle.asm_build.proofs.LabelsSoFar.{no_labels}
+use Rattle.asm_build.proofs.NamesPutIn.{AreLabelled, bundles_back, all_names_mean}
+use Rattle.asm_build.proofs.Taking.{Goes, stays, goes_on}
+use Rattle.asm_build.proofs.WrittenBundles.{SlotsSay, outside}
+use Rattle.asm_build.proofs.WrittenData.{data_goes}
+use Rattle.asm_build.proofs.WrittenTexts.{as_many, SoFar, AreGood, good_of, all_go}
+
+-- outside a bundle, in either section
+abbrev finished : Section → List BundleLines → List EntryLine → Labels → List ℕ → State
+finished s bs es ls bytes = record { section = s; current = None; bundles = bs; entries = es; labels = ls; bytes = bytes }
+
+-- Lines that come to the end.
+record Finishes (bs : List BundleLines) (es : List EntryLine) (ls : Labels) (line : ℕ) (text bytes : List ℕ) : Type 0 where
+  pub section : Section
+  pub next : ℕ
+  pub goes : Goes (outside bs es ls) line text (finished section bs es ls bytes) next
+
+-- the lines of the data
+data_finishes : (bs : List BundleLines) (es : List EntryLine) (ls : Labels) (line : ℕ) (bytes : List ℕ) → AreBytes bytes → length bytes % 8 ≡ 0 → length bytes ≤ 1048576 → Finishes bs es ls line (data_text bytes) bytes
+data_finishes bs es ls line [] small eights room = record { section = section.Text; next = line; goes = stays (outside bs es ls) line }
+data_finishes bs es ls line (b ∷ bytes) small eights room =
+    let back = words_back (b ∷ bytes) small eights in
+    let read = data_goes bs es ls line (words_of (b ∷ bytes)) (words_small (b ∷ bytes) small) (omega (arith, room, ap length back)) in
+    record {
+      section = section.Data;
+      next = read.next;
+      goes = subst (λ end. Goes (outside bs es ls) line (text_line (codes ".data") ++ words_text 0 (words_of (b ∷ bytes))) (finished section.Data bs es ls end) read.next) back read.goes;
+    }
+
+among_at : (xs : List ℕ) (k : ℕ) → k < length xs → is_among xs (slice_index xs k) ≡ true
+among_at [] k h = absurd (omega (arith, h))
+among_at (x ∷ xs) zero h = true_or (x == x) (is_among xs x) (eq-eqb x x refl)
+among_at (x ∷ xs) (suc k) h = or_true (x == slice_index xs k) (is_among xs (slice_index xs k)) (among_at xs k (omega (arith, h)))
+
+-- data of whole words stay
+nothing_padded : (bytes : List ℕ) → length bytes % 8 ≡ 0 → padded bytes ≡ bytes
+nothing_padded bytes h =
+    let none : (8 - length bytes % 8) % 8 ≡ 0 = rw h refl in
+    ap (λ n. bytes ++ replicate n 0) none ∙ append-nil bytes
+
+-- the lines come to the state
+all_say : (text : List ℕ) (s : State) (next : ℕ) → Goes start 1 text s next → AllSay text s
+all_say text s next goes =
+    let none : text_lines [] ≡ [] = ap (map without_terminator) lines-nil in
+    subst (λ t. ComesTo start 1 (text_lines t) (Ok s)) (append-nil text) (goes [] (Ok s) (subst (λ ls. ComesTo s next ls (Ok s)) (sym none) refl))
+
+abbrev program : List Bundle → List ℕ → List ℕ → Program
+program bs es bytes = record { bundles = bs; entries = es; bytes = bytes }
+
+same_program : (bs cs : List Bundle) (es fs bytes more : List ℕ) → bs ≡ cs → es ≡ fs → bytes ≡ more → program bs es bytes ≡ program cs fs more
+same_program bs cs es fs bytes more b e d = ap (λ xs. program xs es bytes) b ∙ ap (λ xs. program cs xs bytes) e ∙ ap (λ xs. program cs fs xs) d
+
+-- What is looked for after the last line isn't found, and the program is given back.
+given_back : (p : Program) → IsProgram p → (s : Section) (bs : List BundleLines) (es : List EntryLine) (ls : Labels) (next : ℕ) → SoFar p.entries (targets_from 0 p.bundles) (length p.bundles) (length p.bundles) p.bundles bs es ls
+    → AreGood (length p.bundles) 0 p.bundles → Goes start 1 (canonical_text p) (finished s bs es ls p.bytes) next → Reads (canonical_text p) p
+given_back p h s bs es ls next so_far good goes =
+    let count = length p.bundles in
+    let there : length bs ≡ count = as_many 0 p.bundles bs so_far.bundles in
+    let labelled : AreLabelled ls count (targets_from 0 p.bundles) = λ m less is. so_far.labels.named m less (or_true (is_among p.entries m) (is_among (targets_from 0 p.bundles) m) is) in
+    let bundles : bundles_named ls 0 bs ≡ p.bundles = bundles_back ls count 0 p.bundles bs good so_far.bundles labelled in
+    let names : unnamed_bundle ls 0 bs ≡ None = all_names_mean ls count 0 p.bundles bs good so_far.bundles labelled in
+    let inside : (k : ℕ) → k < length p.entries → slice_index p.entries k < count = λ k less. (h.entries k less).inside in
+    let lines : map (λ (e : EntryLine). e.name) es ≡ map label_text p.entries = so_far.entry_lines ∙ ap (map label_text) (all_below count p.entries inside) in
+    let found : (k : ℕ) → k < length p.entries → label_of ls (label_text (slice_index p.entries k)) ≡ Some (address.Bundle (slice_index p.entries k)) =
+    λ k less. so_far.labels.named (slice_index p.entries k) (inside k less) (true_or (is_among p.entries (slice_index p.entries k)) (is_among (targets_from 0 p.bundles) (slice_index p.entries k)) (among_at p.entries k less)) in
+    let entries : all_declared ls [] es ≡ Ok p.entries = declared_in_turn ls [] p.entries es lines found 1 (omega arith) tt (entries_rise count p.entries h.entries) (omega (arith, h.counts.entries)) in
+    let no_fault : name_fault (finished s bs es ls p.bytes) ≡ None = ap (λ o. earlier o (all_declared ls [] es)) names ∙ ap (earlier None) entries in
+    let labels : AreLabelsInside (finished s bs es ls p.bytes) = subst (λ n. AllByRecursion (IsInside n) (values_of ls)) (sym there) so_far.labels.inside in
+    record {
+      state = finished s bs es ls p.bytes;
+      lines = all_say (canonical_text p) (finished s bs es ls p.bytes) next goes;
+      whole = ((refl, labels), (omega (arith, there, h.counts.some), (no_fault, (subst (λ cs. EachPlace cs (IsWithinRun cs)) (sym bundles) h.runs, tt))));
+      program = sym (same_program (bundles_named ls 0 bs) p.bundles (or_none (all_declared ls [] es)) p.entries (padded p.bytes) p.bytes bundles (ap or_none entries) (nothing_padded p.bytes h.counts.words));
+    }
+
+-- The canonical text of a program reads as it.
+pub read_back : SlotsSay → (p : Program) → CanonicalTextReads p
+read_back say p h =
+    let count = length p.bundles in
+    let targets = targets_from 0 p.bundles in
+    let good = good_of p h in
+    let none : SoFar p.entries targets count 0 [] [] [] [] = record { written = refl; bundles = tt; entry_lines = sym (ap (map label_text) (none_first p.entries)); labels = no_labels p.entries targets count } in
+    let all = all_go say p.entries targets count 1 0 [] p.bundles [] [] [] (entries_rise count p.entries h.entries) (omega arith) h.counts.bundles good none in
+    let end = data_finishes all.bundles all.entry_lines all.labels all.next p.bytes h.bytes h.counts.words h.counts.bytes in
+    given_back p h end.section all.bundles all.entry_lines all.labels end.next all.so_far good
+    (goes_on start (outside all.bundles all.entry_lines all.labels) (finished end.section all.bundles all.entry_lines all.labels p.bytes) 1 all.next end.next (bundles_text p.entries targets 0 p.bundles) (data_text p.bytes) all.goes end.goes)

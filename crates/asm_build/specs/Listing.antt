@@ -1,0 +1,31 @@
+-- The listing of a program: its bundles by their bytes, with their slots.
+use Rattle.std.specs.Prelude.{◌≡◌, ℕ, ◌+◌, List, [], ◌∷◌, ◌++◌, map, codes, decimal}
+use Rattle.hex.specs.Hex.{encode_lower}
+use Rattle.ia_insn.specs.Bundles.{Bundle}
+use Rattle.ia_insn.specs.Programs.{Program}
+use Rattle.ia_insn.specs.Templates.{units_of}
+use Rattle.insn_codec.specs.Spelling.{IsSpelled}
+use Rattle.asm_build.specs.CanonicalText.{line, unit_letter, slots_text}
+
+-- the line of a bundle: its number, its bytes in hexadecimal as they stand in memory, and its template's name
+abbrev pub head_listed : ℕ → List ℕ → ℕ → List ℕ
+head_listed n bytes template =
+    line (decimal n ++ (codes " " ++ (encode_lower bytes ++ (codes " " ++ map unit_letter (units_of template)))))
+
+-- the lines of the n-th bundle
+abbrev pub IsListed : ℕ → Bundle → List ℕ → Type 0
+IsListed n b text =
+    (bytes : List ℕ) × IsSpelled b bytes × (text ≡ head_listed n bytes b.template ++ slots_text n b.template b.slots)
+
+-- those of bundles, the first of which is the n-th
+abbrev pub AreListed : ℕ → List Bundle → List ℕ → Type 0
+AreListed n [] text = text ≡ []
+AreListed n (b ∷ bs) text =
+    (front : List ℕ) × (rest : List ℕ) × (text ≡ front ++ rest) × IsListed n b front × AreListed (n + 1) bs rest
+
+abbrev pub IsListing : Program → List ℕ → Type 0
+IsListing p text = AreListed 0 p.bundles text
+
+-- something is appended, of which something holds
+abbrev pub IsAppended : List ℕ → List ℕ → (List ℕ → Type 0) → Type 0
+IsAppended old new Holds = (more : List ℕ) × (new ≡ old ++ more) × Holds more

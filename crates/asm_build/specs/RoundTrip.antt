@@ -1,0 +1,13 @@
+-- The canonical text of a program is read as the program.
+use Rattle.std.specs.Prelude.{◌+◌, ◌<◌, ◌^◌, length}
+use Rattle.ia_insn.specs.Programs.{Program, IsProgram}
+use Rattle.asm_build.specs.CanonicalText.{canonical_text}
+use Rattle.asm_build.specs.TextReading.{Reads}
+
+-- the canonical text of a program reads as it
+abbrev pub CanonicalTextReads : Program → Type 0
+CanonicalTextReads p = IsProgram p → Reads (canonical_text p) p
+
+-- and is short enough to be read
+abbrev pub CanonicalTextIsShort : Program → Type 0
+CanonicalTextIsShort p = IsProgram p → length (canonical_text p) + 1 < 2 ^ 32

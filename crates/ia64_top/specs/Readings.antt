@@ -1,0 +1,46 @@
+-- What an input is read as: a program, or its first fault. Each command reads in one of these ways.
+use Rattle.std.specs.Prelude.{◌≡◌, ℕ, ◌⊎◌, List, take}
+use Rattle.ia_insn.specs.Programs.{Program}
+use Rattle.image_form.specs.declared.fault.ImageFault.{ImageFault}
+use Rattle.image_form.specs.Images.{magic, Spells, RawSpells}
+use Rattle.image_form.specs.Faults.{HasImageFault, HasRawFault}
+use Rattle.asm_build.specs.declared.reason.TextError.{TextError}
+use Rattle.asm_build.specs.TextReading.{Reads as ReadsText, HasTextFault}
+use Rattle.ia64_top.specs.Texts.{refusal_text, text_refusal_text}
+
+-- A way of reading: what an input reads as, and what is printed of one that reads as nothing.
+pub record Reading : Type 1 where
+  pub Gives : List ℕ → Program → Type 0
+  pub Refuses : List ℕ → List ℕ → Type 0
+
+-- an image
+abbrev pub as_image : Reading
+as_image = record {
+  Gives = λ input p. Spells p input;
+  Refuses = λ input bytes. (fault : ImageFault) × HasImageFault input fault × (bytes ≡ refusal_text fault);
+}
+
+-- bare bundles
+abbrev pub as_bundles : Reading
+as_bundles = record {
+  Gives = λ input p. RawSpells p input;
+  Refuses = λ input bytes. (fault : ImageFault) × HasRawFault input fault × (bytes ≡ refusal_text fault);
+}
+
+-- a text
+abbrev pub as_text : Reading
+as_text = record {
+  Gives = λ input p. ReadsText input p;
+  Refuses = λ input bytes. (e : TextError) × HasTextFault input e × (bytes ≡ text_refusal_text e);
+}
+
+-- the input begins as an image does
+abbrev pub BeginsAsImage : List ℕ → Type 0
+BeginsAsImage input = take 8 input ≡ magic
+
+-- an image where the input begins as one, and else a text
+abbrev pub as_either : Reading
+as_either = record {
+  Gives = λ input p. (BeginsAsImage input × as_image.Gives input p) ⊎ ((¬ BeginsAsImage input) × as_text.Gives input p);
+  Refuses = λ input bytes. (BeginsAsImage input × as_image.Refuses input bytes) ⊎ ((¬ BeginsAsImage input) × as_text.Refuses input bytes);
+}
