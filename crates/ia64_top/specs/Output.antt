@@ -25,9 +25,10 @@ IsMadeOutput reading Makes input bytes Done = (program : Program) × reading.Giv
 IsMadeOutput reading Makes input bytes Refused = reading.Refuses input bytes
 IsMadeOutput reading Makes input bytes status = ⊥
 
--- the text is the canonical one of the program
-abbrev pub IsCanonical : Program → List ℕ → Type 0
-IsCanonical program text = text ≡ canonical_text program
+-- The text is the canonical one of the program, and reads as the program.
+pub record IsCanonical (program : Program) (text : List ℕ) : Type 0 where
+  pub canonical : text ≡ canonical_text program
+  pub back : as_text.Gives text program
 
 -- What `check` writes and answers of an input that is read in a way.
 abbrev pub IsCheckedAs : Reading → List ℕ → List ℕ → Status → Type 0
