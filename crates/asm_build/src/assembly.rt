@@ -19,7 +19,7 @@ ghost use Rattle.asm_build.specs.TextReading.{IsRefused, IsTaken, ComesTo, text_
 use crate::draft::BundleLines;
 use crate::laws::{no_fault_where_read, one_text_fault, one_text_program};
 use crate::names::{all_declared, bundles_named};
-use crate::reason::{Reason, TextError, reason_of};
+use crate::reason::{Reason, TextError, fault, reason_of};
 use crate::source::Source;
 use asm_text::read_line;
 use bstr::ByteSlice;
@@ -36,17 +36,11 @@ fn take_line(source: &mut Source, n: u32, line: &[u8]) -> Result<(), TextError>
     ensures err { IfErr result (λ e. (e ≡ error.Memory) ⊎ ((why : ReasonOf) × (e ≡ error.Fault n why) × IsRefused source.old line.now why)) }
 {
     if line.len() > LINE_LIMIT {
-        return Err(TextError::Fault {
-            line: n,
-            reason: Reason::Limit,
-        });
+        return Err(fault(n, Reason::Limit));
     }
     match read_line(line) {
         Ok(value) => source.take(n, value),
-        Err(fault) => Err(TextError::Fault {
-            line: n,
-            reason: reason_of(fault),
-        }),
+        Err(why) => Err(fault(n, reason_of(why))),
     }
 }
 
@@ -169,16 +163,10 @@ fn finish(alloc: Global, lines: Lines) -> Result<Program, TextError>
     let Lines { source, count } = lines;
     let end = count + 1;
     if source.current.is_some() || !source.are_labels_inside() {
-        return Err(TextError::Fault {
-            line: end,
-            reason: Reason::Misplaced,
-        });
+        return Err(fault(end, Reason::Misplaced));
     }
     if !source.has_bundles() {
-        return Err(TextError::Fault {
-            line: end,
-            reason: Reason::Empty,
-        });
+        return Err(fault(end, Reason::Empty));
     }
     let parts = named_parts(alloc, &source)?;
     let entries = rising(alloc, &parts.entries)?;

@@ -1,4 +1,9 @@
-//! Programs as text: the canonical text of a program.
+//! Programs as text, both ways.
+//!
+//! [`assemble`] takes the lines of a text one by one: `source` keeps what they say so far, with the bundle that
+//! is open in `draft`, and after the last line `names` puts in what labels name. It answers the program
+//! that the text says, or its first fault. [`disassemble`] gives the canonical text of a program, which reads
+//! as the program again, and [`list`] its bundles by their bytes.
 #![tactic(auto)]
 
 mod address;
@@ -22,6 +27,3 @@ pub use laws::{
 };
 pub use listing::list;
 pub use reason::{Reason, TextError};
-
-#[cfg(test)]
-mod disassembly_tests;

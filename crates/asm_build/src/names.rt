@@ -11,7 +11,7 @@ ghost use Rattle.asm_build.specs.Sources.{label_of};
 
 use crate::address::{Address, addressed};
 use crate::draft::{BundleLines, SlotName};
-use crate::reason::{Reason, TextError};
+use crate::reason::{Reason, TextError, fault};
 use crate::source::EntryLine;
 use asm_words::Name;
 use ia_insn::{BundleOf, Insn, Op, Slots};
@@ -51,10 +51,7 @@ fn put_in(labels: &Labels, n: u32, insn: &Insn, name: &SlotName) -> Result<Insn,
 {
     match named(labels, n, &insn.op, &name.target) {
         Some(op) => Ok(Insn { qp: insn.qp, op }),
-        None => Err(TextError::Fault {
-            line: name.line,
-            reason: Reason::NoLabel,
-        }),
+        None => Err(fault(name.line, Reason::NoLabel)),
     }
 }
 
@@ -134,17 +131,11 @@ fn declare_by(
     ensures err { IfErr result (λ e. (e ≡ error.Memory) ⊎ (declared_by (bundle_at (label_of labels.now.entries line.now.name)) line.now.line entries.old.keys ≡ Err e)) }
 {
     let Some(Address::Bundle { n }) = labels.get(&line.name) else {
-        return Err(TextError::Fault {
-            line: line.line,
-            reason: Reason::NoLabel,
-        });
+        return Err(fault(line.line, Reason::NoLabel));
     };
     declare(entries, *n)?;
     if entries.len() > ENTRY_LIMIT {
-        return Err(TextError::Fault {
-            line: line.line,
-            reason: Reason::Limit,
-        });
+        return Err(fault(line.line, Reason::Limit));
     }
     Ok(())
 }

@@ -1,7 +1,7 @@
 //! Why a text is no program.
 
 ghost use Rattle.std.specs.Prelude.{◌≡◌};
-ghost use Rattle.asm_build.specs.declared.reason.TextError.TheVariants.{Memory};
+ghost use Rattle.asm_build.specs.declared.reason.TextError.TheVariants.{Fault, Memory};
 ghost use Rattle.asm_build.specs.Reasons.{reason_of};
 
 use asm_words::LineFault;
@@ -74,6 +74,13 @@ impl<T: Drop> From<AllocFailed<T>> for TextError {
     fn from(_: AllocFailed<T>) -> Self {
         TextError::Memory
     }
+}
+
+/// The fault of a line.
+pub(crate) fn fault(line: u32, reason: Reason) -> TextError
+    ensures { result ≡ Fault line reason }
+{
+    TextError::Fault { line, reason }
 }
 
 /// The reason for which a line is refused by itself.

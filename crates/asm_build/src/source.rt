@@ -10,7 +10,7 @@ ghost use Rattle.asm_build.specs.declared.source.Section.TheVariants as section;
 
 use crate::address::Address;
 use crate::draft::{BundleLines, Open};
-use crate::reason::{Reason, TextError};
+use crate::reason::{Reason, TextError, fault};
 use asm_text::{Draft, Line, Shape, Values};
 use asm_words::Name;
 use std::alloc::{AllocError, Global};
@@ -56,13 +56,6 @@ impl Model for Source {
     ghost view = { λ s. record { section = s.section; current = s.current; bundles = s.bundles.items; entries = s.entries.items; labels = s.labels.entries; bytes = s.data.items } };
 
     ghost invariant = { λ s. IsWithinLimits (record { section = s.section; current = s.current; bundles = s.bundles.items; entries = s.entries.items; labels = s.labels.entries; bytes = s.data.items }) };
-}
-
-/// The fault of a line.
-fn fault(line: u32, reason: Reason) -> TextError
-    ensures { result ≡ error.Fault line reason }
-{
-    TextError::Fault { line, reason }
 }
 
 impl Source {

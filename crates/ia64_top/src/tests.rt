@@ -319,6 +319,47 @@ fn commands_have_their_output(rt: HostRuntime) -> Result<(), Fail> {
     Ok(())
 }
 
+/// A canonical text: a stop inside a bundle, a declared entry, a target, a long instruction, a predicate and
+/// nine words of data.
+const WHOLE_TEXT: &[u8] = b"L0:
+{ .mii
+  add r4=r5,r6
+  nop.i 0x0 ;;
+  nop.i 0x0
+}
+.entry L1
+L1:
+{ .mlx
+  nop.m 0x1
+  movl r7=0xfedcba9876543210 ;;
+}
+{ .mib
+  nop.m 0x0
+  nop.i 0x0
+  (p6) br.cond.dpnt.many.clr L0 ;;
+}
+.data
+data8 0x1,0x0,0x0,0x0,0x0,0x0,0x0,0xff00000000000000
+data8 0x123456789abcdef
+";
+
+/// What a command answers with calls that don't fail.
+fn answer(alloc: Global, command: &str, input: Vec<u8>) -> Result<(u8, Vec<u8>), Fail> {
+    let (source, sink) = (Vec::new(alloc), Vec::new(alloc));
+    run(alloc, command, input, (4096, source), (4096, sink))
+}
+
+#[test]
+fn a_text_comes_back(rt: HostRuntime) -> Result<(), Fail> {
+    let alloc = rt.alloc();
+    let (built, image) = answer(alloc, "build", Vec::from_slice(alloc, WHOLE_TEXT)?)?;
+    assert_eq!(rt; built, 0);
+    let (shown, text) = answer(alloc, "show", image)?;
+    assert_eq!(rt; shown, 0);
+    assert_eq!(rt; text.as_slice(), WHOLE_TEXT);
+    Ok(())
+}
+
 #[test]
 fn a_hundred_violations_are_shown(rt: HostRuntime) -> Result<(), Fail> {
     let alloc = rt.alloc();
