@@ -37,6 +37,14 @@ try show 0 "$dir/text" examples/three_nops.image show
 printf '{ .mii\n  nop.m 0x0\n  add r8=r9,r10\n  add r11=r8,r9 ;;\n}\n' > "$dir/adds"
 try show_adds 0 "$dir/adds" examples/read_after_write.image show
 try violated 1 "$dir/raw" examples/read_after_write.image check
+printf '0 01000000010000000002000000000400 mii\n  nop.m 0x0\n  nop.i 0x0\n  nop.i 0x0 ;;\n' > "$dir/listing"
+try list 0 "$dir/listing" examples/three_nops.image list
+try build 0 examples/three_nops.image examples/three_nops.s build
+try build_shown 0 examples/three_nops.image "$dir/text" build
+try build_hazard 0 examples/read_after_write.image examples/read_after_write.s build
+try check_text 0 "$dir/accepted" examples/three_nops.s check
+try check_hazard 1 "$dir/raw" examples/read_after_write.s check
+try check_mended 0 "$dir/accepted" examples/read_after_write_mended.s check
 try no_words 2 "$dir/nothing" examples/three_nops.image
 try unknown_word 2 "$dir/nothing" examples/three_nops.image Check
 try two_words 2 "$dir/nothing" examples/three_nops.image check now
@@ -44,7 +52,16 @@ try cut_image 3 "$dir/length" "$dir/cut" check
 try no_bundles 3 "$dir/counts" /dev/null wrap
 try too_long 4 "$dir/nothing" "$dir/too_long" wrap
 try read_fault 5 "$dir/nothing" "$dir" check
-try not_judged 10 "$dir/nothing" "$dir/no_image" check
+printf 'line 1: char\n' > "$dir/char"
+try no_text 3 "$dir/char" "$dir/no_image" check
+
+# The examples that aren't judged yet: built, shown and built again they give one image.
+for name in predicated counted_loop call speculation; do
+  try "$name" 10 "$dir/nothing" "examples/$name.s" check
+  "$program" build < "examples/$name.s" > "$dir/image" && "$program" show < "$dir/image" > "$dir/shown"
+  note $? "$name: not built or not shown"
+  try "$name, built again" 0 "$dir/image" "$dir/shown" build
+done
 
 # TEXT WORD BYTES: the command refuses these bytes, given as printf takes them, with this text.
 refused() {
@@ -53,12 +70,39 @@ refused() {
   try "$1" 3 "$dir/wanted" "$dir/refused" "$2"
 }
 
+# REASON LINE TEXT: `build` and `check` refuse this text, given as printf takes it, at this line.
+refused_text() {
+  printf 'line %s: %s\n' "$2" "$1" > "$dir/wanted"
+  printf "$3" > "$dir/refused"
+  try "$1 by build" 3 "$dir/wanted" "$dir/refused" build
+  try "$1 by check" 3 "$dir/wanted" "$dir/refused" check
+}
+
+refused_text char 1 'nop.i 0 // d\303\251j\303\240 vu\n'
+refused_text name 1 'ADD r8=r9,r10\n'
+refused_text register 1 'add r8=in0,r10\n'
+refused_text number 1 'adds r8=r9,r10\n'
+refused_text range 1 'adds r8=8192,r9\n'
+refused_text form 1 'add r8=r9\n'
+refused_text template 5 '{ .mii\nnop 0 ;;\nnop 0\nnop 0\n}\n'
+refused_text 'slot kind' 2 '{ .mii\nbr.ret.sptk.few b0\n'
+refused_text twice 2 'x:\nx:\n'
+refused_text 'no label' 4 '{ .mib\nnop 0\nnop 0\nbr.cond.sptk.few x\n}\n'
+refused_text limit 3 '.data\n.skip 1048576\ndata1 0\n'
+refused_text misplaced 1 'nop.i 0\n'
+refused_text misplaced 2 '{ .mii\n'
+refused_text empty 1 ''
+long=
+for _ in {1..65}; do long+='{ .mii\nnop 0\nnop 0\nnop 0\n}\n'; done
+refused_text 'long run' 322 "$long"
+
 # Three nop with a stop behind them, and without one.
 nops='\x01\0\0\0\x01\0\0\0\0\x02\0\0\0\0\x04\0'
 open='\0\0\0\0\x01\0\0\0\0\x02\0\0\0\0\x04\0'
 
 refused 'short' check 'IA64IMG1'
 refused 'short' show ''
+refused 'short' list ''
 refused 'magic' show 'IA64IMG2\x01\0\0\0\0\0\0\0\0\0\0\0\0\0\0\0'
 refused 'entry 0' check 'IA64IMG1\x01\0\0\0\x01\0\0\0\0\0\0\0\0\0\0\0\x01\0\0\0'"$nops"
 refused 'bundle 1: template' wrap "$nops"'\x06\0\0\0\0\0\0\0\0\0\0\0\0\0\0\0'
@@ -81,6 +125,21 @@ note $? "README: wrap"
 note $? "README: show"
 ./ia64 check < examples/read_after_write.image 2> /dev/null | cmp -s - "$dir/raw"
 note $? "README: a hazard"
+./ia64 build < examples/read_after_write.s 2> /dev/null | cmp -s - examples/read_after_write.image
+note $? "README: build"
+./ia64 list < examples/three_nops.image 2> /dev/null | cmp -s - "$dir/listing"
+note $? "README: list"
+./ia64 check < examples/read_after_write_mended.s 2> /dev/null | cmp -s - "$dir/accepted"
+note $? "README: a mended hazard"
+[ "$(./ia64 build < examples/call.s 2> /dev/null | ./ia64 list 2> /dev/null | grep -c '^[0-9]')" = 6 ]
+note $? "README: a text as a listing"
+./ia64 build < examples/call.s 2> /dev/null | ./ia64 show 2> /dev/null | grep -q 'br.call.sptk.few b0=L3 ;;'
+note $? "README: a text as its canonical text"
+./ia64 check < examples/read_after_write.s 2> /dev/null | cmp -s - "$dir/raw"
+note $? "README: a hazard in a text"
+./ia64 check < examples/call.s 2> "$dir/err"
+[ $? = 10 ] && grep -q 'not judged yet' "$dir/err"
+note $? "ia64 says what is not judged yet"
 ./ia64 2> "$dir/err" < /dev/null
 [ $? = 2 ] && grep -q 'Call it as' "$dir/err"
 note $? "ia64 without words says how to call it"

@@ -1,0 +1,114 @@
+#!/usr/bin/env python3
+"""Times build, show and list beside the GNU tools on the same work, and prints a table. No part of the gate.
+
+The inputs are programs of so many bundles, each with a label, a load, an addition and a branch to
+another bundle. A time is the best of five, with the start of the program; all outputs go to files. The
+GNU assembler looks for violated dependencies under -xexplicit and not under -xnone; `build` doesn't,
+as `check` does that. `objdump -d` and `list` print bytes and instructions, `show` a text that builds
+again.
+
+Call it after the program was built: bench/run.py
+"""
+
+import os
+import pathlib
+import shutil
+import subprocess
+import sys
+import tempfile
+import time
+
+ROOT = pathlib.Path(__file__).resolve().parent.parent
+PROGRAM = ROOT / "crates" / "ia64_cli" / "out" / "ia64_cli"
+SIZES = (1024, 4096)
+RUNS = 5
+AS, OBJDUMP, OBJCOPY = (f"ia64-linux-gnu-{name}" for name in ("as", "objdump", "objcopy"))
+
+
+def text_of(count):
+    """The program of so many bundles."""
+    lines = []
+    for n in range(count):
+        k = n % 8
+        lines += [
+            f"L{n}:",
+            "{ .mib",
+            f"  ld8 r{64 + n % 32}=[r{40 + k}]",
+            f"  add r{8 + k}=r{16 + k},r{24 + k}",
+            f"  (p6) br.cond.sptk.few L{(n * 7 + 3) % count} ;;",
+            "}",
+        ]
+    return "\n".join(lines) + "\n"
+
+
+def seconds(command, source, output):
+    """The best time of a command that reads one file and prints into another."""
+    best = None
+    for _ in range(RUNS):
+        with open(source, "rb") as stdin, open(output, "wb") as stdout:
+            start = time.perf_counter()
+            subprocess.run(command, stdin=stdin, stdout=stdout, check=True)
+            taken = time.perf_counter() - start
+        best = taken if best is None else min(best, taken)
+    return best
+
+
+def has_gnu():
+    return all(shutil.which(name) for name in (AS, OBJDUMP, OBJCOPY))
+
+
+def ours(folder):
+    """Our commands, in an order in which each finds its input: what it is, the command, what it reads,
+    and what it makes."""
+    text, image = folder / "text.s", folder / "image"
+    return [
+        ("build", [PROGRAM, "build"], text, image),
+        ("show", [PROGRAM, "show"], image, folder / "shown.s"),
+        ("list", [PROGRAM, "list"], image, folder / "listing"),
+    ]
+
+
+def theirs(folder):
+    """The GNU tools' commands for the same work. The assembler names the file that it makes."""
+    text, made = folder / "text.s", folder / "made.o"
+    return [
+        ("as -xexplicit", [AS, "-xexplicit", "-o", made, text], text, made),
+        ("as -xnone", [AS, "-xnone", "-o", made, text], text, made),
+        ("objdump -d", [OBJDUMP, "-d", made], made, folder / "dump"),
+    ]
+
+
+def require_same(folder):
+    """Stops unless `build` and the GNU assembler made the same bundles."""
+    bundles = folder / "bundles"
+    subprocess.run([OBJCOPY, "-O", "binary", "-j", ".text", folder / "made.o", bundles], check=True)
+    if (folder / "image").read_bytes()[24:] != bundles.read_bytes():
+        sys.exit("build and the GNU assembler made different bundles")
+
+
+def measure(count, folder):
+    """Prints the lines of the table for so many bundles."""
+    (folder / "text.s").write_text(text_of(count))
+    for name, command, source, made in ours(folder) + (theirs(folder) if has_gnu() else []):
+        output = folder / "printed" if made in command else made
+        milliseconds = 1000 * seconds(command, source, output)
+        print(f"| {count} | {name} | {milliseconds:.1f} | {made.stat().st_size} |", flush=True)
+    if has_gnu():
+        require_same(folder)
+
+
+def main():
+    if not PROGRAM.exists():
+        sys.exit(f"{PROGRAM} is not there: call ./ia64 once, which builds it")
+    if not has_gnu():
+        print("Without the GNU tools for ia64, which are not installed.")
+    one, five, fifteen = os.getloadavg()
+    print(f"{os.cpu_count()} processors, load {one:.1f} {five:.1f} {fifteen:.1f}")
+    print("| Bundles | Command | Milliseconds, best of 5 | Bytes made |\n|---|---|---|---|")
+    with tempfile.TemporaryDirectory() as folder:
+        for count in SIZES:
+            measure(count, pathlib.Path(folder))
+
+
+if __name__ == "__main__":
+    main()

@@ -1,0 +1,23 @@
+// The sum of 10, 9 .. 1 in r8, by a counted loop. `br.cloop` goes back while ar.lc isn't 0, and takes
+// one off it, so a loop of ten turns begins with 9. It stands in slot 2.
+//
+// Right as it stands: each turn is one instruction group, in which the first addition reads r9 before
+// the second writes it. A write after a read may share a group, a read after a write may not.
+//
+// `ia64 build` makes the image. `ia64 check` doesn't judge branches yet and ends with status 10.
+{ .mii
+  addl r9=10,r0
+  mov.i ar.lc=9
+  addl r8=0,r0 ;;
+}
+loop:
+{ .mib
+  add r8=r8,r9
+  adds r9=-1,r9
+  br.cloop.sptk.few loop ;;
+}
+{ .mib
+  nop.m 0
+  nop.i 0
+  break.b 0 ;;
+}
