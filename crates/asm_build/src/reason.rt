@@ -1,11 +1,12 @@
 //! Why a text is no program.
 
-ghost use Rattle.std.specs.Prelude.{◌≡◌};
+ghost use Rattle.std.specs.Prelude.{◌≡◌, Some};
 ghost use Rattle.asm_build.specs.declared.reason.TextError.TheVariants.{Fault, Memory};
-ghost use Rattle.asm_build.specs.Reasons.{reason_of};
+ghost use Rattle.asm_build.specs.Reasons.{reason_of, reason_text};
 
 use asm_words::LineFault;
 use std::alloc::{AllocError, AllocFailed};
+use std::fmt;
 use thiserror::Error;
 
 /// What is wrong with a line of a text. [`Reason::Char`] to [`Reason::Form`] are those of a line by itself
@@ -44,11 +45,35 @@ pub enum Reason {
     Empty,
 }
 
+impl fmt::Display for Reason {
+    ghost output = { λ reason. Some (reason_text reason) };
+
+    /// The reason in words, as `slot kind`.
+    fn fmt<W: fmt::Write>(&self, f: &mut fmt::Formatter<W>) -> fmt::Result {
+        match self {
+            Reason::Char => write!(f, "char"),
+            Reason::Name => write!(f, "name"),
+            Reason::Register => write!(f, "register"),
+            Reason::Number => write!(f, "number"),
+            Reason::Range => write!(f, "range"),
+            Reason::Form => write!(f, "form"),
+            Reason::Template => write!(f, "template"),
+            Reason::SlotKind => write!(f, "slot kind"),
+            Reason::Twice => write!(f, "twice"),
+            Reason::NoLabel => write!(f, "no label"),
+            Reason::Limit => write!(f, "limit"),
+            Reason::LongRun => write!(f, "long run"),
+            Reason::Misplaced => write!(f, "misplaced"),
+            Reason::Empty => write!(f, "empty"),
+        }
+    }
+}
+
 /// Why a text is no program: its first fault.
 #[derive(Clone, Copy, Debug, PartialEq, Eq, Error)]
 pub enum TextError {
     /// A line is wrong.
-    #[error("line {line}: {reason:?}")]
+    #[error("line {line}: {reason}")]
     Fault {
         /// Its number, from 1. One past the last line's is the end of the text.
         line: u32,

@@ -7,10 +7,9 @@ use Rattle.ia64_top.specs.declared.violation.Rule.TheVariants.{Raw, Waw}
 use Rattle.ia64_top.specs.declared.violation.Violation.{Violation}
 use Rattle.ia64_top.specs.declared.violation.Report.{Report}
 use Rattle.insn_codec.specs.declared.bundle.SlotFault.TheVariants.{ReservedTemplate, Unlisted}
-use Rattle.asm_build.specs.declared.reason.Reason.{Reason}
-use Rattle.asm_build.specs.declared.reason.Reason.TheVariants as reason
 use Rattle.asm_build.specs.declared.reason.TextError.{TextError}
 use Rattle.asm_build.specs.declared.reason.TextError.TheVariants as error
+use Rattle.asm_build.specs.Reasons.{reason_text}
 use Rattle.image_form.specs.declared.fault.ImageFault.{ImageFault}
 use Rattle.image_form.specs.declared.fault.ImageFault.TheVariants.{Short, Magic, Counts, Length, Entry, Bundle}
 use Rattle.image_form.specs.declared.fault.ImageFault.TheVariants.{Target, LongRun, Memory}
@@ -54,23 +53,6 @@ fault_text Memory = []
 
 abbrev pub refusal_text : ImageFault → List ℕ
 refusal_text fault = line (fault_text fault)
-
--- why a text is no program
-abbrev pub reason_text : Reason → List ℕ
-reason_text reason.Char = codes "char"
-reason_text reason.Name = codes "name"
-reason_text reason.Register = codes "register"
-reason_text reason.Number = codes "number"
-reason_text reason.Range = codes "range"
-reason_text reason.Form = codes "form"
-reason_text reason.Template = codes "template"
-reason_text reason.SlotKind = codes "slot kind"
-reason_text reason.Twice = codes "twice"
-reason_text reason.NoLabel = codes "no label"
-reason_text reason.Limit = codes "limit"
-reason_text reason.LongRun = codes "long run"
-reason_text reason.Misplaced = codes "misplaced"
-reason_text reason.Empty = codes "empty"
 
 -- what is printed of a text's fault; of want of memory nothing is
 abbrev pub text_fault_text : TextError → List ℕ

@@ -1,7 +1,7 @@
 //! What is printed.
 
 ghost use Rattle.std.specs.Prelude.{◌≡◌, ◌++◌, IfOk, Some, string_bytes};
-ghost use Rattle.ia64_top.specs.Texts.{rule_text, violation_text, verdict_text, slot_text, fault_text, refusal_text, reason_text, text_fault_text, text_refusal_text};
+ghost use Rattle.ia64_top.specs.Texts.{rule_text, violation_text, verdict_text, slot_text, fault_text, refusal_text, text_fault_text, text_refusal_text};
 ghost use Rattle.asm_build.specs.declared.reason.TextError.TheVariants as error;
 
 use crate::violation::{Report, Rule, Violation};
@@ -111,36 +111,6 @@ pub(crate) fn refusal(alloc: Global, fault: ImageFault) -> Result<String, AllocE
     format!(in alloc; "{shown}\n")
 }
 
-/// Why a text is no program, as it is printed.
-#[derive(Clone, Copy, Debug)]
-struct ReasonText {
-    reason: Reason,
-}
-
-impl fmt::Display for ReasonText {
-    ghost output = { λ shown. Some (reason_text shown.reason) };
-
-    /// The reason's name.
-    fn fmt<W: fmt::Write>(&self, f: &mut fmt::Formatter<W>) -> fmt::Result {
-        match self.reason {
-            Reason::Char => write!(f, "char"),
-            Reason::Name => write!(f, "name"),
-            Reason::Register => write!(f, "register"),
-            Reason::Number => write!(f, "number"),
-            Reason::Range => write!(f, "range"),
-            Reason::Form => write!(f, "form"),
-            Reason::Template => write!(f, "template"),
-            Reason::SlotKind => write!(f, "slot kind"),
-            Reason::Twice => write!(f, "twice"),
-            Reason::NoLabel => write!(f, "no label"),
-            Reason::Limit => write!(f, "limit"),
-            Reason::LongRun => write!(f, "long run"),
-            Reason::Misplaced => write!(f, "misplaced"),
-            Reason::Empty => write!(f, "empty"),
-        }
-    }
-}
-
 /// A text's fault, as it is printed.
 #[derive(Clone, Copy, Debug)]
 struct LineText {
@@ -153,11 +123,8 @@ impl fmt::Display for LineText {
 
     /// The line's number, and what is wrong with it.
     fn fmt<W: fmt::Write>(&self, f: &mut fmt::Formatter<W>) -> fmt::Result {
-        let line = self.line;
-        let why = ReasonText {
-            reason: self.reason,
-        };
-        write!(f, "line {line}: {why}")
+        let (line, reason) = (self.line, self.reason);
+        write!(f, "line {line}: {reason}")
     }
 }
 
