@@ -1,5 +1,5 @@
 -- The stated output, where a source tells its bytes.
-use Rattle.std.proofs.Common.{◌≡◌, ℕ, ◌+◌, ◌<◌, ◌≤◌, List, [], length, length-drop, take, drop, Option, Some, None, refl, sym, ap, ◌∙◌, subst, arith}
+use Rattle.std.proofs.Common.{◌≡◌, inl, inr, ℕ, ◌+◌, ◌<◌, ◌≤◌, List, [], length, length-drop, take, drop, Option, Some, None, refl, sym, ap, ◌∙◌, subst, arith}
 use Rattle.std.specs.Prelude.{◌↔◌, IfSome}
 use Rattle.std.specs.Io.KnownBytes.{Appends}
 use Rattle.std.proofs.KnownBytes.{Appends-nil}
@@ -12,9 +12,11 @@ use Rattle.ia64_top.specs.declared.status.Status.{Status}
 use Rattle.ia64_top.specs.declared.status.Status.TheVariants.{Done, Words, TooLong}
 use Rattle.ia64_top.specs.Words.{command_of}
 use Rattle.ia_insn.specs.Programs.{Program}
+use Rattle.image_form.specs.Images.{Spells}
+use Rattle.image_form.specs.Laws.{ImageSize}
 use Rattle.ia64_top.specs.Programs.{IsPlain}
 use Rattle.ia64_top.specs.Violations.{IsFree}
-use Rattle.ia64_top.specs.Readings.{as_either}
+use Rattle.ia64_top.specs.Readings.{as_either, BeginsAsImage}
 use Rattle.ia64_top.specs.Output.{input_limit, IsCommandOutput, IsOutput, GivesOutput, GivesPart}
 
 -- the output of a command for an input within the limit
@@ -37,14 +39,21 @@ pub given_in_part : (words : List (List ℕ)) (command : Command) (left given ne
 given_in_part words command None given new input bytes status e whole within o part = tt
 given_in_part words command (Some l) given new input bytes status e whole within o part = (bytes, status, subst (λ (i : List ℕ). IsOutput words i bytes status) whole (output_within words command input bytes status e within o), part)
 
--- what is accepted, of an input that is too long and of one within the limit
+-- What is accepted: a text has to be within the limit, and an image is.
 abbrev AcceptsFree : List (List ℕ) → Status → List ℕ → Type 0
 AcceptsFree words status input =
-    command_of words ≡ Some Check → length input ≤ input_limit → (p : Program) → as_either.Gives input p → IsPlain p → ((status ≡ Done) ↔ IsFree p)
+    command_of words ≡ Some Check → (¬ BeginsAsImage input → length input ≤ input_limit) → (p : Program) → as_either.Gives input p → IsPlain p → ((status ≡ Done) ↔ IsFree p)
 
-pub accepted_beyond : (words : List (List ℕ)) (left : Option (List ℕ)) → IfSome left (λ l. input_limit < length l) → IfSome left (AcceptsFree words TooLong)
-accepted_beyond words None h = tt
-accepted_beyond words (Some input) h = λ e within p g plain. absurd (omega (arith, h, within))
+short_image : ImageSize → (p : Program) (input : List ℕ) → Spells p input → length input ≤ input_limit
+short_image size p input s = let n = size p input s in let r = s.program.counts in omega (arith, n, r.bundles, r.entries, r.bytes)
+
+short_either : ImageSize → (p : Program) (input : List ℕ) → (¬ BeginsAsImage input → length input ≤ input_limit) → as_either.Gives input p → length input ≤ input_limit
+short_either size p input within (inl image) = short_image size p input image.1
+short_either size p input within (inr text) = within text.0
+
+pub accepted_beyond : ImageSize → (words : List (List ℕ)) (left : Option (List ℕ)) → IfSome left (λ l. input_limit < length l) → IfSome left (AcceptsFree words TooLong)
+accepted_beyond size words None h = tt
+accepted_beyond size words (Some input) h = λ e within p g plain. absurd (omega (arith, h, short_either size p input within g))
 
 pub accepted_within : (words : List (List ℕ)) (command : Command) (left : Option (List ℕ)) (input : List ℕ) (status : Status) → command_of words ≡ Some command → IfSome left (λ l. input ≡ l)
     → (command ≡ Check → (p : Program) → as_either.Gives input p → IsPlain p → ((status ≡ Done) ↔ IsFree p)) → IfSome left (AcceptsFree words status)

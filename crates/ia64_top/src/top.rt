@@ -9,12 +9,13 @@ ghost use Rattle.ia64_top.specs.Statuses.{IsAnswer};
 ghost use Rattle.ia_insn.specs.Programs.{Program};
 ghost use Rattle.ia64_top.specs.Programs.{IsPlain};
 ghost use Rattle.ia64_top.specs.Violations.{IsFree};
-ghost use Rattle.ia64_top.specs.Readings.{as_either};
+ghost use Rattle.ia64_top.specs.Readings.{as_either, BeginsAsImage};
 ghost use Rattle.ia64_top.specs.Output.{input_limit, IsOutput, GivesOutput, GivesPart};
 
 use crate::answer::respond;
 use crate::status::Status;
 use crate::words::{Command, Words};
+use image_form::image_size;
 use io_seam::{ReadError, Sink, Source, read_all, write_all};
 use std::alloc::Global;
 
@@ -38,7 +39,7 @@ pub fn ia64<S: Source, K: Sink>(
 
     // `accepted` is printed exactly where no two slots of a group of the walk clash.
     ensures accepted { IsAnswer result → IfSome (S.left source.old) (λ input.
-        command_of words.now ≡ Some Command.Check → length input ≤ input_limit → (program : Program) → as_either.Gives input program → IsPlain program → ((result ≡ Status.Done) ↔ IsFree program)) }
+        command_of words.now ≡ Some Command.Check → (¬ BeginsAsImage input → length input ≤ input_limit) → (program : Program) → as_either.Gives input program → IsPlain program → ((result ≡ Status.Done) ↔ IsFree program)) }
 
     // An answer leaves the counts of faults as they were, and the source read to its end.
     ensures counts { IsAnswer result → (S.faults source.new ≡ S.faults source.old) × (K.faults sink.new ≡ K.faults sink.old) }
@@ -72,6 +73,7 @@ pub fn ia64<S: Source, K: Sink>(
     ensures source_told { IsSome (S.left source.old) ↔ IsSome (S.left source.new) }
     ensures sink_told { IsSome (K.given sink.old) ↔ IsSome (K.given sink.new) }
 {
+    image_size();
     let Some(command) = words.command() else {
         return Status::Words;
     };

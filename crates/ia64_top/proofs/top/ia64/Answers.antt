@@ -9,7 +9,7 @@ returns-in-Err-TooLong-clause-output g c u =
 
 pub returns-in-Err-TooLong-clause-accepted : goal.returns-in-Err-TooLong-clause-accepted
 returns-in-Err-TooLong-clause-accepted g c u =
-    accepted_beyond c.args.words.now (g.S.Source.left c.args.source.now) (beyond _ (g.S.Source.left c.args.source.now) (g.S.Source.left c.read_all.new.source) (ap Err c.in-Err-TooLong.field-0-is) c.in-Err-TooLong.ensures.too_long)
+    accepted_beyond c.image_size.ensures c.args.words.now (g.S.Source.left c.args.source.now) (beyond _ (g.S.Source.left c.args.source.now) (g.S.Source.left c.read_all.new.source) (ap Err c.in-Err-TooLong.field-0-is) c.in-Err-TooLong.ensures.too_long)
 
 pub returns-in-Ok-write_all-clause-output : goal.returns-in-Ok-write_all-clause-output
 returns-in-Ok-write_all-clause-output g c u =
