@@ -1,5 +1,7 @@
--- How registers and places print.
-use Rattle.std.specs.Prelude.{ℕ, List, ◌∷◌, ◌++◌, decimal}
+-- How registers, places and faults print.
+use Rattle.std.specs.Prelude.{ℕ, List, ◌∷◌, ◌++◌, codes, decimal}
+use Rattle.ia_insn.specs.declared.ending.FaultKind.{FaultKind}
+use Rattle.ia_insn.specs.declared.ending.FaultKind.TheVariants as fault
 use Rattle.ia_insn.specs.declared.place.Place.{Place}
 
 -- `r`, `p` or `b` and the number in decimal
@@ -15,3 +17,16 @@ br_text b = 98 ∷ decimal b
 -- the bundle, a dot and the slot, in decimal
 abbrev pub place_text : Place → List ℕ
 place_text place = decimal place.bundle ++ (46 ∷ decimal place.slot)
+
+-- the name of a fault
+abbrev pub fault_name : FaultKind → List ℕ
+fault_name fault.OutOfFrame = codes "OutOfFrame"
+fault_name fault.NatConsumed = codes "NatConsumed"
+fault_name fault.Unaligned = codes "Unaligned"
+fault_name fault.BadAddress = codes "BadAddress"
+fault_name fault.BadFrame = codes "BadFrame"
+fault_name fault.ReservedField = codes "ReservedField"
+fault_name fault.Underflow = codes "Underflow"
+fault_name fault.StackLimit = codes "StackLimit"
+fault_name fault.BadLanding = codes "BadLanding"
+fault_name fault.FellOff = codes "FellOff"

@@ -11,6 +11,7 @@
 
 mod bundle;
 mod choices;
+mod ending;
 mod entries;
 pub mod fields;
 pub mod immediates;
@@ -34,6 +35,7 @@ mod template;
 
 pub use bundle::{BundleOf, Slots};
 pub use choices::{AluFn, BranchKind, CmpKind, LoadKind, Rel, ShiftFn, StoreKind, Unit, Update};
+pub use ending::{End, FaultKind, GroupEvent, How};
 pub use entries::{are_in_range, misplaced_entry};
 pub use insn::{Insn, Op};
 pub use listed::{is_listed, operands_in_range};
