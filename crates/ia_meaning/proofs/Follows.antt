@@ -1,0 +1,41 @@
+-- What the tests and functions of places say of places of a program.
+use Rattle.std.proofs.Common.{◌≡◌, ℕ, ◌<◌, Bool, true, false, ◌&&◌, List, length, Some, None, refl, arith, if◌then◌else◌}
+use Rattle.std.specs.Prelude.{ℤ, pos, ◌+ℤ◌, ◌≤ℤ◌, ◌<ℤ◌, nat_abs, nat_le, IfSome}
+use Rattle.std.proofs.lemmas.Int.{ints}
+use Rattle.ia_insn.specs.declared.place.Place.{Place}
+use Rattle.ia_insn.specs.Bundles.{Bundle}
+use Rattle.ia_insn.specs.Places.{IsNext, IsStopped}
+use Rattle.ia_insn.specs.Programs.{Program}
+use Rattle.ia_insn.specs.Targets.{IsBundleAt}
+use Rattle.ia_meaning.proofs.Sequences.{entry_decides, next_fits, stop_decides}
+use Rattle.ia_meaning.specs.State.{bundle_address}
+use Rattle.ia_meaning.specs.Landings.{target_of, is_entry, landing}
+use Rattle.ia_meaning.specs.Sequence.{next_of, is_stopped}
+
+entry_small : (p : Program) (n : ℕ) → is_entry p n ≡ true → n < length p.bundles
+entry_small p n e = let h = (entry_decides p n).0 e in h.inside
+
+-- an indirect branch lands on a bundle of the program
+pub landing_small : (p : Program) (address : ℕ) → IfSome (landing p address) (λ bundle. bundle < length p.bundles)
+unfolding landing
+landing_small p address = chosen (nat_le (bundle_address 0) address) (is_entry p _) _ (entry_small p _)
+  where
+    chosen : (a b : Bool) (n : ℕ) → (b ≡ true → n < length p.bundles) → IfSome (if a && b then Some n else None) (λ bundle. bundle < length p.bundles)
+    chosen false b n h = tt
+    chosen true false n h = tt
+    chosen true true n h = h refl
+
+abs_small : (x : ℤ) (count : ℕ) → pos 0 ≤ℤ x → x <ℤ pos count → nat_abs x < count
+abs_small x count h k = omega (arith, ints)
+
+-- the target of a branch that stays inside is a bundle of the program
+pub target_small : (count bundle : ℕ) (disp : ℤ) → IsBundleAt count bundle disp → target_of bundle disp < count
+target_small count bundle disp h = abs_small (pos bundle +ℤ disp) count h.0 h.1
+
+-- the function of next places gives a next place
+pub next_is : (bundles : List Bundle) (place next : Place) → next_of bundles place ≡ Some next → IsNext bundles place next
+next_is bundles place next e = rw e at (next_fits bundles place)
+
+-- where the test finds no stop there is none
+pub not_stopped : (bundles : List Bundle) (place : Place) → is_stopped bundles place ≡ false → IsStopped bundles place → ⊥
+not_stopped bundles place e h = let s = (stop_decides bundles place).1 h in cc

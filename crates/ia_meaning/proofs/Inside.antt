@@ -1,0 +1,112 @@
+-- The place that a step leaves a state at.
+use Rattle.std.proofs.Common.{◌≡◌, ℕ, ◌<◌, Bool, true, false, List, length, Option, Some, None, refl, sym, subst, inl, inr, arith}
+use Rattle.std.specs.Prelude.{ℤ, IfSome, IsSome}
+use Rattle.ia_insn.specs.declared.insn.Insn.{Insn}
+use Rattle.ia_insn.specs.declared.place.Place.{Place}
+use Rattle.ia_insn.specs.Bundles.{Bundle}
+use Rattle.ia_insn.specs.Places.{insn_at, IsPlaceOf, IsNext}
+use Rattle.ia_insn.specs.Programs.{Program, IsProgram}
+use Rattle.ia_insn.specs.Runs.{IsLeaving, EndsRun}
+use Rattle.ia_insn.specs.Targets.{displacement, IsBundleAt, IsTargetInside}
+use Rattle.ia_insn.proofs.InOrder.{is_place, get_some}
+use Rattle.ia_meaning.specs.declared.next.Next.{Next}
+use Rattle.ia_meaning.specs.declared.next.Next.TheVariants.{Falls, Goes, Breaks, Faults}
+use Rattle.ia_meaning.specs.State.{State}
+use Rattle.ia_meaning.specs.Outcomes.{Outcome}
+use Rattle.ia_meaning.specs.Effects.{site, effect}
+use Rattle.ia_meaning.specs.Sequence.{first_of, next_of, is_stopped}
+use Rattle.ia_meaning.specs.Steps.{Step, outcome_of, step_by, step_of, seq_step, how_falling, place_after}
+use Rattle.ia_meaning.proofs.GoesOn.{IsGoodNext, IsGoodWay, IsGoodTarget, effect_on, settled_on, falls_to, effect_leaves}
+use Rattle.ia_meaning.proofs.Follows.{landing_small, target_small, next_is, not_stopped}
+
+-- it is a bundle of the program
+abbrev pub IsBundleOf : Program → ℕ → Type 0
+IsBundleOf p bundle = bundle < length p.bundles
+
+target_good : (p : Program) (place : Place) (insn : Insn) → IsTargetInside p.bundles place → insn_at p.bundles place ≡ Some insn → IsGoodTarget (IsBundleOf p) place.bundle (displacement insn.op)
+target_good p place insn inside e =
+    let here : IfSome (displacement insn.op) (IsBundleAt (length p.bundles) place.bundle) = rw e at inside in
+    of (displacement insn.op) here
+  where
+    of : (o : Option ℤ) → IfSome o (IsBundleAt (length p.bundles) place.bundle) → IsGoodTarget (IsBundleOf p) place.bundle o
+    of None h = tt
+    of (Some disp) h = target_small (length p.bundles) place.bundle disp h
+
+-- an instruction of a program goes to its bundles alone
+pub outcome_good : (p : Program) (s : State) (insn : Insn) → IsTargetInside p.bundles s.place → insn_at p.bundles s.place ≡ Some insn → IsGoodWay (IsBundleOf p) (outcome_of p s insn)
+outcome_good p s insn inside e =
+    settled_on (IsBundleOf p) (next_of p.bundles s.place) s.memory (effect (site p s.place.bundle) insn s.registers s.memory s.registers.unat)
+    (effect_on (IsBundleOf p) (site p s.place.bundle) insn s.registers s.memory s.registers.unat (landing_small p) (target_good p s.place insn inside e))
+
+pub first_is_place : (bundles : List Bundle) (n : ℕ) → n < length bundles → IsPlaceOf bundles (first_of n)
+first_is_place bundles n h = let s = get_some bundles n h in is_place bundles (first_of n) s.0 s.1 (omega arith)
+
+after_is_place : (bundles : List Bundle) (place : Place) (next : Option Place) → next_of bundles place ≡ next → IsPlaceOf bundles place → IsPlaceOf bundles (place_after place next)
+after_is_place bundles place None e is = is
+after_is_place bundles place (Some next) e is = let n = next_is bundles place next e in n.is
+
+step_inside : (p : Program) (s : State) (o : Outcome) (way : Next) → IsPlaceOf p.bundles s.place → IsGoodNext (IsBundleOf p) way → IsPlaceOf p.bundles (step_by p s o way).state.place
+step_inside p s o Falls is good = after_is_place p.bundles s.place (next_of p.bundles s.place) refl is
+step_inside p s o (Goes bundle) is good = first_is_place p.bundles bundle good
+step_inside p s o (Breaks imm) is good = is
+step_inside p s o (Faults kind) is good = is
+
+-- A step leaves the state at a place of the program.
+pub stays_inside : (p : Program) (s : State) → IsProgram p → IsPlaceOf p.bundles s.place → IsPlaceOf p.bundles (seq_step p s).state.place
+unfolding seq_step
+stays_inside p s program is = of (insn_at p.bundles s.place) refl
+  where
+    of : (o : Option Insn) → insn_at p.bundles s.place ≡ o → IsPlaceOf p.bundles (step_of p s o).state.place
+    of None e = is
+    of (Some insn) e = step_inside p s (outcome_of p s insn) (outcome_of p s insn).next is (outcome_good p s insn (program.targets s.place is) e)
+
+falling_on : (stopped : Bool) → how_falling stopped ≡ None → stopped ≡ false
+falling_on true e = absurd cc
+falling_on false e = refl
+
+-- where a step ends no group, its instruction falls through and no stop follows
+pub record FallsOn (p : Program) (s : State) (o : Outcome) (way : Next) : Type 0 where
+  pub falls : way ≡ Falls
+  pub runs : is_stopped p.bundles s.place ≡ false
+
+step_falls : (p : Program) (s : State) (o : Outcome) (way : Next) → (step_by p s o way).how ≡ None → FallsOn p s o way
+step_falls p s o Falls e = record { falls = refl; runs = falling_on (is_stopped p.bundles s.place) e }
+step_falls p s o (Goes bundle) e = absurd cc
+step_falls p s o (Breaks imm) e = absurd cc
+step_falls p s o (Faults kind) e = absurd cc
+
+-- A step that ends no group: the instruction falls through to the next place, and no run of slots ends there.
+pub record Continues (p : Program) (s : State) (step : Step) : Type 0 where
+  pub next : IsNext p.bundles s.place step.state.place
+  pub on : ¬ EndsRun p.bundles s.place
+  pub end : step.end ≡ None
+
+continues_falling : (p : Program) (s : State) (o : Outcome) (place : Place) → next_of p.bundles s.place ≡ Some place → ¬ EndsRun p.bundles s.place → Continues p s (step_by p s o Falls)
+continues_falling p s o place e on = record {
+  next = rw e (next_is p.bundles s.place place e);
+  on = on;
+  end = refl;
+}
+
+-- where an instruction falls through and no stop follows, no run ends
+run_goes_on : (p : Program) (s : State) (insn : Insn) → insn_at p.bundles s.place ≡ Some insn → is_stopped p.bundles s.place ≡ false → (effect (site p s.place.bundle) insn s.registers s.memory s.registers.unat).next ≡ Falls → EndsRun p.bundles s.place → ⊥
+run_goes_on p s insn e runs falls (inl stop) = not_stopped p.bundles s.place runs stop
+run_goes_on p s insn e runs falls (inr leaving) =
+    let h : (insn.qp ≡ 0) × IsLeaving insn.op = rw e at leaving in
+    effect_leaves (site p s.place.bundle) insn s.registers s.memory s.registers.unat h.0 h.1 falls
+
+continues_at : (p : Program) (s : State) (insn : Insn) → insn_at p.bundles s.place ≡ Some insn → (step_by p s (outcome_of p s insn) (outcome_of p s insn).next).how ≡ None → Continues p s (step_by p s (outcome_of p s insn) (outcome_of p s insn).next)
+continues_at p s insn e h =
+    let f = step_falls p s (outcome_of p s insn) (outcome_of p s insn).next h in
+    let g = falls_to (next_of p.bundles s.place) s.memory (effect (site p s.place.bundle) insn s.registers s.memory s.registers.unat) f.falls in
+    subst (λ (way : Next). Continues p s (step_by p s (outcome_of p s insn) way)) (sym f.falls)
+    (continues_falling p s (outcome_of p s insn) g.place g.is (run_goes_on p s insn e f.runs g.falls))
+
+-- A step that ends no group continues.
+pub step_continues : (p : Program) (s : State) → IsPlaceOf p.bundles s.place → (seq_step p s).how ≡ None → Continues p s (seq_step p s)
+unfolding seq_step insn_at
+step_continues p s is h = of (insn_at p.bundles s.place) refl is h
+  where
+    of : (o : Option Insn) → insn_at p.bundles s.place ≡ o → IsSome o → (step_of p s o).how ≡ None → Continues p s (step_of p s o)
+    of None e is h = absurd cc
+    of (Some insn) e is h = continues_at p s insn e h

@@ -1,0 +1,49 @@
+-- Where branches go (volume 3, chapter 2, `br`): the target of a direct one, and the entries on which an indirect one
+-- lands. The tests are those of the relations of programs (`entry_test`).
+use Rattle.std.specs.Prelude.{ℕ, ℤ, pos, ◌+ℤ◌, nat_abs, ◌-◌, ◌/◌, Bool, true, false, ◌&&◌, ◌||◌, ◌==◌, if◌then◌else◌, List, [], ◌∷◌, length, slice_get, Option, Some, None, nat_lt, nat_le, IsTrue, ◌↔◌}
+use Rattle.ia_insn.specs.declared.insn.Op.{Op}
+use Rattle.ia_insn.specs.declared.insn.Op.TheVariants.{BrCall, BrCallInd}
+use Rattle.ia_insn.specs.declared.bundle.Slots.{Slots}
+use Rattle.ia_insn.specs.declared.bundle.Slots.TheVariants.{Three, Long}
+use Rattle.ia_insn.specs.Bundles.{Bundle}
+use Rattle.ia_insn.specs.Programs.{Program, IsEntry}
+use Rattle.ia_meaning.specs.State.{bundle_address}
+
+-- the bundle that is so many from this one
+abbrev pub target_of : ℕ → ℤ → ℕ
+target_of bundle disp = nat_abs (pos bundle +ℤ disp)
+
+-- a number is one of these
+abbrev pub is_one_of : ℕ → List ℕ → Bool
+is_one_of n [] = false
+is_one_of n (k ∷ ks) = (n == k) || is_one_of n ks
+
+abbrev pub is_call : Op → Bool
+is_call (BrCall b1 wh many clr disp) = true
+is_call (BrCallInd b1 b2 wh many clr) = true
+is_call op = false
+
+abbrev pub has_call : Slots → Bool
+has_call (Three a b c) = is_call a.op || (is_call b.op || is_call c.op)
+has_call (Long first long) = is_call first.op || is_call long.op
+
+-- the bundle holds a call
+abbrev pub holds_call : Option Bundle → Bool
+holds_call None = false
+holds_call (Some b) = has_call b.slots
+
+-- The bundle is an entry: bundle 0, a declared one, or one after a call.
+unfoldable pub is_entry : Program → ℕ → Bool
+is_entry p n =
+    nat_lt n (length p.bundles)
+    && ((n == 0) || (is_one_of n p.entries || (nat_le 1 n && holds_call (slice_get p.bundles (n - 1)))))
+
+-- The entry whose address this is, its low four bits left out.
+unfoldable pub landing : Program → ℕ → Option ℕ
+landing p x =
+    if nat_le (bundle_address 0) x && is_entry p ((x - bundle_address 0) / 16) then Some ((x - bundle_address 0) / 16)
+    else None
+
+-- The test says of each bundle whether it is an entry.
+abbrev pub EntryTest : Type 0
+EntryTest = (p : Program) (n : ℕ) → IsTrue (is_entry p n) ↔ IsEntry p n

@@ -1,0 +1,21 @@
+//! What a program means: states, the effect of every operation, applying writes, the sequential step,
+//! group and run, the resident range of the register stack and the printed state.
+//!
+//! The meaning stands in `specs/`, in whole numbers and lists; it speaks of no machine. Each operation
+//! is one row of a table that gives it an action, one of twenty-one kinds, and each kind of action has
+//! its effect once (Intel Itanium Architecture Software Developer's Manual, volume 1, chapters 3 and
+//! 4, and volume 3, chapter 2). The code here is what the layers above share: the parts of a state,
+//! the form of an instruction, and laws, which are functions that do nothing.
+#![tactic(auto)]
+
+mod form;
+mod laws;
+mod next;
+mod runs;
+mod state;
+
+pub use form::{Form, Goal, Source, form_of};
+pub use laws::{entry_test, frame_test, next_place, stop_test, zero_is_start};
+pub use next::Next;
+pub use runs::{groups_end, progress_is_run, progress_text_is_run_text};
+pub use state::{AlatEntry, AlatKey, Cell, FrameShape, Rrbs, Rse};

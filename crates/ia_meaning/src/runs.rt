@@ -1,0 +1,26 @@
+//! Laws of runs under way and whole runs. They do nothing.
+
+ghost use Rattle.ia_meaning.specs.Runs.{StaysInside, BeginsUnderWay, AdvancesUnderWay, GoesOnUnderWay, HasFewSlots, GroupsEnd, ProgressIsRun, EventIsOfGroup, ProgressTextIsRunText};
+
+/// A run of a program stays at its places, and each of its groups ends: it has at most 192 slots
+/// (volume 1, chapter 3, instruction sequencing).
+pub fn groups_end()
+    ensures inside { StaysInside }
+    ensures begins { BeginsUnderWay }
+    ensures advances { AdvancesUnderWay }
+    ensures goes_on { GoesOnUnderWay }
+    ensures few { HasFewSlots }
+    ensures ends { GroupsEnd }
+{}
+
+/// A run under way comes to where the whole run of as many groups leaves off. Between two groups, the
+/// event of its next group is that of the sequential group.
+pub fn progress_is_run()
+    ensures run { ProgressIsRun }
+    ensures event { EventIsOfGroup }
+{}
+
+/// A run under way and the whole run of as many groups print the same.
+pub fn progress_text_is_run_text()
+    ensures { ProgressTextIsRunText }
+{}
