@@ -1,0 +1,12 @@
+pub mod RegisterNames
+pub mod PredicateWords
+pub mod MaskedWrites
+pub mod Actions
+pub mod ReservedZeros
+pub mod Landings
+pub mod Missing
+pub mod Runnable
+pub mod Slots
+pub mod SlotSteps
+pub mod Advancing
+pub mod Groups

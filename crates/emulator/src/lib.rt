@@ -1,0 +1,17 @@
+//! The emulator: a machine that runs a program slot by slot.
+//!
+//! A step computes what the slot does as a small value, and then makes it: so a slot that ends the run
+//! writes nothing. The contracts name the definitions of `ia_meaning`: one call of [`Machine::step`] is
+//! one sequential step, and [`Machine::run`] goes so many groups further, which from the start is the
+//! sequential run (`ia_meaning::progress_is_run`).
+#![tactic(auto)]
+
+mod change;
+mod covered;
+mod effect;
+mod machine;
+mod registers;
+mod run;
+
+pub use covered::can_run;
+pub use machine::Machine;

@@ -1,0 +1,191 @@
+//! The machine.
+
+ghost use Rattle.std.specs.Prelude.{◌≡◌, ◌<◌, ◌≤◌, ◌+◌, ◌^◌, IfOk, MatchResult, Some, None, get_or};
+ghost use Rattle.ia_meaning.specs.State.{zero_state, IsFrame};
+ghost use Rattle.ia_meaning.specs.Names.{look};
+ghost use Rattle.ia_meaning.specs.Moves.{predicate_word, application};
+ghost use Rattle.ia_meaning.specs.Progress.{begun, advanced, group_further, groups_further, end_of};
+ghost use Rattle.ia_meaning.specs.Runs.{event_further};
+ghost use Rattle.reg_stack.specs.declared.StackFault.TheVariants as fault;
+ghost use Rattle.emulator.specs.Covered.{IsRunnable};
+ghost use Rattle.emulator.specs.Execution.{Execution};
+
+use crate::run::Run;
+use ia_insn::{Ar, Br, End, Gr, GroupEvent, Place, Program};
+use ia_meaning::AlatEntry;
+use reg_stack::{Cell, FrameShape, Rrbs, Rse, StackFault};
+use std::alloc::{AllocError, Global};
+use std::marker::Model;
+
+/// A machine that runs a program. Contracts see the program and how far it has run.
+#[derive(Debug, Drop)]
+pub struct Machine<'a> {
+    program: &'a Program,
+    run: Run,
+}
+
+impl<'a> Model for Machine<'a> {
+    ghost use Rattle.emulator.specs.Execution.{Execution};
+
+    ghost Value = { Execution };
+
+    ghost use Rattle.emulator.specs.Invariant.{execution_of, IsMachine};
+
+    ghost view = { execution_of };
+
+    ghost invariant = { IsMachine };
+}
+
+impl<'a> Machine<'a> {
+    /// The machine at the start of a program: its state is the zero state.
+    ///
+    /// # Errors
+    ///
+    /// Want of memory.
+    #[tactic(auto, using(ia_meaning::proofs::GroupEnds::begins_under_way))]
+    pub fn open(_alloc: Global, program: &'a Program) -> Result<Machine<'a>, AllocError>
+        requires runnable { IsRunnable program.now }
+        ensures { IfOk result (λ m. m ≡ record { program = program.now; progress = begun (zero_state program.now) }) }
+    {
+        let _count = program.bundle_count();
+        Ok(Machine {
+            program,
+            run: Run::begin(),
+        })
+    }
+
+    /// How the run ended, where it did. A finished machine changes nothing any more.
+    pub fn end(&self) -> Option<End>
+        ensures { result ≡ self.now.progress.end }
+    {
+        self.run.end
+    }
+
+    /// How many groups began.
+    pub fn groups(&self) -> u64
+        ensures { result ≡ self.now.progress.groups }
+    {
+        self.run.groups
+    }
+
+    /// The place of the next slot; after an end, of the slot that ended the run.
+    pub fn place(&self) -> Place
+        ensures { result ≡ self.now.progress.state.place }
+    {
+        self.run.place
+    }
+
+    /// What a general register holds.
+    ///
+    /// # Errors
+    ///
+    /// `OutOfFrame` exactly for r32 and above outside the frame.
+    pub fn gr(&self, r: Gr) -> Result<Cell, StackFault>
+        ensures { MatchResult result (λ cell. look self.now.progress.state.registers r ≡ Some cell) (λ error. (error ≡ fault.OutOfFrame) × (look self.now.progress.state.registers r ≡ None)) }
+    {
+        self.run.registers.general(r).ok_or(StackFault::OutOfFrame)
+    }
+
+    /// The current frame.
+    pub fn shape(&self) -> FrameShape
+        ensures value { result ≡ self.now.progress.state.registers.frame }
+        ensures frame { IsFrame result }
+    {
+        let _run = &self.run;
+        FrameShape {
+            base: 0,
+            sof: 0,
+            sol: 0,
+            sor: 0,
+            rrbs: Rrbs {
+                gr: 0,
+                fr: 0,
+                pr: 0,
+            },
+        }
+    }
+
+    /// The resident range of the register stack.
+    pub fn rse(&self) -> Rse
+        ensures { result ≡ self.now.progress.range }
+    {
+        let _run = &self.run;
+        Rse {
+            low: 0,
+            high: 0,
+            spilled: 0,
+            filled: 0,
+        }
+    }
+
+    /// The predicates as a word: bit n is that of place n.
+    pub fn pr_word(&self) -> u64
+        ensures { result ≡ predicate_word self.now.progress.state.registers.predicates }
+    {
+        self.run.registers.predicate_word()
+    }
+
+    /// What a branch register holds.
+    pub fn br(&self, b: Br) -> u64
+        ensures { result ≡ get_or self.now.progress.state.registers.branches b 0 }
+    {
+        self.run.registers.branch(b)
+    }
+
+    /// What an application register holds.
+    pub fn ar(&self, ar: Ar) -> u64
+        ensures { result ≡ application self.now.progress.state.registers ar }
+    {
+        self.run.registers.application(ar)
+    }
+
+    /// The data bytes.
+    pub fn data(&self) -> &[u8]
+        ensures { result.now ≡ self.now.progress.state.memory.bytes }
+    {
+        self.program.data()
+    }
+
+    /// The entries of the ALAT, the oldest first.
+    pub fn alat(&self) -> &[AlatEntry]
+        ensures { result.now ≡ self.now.progress.state.memory.alat }
+    {
+        let _run = &self.run;
+        &[]
+    }
+
+    /// Runs one slot. None exactly where the run goes on; after an end nothing changes any more, and it
+    /// is answered again.
+    pub fn step(&mut self) -> Option<End>
+        requires room { self.old.progress.groups + 1 < 2 ^ 64 }
+        ensures state { self.new ≡ record self.old { progress = advanced self.old.program self.old.progress } }
+        ensures end { result ≡ self.new.progress.end }
+    {
+        self.run.step(self.program);
+        self.run.end
+    }
+
+    /// Runs one group, or the rest of the one that is under way, and tells of it.
+    pub fn step_group(&mut self) -> GroupEvent
+        requires running { self.old.progress.end ≡ None }
+        requires room { self.old.progress.groups + 1 < 2 ^ 64 }
+        ensures state { self.new ≡ record self.old { progress = group_further self.old.program self.old.progress } }
+        ensures event { result ≡ event_further self.old.program self.old.progress }
+    {
+        self.run.run_group(self.program)
+    }
+
+    /// Runs so many groups more, at least one, or up to an end. A group that is under way is the first
+    /// of them. The end is `Limit` exactly where all ran without one; a later call goes on there.
+    ///
+    /// After [`open`](Machine::open) this is the sequential run: `ia_meaning::progress_is_run` is the law.
+    pub fn run(&mut self, groups: u64) -> End
+        requires some { 1 ≤ groups }
+        requires room { self.old.progress.groups + groups < 2 ^ 64 }
+        ensures state { self.new ≡ record self.old { progress = groups_further groups self.old.program self.old.progress } }
+        ensures end { result ≡ end_of self.new.progress }
+    {
+        self.run.run_groups(self.program, groups);
+        self.run.ending()
+    }
+}

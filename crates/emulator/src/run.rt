@@ -1,0 +1,358 @@
+//! A run under way.
+
+ghost use Rattle.std.specs.Prelude.{◌≡◌, ◌<◌, ◌+◌, ◌^◌, Some, None, IfSome, IfNone, slice_get};
+ghost use Rattle.ia_insn.specs.Places.{IsPlaceOf};
+ghost use Rattle.ia_insn.specs.Bundles.{slot_insn};
+ghost use Rattle.ia_insn.specs.declared.ending.How.TheVariants as how;
+ghost use Rattle.ia_meaning.specs.Progress.{begun, opened, slots_after, stepped, advanced, group_further, groups_further, end_of};
+ghost use Rattle.ia_meaning.specs.Runs.{IsUnderWay, event_further};
+ghost use Rattle.ia_insn.specs.Programs.{IsProgram};
+ghost use Rattle.ia_meaning.specs.Sequence.{first_of, next_of, is_stopped};
+ghost use Rattle.ia_meaning.specs.State.{zero_registers};
+ghost use Rattle.ia_meaning.specs.Steps.{settled, how_falling, outcome_of as step_outcome, seq_step, step_by};
+ghost use Rattle.emulator.specs.Registers.{registers_of, AreKept};
+ghost use Rattle.emulator.specs.Changes.{writes_of, IsWritable};
+ghost use Rattle.emulator.specs.Covered.{IsRunnable};
+ghost use Rattle.emulator.specs.Outcomes.{outcome_of, empty_memory};
+ghost use Rattle.emulator.specs.Progress.{state_of, progress_of, arrived, IsOver, IsLater};
+
+use crate::change::{Change, Outcome};
+use crate::effect::effect;
+use crate::registers::Registers;
+use ia_insn::{BundleOf, End, FaultKind, GroupEvent, How, Insn, Place, Program};
+use ia_meaning::Next;
+
+/// The state of a run, its end, the groups begun, the first place of the group under way and the slots
+/// reached in it, 0 between two groups.
+#[derive(Clone, Copy, Debug)]
+pub(crate) struct Run {
+    pub registers: Registers,
+    pub place: Place,
+    pub end: Option<End>,
+    pub groups: u64,
+    pub first: Place,
+    pub slots: u32,
+}
+
+/// The next place, where there is one.
+#[tactic(auto, unfolding(ia_meaning::specs::Sequence::next_of))]
+fn next_place(program: &Program, bundle: &BundleOf, place: Place) -> Option<Place>
+    requires here { slice_get program.now.bundles place.bundle ≡ Some bundle.now }
+    ensures { result ≡ next_of program.now.bundles place }
+{
+    let count = program.bundle_count();
+    if place.slot < bundle.slots().last() {
+        return Some(Place {
+            bundle: place.bundle,
+            slot: place.slot + 1,
+        });
+    }
+    if place.bundle < count && place.bundle + 1 < count {
+        return Some(Place {
+            bundle: place.bundle + 1,
+            slot: 0,
+        });
+    }
+    None
+}
+
+/// Whether a stop follows the place.
+fn has_stop(program: &Program, bundle: &BundleOf, place: Place) -> bool
+    requires here { slice_get program.now.bundles place.bundle ≡ Some bundle.now }
+    ensures { result ≡ is_stopped program.now.bundles place }
+{
+    let _bundles = program.bundles();
+    bundle.stop_after(place.slot)
+}
+
+/// The slots of a group after one more that falls through.
+fn slots_after(slots: u32, stopped: bool) -> u32
+    requires { slots < 192 }
+    ensures { result ≡ slots_after slots (how_falling stopped) }
+{
+    if stopped { 0 } else { slots + 1 }
+}
+
+/// How a group ends at a slot that falls through, where it does.
+fn how_falling(stopped: bool) -> Option<How>
+    ensures { result ≡ how_falling stopped }
+{
+    if stopped { Some(How::Falls) } else { None }
+}
+
+/// The outcome of a slot that has no next place: falling through there is a fault.
+fn at_end(outcome: Outcome) -> Outcome
+    requires writable { IsWritable outcome.change }
+    ensures value { outcome_of result ≡ settled None empty_memory outcome.next (outcome_of outcome) }
+    ensures writable { IsWritable result.change }
+{
+    match outcome.next {
+        Next::Falls => Outcome::faults(FaultKind::FellOff),
+        _ => outcome,
+    }
+}
+
+/// The outcome of the slot at a place.
+#[tactic(auto, using(crate::proofs::Slots::settled_inside))]
+fn outcome_at(
+    registers: &Registers,
+    program: &Program,
+    bundle: &BundleOf,
+    place: Place,
+    insn: &Insn,
+    next: Option<Place>,
+) -> Outcome
+    requires next { next ≡ next_of program.now.bundles place }
+    requires runnable { IsRunnable program.now }
+    requires here { slice_get program.now.bundles place.bundle ≡ Some bundle.now }
+    requires insn { slot_insn bundle.now.slots place.slot ≡ Some insn.now }
+    requires kept { AreKept registers.now }
+    ensures value { outcome_of result ≡ step_outcome program.now (record { registers = registers_of registers.now; memory = empty_memory; place = place }) insn.now }
+    ensures writable { IsWritable result.change }
+{
+    // These calls tell how many bundles there are, and that the instructions fit theirs.
+    let _count = program.bundle_count();
+    let _slots = bundle.slots();
+    let outcome = effect(registers, program, place.bundle, insn);
+    match next {
+        Some(_) => outcome,
+        None => at_end(outcome),
+    }
+}
+
+impl Run {
+    /// The run at the start of a program.
+    pub fn begin() -> Run
+        ensures value { progress_of result ≡ begun (record { registers = zero_registers; memory = empty_memory; place = first_of 0 }) }
+        ensures kept { AreKept result.registers }
+    {
+        Run {
+            registers: Registers::zero(),
+            place: Place::FIRST,
+            end: None,
+            groups: 0,
+            first: Place::FIRST,
+            slots: 0,
+        }
+    }
+
+    /// The place of the next slot. It is read part by part, as it is written: a read of both parts at once
+    /// would wait for both writes.
+    fn here(&self) -> Place
+        ensures { result ≡ self.now.place }
+    {
+        Place {
+            bundle: self.place.bundle,
+            slot: self.place.slot,
+        }
+    }
+
+    /// Begins a group where none is under way.
+    fn open_group(&mut self)
+        requires room { self.old.slots ≡ 0 → self.old.groups + 1 < 2 ^ 64 }
+        ensures value { progress_of self.new ≡ opened (progress_of self.old) }
+        ensures registers { self.new.registers ≡ self.old.registers }
+    {
+        if self.slots == 0 {
+            self.groups += 1;
+            self.first = self.here();
+        }
+    }
+
+    /// Ends the run, and with it the group.
+    fn finish(&mut self, end: End) -> Option<How>
+        ensures value { self.new ≡ record self.old { end = Some end; slots = 0 } }
+        ensures how { result ≡ Some how.Ends }
+    {
+        self.end = Some(end);
+        self.slots = 0;
+        Some(How::Ends)
+    }
+
+    /// Goes to a place, with a change, and so many slots of its group before it.
+    fn arrive(&mut self, change: Change, place: Place, slots: u32)
+        requires writable { IsWritable change }
+        requires kept { AreKept self.old.registers }
+        ensures value { progress_of self.new ≡ arrived (progress_of self.old) (writes_of change) place slots }
+        ensures kept { AreKept self.new.registers }
+    {
+        self.registers.apply(change);
+        self.place = place;
+        self.slots = slots;
+    }
+
+    /// Goes on as an outcome says, to the next place where it falls through.
+    #[tactic(auto, using(crate::proofs::SlotSteps::no_changes, crate::proofs::SlotSteps::falls_on, crate::proofs::SlotSteps::goes_on))]
+    fn go_on(
+        &mut self,
+        program: &Program,
+        outcome: Outcome,
+        next: Option<Place>,
+        stopped: bool,
+    ) -> Option<How>
+        requires writable { IsWritable outcome.change }
+        requires running { self.old.end ≡ None }
+        requires kept { AreKept self.old.registers }
+        requires few { self.old.slots < 192 }
+        requires next { next ≡ next_of program.now.bundles self.old.place }
+        requires stop { stopped ≡ is_stopped program.now.bundles self.old.place }
+        ensures value { progress_of self.new ≡ stepped (progress_of self.old) (step_by program.now (state_of self.old) (outcome_of outcome) outcome.next) }
+        ensures how { result ≡ (step_by program.now (state_of self.old) (outcome_of outcome) outcome.next).how }
+        ensures goes_on { IfNone result (self.new.end ≡ None) }
+        ensures kept { AreKept self.new.registers }
+    {
+        let place = self.here();
+        match outcome.next {
+            Next::Falls => {
+                let slots = slots_after(self.slots, stopped);
+                self.arrive(outcome.change, next.unwrap_or(place), slots);
+                how_falling(stopped)
+            }
+            Next::Goes { bundle } => {
+                self.arrive(outcome.change, Place { bundle, slot: 0 }, 0);
+                Some(How::Taken)
+            }
+            Next::Breaks { imm } => self.finish(End::Break { imm, place }),
+            Next::Faults { kind } => self.finish(End::Fault { kind, place }),
+        }
+    }
+
+    /// Runs the next slot, and tells how its group ends, where it does.
+    #[tactic(auto, using(crate::proofs::SlotSteps::has_bundle, crate::proofs::SlotSteps::has_insn, crate::proofs::SlotSteps::step_here))]
+    fn run_slot(&mut self, program: &Program) -> Option<How>
+        requires runnable { IsRunnable program.now }
+        requires running { self.old.end ≡ None }
+        requires place { IsPlaceOf program.now.bundles self.old.place }
+        requires kept { AreKept self.old.registers }
+        requires few { self.old.slots < 192 }
+        ensures value { progress_of self.new ≡ stepped (progress_of self.old) (seq_step program.now (state_of self.old)) }
+        ensures how { result ≡ (seq_step program.now (state_of self.old)).how }
+        ensures goes_on { IfNone result (self.new.end ≡ None) }
+        ensures kept { AreKept self.new.registers }
+    {
+        let place = self.here();
+        let Some(bundle) = program.bundle(place.bundle) else {
+            unreachable!()
+        };
+        let Some(insn) = bundle.slots().insn(place.slot) else {
+            unreachable!()
+        };
+        let next = next_place(program, bundle, place);
+        let outcome = outcome_at(&self.registers, program, bundle, place, insn, next);
+        let stopped = has_stop(program, bundle, place);
+        self.go_on(program, outcome, next, stopped)
+    }
+
+    /// Runs one slot more, and tells how its group ends, where it does.
+    #[tactic(auto, using(ia_meaning::proofs::WholeRuns::advanced_is, ia_meaning::proofs::GroupEnds::has_few_slots))]
+    fn advance(&mut self, program: &Program) -> Option<How>
+        requires program { IsProgram program.now }
+        requires runnable { IsRunnable program.now }
+        requires running { self.old.end ≡ None }
+        requires kept { AreKept self.old.registers }
+        requires under_way { IsUnderWay program.now (progress_of self.old) }
+        requires room { self.old.slots ≡ 0 → self.old.groups + 1 < 2 ^ 64 }
+        ensures value { progress_of self.new ≡ advanced program.now (progress_of self.old) }
+        ensures how { result ≡ (seq_step program.now (state_of self.old)).how }
+        ensures goes_on { IfNone result (self.new.end ≡ None) }
+        ensures kept { AreKept self.new.registers }
+        ensures under_way { IsUnderWay program.now (progress_of self.new) }
+    {
+        self.open_group();
+        self.run_slot(program)
+    }
+
+    /// Runs one slot more; after an end nothing changes.
+    #[tactic(auto, using(ia_meaning::proofs::GroupEnds::advanced_ended))]
+    pub fn step(&mut self, program: &Program)
+        requires program { IsProgram program.now }
+        requires runnable { IsRunnable program.now }
+        requires kept { AreKept self.old.registers }
+        requires under_way { IsUnderWay program.now (progress_of self.old) }
+        requires room { self.old.groups + 1 < 2 ^ 64 }
+        ensures value { progress_of self.new ≡ advanced program.now (progress_of self.old) }
+        ensures kept { AreKept self.new.registers }
+        ensures under_way { IsUnderWay program.now (progress_of self.new) }
+    {
+        if self.end.is_none() {
+            let _how = self.advance(program);
+        }
+    }
+
+    /// Runs one slot more, and tells of its group where it ends there.
+    fn group_slot(&mut self, program: &Program) -> Option<GroupEvent>
+        requires program { IsProgram program.now }
+        requires runnable { IsRunnable program.now }
+        requires running { self.old.end ≡ None }
+        requires kept { AreKept self.old.registers }
+        requires under_way { IsUnderWay program.now (progress_of self.old) }
+        requires room { self.old.slots ≡ 0 → self.old.groups + 1 < 2 ^ 64 }
+        ensures over { IfSome result (λ event. IsOver program.now (progress_of self.old) (progress_of self.new) event) }
+        ensures goes_on { IfNone result (IsLater program.now (progress_of self.old) (progress_of self.new)) }
+        ensures kept { AreKept self.new.registers }
+        ensures under_way { IsUnderWay program.now (progress_of self.new) }
+    {
+        let (last, slots) = (self.here(), self.slots + 1);
+        match self.advance(program) {
+            Some(how) => Some(GroupEvent {
+                number: self.groups,
+                first: self.first,
+                last,
+                slots,
+                how,
+            }),
+            None => None,
+        }
+    }
+
+    /// Runs the group under way to its end, or the next one, and tells of it. It has at most 192 slots.
+    pub fn run_group(&mut self, program: &Program) -> GroupEvent
+        requires program { IsProgram program.now }
+        requires runnable { IsRunnable program.now }
+        requires running { self.old.end ≡ None }
+        requires kept { AreKept self.old.registers }
+        requires under_way { IsUnderWay program.now (progress_of self.old) }
+        requires room { self.old.slots ≡ 0 → self.old.groups + 1 < 2 ^ 64 }
+        ensures value { progress_of self.new ≡ group_further program.now (progress_of self.old) }
+        ensures event { result ≡ event_further program.now (progress_of self.old) }
+        ensures kept { AreKept self.new.registers }
+        ensures under_way { IsUnderWay program.now (progress_of self.new) }
+    {
+        for _ in 0..192_u32 {
+            if let Some(event) = self.group_slot(program) {
+                return event;
+            }
+        }
+        unreachable!()
+    }
+
+    /// Runs so many groups, or up to an end. A group that is under way is the first of them.
+    #[tactic(auto, using(crate::proofs::Groups::groups_rise, ia_meaning::proofs::GroupEnds::groups_ended))]
+    pub fn run_groups(&mut self, program: &Program, groups: u64)
+        requires program { IsProgram program.now }
+        requires runnable { IsRunnable program.now }
+        requires kept { AreKept self.old.registers }
+        requires under_way { IsUnderWay program.now (progress_of self.old) }
+        requires room { self.old.groups + groups < 2 ^ 64 }
+        ensures value { progress_of self.new ≡ groups_further groups program.now (progress_of self.old) }
+        ensures kept { AreKept self.new.registers }
+        ensures under_way { IsUnderWay program.now (progress_of self.new) }
+    {
+        for _ in 0..groups {
+            if self.end.is_some() {
+                return;
+            }
+            let _event = self.run_group(program);
+        }
+    }
+
+    /// How a run that stands so ends.
+    pub fn ending(&self) -> End
+        ensures { result ≡ end_of (progress_of self.now) }
+    {
+        match self.end {
+            Some(end) => end,
+            None => End::Limit { place: self.place },
+        }
+    }
+}
