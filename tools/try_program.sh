@@ -55,6 +55,20 @@ try read_fault 5 "$dir/nothing" "$dir" check
 printf 'line 1: char\n' > "$dir/char"
 try no_text 3 "$dir/char" "$dir/no_image" check
 
+# What `run` prints of a state in which the machine has no register frame, after the end and the groups.
+state() { printf 'end %s\ngroups %s\nframe 0 sof 0 sol 0 sor 0 rrb 0 0 0\nrse 0 0 0 0\n' "$1" "$2"; }
+{ state 'fault FellOff at 0.2' 1; echo 'pr 0000000000000001'; } > "$dir/fell_off"
+try fell_off 9 "$dir/fell_off" examples/three_nops.image run 1
+{ state 'break 0x0 at 3.2' 22; printf 'r8 0000000000000037\nr9 000000000000000a\npr 0000000000000001\n'; } > "$dir/counted"
+try counted 0 "$dir/counted" examples/count.s run 100
+{ state 'limit at 2.0' 4; printf 'r8 0000000000000001\nr9 0000000000000002\npr 0000000000000001\nar.lc 0000000000000008\n'; } > "$dir/limited"
+try limited 8 "$dir/limited" examples/count.s run 4
+printf 'line 1: empty\n' > "$dir/empty"
+try run_of_nothing 3 "$dir/empty" /dev/null run 1
+for word in 0 01 +5 10000001 5x; do try "run $word" 2 "$dir/nothing" examples/count.s run "$word"; done
+try run_alone 2 "$dir/nothing" examples/count.s run
+try not_run 10 "$dir/nothing" examples/call.s run 5
+
 # The examples that aren't judged yet: built, shown and built again they give one image.
 for name in predicated counted_loop call speculation; do
   try "$name" 10 "$dir/nothing" "examples/$name.s" check

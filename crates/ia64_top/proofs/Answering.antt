@@ -7,7 +7,7 @@ use Rattle.std.proofs.lemmas.Bool.{lt-ltb, le-ltb}
 use Rattle.io_seam.specs.Bytes.{LosesFirst}
 use Rattle.ia64_top.specs.declared.words.Command.{Command}
 use Rattle.ia64_top.specs.declared.words.Command.TheVariants as command
-use Rattle.ia64_top.specs.declared.words.Command.TheVariants.{Check}
+use Rattle.ia64_top.specs.declared.words.Command.TheVariants.{Check, Run}
 use Rattle.ia64_top.specs.declared.status.Status.{Status}
 use Rattle.ia64_top.specs.declared.status.Status.TheVariants.{Done, Words, TooLong}
 use Rattle.ia64_top.specs.Words.{command_of}
@@ -16,6 +16,8 @@ use Rattle.image_form.specs.Images.{Spells}
 use Rattle.image_form.specs.Laws.{ImageSize}
 use Rattle.ia64_top.specs.Programs.{IsPlain}
 use Rattle.ia64_top.specs.Violations.{IsFree}
+use Rattle.emulator.specs.Covered.{IsRunnable}
+use Rattle.ia64_top.specs.Runs.{run_of, end_status}
 use Rattle.ia64_top.specs.Readings.{as_either, BeginsAsImage}
 use Rattle.ia64_top.specs.Output.{input_limit, IsCommandOutput, IsOutput, GivesOutput, GivesPart}
 
@@ -60,6 +62,30 @@ pub accepted_within : (words : List (List ℕ)) (command : Command) (left : Opti
 accepted_within words command None input status e whole h = tt
 accepted_within words command (Some l) input status e whole h = λ f within p g plain. h (let same : Some command ≡ Some Check = sym e ∙ f in cc) p (subst (λ i. as_either.Gives i p) (sym whole) g) plain
 
+-- no other status is stated for the words and the input than the command's
+output_back : (words : List (List ℕ)) (command : Command) (input bytes : List ℕ) (status : Status) → command_of words ≡ Some command → length input ≤ input_limit → IsOutput words input bytes status → IsCommandOutput command input bytes status
+output_back words command input bytes status e within o = rw (e, le-ltb input_limit (length input) within) at o
+
+pub only_within : (words : List (List ℕ)) (command : Command) (left : Option (List ℕ)) (input : List ℕ) (status : Status) → command_of words ≡ Some command → IfSome left (λ l. input ≡ l) → length input ≤ input_limit
+    → ((bytes : List ℕ) (other : Status) → IsCommandOutput command input bytes other → other ≡ status) → IfSome left (λ i. (bytes : List ℕ) (other : Status) → IsOutput words i bytes other → other ≡ status)
+only_within words command None input status e whole within only = tt
+only_within words command (Some l) input status e whole within only =
+    λ bytes other o. only bytes other (output_back words command input bytes other e within (subst (λ i. IsOutput words i bytes other) (sym whole) o))
+
+-- What is run: the end of the run tells the status.
+abbrev TellsEnd : List (List ℕ) → Status → List ℕ → Type 0
+TellsEnd words status input =
+    (groups : ℕ) → command_of words ≡ Some (Run groups) → (¬ BeginsAsImage input → length input ≤ input_limit) → (p : Program) → as_either.Gives input p → IsRunnable p → status ≡ end_status (run_of p groups).end
+
+pub ended_beyond : ImageSize → (words : List (List ℕ)) (left : Option (List ℕ)) → IfSome left (λ l. input_limit < length l) → IfSome left (TellsEnd words TooLong)
+ended_beyond size words None h = tt
+ended_beyond size words (Some input) h = λ groups e within p g runnable. absurd (omega (arith, h, short_either size p input within g))
+
+pub ended_within : (words : List (List ℕ)) (command : Command) (left : Option (List ℕ)) (input : List ℕ) (status : Status) → command_of words ≡ Some command → IfSome left (λ l. input ≡ l)
+    → ((groups : ℕ) → command ≡ Run groups → (p : Program) → as_either.Gives input p → IsRunnable p → status ≡ end_status (run_of p groups).end) → IfSome left (TellsEnd words status)
+ended_within words command None input status e whole h = tt
+ended_within words command (Some l) input status e whole h = λ groups f within p g runnable. h groups (let same : Some command ≡ Some (Run groups) = sym e ∙ f in cc) p (subst (λ i. as_either.Gives i p) (sym whole) g) runnable
+
 -- more bytes than the limit were there where more were taken
 pub beyond : (P : Type 0) (left new : Option (List ℕ)) → P → IfSome left (λ l. P ↔ LosesFirst (input_limit + 1) l new) → IfSome left (λ l. input_limit < length l)
 beyond P None new p h = tt
@@ -77,6 +103,7 @@ not_too_long command.Show input bytes o = o
 not_too_long command.List input bytes o = o
 not_too_long command.Wrap input bytes o = o
 not_too_long Check input bytes o = o
+not_too_long (Run groups) input bytes o = o
 
 pub read_whole : (P : Type 0) (command : Command) (left new : Option (List ℕ)) (input bytes : List ℕ) (status : Status) → ¬ P → IfSome left (λ l. P ↔ LosesFirst (input_limit + 1) l new) → IsCommandOutput command input bytes status → IfSome left (λ l. (status ≡ TooLong) ↔ LosesFirst (input_limit + 1) l new)
 read_whole P command None new input bytes status whole loses o = tt

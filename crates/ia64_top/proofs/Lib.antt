@@ -1,3 +1,5 @@
+mod Numerals
+mod Ranges
 mod Rising
 mod Adding
 mod Clashes
@@ -6,4 +8,5 @@ mod Walking
 mod Plain
 mod Printing
 mod Outputs
+mod Running
 mod Answering

@@ -1,6 +1,6 @@
 -- One output is stated for an input.
-use Rattle.std.proofs.Common.{◌≡◌, ℕ, ◌<◌, inl, inr, List, [], ◌∷◌, length, take, refl, sym, subst, arith}
-use Rattle.std.specs.Prelude.{◌↔◌, Contains, IfOk, Result, Ok, Err}
+use Rattle.std.proofs.Common.{◌≡◌, ℕ, ◌<◌, inl, inr, List, [], ◌∷◌, length, refl, sym, subst, arith}
+use Rattle.std.specs.Prelude.{◌↔◌, Contains, IfOk, MatchResult, Result, Ok, Err}
 use Rattle.ia_insn.specs.Programs.{Program}
 use Rattle.image_form.specs.Laws.{OneProgram, NoFaultWhereSpelled, NoFaultWhereRaw}
 use Rattle.asm_build.specs.Laws.{OneTextProgram, NoFaultWhereRead}
@@ -8,12 +8,13 @@ use Rattle.ia64_top.specs.declared.status.Status.{Status}
 use Rattle.ia64_top.specs.declared.status.Status.TheVariants.{Done, Violated, Refused, NotYet}
 use Rattle.ia64_top.specs.declared.violation.Violation.{Violation}
 use Rattle.ia64_top.specs.declared.violation.Report.{Report}
+use Rattle.ia64_top.specs.declared.answer.Answer.{Answer}
 use Rattle.ia64_top.specs.Texts.{verdict_text}
 use Rattle.ia64_top.specs.Programs.{IsPlain}
 use Rattle.ia64_top.specs.Violations.{IsFree}
 use Rattle.ia64_top.specs.Verdicts.{IsVerdict}
 use Rattle.ia64_top.specs.Judgements.{TellsWhether, IsJudgement, IsProgramAnswer}
-use Rattle.ia64_top.specs.Readings.{Reading, as_image, as_bundles, as_text, as_either, BeginsAsImage}
+use Rattle.ia64_top.specs.Readings.{Reading, IsRefusal, as_image, as_bundles, as_text, as_either, BeginsAsImage}
 use Rattle.ia64_top.specs.Output.{IsMadeOutput, IsCheckedAs}
 
 -- what is there where a call went well, told by what its contract tells
@@ -68,8 +69,9 @@ pub is_refusal : (r : Reading) (Makes : Program → List ℕ → Type 0) (input 
     → IsMadeOutput r Makes input bytes status
 is_refusal r Makes input bytes status refused e = subst (IsMadeOutput r Makes input bytes) (sym e) refused
 
-pub is_checked_refusal : (r : Reading) (input bytes : List ℕ) (status : Status) → r.Refuses input bytes → status ≡ Refused → IsCheckedAs r input bytes status
-is_checked_refusal r input bytes status refused e = subst (IsCheckedAs r input bytes) (sym e) refused
+-- what is made or checked or run of an input that is refused
+pub is_checked_refusal : (r : Reading) (input bytes : List ℕ) (status : Status) → IsRefusal r input bytes status → IsCheckedAs r input bytes status
+is_checked_refusal r input bytes status refused = subst (IsCheckedAs r input bytes) (sym refused.1) refused.0
 
 -- the answer on the program that an input is read as is that on the input
 pub checked_of_answer : (r : Reading) (input : List ℕ) (p : Program) (bytes : List ℕ) (status : Status) → r.Gives input p → IsProgramAnswer p bytes status → IsCheckedAs r input bytes status
@@ -78,20 +80,18 @@ checked_of_answer r input p bytes Violated g a = (p, g, a.0, a.1)
 checked_of_answer r input p bytes NotYet g a = (p, g, a.0, a.1)
 checked_of_answer r input p bytes status g a = absurd a
 
--- an input that begins as an image does is checked as one, and any other as a text
-pub checked_image : (input bytes : List ℕ) (status : Status) → BeginsAsImage input → IsCheckedAs as_image input bytes status → IsCheckedAs as_either input bytes status
-checked_image input bytes Done m o = (o.0, inl (m, o.1), o.2, o.3)
-checked_image input bytes Violated m o = (o.0, inl (m, o.1), o.2, o.3)
-checked_image input bytes Refused m o = inl (m, o)
-checked_image input bytes NotYet m o = (o.0, inl (m, o.1), o.2, o.3)
-checked_image input bytes status m o = absurd o
+-- an input that begins as an image does is read as one, and any other as a text
+pub image_taken : (input : List ℕ) → BeginsAsImage input
+    → (taken : Result Program Answer) → MatchResult taken (as_image.Gives input) (λ a. IsRefusal as_image input a.bytes.items a.status)
+    → MatchResult taken (as_either.Gives input) (λ a. IsRefusal as_either input a.bytes.items a.status)
+image_taken input m (Ok p) given = inl (m, given)
+image_taken input m (Err a) refused = (inl (m, refused.0), refused.1)
 
-pub checked_text : (input bytes : List ℕ) (status : Status) → ¬ BeginsAsImage input → IsCheckedAs as_text input bytes status → IsCheckedAs as_either input bytes status
-checked_text input bytes Done m o = (o.0, inr (m, o.1), o.2, o.3)
-checked_text input bytes Violated m o = (o.0, inr (m, o.1), o.2, o.3)
-checked_text input bytes Refused m o = inr (m, o)
-checked_text input bytes NotYet m o = (o.0, inr (m, o.1), o.2, o.3)
-checked_text input bytes status m o = absurd o
+pub text_taken : (input : List ℕ) → ¬ BeginsAsImage input
+    → (taken : Result Program Answer) → MatchResult taken (as_text.Gives input) (λ a. IsRefusal as_text input a.bytes.items a.status)
+    → MatchResult taken (as_either.Gives input) (λ a. IsRefusal as_either input a.bytes.items a.status)
+text_taken input m (Ok p) given = inr (m, given)
+text_taken input m (Err a) refused = (inr (m, refused.0), refused.1)
 
 free_and_not : (p q : Program) → p ≡ q → IsFree p → (IsFree q → ⊥) → ⊥
 free_and_not p q e f n = n (subst IsFree e f)

@@ -1,3 +1,4 @@
+pub mod GroupCounts
 pub mod Words
 pub mod Statuses
 pub mod Programs
@@ -7,4 +8,5 @@ pub mod Reports
 pub mod Texts
 pub mod Judgements
 pub mod Readings
+pub mod Runs
 pub mod Output

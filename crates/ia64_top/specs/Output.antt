@@ -4,7 +4,7 @@ use Rattle.std.specs.Io.KnownBytes.{Appends}
 use Rattle.ia64_top.specs.declared.words.Command.{Command}
 use Rattle.ia64_top.specs.declared.words.Command.TheVariants as command
 use Rattle.ia64_top.specs.declared.status.Status.{Status}
-use Rattle.ia64_top.specs.declared.status.Status.TheVariants.{Done, Violated, Words, Refused, TooLong, NotYet}
+use Rattle.ia64_top.specs.declared.status.Status.TheVariants.{Done, Violated, Words, Refused, TooLong, Limit, Faulted, NotYet}
 use Rattle.ia_insn.specs.Programs.{Program}
 use Rattle.image_form.specs.Images.{Spells}
 use Rattle.asm_build.specs.CanonicalText.{canonical_text}
@@ -12,6 +12,8 @@ use Rattle.asm_build.specs.Listing.{IsListing}
 use Rattle.ia64_top.specs.Words.{command_of}
 use Rattle.ia64_top.specs.Programs.{IsPlain}
 use Rattle.ia64_top.specs.Judgements.{IsJudgement}
+use Rattle.emulator.specs.Covered.{IsRunnable}
+use Rattle.ia64_top.specs.Runs.{IsRunOf}
 use Rattle.ia64_top.specs.Readings.{Reading, as_image, as_bundles, as_text, as_either}
 
 -- the longest input that is taken, in bytes
@@ -41,12 +43,25 @@ IsCheckedAs reading input bytes NotYet =
     (program : Program) × reading.Gives input program × (¬ IsPlain program) × (bytes ≡ [])
 IsCheckedAs reading input bytes status = ⊥
 
+-- What `run` writes and answers of an input that is read in a way. Nothing is checked before the run.
+abbrev pub IsRunAs : ℕ → Reading → List ℕ → List ℕ → Status → Type 0
+IsRunAs groups reading input bytes Done =
+    (program : Program) × reading.Gives input program × IsRunnable program × IsRunOf program groups bytes Done
+IsRunAs groups reading input bytes Limit =
+    (program : Program) × reading.Gives input program × IsRunnable program × IsRunOf program groups bytes Limit
+IsRunAs groups reading input bytes Faulted =
+    (program : Program) × reading.Gives input program × IsRunnable program × IsRunOf program groups bytes Faulted
+IsRunAs groups reading input bytes Refused = reading.Refuses input bytes
+IsRunAs groups reading input bytes NotYet =
+    (program : Program) × reading.Gives input program × (¬ IsRunnable program) × (bytes ≡ [])
+IsRunAs groups reading input bytes status = ⊥
+
 -- a status that prints nothing
 abbrev pub IsSilent : Status → List ℕ → Status → Type 0
 IsSilent status bytes answer = (bytes ≡ []) × (answer ≡ status)
 
--- `build` and `wrap` make the image of a program, `show` its canonical text, and `list` its listing. `check` takes
--- an image or a text.
+-- `build` and `wrap` make the image of a program, `show` its canonical text, and `list` its listing. `check` and `run`
+-- take an image or a text.
 abbrev pub IsCommandOutput : Command → List ℕ → List ℕ → Status → Type 0
 IsCommandOutput command.Build input bytes status = IsMadeOutput as_text Spells input bytes status
 IsCommandOutput command.Show input bytes status =
@@ -54,6 +69,7 @@ IsCommandOutput command.Show input bytes status =
 IsCommandOutput command.List input bytes status = IsMadeOutput as_image IsListing input bytes status
 IsCommandOutput command.Wrap input bytes status = IsMadeOutput as_bundles Spells input bytes status
 IsCommandOutput command.Check input bytes status = IsCheckedAs as_either input bytes status
+IsCommandOutput (command.Run groups) input bytes status = IsRunAs groups as_either input bytes status
 
 -- The bytes that are written and the status that is answered, for these words and this input.
 abbrev pub IsOutput : List (List ℕ) → List ℕ → List ℕ → Status → Type 0

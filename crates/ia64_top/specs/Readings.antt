@@ -6,12 +6,18 @@ use Rattle.image_form.specs.Images.{magic, Spells, RawSpells}
 use Rattle.image_form.specs.Faults.{HasImageFault, HasRawFault}
 use Rattle.asm_build.specs.declared.reason.TextError.{TextError}
 use Rattle.asm_build.specs.TextReading.{Reads as ReadsText, HasTextFault}
+use Rattle.ia64_top.specs.declared.status.Status.{Status}
+use Rattle.ia64_top.specs.declared.status.Status.TheVariants.{Refused}
 use Rattle.ia64_top.specs.Texts.{refusal_text, text_refusal_text}
 
 -- A way of reading: what an input reads as, and what is printed of one that reads as nothing.
 pub record Reading : Type 1 where
   pub Gives : List ℕ → Program → Type 0
   pub Refuses : List ℕ → List ℕ → Type 0
+
+-- the bytes and the status of an input that is refused
+abbrev pub IsRefusal : Reading → List ℕ → List ℕ → Status → Type 0
+IsRefusal reading input bytes status = reading.Refuses input bytes × (status ≡ Refused)
 
 -- an image
 abbrev pub as_image : Reading

@@ -1,14 +1,18 @@
 //! The answers of the commands.
 
-ghost use Rattle.std.specs.Prelude.{◌≡◌, ◌≢◌, ◌↔◌, ◌≤◌, ℕ, List, [], length, IfOk};
+ghost use Rattle.std.specs.Prelude.{◌≡◌, ◌≢◌, ◌↔◌, ◌≤◌, ℕ, List, [], length, IfOk, MatchResult};
 ghost use Rattle.ia_insn.specs.Programs.{Program as Parts};
 ghost use Rattle.image_form.specs.Images.{Spells};
 ghost use Rattle.asm_build.specs.Listing.{IsListing};
 ghost use Rattle.ia64_top.specs.Programs.{IsPlain};
 ghost use Rattle.ia64_top.specs.Violations.{IsFree};
+ghost use Rattle.emulator.specs.Covered.{IsRunnable};
+ghost use Rattle.ia64_top.specs.GroupCounts.{group_limit};
+ghost use Rattle.ia64_top.specs.Words.{HasGroupsInRange};
 ghost use Rattle.ia64_top.specs.Judgements.{IsJudgement, IsProgramAnswer};
-ghost use Rattle.ia64_top.specs.Output.{input_limit, IsCanonical, IsMadeOutput, IsCheckedAs, IsCommandOutput};
-ghost use Rattle.ia64_top.specs.Readings.{as_image, as_bundles, as_text, as_either};
+ghost use Rattle.ia64_top.specs.Output.{input_limit, IsCanonical, IsMadeOutput, IsCheckedAs, IsRunAs, IsCommandOutput};
+ghost use Rattle.ia64_top.specs.Readings.{as_image, as_bundles, as_text, as_either, IsRefusal};
+ghost use Rattle.ia64_top.specs.Runs.{run_of, end_status, IsRunOf, IsRunAnswer};
 ghost use Rattle.ia64_top.specs.Texts.{refusal_text, text_refusal_text};
 ghost use Rattle.ia64_top.specs.declared.status.Status.{Status};
 
@@ -18,11 +22,14 @@ use crate::status::Status;
 use crate::text::{refusal, text_refusal, verdict};
 use crate::words::Command;
 use asm_build::{TextError, assemble, disassemble, list, no_fault_where_read, one_text_program};
-use ia_insn::Program;
+use emulator::{Machine, can_run};
+use ia_insn::{End, Program};
+use ia_meaning::{groups_end, progress_is_run};
 use image_form::{
     ImageFault, is_image, no_fault_where_raw, no_fault_where_spelled, one_program, read_image,
     wrap_raw, write_image,
 };
+use state_text::state_text;
 use std::alloc::{AllocError, Global};
 
 /// What is written, and how the call ends.
@@ -157,36 +164,48 @@ fn check_program(alloc: Global, program: &Program) -> Result<Answer, AllocError>
     judge(alloc, program)
 }
 
-/// The answer of `check` to an image.
-fn check_image(alloc: Global, input: &[u8]) -> Result<Answer, AllocError>
-    ensures { IfOk result (λ answer. IsCheckedAs as_image input.now answer.bytes.items answer.status) }
+/// The program of an image, or the answer to one with a fault.
+fn take_image(alloc: Global, input: &[u8]) -> Result<Result<Program, Answer>, AllocError>
+    ensures { IfOk result (λ taken. MatchResult taken (as_image.Gives input.now) (λ answer. IsRefusal as_image input.now answer.bytes.items answer.status)) }
 {
     match read_image(alloc, input) {
-        Ok(program) => check_program(alloc, &program),
-        Err(fault) => refuse(alloc, fault),
+        Ok(program) => Ok(Ok(program)),
+        Err(fault) => Ok(Err(refuse(alloc, fault)?)),
     }
 }
 
-/// The answer of `check` to a text.
-fn check_text(alloc: Global, input: &[u8]) -> Result<Answer, AllocError>
+/// The program of a text, or the answer to one with a fault.
+fn take_text(alloc: Global, input: &[u8]) -> Result<Result<Program, Answer>, AllocError>
     requires { length input.now ≤ input_limit }
-    ensures { IfOk result (λ answer. IsCheckedAs as_text input.now answer.bytes.items answer.status) }
+    ensures { IfOk result (λ taken. MatchResult taken (as_text.Gives input.now) (λ answer. IsRefusal as_text input.now answer.bytes.items answer.status)) }
 {
     match assemble(alloc, input) {
-        Ok(program) => check_program(alloc, &program),
-        Err(error) => refuse_text(alloc, error),
+        Ok(program) => Ok(Ok(program)),
+        Err(error) => Ok(Err(refuse_text(alloc, error)?)),
     }
 }
 
-/// The answer of `check` to an image where the input begins as one, and else to a text.
+/// The program of an image where the input begins as one, and else that of a text; or the answer to an
+/// input with a fault.
+fn take(alloc: Global, input: &[u8]) -> Result<Result<Program, Answer>, AllocError>
+    requires { length input.now ≤ input_limit }
+    ensures { IfOk result (λ taken. MatchResult taken (as_either.Gives input.now) (λ answer. IsRefusal as_either input.now answer.bytes.items answer.status)) }
+{
+    if is_image(input) {
+        take_image(alloc, input)
+    } else {
+        take_text(alloc, input)
+    }
+}
+
+/// The answer of `check` to an image or a text.
 fn check_either(alloc: Global, input: &[u8]) -> Result<Answer, AllocError>
     requires { length input.now ≤ input_limit }
     ensures { IfOk result (λ answer. IsCheckedAs as_either input.now answer.bytes.items answer.status) }
 {
-    if is_image(input) {
-        check_image(alloc, input)
-    } else {
-        check_text(alloc, input)
+    match take(alloc, input)? {
+        Ok(program) => check_program(alloc, &program),
+        Err(answer) => Ok(answer),
     }
 }
 
@@ -204,12 +223,85 @@ fn check_input(alloc: Global, input: &[u8]) -> Result<Answer, AllocError>
     check_either(alloc, input)
 }
 
+/// How a call ends whose run ended so: a `break` ends a run that is done.
+fn end_status(end: &End) -> Status
+    ensures { result ≡ end_status end.now }
+{
+    match end {
+        End::Break { .. } => Status::Done,
+        End::Limit { .. } => Status::Limit,
+        End::Fault { .. } => Status::Faulted,
+    }
+}
+
+/// The answer of `run` to a program that the machine runs.
+#[tactic(auto, using(crate::proofs::Running::run_of_progress))]
+fn run_covered(alloc: Global, groups: u64, program: &Program) -> Result<Answer, AllocError>
+    requires some { 1 ≤ groups }
+    requires few { groups ≤ group_limit }
+    requires runnable { IsRunnable program.now }
+    ensures { IfOk result (λ answer. IsRunOf program.now groups answer.bytes.items answer.status) }
+{
+    groups_end();
+    progress_is_run();
+    program.bundle_count();
+    let mut machine = Machine::open(alloc, program)?;
+    let end = machine.run(groups);
+    Ok(Answer {
+        bytes: state_text(alloc, &machine, &end)?,
+        status: end_status(&end),
+    })
+}
+
+/// The answer of `run` to a program.
+fn run_program(alloc: Global, groups: u64, program: &Program) -> Result<Answer, AllocError>
+    requires some { 1 ≤ groups }
+    requires few { groups ≤ group_limit }
+    ensures { IfOk result (λ answer. IsRunAnswer groups program.now answer.bytes.items answer.status) }
+{
+    if !can_run(program) {
+        return Ok(unjudged(alloc));
+    }
+    run_covered(alloc, groups, program)
+}
+
+/// The answer of `run` to an image or a text.
+fn run_either(alloc: Global, groups: u64, input: &[u8]) -> Result<Answer, AllocError>
+    requires some { 1 ≤ groups }
+    requires few { groups ≤ group_limit }
+    requires within { length input.now ≤ input_limit }
+    ensures { IfOk result (λ answer. IsRunAs groups as_either input.now answer.bytes.items answer.status) }
+{
+    match take(alloc, input)? {
+        Ok(program) => run_program(alloc, groups, &program),
+        Err(answer) => Ok(answer),
+    }
+}
+
+/// The answer of `run` to an input within the limit.
+fn run_input(alloc: Global, groups: u64, input: &[u8]) -> Result<Answer, AllocError>
+    requires some { 1 ≤ groups }
+    requires few { groups ≤ group_limit }
+    requires within { length input.now ≤ input_limit }
+    ensures output { IfOk result (λ answer. IsRunAs groups as_either input.now answer.bytes.items answer.status) }
+    ensures only { IfOk result (λ answer. (bytes : List ℕ) (status : Status) → IsRunAs groups as_either input.now bytes status → status ≡ answer.status) }
+    ensures ended { IfOk result (λ answer. (p : Parts) → as_either.Gives input.now p → IsRunnable p → answer.status ≡ end_status (run_of p groups).end) }
+{
+    one_program();
+    one_text_program();
+    no_fault_where_spelled();
+    no_fault_where_read();
+    run_either(alloc, groups, input)
+}
+
 /// The answer of a command to an input within the limit.
 pub(crate) fn respond(alloc: Global, command: Command, input: &[u8]) -> Result<Answer, AllocError>
-    requires { length input.now ≤ input_limit }
+    requires command { HasGroupsInRange command }
+    requires within { length input.now ≤ input_limit }
     ensures output { IfOk result (λ answer. IsCommandOutput command input.now answer.bytes.items answer.status) }
     ensures only { IfOk result (λ answer. (bytes : List ℕ) (status : Status) → IsCommandOutput command input.now bytes status → status ≡ answer.status) }
     ensures accepted { IfOk result (λ answer. command ≡ Command.Check → (p : Parts) → as_either.Gives input.now p → IsPlain p → ((answer.status ≡ Status.Done) ↔ IsFree p)) }
+    ensures ended { IfOk result (λ answer. (groups : ℕ) → command ≡ Command.Run groups → (p : Parts) → as_either.Gives input.now p → IsRunnable p → answer.status ≡ end_status (run_of p groups).end) }
 {
     match command {
         Command::Build => build_input(alloc, input),
@@ -217,5 +309,6 @@ pub(crate) fn respond(alloc: Global, command: Command, input: &[u8]) -> Result<A
         Command::List => list_input(alloc, input),
         Command::Wrap => wrap_input(alloc, input),
         Command::Check => check_input(alloc, input),
+        Command::Run { groups } => run_input(alloc, groups, input),
     }
 }

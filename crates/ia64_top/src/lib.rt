@@ -14,7 +14,7 @@ pub use checker::one_verdict;
 pub use status::Status;
 pub use top::ia64;
 pub use violation::{Report, Rule, Violation};
-pub use words::{Command, Words};
+pub use words::{Command, Words, one_numeral};
 
 #[cfg(test)]
 mod tests;

@@ -99,9 +99,10 @@ fn bytes_of(alloc: Global, parts: &Parts) -> Result<Vec<u8>, Fail> {
     Ok(bytes)
 }
 
-fn words(alloc: Global, list: &[&str]) -> Result<Words, Fail> {
+/// The words of a line.
+fn words(alloc: Global, line: &str) -> Result<Words, Fail> {
     let mut words = Words::new(alloc);
-    for word in list {
+    for word in line.split_whitespace() {
         words.push(word.as_bytes())?;
     }
     Ok(words)
@@ -119,7 +120,7 @@ fn run(
     requires source { 1 ≤ source.0 }
     requires sink { 1 ≤ sink.0 }
 {
-    let words = words(alloc, &[command])?;
+    let words = words(alloc, command)?;
     let mut source = MemSource::new(input, source.0, source.1);
     let mut sink = MemSink::new(alloc, 70_000, sink.0, sink.1)?;
     let status = ia64(alloc, &words, &mut source, &mut sink);
@@ -182,6 +183,49 @@ nop.i 0 ;;
 x:
 x:
 {";
+
+/// A sum whose value `break` leaves, and its end.
+const BREAK_TEXT: &str = "{ .mii
+nop.m 0
+adds r8=-1,r0 ;;
+break.i 5
+}
+";
+
+/// Three `nop` and a word of data.
+const DATA_TEXT: &str = "{ .mii
+nop.m 0
+nop.i 0
+nop.i 0 ;;
+}
+.data
+data8 1
+";
+
+/// The state after the only bundle was left.
+const FELL_OFF: &str = "end fault FellOff at 0.2
+groups 1
+frame 0 sof 0 sol 0 sor 0 rrb 0 0 0
+rse 0 0 0 0
+pr 0000000000000001
+";
+
+/// The state after the first of two groups.
+const AT_LIMIT: &str = "end limit at 1.0
+groups 1
+frame 0 sof 0 sol 0 sor 0 rrb 0 0 0
+rse 0 0 0 0
+pr 0000000000000001
+";
+
+/// The state where a `break` ended the second group.
+const AT_BREAK: &str = "end break 0x5 at 0.2
+groups 2
+frame 0 sof 0 sol 0 sor 0 rrb 0 0 0
+rse 0 0 0 0
+r8 ffffffffffffffff
+pr 0000000000000001
+";
 
 #[test]
 fn commands_have_their_output(rt: HostRuntime) -> Result<(), Fail> {
@@ -319,6 +363,22 @@ fn commands_have_their_output(rt: HostRuntime) -> Result<(), Fail> {
     Ok(())
 }
 
+#[test]
+fn runs_have_their_output(rt: HostRuntime) -> Result<(), Fail> {
+    let alloc = rt.alloc();
+    let rows = [
+        ("run 1", image(1, NOPS), 9, text(FELL_OFF)),
+        ("run 1", image(2, NOPS), 8, text(AT_LIMIT)),
+        ("run 10000000", text(BREAK_TEXT), 0, text(AT_BREAK)),
+        ("run 1", text(DATA_TEXT), 10, text("")),
+        ("run 1", text(""), 3, text("line 1: empty\n")),
+    ];
+    for (command, input, status, output) in rows {
+        answers(&rt, alloc, command, &input, status, &output)?;
+    }
+    Ok(())
+}
+
 /// A canonical text: a stop inside a bundle, a declared entry, a target, a long instruction, a predicate and
 /// nine words of data.
 const WHOLE_TEXT: &[u8] = b"L0:
@@ -386,20 +446,25 @@ fn leaves_the_source(rt: &impl Abort, alloc: Global, words: &Words) -> Result<()
 #[test]
 fn other_words_leave_the_source(rt: HostRuntime) -> Result<(), Fail> {
     let alloc = rt.alloc();
-    let rows: [&[&str]; 5] = [
-        &["run", "0"],
-        &["run", "01"],
-        &["check", "now"],
-        &["Check"],
-        &[],
+    let lines = [
+        "run",
+        "run 0",
+        "run 01",
+        "run +5",
+        "run 5x",
+        "run 10000001",
+        "run 5 6",
+        "check now",
+        "Check",
+        "",
     ];
-    for row in rows {
-        leaves_the_source(&rt, alloc, &words(alloc, row)?)?;
+    for line in lines {
+        leaves_the_source(&rt, alloc, &words(alloc, line)?)?;
     }
 
     // Words of 1,000 bytes, alone and after a command.
-    for row in [&[] as &[&str], &["wrap"]] {
-        let mut words = words(alloc, row)?;
+    for line in ["", "wrap"] {
+        let mut words = words(alloc, line)?;
         words.push(&vec![in alloc; b'w'; 1000]?)?;
         leaves_the_source(&rt, alloc, &words)?;
     }

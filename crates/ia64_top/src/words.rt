@@ -1,6 +1,7 @@
 //! The words that a call is given, and the table of commands.
 
-ghost use Rattle.std.specs.Prelude.{◌≡◌, [], ◌∷◌, ◌++◌, List, ℕ, OnOk, OnErr};
+ghost use Rattle.std.specs.Prelude.{◌≡◌, ◌↔◌, IsTrue, [], ◌∷◌, ◌++◌, List, ℕ, OnOk, OnErr};
+ghost use Rattle.ia64_top.specs.GroupCounts.{BeginsAsNumeral, group_count, OneNumeral};
 ghost use Rattle.ia64_top.specs.Words.{command_of};
 
 use std::alloc::{AllocError, Global};
@@ -19,6 +20,47 @@ pub enum Command {
     Wrap,
     /// Checks the groups of a program.
     Check,
+    /// Runs a program.
+    Run {
+        /// How many groups it may have, 1 to 10,000,000.
+        groups: u64,
+    },
+}
+
+/// The most groups that a run may be given.
+const GROUP_LIMIT: u64 = 10_000_000;
+
+/// A word is a number of groups exactly where it is the number's decimal text, and so it is at most one number.
+pub fn one_numeral()
+    ensures { OneNumeral }
+{}
+
+/// Whether a word begins with a digit other than 0.
+fn begins_as_numeral(word: &[u8]) -> bool
+    ensures { IsTrue result ↔ BeginsAsNumeral word.now }
+{
+    matches!(word, [b'1'..=b'9', ..])
+}
+
+/// The number of groups that a word is: 1 to 10,000,000 in decimal, with neither a sign nor a leading zero.
+#[tactic(auto, using(crate::proofs::Numerals::no_first_digit, crate::proofs::Numerals::no_text))]
+fn group_count(word: &[u8]) -> Option<u64>
+    ensures { result ≡ group_count word.now }
+{
+    if !begins_as_numeral(word) {
+        return None;
+    }
+    let Ok(text) = str::from_utf8(word) else {
+        return None;
+    };
+    let Ok(groups) = text.parse::<u64>() else {
+        return None;
+    };
+    if groups <= GROUP_LIMIT {
+        Some(groups)
+    } else {
+        None
+    }
 }
 
 /// The words of a call, in order, without the program's own name. Contracts see a list of byte lists.
@@ -55,8 +97,8 @@ impl Words {
         Ok(())
     }
 
-    /// The command that the words are, by the table: `build`, `show`, `list`, `wrap` or `check` alone, in lower
-    /// case.
+    /// The command that the words are, by the table: `build`, `show`, `list`, `wrap` or `check` alone, or `run`
+    /// and a number of groups, in lower case.
     pub fn command(&self) -> Option<Command>
         ensures { result ≡ command_of self.now }
     {
@@ -66,6 +108,10 @@ impl Words {
             [word] if word.as_slice() == b"list".as_slice() => Some(Command::List),
             [word] if word.as_slice() == b"wrap".as_slice() => Some(Command::Wrap),
             [word] if word.as_slice() == b"check".as_slice() => Some(Command::Check),
+            [word, number] if word.as_slice() == b"run".as_slice() => match group_count(number) {
+                Some(groups) => Some(Command::Run { groups }),
+                None => None,
+            },
             _ => None,
         }
     }

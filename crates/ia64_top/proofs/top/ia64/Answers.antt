@@ -1,7 +1,11 @@
 use Rattle.std.proofs.Common.{◌≤◌, length, Err, sym, ap, arith}
 use Rattle.ia64_top.specs.Output.{input_limit}
-use Rattle.ia64_top.proofs.Answering.{too_long, answered, given_in_part, accepted_beyond, accepted_within, beyond, untouched, read_whole}
+use Rattle.ia64_top.proofs.Answering.{too_long, answered, given_in_part, accepted_beyond, accepted_within, only_within, ended_beyond, ended_within, beyond, untouched, read_whole}
+use Rattle.ia64_top.proofs.Ranges.{in_range}
 use Rattle.ia64_top.proofs.top.ia64.Goals as goal
+
+pub respond-requires-clause-command : goal.respond-requires-clause-command
+respond-requires-clause-command g c = in_range c.args.words.now c.in-Some.command (sym c.in-Some.ensures)
 
 pub returns-in-Err-TooLong-clause-output : goal.returns-in-Err-TooLong-clause-output
 returns-in-Err-TooLong-clause-output g c u =
@@ -11,6 +15,10 @@ pub returns-in-Err-TooLong-clause-accepted : goal.returns-in-Err-TooLong-clause-
 returns-in-Err-TooLong-clause-accepted g c u =
     accepted_beyond c.image_size.ensures c.args.words.now (g.S.Source.left c.args.source.now) (beyond _ (g.S.Source.left c.args.source.now) (g.S.Source.left c.read_all.new.source) (ap Err c.in-Err-TooLong.field-0-is) c.in-Err-TooLong.ensures.too_long)
 
+pub returns-in-Err-TooLong-clause-ended : goal.returns-in-Err-TooLong-clause-ended
+returns-in-Err-TooLong-clause-ended g c u =
+    ended_beyond c.image_size.ensures c.args.words.now (g.S.Source.left c.args.source.now) (beyond _ (g.S.Source.left c.args.source.now) (g.S.Source.left c.read_all.new.source) (ap Err c.in-Err-TooLong.field-0-is) c.in-Err-TooLong.ensures.too_long)
+
 pub returns-in-Ok-write_all-clause-output : goal.returns-in-Ok-write_all-clause-output
 returns-in-Ok-write_all-clause-output g c u =
     let told = rw c.deref.ensures.value at c.in-Ok-respond.ensures in
@@ -18,10 +26,21 @@ returns-in-Ok-write_all-clause-output g c u =
     let within : length c.in-Ok.input.items ≤ input_limit = omega (arith, c.in-Ok.ensures.within, c.deref.ensures.len, ap length c.deref.ensures.value) in
     answered c.args.words.now c.in-Some.command (g.S.Source.left c.args.source.now) (g.K.Sink.given c.args.sink.now) (g.K.Sink.given c.write_all.new.sink) c.in-Ok.input.items c.in-Ok-respond.answer.bytes.items c.in-Ok-respond.answer.status (sym c.in-Some.ensures) c.in-Ok.ensures.whole within told.output written.ok
 
+pub returns-in-Ok-write_all-clause-only : goal.returns-in-Ok-write_all-clause-only
+returns-in-Ok-write_all-clause-only g c u =
+    let told = rw c.deref.ensures.value at c.in-Ok-respond.ensures in
+    let within : length c.in-Ok.input.items ≤ input_limit = omega (arith, c.in-Ok.ensures.within, c.deref.ensures.len, ap length c.deref.ensures.value) in
+    only_within c.args.words.now c.in-Some.command (g.S.Source.left c.args.source.now) c.in-Ok.input.items c.in-Ok-respond.answer.status (sym c.in-Some.ensures) c.in-Ok.ensures.whole within told.only
+
 pub returns-in-Ok-write_all-clause-accepted : goal.returns-in-Ok-write_all-clause-accepted
 returns-in-Ok-write_all-clause-accepted g c u =
     let told = rw c.deref.ensures.value at c.in-Ok-respond.ensures in
     accepted_within c.args.words.now c.in-Some.command (g.S.Source.left c.args.source.now) c.in-Ok.input.items c.in-Ok-respond.answer.status (sym c.in-Some.ensures) c.in-Ok.ensures.whole told.accepted
+
+pub returns-in-Ok-write_all-clause-ended : goal.returns-in-Ok-write_all-clause-ended
+returns-in-Ok-write_all-clause-ended g c u =
+    let told = rw c.deref.ensures.value at c.in-Ok-respond.ensures in
+    ended_within c.args.words.now c.in-Some.command (g.S.Source.left c.args.source.now) c.in-Ok.input.items c.in-Ok-respond.answer.status (sym c.in-Some.ensures) c.in-Ok.ensures.whole told.ended
 
 pub returns-clause-written_part : goal.returns-clause-written_part
 returns-clause-written_part g c u =
