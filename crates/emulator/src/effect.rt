@@ -231,7 +231,7 @@ fn jump_indirect(registers: &Registers, program: &Program, b2: Br) -> Outcome
 }
 
 /// `br.cloop`.
-fn counted_loop(registers: &Registers, bundle: u32, disp: i32) -> Outcome
+fn simple_loop(registers: &Registers, bundle: u32, disp: i32) -> Outcome
     requires place { bundle < 4096 }
     ensures value { outcome_of result ≡ turned (simple_turn registers.now.lc) zero_frame (target_of bundle disp) empty_memory }
     ensures writable { IsWritable result.change }
@@ -271,7 +271,7 @@ fn act(registers: &Registers, program: &Program, bundle: u32, op: &Op) -> Outcom
         Form::ToApplication { ar, r2 } => to_application(registers, op, ar, r2),
         Form::Jump { disp } => Outcome::goes(Change::Nothing, target(bundle, disp)),
         Form::JumpIndirect { b2 } => jump_indirect(registers, program, b2),
-        Form::Loop { disp, .. } => counted_loop(registers, bundle, disp),
+        Form::Loop { disp, .. } => simple_loop(registers, bundle, disp),
         Form::Stop { imm, .. } => Outcome::breaks(imm),
         Form::Idle { .. } => Outcome::falls(Change::Nothing),
         _ => unreachable!(),
@@ -290,18 +290,15 @@ fn skip_test(kind: CmpKind, p1: Pr, p2: Pr) -> Outcome
     }
 }
 
-/// What an instruction does whose qualifying predicate is 0: nothing but for `unc` tests and `br.cloop`,
-/// which doesn't look at it.
+/// What an instruction does whose qualifying predicate is 0: nothing but for `unc` tests.
 #[tactic(auto, using(crate::proofs::Actions::rebuilt))]
 fn skip(registers: &Registers, program: &Program, bundle: u32, op: &Op) -> Outcome
-    requires place { bundle < 4096 }
     requires covered { IsCovered op.now }
     ensures value { outcome_of result ≡ skip (site program.now bundle) (action_of op.now) (registers_of registers.now) empty_memory }
     ensures writable { IsWritable result.change }
 {
     match form_of(op) {
         Form::Test { kind, p1, p2, .. } => skip_test(kind, p1, p2),
-        Form::Loop { disp, .. } => counted_loop(registers, bundle, disp),
         _ => Outcome::falls(Change::Nothing),
     }
 }

@@ -1,6 +1,6 @@
 -- The table of effects on small registers: what single instructions do at the edges of their rows (volume 1, chapters 3 and
 -- 4, and volume 3, chapter 2).
-use Rattle.std.proofs.Common.{◌≡◌, refl, ℕ, zero, suc, ◌+◌, ◌*◌, ◌^◌, ◌++◌, Bool, true, false, List, [], ◌∷◌, Some, None, if◌then◌else◌, ◌==◌}
+use Rattle.std.proofs.Common.{◌≡◌, refl, ℕ, zero, suc, ◌+◌, ◌-◌, ◌*◌, ◌^◌, ◌++◌, Bool, true, false, List, [], ◌∷◌, Some, None, if◌then◌else◌, ◌==◌}
 use Rattle.std.specs.Prelude.{pos, negsuc}
 use Rattle.ia_insn.specs.declared.insn.Op.{Op}
 use Rattle.ia_insn.specs.declared.insn.Op.TheVariants as op
@@ -30,16 +30,17 @@ use Rattle.ia_meaning.specs.declared.state.FrameShape.{FrameShape}
 use Rattle.ia_meaning.specs.declared.state.AlatKey.{AlatKey}
 use Rattle.ia_meaning.specs.declared.state.AlatKey.TheVariants.{Static, Stacked}
 use Rattle.ia_meaning.specs.declared.state.AlatEntry.{AlatEntry}
-use Rattle.ia_meaning.specs.declared.next.Next.TheVariants.{Falls}
+use Rattle.ia_meaning.specs.declared.next.Next.TheVariants.{Falls, Goes}
 use Rattle.ia_meaning.specs.State.{State, Registers, Memory, zero_cell, zero_bases, zero_frame, zero_registers}
-use Rattle.ia_meaning.specs.Writes.{Write, SetStatic, SetCell, SetPredicate, SetBranch, SetPfs, SetLc, SetEc, SetFrame, Resized, Renamed}
+use Rattle.ia_meaning.specs.Writes.{Write, SetStatic, SetCell, SetPredicate, SetBranch, SetPfs, SetLc, SetEc, SetFrame, Resized, Renamed, frame_changes}
 use Rattle.ia_meaning.specs.Names.{frame_place, spot, look, predicate_place, holds, predicate_spot}
 use Rattle.ia_meaning.specs.Moves.{predicate_word, predicate_writes, has_reserved_zeros}
 use Rattle.ia_meaning.specs.Loads.{access_fault, loaded, stored, forgotten, entered, untouched, has_hit, has_entry}
 use Rattle.ia_meaning.specs.Frames.{has_zero_bases, rotated, frame_marker, marked_frame, call_state, is_frame, return_fault}
-use Rattle.ia_meaning.specs.Outcomes.{Outcome, falls, goes, faults}
+use Rattle.ia_meaning.specs.Outcomes.{Outcome, falls, goes, breaks, faults}
 use Rattle.ia_meaning.specs.Effects.{Site, effect}
 use Rattle.ia_meaning.specs.Steps.{spilled, seq_step}
+use Rattle.ia_meaning.specs.ResidentRange.{zero_range, range_of}
 use Rattle.ia_meaning.specs.Landings.{is_entry, landing}
 use Rattle.ia_meaning.specs.Sequence.{next_of, is_stopped}
 
@@ -641,3 +642,75 @@ last_slot_faults :
     × ((seq_step landed_in (state_at (at 4 0))).state ≡ state_at (at 4 1))
 unfolding look spot holds seq_step next_of insn_at is_stopped
 last_slot_faults = (refl, refl, refl)
+
+-- What is left of the rows: moves, checks, branches, the ALAT, and what does nothing.
+
+moved_back :
+    (run 0 (op.MovFromBr 4 2) (record registers { branches = 0 ∷ 0 ∷ 9 ∷ [] }) ≡ falls (SetStatic 4 (cell 9) ∷ []) memory)
+    × (run 0 (op.MovFromAr 4 Ec) (record registers { ec = 6 }) ≡ falls (SetStatic 4 (cell 6) ∷ []) memory)
+    × (run 0 (op.Movl 4 (2 ^ 63)) registers ≡ falls (SetStatic 4 (cell (2 ^ 63)) ∷ []) memory)
+    × (run 0 (op.AddImm22 4 (negsuc 3) 1) registers ≡ falls (SetStatic 4 (cell (2 ^ 64 - 1)) ∷ []) memory)
+unfolding look spot holds
+moved_back = (refl, refl, refl, refl)
+
+-- a check of a register branches where it has NaT
+checked :
+    (run 0 (op.ChkS M 3 (negsuc 1)) registers ≡ goes [] memory 8)
+    × (run 0 (op.ChkS M 1 (pos 2)) registers ≡ nothing)
+unfolding look spot holds
+checked = (refl, refl)
+
+-- The ALAT is emptied, or loses the entry of one register.
+emptied :
+    (run_with op.Invala zero_cell (with_entry 0x100000) 0 ≡ falls [] memory)
+    × (run_with (op.InvalaE 4) zero_cell (with_entry 0x100000) 0 ≡ falls [] memory)
+    × (run_with (op.InvalaE 2) zero_cell (with_entry 0x100000) 0 ≡ falls [] (with_entry 0x100000))
+unfolding look spot holds forgotten
+emptied = (refl, refl, refl)
+
+does_nothing :
+    (run 0 op.Mf registers ≡ nothing)
+    × (run 0 (op.Nop M 5) registers ≡ nothing)
+    × (run 0 (op.Hint M 5) registers ≡ nothing)
+    × (run 0 (op.Break M 5) registers ≡ breaks 5 memory)
+unfolding holds
+does_nothing = (refl, refl, refl, refl)
+
+-- an indirect branch lands on an entry, and an indirect call too
+landed :
+    (run 0 (op.BrInd 2 0 false false) (record registers { branches = 0 ∷ 0 ∷ 32 ∷ [] }) ≡ goes [] memory 2)
+    × (run 0 (op.BrInd 2 0 false false) (record registers { branches = 0 ∷ 0 ∷ 33 ∷ [] }) ≡ faults BadLanding memory)
+    × ((run 0 (op.BrCallInd 1 2 0 false false) (record registers { branches = 0 ∷ 0 ∷ 32 ∷ [] })).next ≡ Goes 2)
+    × (run 0 (op.BrCallInd 1 2 0 false false) registers ≡ faults BadLanding memory)
+unfolding holds
+landed = (refl, refl, refl, refl)
+
+-- Loads of 1, 2 and 4 bytes, the lowest first, and a store that adds to its base.
+sizes :
+    (run_with (op.Load 1 load.Plain 0 2 4 update.None) (cell 0x100001) memory 0 ≡ falls (SetStatic 2 (cell 2) ∷ []) memory)
+    × (run_with (op.Load 2 load.Plain 0 2 4 update.None) (cell 0x100002) memory 0 ≡ falls (SetStatic 2 (cell 0x0403) ∷ []) memory)
+    × (run_with (op.Load 4 load.Plain 0 2 4 update.None) (cell 0x100004) memory 0 ≡ falls (SetStatic 2 (cell 0x08070605) ∷ []) memory)
+unfolding look spot holds access_fault loaded
+sizes = (refl, refl, refl)
+
+store_updates :
+    (run_with (op.Store 1 store.Plain 0 4 1 (update.Imm (pos 1))) (cell 0x100000) memory 0).writes ≡ SetStatic 4 (cell 0x100001) ∷ []
+unfolding look spot holds access_fault
+store_updates = refl
+
+-- A loop branch that counts does nothing under a false predicate, and `wtop` goes on as a counted loop at LC 0.
+loops_skipped :
+    (run 2 (op.Br Cloop 0 false false (pos 1)) (record registers { lc = 1 }) ≡ nothing)
+    × (run 2 (op.Br Ctop 0 false false (pos 1)) (record registers { lc = 1 }) ≡ nothing)
+unfolding holds predicate_place
+loops_skipped = (refl, refl)
+
+-- The resident range. A call past 96 cells spills, and a return below the first resident cell fills.
+resident :
+    (range_of zero_range ((0, 96) ∷ (90, 150) ∷ (0, 96) ∷ []) ≡ record { low = 0; high = 96; spilled = 54; filled = 54 })
+    × (range_of zero_range ((0, 96) ∷ (90, 150) ∷ (90, 91) ∷ []) ≡ record { low = 54; high = 91; spilled = 54; filled = 0 })
+resident = (refl, refl)
+
+-- what resizes a frame counts, and what renames it doesn't
+changes : frame_changes (SetFrame Resized (record zero_frame { base = 5; sof = 3 }) ∷ SetLc 1 ∷ SetFrame Renamed zero_frame ∷ []) ≡ (5, 8) ∷ []
+changes = refl

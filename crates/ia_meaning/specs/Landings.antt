@@ -9,7 +9,8 @@ use Rattle.ia_insn.specs.Bundles.{Bundle}
 use Rattle.ia_insn.specs.Programs.{Program, IsEntry}
 use Rattle.ia_meaning.specs.State.{bundle_address}
 
--- the bundle that is so many from this one
+-- The bundle that is so many from this one. A program's targets are its bundles, so the sum isn't negative; of a negative
+-- one it is the distance.
 abbrev pub target_of : ℕ → ℤ → ℕ
 target_of bundle disp = nat_abs (pos bundle +ℤ disp)
 

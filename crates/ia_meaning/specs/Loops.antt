@@ -1,7 +1,7 @@
 -- The effects of loop branches (volume 1, chapter 4, modulo-scheduled loop support, and volume 3, chapter 2, `br`).
 use Rattle.std.specs.Prelude.{ℕ, zero, suc, Bool, true, false, not, if◌then◌else◌, List, [], ◌∷◌, Option, Some, None}
 use Rattle.ia_insn.specs.declared.choices.BranchKind.{BranchKind}
-use Rattle.ia_insn.specs.declared.choices.BranchKind.TheVariants.{Cond, Wexit, Wtop, Cloop, Cexit, Ctop}
+use Rattle.ia_insn.specs.declared.choices.BranchKind.TheVariants.{Wexit, Wtop, Cloop, Cexit, Ctop}
 use Rattle.ia_meaning.specs.declared.state.FrameShape.{FrameShape}
 use Rattle.ia_meaning.specs.State.{Memory}
 use Rattle.ia_meaning.specs.Writes.{Write, SetPredicate, SetLc, SetEc, SetFrame, Renamed}
@@ -18,6 +18,10 @@ pub record Turn : Type 0 where
   pub rotates : Bool
   pub taken : Bool
 
+-- nothing is written, and the slot falls through
+abbrev pub no_turn : Turn
+no_turn = record { lc = None; ec = None; p63 = None; rotates = false; taken = false }
+
 -- a counted loop by its LC and its EC: `ctop` is taken while it goes on, and `cexit` where it ends
 abbrev pub counted_turn : (top : Bool) → (lc ec : ℕ) → Turn
 counted_turn top zero zero = record { lc = None; ec = None; p63 = Some false; rotates = false; taken = not top }
@@ -32,16 +36,17 @@ while_turn top false ec = counted_turn top 0 ec
 
 -- `cloop` by its LC
 abbrev pub simple_turn : (lc : ℕ) → Turn
-simple_turn zero = record { lc = None; ec = None; p63 = None; rotates = false; taken = false }
+simple_turn zero = no_turn
 simple_turn (suc lc) = record { lc = Some lc; ec = None; p63 = None; rotates = false; taken = true }
 
+-- The turn of a loop branch. Under a false predicate the while loops alone make one; `cond` is no loop branch.
 abbrev pub turn_of : BranchKind → (qp : Bool) → (lc ec : ℕ) → Turn
-turn_of Cond qp lc ec = record { lc = None; ec = None; p63 = None; rotates = false; taken = qp }
 turn_of Wexit qp lc ec = while_turn false qp ec
 turn_of Wtop qp lc ec = while_turn true qp ec
-turn_of Cloop qp lc ec = simple_turn lc
-turn_of Cexit qp lc ec = counted_turn false lc ec
-turn_of Ctop qp lc ec = counted_turn true lc ec
+turn_of Cloop true lc ec = simple_turn lc
+turn_of Cexit true lc ec = counted_turn false lc ec
+turn_of Ctop true lc ec = counted_turn true lc ec
+turn_of kind qp lc ec = no_turn
 
 -- a write, where there is a value for it
 abbrev pub written : {X : Type 0} → (X → Write) → Option X → List Write → List Write
