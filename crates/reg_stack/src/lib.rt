@@ -1,7 +1,19 @@
-//! The register stack (volume 1, chapter 4, register stack): its types.
+//! The register stack (volume 1, chapter 4, register stack): the cells of the stacked registers, the
+//! frame that names them, and the resident range.
+//!
+//! The contracts are the definitions of `ia_meaning`; how the cells are kept is none of theirs.
 #![tactic(auto)]
 
+mod cells;
+mod frames;
+mod laws;
+mod marker;
+mod range;
+mod stack;
+
 pub use ia_meaning::{Cell, FrameShape, Rrbs, Rse};
+pub use laws::{alloc_fault_is_that, return_fault_is_that};
+pub use stack::Stack;
 
 /// Why a call of the register stack is refused.
 #[derive(Clone, Copy, Debug, PartialEq, Eq)]

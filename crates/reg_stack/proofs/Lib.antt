@@ -1,0 +1,4 @@
+pub mod Allocs
+pub mod Resizing
+pub mod Returns
+mod Examples

@@ -1,0 +1,74 @@
+//! Frames of previous function states (volume 1, chapter 3, previous function state).
+
+ghost use Rattle.std.specs.Prelude.{◌≡◌, ◌+◌, ◌-◌, ◌^◌, ◌<◌, ◌≤◌, ◌↔◌, IsTrue, IfOk};
+ghost use Rattle.std.specs.Result.{result_err};
+ghost use Rattle.ia_meaning.specs.State.{IsFrame};
+ghost use Rattle.ia_meaning.specs.Frames.{marked_frame, is_frame};
+ghost use Rattle.reg_stack.specs.Stacks.{return_fault_within, returned_frame};
+
+use crate::StackFault;
+use ia_meaning::{FrameShape, Rrbs};
+
+/// The frame at `base` whose marker is in the low 38 bits of a previous function state.
+#[tactic(auto, unfolding(ia_meaning::specs::Frames::marked_frame))]
+fn marked_frame(base: u32, pfs: u64) -> FrameShape
+    ensures { result ≡ marked_frame base pfs }
+{
+    FrameShape {
+        base,
+        sof: (pfs % (1 << 7)) as u8,
+        sol: ((pfs >> 7) % (1 << 7)) as u8,
+        sor: ((pfs >> 14) % (1 << 4)) as u8,
+        rrbs: Rrbs {
+            gr: ((pfs >> 18) % (1 << 7)) as u8,
+            fr: ((pfs >> 25) % (1 << 7)) as u8,
+            pr: ((pfs >> 32) % (1 << 6)) as u8,
+        },
+    }
+}
+
+/// Whether the sizes and bases are those of a frame.
+#[tactic(auto, unfolding(ia_meaning::specs::Frames::is_frame))]
+fn is_frame(frame: &FrameShape) -> bool
+    ensures { result ≡ is_frame frame.now }
+{
+    let rotating = 8 * u32::from(frame.sor);
+    let rrbs = frame.rrbs;
+    frame.sof <= 96
+        && frame.sol <= frame.sof
+        && rotating <= u32::from(frame.sof)
+        && (u32::from(rrbs.gr) < rotating || rrbs.gr == 0 && frame.sor == 0)
+        && rrbs.fr < 96
+        && rrbs.pr < 48
+}
+
+/// Why a return to this frame below `base` is refused, in a stack of at most `limit` cells.
+#[tactic(auto, unfolding(crate::specs::Stacks::return_fault_within))]
+fn return_fault(limit: u32, base: u32, frame: &FrameShape) -> Option<StackFault>
+    requires { base ≤ 65536 }
+    ensures { result ≡ return_fault_within limit base frame.now }
+{
+    let (sof, sol) = (u32::from(frame.sof), u32::from(frame.sol));
+    if !is_frame(frame) {
+        Some(StackFault::BadFrame)
+    } else if base < sol {
+        Some(StackFault::Underflow)
+    } else if limit < base - sol + sof {
+        Some(StackFault::StackLimit)
+    } else {
+        None
+    }
+}
+
+/// The frame that a return enters, from a frame at `base` in a stack of at most `limit` cells.
+pub(crate) fn returned(limit: u32, base: u32, pfs: u64) -> Result<FrameShape, StackFault>
+    requires { base ≤ 65536 }
+    ensures fault { result_err result ≡ return_fault_within limit base (marked_frame base pfs) }
+    ensures frame { IfOk result (λ f. (f ≡ returned_frame base pfs) × IsFrame f × (f.base + f.sof ≤ limit)) }
+{
+    let marked = marked_frame(base, pfs);
+    match return_fault(limit, base, &marked) {
+        Some(fault) => Err(fault),
+        None => Ok(marked_frame(base - u32::from(marked.sol), pfs)),
+    }
+}
