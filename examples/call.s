@@ -4,8 +4,19 @@
 // Right as it stands: `alloc` is the first instruction of its group, and `br.ret` takes back the frame
 // that ar.pfs had at the call, which the group before it restored.
 //
-// `ia64 build` makes the image. `ia64 check` doesn't judge frames, calls and returns yet and ends with
-// status 10.
+// `ia64 run 100` prints, since 42 is 2a in hexadecimal:
+//
+//   end break 0x0 at 2.2
+//   groups 6
+//   frame 0 sof 2 sol 1 sor 0 rrb 0 0 0
+//   rse 0 2 0 0
+//   r8 000000000000002a
+//   r33 0000000000000015
+//   pr 0000000000000001
+//   b0 0000000000010020
+//   ar.pfs c000000000000082
+//
+// `ia64 check` doesn't judge frames, calls and returns yet and ends with status 10.
 { .mii
   alloc r32=ar.pfs,0,1,1,0
   nop.i 0

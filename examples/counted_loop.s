@@ -4,8 +4,16 @@
 // Right as it stands: each turn is one instruction group, in which the first addition reads r9 before
 // the second writes it. A write after a read may share a group, a read after a write may not.
 //
-// `ia64 build` makes the image. `ia64 run 100` ends at the `break` after 12 groups, with r8 at 37 in
-// hexadecimal, which is 55. `ia64 check` doesn't judge branches yet and ends with status 10.
+// `ia64 run 100` prints, since 55 is 37 in hexadecimal:
+//
+//   end break 0x0 at 2.2
+//   groups 12
+//   frame 0 sof 0 sol 0 sor 0 rrb 0 0 0
+//   rse 0 0 0 0
+//   r8 0000000000000037
+//   pr 0000000000000001
+//
+// `ia64 check` doesn't judge branches yet and ends with status 10.
 { .mii
   addl r9=10,r0
   mov.i ar.lc=9

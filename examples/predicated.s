@@ -2,7 +2,15 @@
 // the compare sets one of p6 and p7 and clears the other, and an instruction whose predicate is 0
 // writes nothing.
 //
-// `ia64 build` makes the image. `ia64 check` doesn't judge predicates yet and ends with status 10.
+// `ia64 run 100` prints, since r8 and r9 are both 0 and so p7 is set:
+//
+//   end break 0x0 at 2.2
+//   groups 3
+//   frame 0 sof 0 sol 0 sor 0 rrb 0 0 0
+//   rse 0 0 0 0
+//   pr 0000000000000081
+//
+// `ia64 check` doesn't judge predicates yet and ends with status 10.
 { .mii
   cmp.lt p6,p7=r8,r9
   nop.i 0

@@ -55,19 +55,48 @@ try read_fault 5 "$dir/nothing" "$dir" check
 printf 'line 1: char\n' > "$dir/char"
 try no_text 3 "$dir/char" "$dir/no_image" check
 
+# What the comment of an example says that `run` prints.
+for name in count counted_loop predicated call speculation; do
+  sed -n 's|^//   ||p' "examples/$name.s" > "$dir/$name"
+  try "$name, as it says" 0 "$dir/$name" "examples/$name.s" run 100
+done
+
+# A text of tries/ says in its first line for how many groups it is run and with which status that ends.
+for text in tries/*.s; do
+  read -r _ _ groups _ status _ < <(tr -d ',:' < "$text")
+  try "$text" "$status" "${text%.s}.state" "$text" run "$groups"
+done
+
+# The largest program: 4,096 bundles and 1,048,576 bytes of data, whose last word is loaded.
+{
+  printf '{ .mlx\n  nop.m 0\n  movl r8=0x1ffff8 ;;\n}\n{ .mii\n  ld8 r9=[r8]\n  nop 0\n  nop 0 ;;\n}\n'
+  for _ in {3..4096}; do printf '{ .mii\nnop 0\nnop 0\nnop 0 ;;\n}\n'; done
+  printf '.data\n.skip 1048568\ndata8 7\n'
+} > "$dir/largest"
+printf 'end fault FellOff at 4095.2\ngroups 4096\nframe 0 sof 0 sol 0 sor 0 rrb 0 0 0\nrse 0 0 0 0\nr8 00000000001ffff8\nr9 0000000000000007\npr 0000000000000001\nm 00000000001ffff8 0000000000000007\n' > "$dir/largest_state"
+try 'the largest program' 9 "$dir/largest_state" "$dir/largest" run 10000
+
+# The longest state but for registers: 131,072 words of data.
+{
+  printf '{ .mib\n  nop 0\n  nop 0\n  break.b 0\n}\n.data\n'
+  for _ in {1..4096}; do printf 'data8 1,1,1,1,1,1,1,1,1,1,1,1,1,1,1,1,1,1,1,1,1,1,1,1,1,1,1,1,1,1,1,1\n'; done
+} > "$dir/words"
+{
+  printf 'end break 0x0 at 0.2\ngroups 1\nframe 0 sof 0 sol 0 sor 0 rrb 0 0 0\nrse 0 0 0 0\npr 0000000000000001\n'
+  awk 'BEGIN { for (n = 0; n < 131072; n++) printf "m %016x 0000000000000001\n", 1048576 + 8 * n }'
+} > "$dir/words_state"
+try 'the longest state' 0 "$dir/words_state" "$dir/words" run 1
+
 # What `run` prints of a state in which the machine has no register frame, after the end and the groups.
 state() { printf 'end %s\ngroups %s\nframe 0 sof 0 sol 0 sor 0 rrb 0 0 0\nrse 0 0 0 0\n' "$1" "$2"; }
 { state 'fault FellOff at 0.2' 1; echo 'pr 0000000000000001'; } > "$dir/fell_off"
 try fell_off 9 "$dir/fell_off" examples/three_nops.image run 1
-{ state 'break 0x0 at 3.2' 22; printf 'r8 0000000000000037\nr9 000000000000000a\npr 0000000000000001\n'; } > "$dir/counted"
-try counted 0 "$dir/counted" examples/count.s run 100
 { state 'limit at 2.0' 4; printf 'r8 0000000000000001\nr9 0000000000000002\npr 0000000000000001\nar.lc 0000000000000008\n'; } > "$dir/limited"
 try limited 8 "$dir/limited" examples/count.s run 4
 printf 'line 1: empty\n' > "$dir/empty"
 try run_of_nothing 3 "$dir/empty" /dev/null run 1
 for word in 0 01 +5 10000001 5x; do try "run $word" 2 "$dir/nothing" examples/count.s run "$word"; done
 try run_alone 2 "$dir/nothing" examples/count.s run
-try not_run 10 "$dir/nothing" examples/call.s run 5
 
 # The examples that aren't judged yet: built, shown and built again they give one image.
 for name in predicated counted_loop call speculation; do
@@ -154,11 +183,10 @@ note $? "README: a hazard in a text"
 ./ia64 check < examples/call.s 2> "$dir/err"
 [ $? = 10 ] && grep -q 'not judged yet' "$dir/err"
 note $? "ia64 says what is not judged yet"
-./ia64 run 100 < examples/count.s 2> /dev/null | cmp -s - "$dir/counted"
+./ia64 run 100 < examples/count.s 2> /dev/null | cmp -s - "$dir/count"
 note $? "README: a run"
-./ia64 run 5 < examples/call.s 2> "$dir/err"
-[ $? = 10 ] && grep -q 'not run yet' "$dir/err"
-note $? "ia64 says what is not run yet"
+./ia64 run 100 < examples/call.s 2> /dev/null | cmp -s - "$dir/call"
+note $? "README: a run with register frames"
 ./ia64 2> "$dir/err" < /dev/null
 [ $? = 2 ] && grep -q 'Call it as' "$dir/err"
 note $? "ia64 without words says how to call it"

@@ -1,11 +1,9 @@
-pub mod RegisterNames
-pub mod PredicateWords
-pub mod MaskedWrites
+pub mod Named
+pub mod Ranges
 pub mod Actions
 pub mod ReservedZeros
-pub mod Landings
-pub mod Missing
-pub mod Runnable
+pub mod EntryTests
+pub mod NewFrames
 pub mod Slots
 pub mod SlotSteps
 pub mod Advancing

@@ -1,6 +1,6 @@
 -- The slots of a program that the machine runs.
 use Rattle.std.proofs.Common.{◌≡◌, ℕ, List, [], ◌∷◌, Bool, true, false, refl, subst, inl, inr}
-use Rattle.std.specs.Prelude.{Option, Some, None, IfSome, slice_get, ◌==◌, if◌then◌else◌}
+use Rattle.std.specs.Prelude.{Option, Some, None, ◌==◌, if◌then◌else◌}
 use Rattle.ia_insn.specs.declared.insn.Insn.{Insn}
 use Rattle.ia_insn.specs.declared.place.Place.{Place}
 use Rattle.ia_insn.specs.declared.choices.Unit.{Unit as ExecutionUnit}
@@ -12,13 +12,11 @@ use Rattle.ia_insn.specs.Bundles.{Bundle, IsBundle, FitUnits, slot_insn}
 use Rattle.ia_insn.specs.Fits.{FitsUnit}
 use Rattle.ia_insn.specs.Listed.{IsListed}
 use Rattle.ia_insn.specs.Ranges.{HasRanges}
-use Rattle.ia_insn.specs.Programs.{Program}
 use Rattle.ia_insn.proofs.OperandRanges.{ranges_of_listed}
 use Rattle.ia_meaning.specs.State.{Memory}
 use Rattle.ia_meaning.specs.declared.next.Next.{Next}
 use Rattle.ia_meaning.specs.Outcomes.{Outcome}
 use Rattle.ia_meaning.specs.Steps.{settled}
-use Rattle.emulator.specs.Covered.{IsCovered, AreCovered, IsRunnable}
 
 -- each instruction of the slots has P
 abbrev pub EachSlot : (Insn → Type 0) → Slots → Type 0
@@ -38,17 +36,6 @@ at_slot P (Three a b c) n i h e =
     chosen P (n == 0) a _ i h.0 (λ e. chosen P (n == 1) b _ i h.1 (λ e. chosen P (n == 2) c None i h.2 (λ e. absurd (cc)) e) e) e
 at_slot P (Long first long) n i h e =
     chosen P (n == 0) first _ i h.0 (λ e. chosen P (n == 1) long None i h.1 (λ e. absurd (cc)) e) e
-
-covered_each : (slots : Slots) → AreCovered slots → EachSlot (λ i. IsCovered i.op) slots
-covered_each (Three a b c) h = h
-covered_each (Long first long) h = h
-
-covered_in : (p : Program) (n : ℕ) (b : Bundle) → IsRunnable p → slice_get p.bundles n ≡ Some b → AreCovered b.slots
-covered_in p n b r at = subst (λ o. IfSome o (λ b. AreCovered b.slots)) at (r.slots n)
-
--- an instruction of a program that the machine runs is one that it runs
-pub covered_at : (p : Program) (b : Bundle) (n k : ℕ) (i : Insn) → IsRunnable p → slice_get p.bundles n ≡ Some b → slot_insn b.slots k ≡ Some i → IsCovered i.op
-covered_at p b n k i r at e = at_slot (λ i. IsCovered i.op) b.slots k i (covered_each b.slots (covered_in p n b r at)) e
 
 unit_listed : (i : Insn) (u : ExecutionUnit) (slot : ℕ) → FitsUnit i u slot → IsListed i
 unit_listed i M slot (inl h) = inl h

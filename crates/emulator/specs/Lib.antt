@@ -1,7 +1,4 @@
-pub mod Registers
-pub mod Changes
 pub mod Outcomes
-pub mod Covered
 pub mod Progress
 pub mod Execution
 pub mod Invariant

@@ -1,5 +1,5 @@
--- What a slot does, where the memory is empty and stays so.
-use Rattle.std.specs.Prelude.{◌≡◌, ◌⊎◌, ℕ, Bool, [], Option, None}
+-- What a slot does, and the actions of forms.
+use Rattle.std.specs.Prelude.{◌≡◌, ◌⊎◌, ℕ, Bool, Option, None}
 use Rattle.ia_meaning.specs.declared.state.Cell.{Cell}
 use Rattle.ia_meaning.specs.declared.state.AlatKey.{AlatKey}
 use Rattle.ia_meaning.specs.declared.form.Form.{Form}
@@ -7,15 +7,19 @@ use Rattle.ia_meaning.specs.declared.form.Form.TheVariants as form
 use Rattle.ia_meaning.specs.State.{Memory}
 use Rattle.ia_meaning.specs.Actions.{Action, Compute, Fetch, Test, ToPredicates, ToBranch, ToApplication, FromMemory, ToMemory, CheckNat, CheckAlat, ForgetAll, Forget, Allocate, Jump, JumpIndirect, Loop, Call, Return, ClearBases, Stop, Idle}
 use Rattle.ia_meaning.specs.Outcomes.{Outcome}
-use Rattle.emulator.specs.declared.change.Outcome.{Outcome as Held}
-use Rattle.emulator.specs.Changes.{writes_of}
+use Rattle.machine_state.specs.declared.change.Change.{Change}
+use Rattle.machine_state.specs.Contents.{Contents}
+use Rattle.machine_state.specs.Changes.{memory_after, spills_of, outcome_with}
+use Rattle.emulator.specs.declared.outcome.Outcome.{Outcome as Held}
 
-abbrev pub empty_memory : Memory
-empty_memory = record { bytes = []; alat = [] }
+-- the outcome of a slot from this state
+abbrev pub outcome_of : Contents → Held → Outcome
+outcome_of c o = outcome_with c o.change o.next
 
--- the outcome of a change
-abbrev pub outcome_of : Held → Outcome
-outcome_of o = record { writes = writes_of o.change; memory = empty_memory; spills = None; next = o.next }
+-- A change of registers alone.
+pub record IsPlain (change : Change) : Type 0 where
+  pub memory : (m : Memory) → memory_after change m ≡ m
+  pub spills : spills_of change ≡ None
 
 -- the action of a form and functions
 abbrev pub action_with : Form → (ℕ → ℕ → ℕ) → (ℕ → ℕ) → (Cell → Cell → Option Bool) → Action

@@ -1,26 +1,35 @@
 -- How far a run of the machine has come.
-use Rattle.std.specs.Prelude.{◌≡◌, ℕ, suc, ◌+◌, List, None}
+use Rattle.std.specs.Prelude.{◌≡◌, ℕ, suc, ◌+◌, None}
 use Rattle.ia_insn.specs.declared.ending.GroupEvent.{GroupEvent}
 use Rattle.ia_insn.specs.Programs.{Program}
 use Rattle.ia_insn.specs.declared.place.Place.{Place}
 use Rattle.ia_meaning.specs.State.{State}
-use Rattle.ia_meaning.specs.Writes.{Write, apply}
-use Rattle.ia_meaning.specs.ResidentRange.{zero_range}
+use Rattle.ia_meaning.specs.Writes.{frame_changes}
+use Rattle.ia_meaning.specs.Outcomes.{Outcome}
+use Rattle.ia_meaning.specs.Steps.{registers_after}
+use Rattle.ia_meaning.specs.ResidentRange.{range_of}
 use Rattle.ia_meaning.specs.Progress.{Progress, to_group_end}
 use Rattle.ia_meaning.specs.Runs.{event_to_end}
+use Rattle.machine_state.specs.Contents.{Contents}
 use Rattle.emulator.specs.declared.run.Run.{Run}
-use Rattle.emulator.specs.Registers.{registers_of}
-use Rattle.emulator.specs.Outcomes.{empty_memory}
+
+-- the state of a machine that stands at a place
+abbrev pub state_at : Contents → Place → State
+state_at c place = record { registers = c.registers; memory = c.memory; place = place }
 
 abbrev pub state_of : Run → State
-state_of r = record { registers = registers_of r.registers; memory = empty_memory; place = r.place }
+state_of r = state_at r.state r.place
 
 abbrev pub progress_of : Run → Progress
-progress_of r = record { state = state_of r; end = r.end; groups = r.groups; first = r.first; slots = r.slots; range = zero_range }
+progress_of r = record { state = state_of r; end = r.end; groups = r.groups; first = r.first; slots = r.slots; range = r.state.range }
 
--- a run that has come to a place by writes, with so many slots of the group before it
-abbrev pub arrived : Progress → List Write → Place → ℕ → Progress
-arrived m ws place slots = record m { state = record { registers = apply ws m.state.registers; memory = m.state.memory; place = place }; slots = slots }
+-- a run that has come to a place by an outcome, with so many slots of the group before it
+abbrev pub arrived : Progress → Outcome → Place → ℕ → Progress
+arrived m o place slots = record m {
+  state = record { registers = registers_after o m.state.registers; memory = o.memory; place = place };
+  slots = slots;
+  range = range_of m.range (frame_changes o.writes);
+}
 
 -- A step that ends its group: whatever the most slots are, the group comes to here, with this event.
 pub record IsOver (p : Program) (old new : Progress) (told : GroupEvent) : Type 0 where

@@ -6,12 +6,15 @@
 //! sequential run (`ia_meaning::progress_is_run`).
 #![tactic(auto)]
 
-mod change;
-mod covered;
 mod effect;
+mod frames;
+mod landings;
+mod loads;
+mod loops;
 mod machine;
-mod registers;
+mod moves;
+mod operands;
+mod outcome;
 mod run;
 
-pub use covered::can_run;
 pub use machine::Machine;

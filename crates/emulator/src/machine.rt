@@ -1,19 +1,20 @@
 //! The machine.
 
 ghost use Rattle.std.specs.Prelude.{◌≡◌, ◌<◌, ◌≤◌, ◌+◌, ◌^◌, IfOk, MatchResult, Some, None, get_or};
-ghost use Rattle.ia_meaning.specs.State.{zero_state, IsFrame};
+ghost use Rattle.ia_meaning.specs.State.{zero_state};
 ghost use Rattle.ia_meaning.specs.Names.{look};
 ghost use Rattle.ia_meaning.specs.Moves.{predicate_word, application};
 ghost use Rattle.ia_meaning.specs.Progress.{begun, advanced, group_further, groups_further, end_of};
 ghost use Rattle.ia_meaning.specs.Runs.{event_further};
 ghost use Rattle.reg_stack.specs.declared.StackFault.TheVariants as fault;
-ghost use Rattle.emulator.specs.Covered.{IsRunnable};
-ghost use Rattle.emulator.specs.Execution.{Execution};
+ghost use Rattle.machine_state.specs.Contents.{stack_of};
+ghost use Rattle.emulator.specs.Execution.{Execution, contents};
 
 use crate::run::Run;
 use ia_insn::{Ar, Br, End, Gr, GroupEvent, Place, Program};
-use ia_meaning::AlatEntry;
-use reg_stack::{Cell, FrameShape, Rrbs, Rse, StackFault};
+use ia_meaning::Cell;
+use nat_alat::{Alat, DataMem};
+use reg_stack::{Stack, StackFault};
 use std::alloc::{AllocError, Global};
 use std::marker::Model;
 
@@ -37,21 +38,20 @@ impl<'a> Model for Machine<'a> {
 }
 
 impl<'a> Machine<'a> {
-    /// The machine at the start of a program: its state is the zero state.
+    /// The machine at the start of a program: its state is the zero state. No call after this one takes
+    /// memory.
     ///
     /// # Errors
     ///
     /// Want of memory.
     #[tactic(auto, using(ia_meaning::proofs::GroupEnds::begins_under_way))]
-    pub fn open(_alloc: Global, program: &'a Program) -> Result<Machine<'a>, AllocError>
-        requires runnable { IsRunnable program.now }
+    pub fn open(alloc: Global, program: &'a Program) -> Result<Machine<'a>, AllocError>
         ensures { IfOk result (λ m. m ≡ record { program = program.now; progress = begun (zero_state program.now) }) }
     {
+        // This call tells that the program is one.
         let _count = program.bundle_count();
-        Ok(Machine {
-            program,
-            run: Run::begin(),
-        })
+        let run = Run::begin(alloc, program.data())?;
+        Ok(Machine { program, run })
     }
 
     /// How the run ended, where it did. A finished machine changes nothing any more.
@@ -83,75 +83,49 @@ impl<'a> Machine<'a> {
     pub fn gr(&self, r: Gr) -> Result<Cell, StackFault>
         ensures { MatchResult result (λ cell. look self.now.progress.state.registers r ≡ Some cell) (λ error. (error ≡ fault.OutOfFrame) × (look self.now.progress.state.registers r ≡ None)) }
     {
-        self.run.registers.general(r).ok_or(StackFault::OutOfFrame)
+        self.run.state.general(r).ok_or(StackFault::OutOfFrame)
     }
 
-    /// The current frame.
-    pub fn shape(&self) -> FrameShape
-        ensures value { result ≡ self.now.progress.state.registers.frame }
-        ensures frame { IsFrame result }
+    /// The register stack: the stacked registers, the frame and the resident range.
+    pub fn stack(&self) -> &Stack
+        ensures { result.now ≡ stack_of (contents self.now.progress) }
     {
-        let _run = &self.run;
-        FrameShape {
-            base: 0,
-            sof: 0,
-            sol: 0,
-            sor: 0,
-            rrbs: Rrbs {
-                gr: 0,
-                fr: 0,
-                pr: 0,
-            },
-        }
-    }
-
-    /// The resident range of the register stack.
-    pub fn rse(&self) -> Rse
-        ensures { result ≡ self.now.progress.range }
-    {
-        let _run = &self.run;
-        Rse {
-            low: 0,
-            high: 0,
-            spilled: 0,
-            filled: 0,
-        }
+        self.run.state.stack()
     }
 
     /// The predicates as a word: bit n is that of place n.
     pub fn pr_word(&self) -> u64
         ensures { result ≡ predicate_word self.now.progress.state.registers.predicates }
     {
-        self.run.registers.predicate_word()
+        self.run.state.predicate_word()
     }
 
     /// What a branch register holds.
     pub fn br(&self, b: Br) -> u64
         ensures { result ≡ get_or self.now.progress.state.registers.branches b 0 }
     {
-        self.run.registers.branch(b)
+        self.run.state.branch(b)
     }
 
     /// What an application register holds.
     pub fn ar(&self, ar: Ar) -> u64
         ensures { result ≡ application self.now.progress.state.registers ar }
     {
-        self.run.registers.application(ar)
+        self.run.state.application(ar)
     }
 
-    /// The data bytes.
-    pub fn data(&self) -> &[u8]
+    /// The data.
+    pub fn data(&self) -> &DataMem
         ensures { result.now ≡ self.now.progress.state.memory.bytes }
     {
-        self.program.data()
+        self.run.state.data()
     }
 
-    /// The entries of the ALAT, the oldest first.
-    pub fn alat(&self) -> &[AlatEntry]
+    /// The ALAT.
+    pub fn alat(&self) -> &Alat
         ensures { result.now ≡ self.now.progress.state.memory.alat }
     {
-        let _run = &self.run;
-        &[]
+        self.run.state.alat()
     }
 
     /// Runs one slot. None exactly where the run goes on; after an end nothing changes any more, and it

@@ -1,32 +1,33 @@
 //! A run under way.
 
-ghost use Rattle.std.specs.Prelude.{◌≡◌, ◌<◌, ◌+◌, ◌^◌, Some, None, IfSome, IfNone, slice_get};
+ghost use Rattle.std.specs.Prelude.{◌≡◌, ◌<◌, ◌≤◌, ◌%◌, ◌+◌, ◌^◌, [], length, Some, None, IfSome, IfNone, IfOk, slice_get};
 ghost use Rattle.ia_insn.specs.Places.{IsPlaceOf};
 ghost use Rattle.ia_insn.specs.Bundles.{slot_insn};
 ghost use Rattle.ia_insn.specs.declared.ending.How.TheVariants as how;
+ghost use Rattle.ia_meaning.specs.declared.next.Next.TheVariants.{Falls};
 ghost use Rattle.ia_meaning.specs.Progress.{begun, opened, slots_after, stepped, advanced, group_further, groups_further, end_of};
 ghost use Rattle.ia_meaning.specs.Runs.{IsUnderWay, event_further};
 ghost use Rattle.ia_insn.specs.Programs.{IsProgram};
 ghost use Rattle.ia_meaning.specs.Sequence.{first_of, next_of, is_stopped};
 ghost use Rattle.ia_meaning.specs.State.{zero_registers};
 ghost use Rattle.ia_meaning.specs.Steps.{settled, how_falling, outcome_of as step_outcome, seq_step, step_by};
-ghost use Rattle.emulator.specs.Registers.{registers_of, AreKept};
-ghost use Rattle.emulator.specs.Changes.{writes_of, IsWritable};
-ghost use Rattle.emulator.specs.Covered.{IsRunnable};
-ghost use Rattle.emulator.specs.Outcomes.{outcome_of, empty_memory};
-ghost use Rattle.emulator.specs.Progress.{state_of, progress_of, arrived, IsOver, IsLater};
+ghost use Rattle.machine_state.specs.Contents.{Contents};
+ghost use Rattle.machine_state.specs.Changes.{outcome_with, MayChange};
+ghost use Rattle.emulator.specs.Outcomes.{outcome_of};
+ghost use Rattle.emulator.specs.Progress.{state_at, state_of, progress_of, arrived, IsOver, IsLater};
 
-use crate::change::{Change, Outcome};
 use crate::effect::effect;
-use crate::registers::Registers;
+use crate::outcome::Outcome;
 use ia_insn::{BundleOf, End, FaultKind, GroupEvent, How, Insn, Place, Program};
 use ia_meaning::Next;
+use machine_state::{Change, MachineState};
+use std::alloc::{AllocError, Global};
 
 /// The state of a run, its end, the groups begun, the first place of the group under way and the slots
 /// reached in it, 0 between two groups.
-#[derive(Clone, Copy, Debug)]
+#[derive(Debug, Drop)]
 pub(crate) struct Run {
-    pub registers: Registers,
+    pub state: MachineState,
     pub place: Place,
     pub end: Option<End>,
     pub groups: u64,
@@ -82,9 +83,8 @@ fn how_falling(stopped: bool) -> Option<How>
 
 /// The outcome of a slot that has no next place: falling through there is a fault.
 fn at_end(outcome: Outcome) -> Outcome
-    requires writable { IsWritable outcome.change }
-    ensures value { outcome_of result ≡ settled None empty_memory outcome.next (outcome_of outcome) }
-    ensures writable { IsWritable result.change }
+    ensures value { (c : Contents) → outcome_of c result ≡ settled None c.memory outcome.next (outcome_of c outcome) }
+    ensures may { (c : Contents) → MayChange c outcome.change → MayChange c result.change }
 {
     match outcome.next {
         Next::Falls => Outcome::faults(FaultKind::FellOff),
@@ -95,7 +95,7 @@ fn at_end(outcome: Outcome) -> Outcome
 /// The outcome of the slot at a place.
 #[tactic(auto, using(crate::proofs::Slots::settled_inside))]
 fn outcome_at(
-    registers: &Registers,
+    state: &MachineState,
     program: &Program,
     bundle: &BundleOf,
     place: Place,
@@ -103,17 +103,15 @@ fn outcome_at(
     next: Option<Place>,
 ) -> Outcome
     requires next { next ≡ next_of program.now.bundles place }
-    requires runnable { IsRunnable program.now }
     requires here { slice_get program.now.bundles place.bundle ≡ Some bundle.now }
     requires insn { slot_insn bundle.now.slots place.slot ≡ Some insn.now }
-    requires kept { AreKept registers.now }
-    ensures value { outcome_of result ≡ step_outcome program.now (record { registers = registers_of registers.now; memory = empty_memory; place = place }) insn.now }
-    ensures writable { IsWritable result.change }
+    ensures value { outcome_of state.now result ≡ step_outcome program.now (state_at state.now place) insn.now }
+    ensures may { MayChange state.now result.change }
 {
     // These calls tell how many bundles there are, and that the instructions fit theirs.
     let _count = program.bundle_count();
     let _slots = bundle.slots();
-    let outcome = effect(registers, program, place.bundle, insn);
+    let outcome = effect(state, program, place.bundle, insn);
     match next {
         Some(_) => outcome,
         None => at_end(outcome),
@@ -121,23 +119,29 @@ fn outcome_at(
 }
 
 impl Run {
-    /// The run at the start of a program.
-    pub fn begin() -> Run
-        ensures value { progress_of result ≡ begun (record { registers = zero_registers; memory = empty_memory; place = first_of 0 }) }
-        ensures kept { AreKept result.registers }
+    /// The run at the start of a program with these data: at most 1,048,576 bytes, a multiple of 8.
+    ///
+    /// # Errors
+    ///
+    /// Want of memory.
+    pub fn begin(alloc: Global, bytes: &[u8]) -> Result<Run, AllocError>
+        requires most { length bytes.now ≤ 1_048_576 }
+        requires whole { length bytes.now % 8 ≡ 0 }
+        ensures { IfOk result (λ run. progress_of run ≡ begun (record { registers = zero_registers; memory = record { bytes = bytes.now; alat = [] }; place = first_of 0 })) }
     {
-        Run {
-            registers: Registers::zero(),
+        let state = MachineState::open(alloc, bytes)?;
+        Ok(Run {
+            state,
             place: Place::FIRST,
             end: None,
             groups: 0,
             first: Place::FIRST,
             slots: 0,
-        }
+        })
     }
 
-    /// The place of the next slot. It is read part by part, as it is written: a read of both parts at once
-    /// would wait for both writes.
+    /// The place of the next slot. It is read part by part, as it is written: to read both parts as one word
+    /// waits for both writes, and takes a quarter of the speed.
     fn here(&self) -> Place
         ensures { result ≡ self.now.place }
     {
@@ -151,7 +155,7 @@ impl Run {
     fn open_group(&mut self)
         requires room { self.old.slots ≡ 0 → self.old.groups + 1 < 2 ^ 64 }
         ensures value { progress_of self.new ≡ opened (progress_of self.old) }
-        ensures registers { self.new.registers ≡ self.old.registers }
+        ensures state { self.new.state ≡ self.old.state }
     {
         if self.slots == 0 {
             self.groups += 1;
@@ -171,18 +175,16 @@ impl Run {
 
     /// Goes to a place, with a change, and so many slots of its group before it.
     fn arrive(&mut self, change: Change, place: Place, slots: u32)
-        requires writable { IsWritable change }
-        requires kept { AreKept self.old.registers }
-        ensures value { progress_of self.new ≡ arrived (progress_of self.old) (writes_of change) place slots }
-        ensures kept { AreKept self.new.registers }
+        requires { MayChange self.old.state change }
+        ensures { progress_of self.new ≡ arrived (progress_of self.old) (outcome_with self.old.state change Falls) place slots }
     {
-        self.registers.apply(change);
+        self.state.apply(change);
         self.place = place;
         self.slots = slots;
     }
 
     /// Goes on as an outcome says, to the next place where it falls through.
-    #[tactic(auto, using(crate::proofs::SlotSteps::no_changes, crate::proofs::SlotSteps::falls_on, crate::proofs::SlotSteps::goes_on))]
+    #[tactic(auto, using(crate::proofs::SlotSteps::falls_on, crate::proofs::SlotSteps::goes_on))]
     fn go_on(
         &mut self,
         program: &Program,
@@ -190,16 +192,14 @@ impl Run {
         next: Option<Place>,
         stopped: bool,
     ) -> Option<How>
-        requires writable { IsWritable outcome.change }
+        requires may { MayChange self.old.state outcome.change }
         requires running { self.old.end ≡ None }
-        requires kept { AreKept self.old.registers }
         requires few { self.old.slots < 192 }
         requires next { next ≡ next_of program.now.bundles self.old.place }
         requires stop { stopped ≡ is_stopped program.now.bundles self.old.place }
-        ensures value { progress_of self.new ≡ stepped (progress_of self.old) (step_by program.now (state_of self.old) (outcome_of outcome) outcome.next) }
-        ensures how { result ≡ (step_by program.now (state_of self.old) (outcome_of outcome) outcome.next).how }
+        ensures value { progress_of self.new ≡ stepped (progress_of self.old) (step_by program.now (state_of self.old) (outcome_of self.old.state outcome) outcome.next) }
+        ensures how { result ≡ (step_by program.now (state_of self.old) (outcome_of self.old.state outcome) outcome.next).how }
         ensures goes_on { IfNone result (self.new.end ≡ None) }
-        ensures kept { AreKept self.new.registers }
     {
         let place = self.here();
         match outcome.next {
@@ -220,15 +220,12 @@ impl Run {
     /// Runs the next slot, and tells how its group ends, where it does.
     #[tactic(auto, using(crate::proofs::SlotSteps::has_bundle, crate::proofs::SlotSteps::has_insn, crate::proofs::SlotSteps::step_here))]
     fn run_slot(&mut self, program: &Program) -> Option<How>
-        requires runnable { IsRunnable program.now }
         requires running { self.old.end ≡ None }
         requires place { IsPlaceOf program.now.bundles self.old.place }
-        requires kept { AreKept self.old.registers }
         requires few { self.old.slots < 192 }
         ensures value { progress_of self.new ≡ stepped (progress_of self.old) (seq_step program.now (state_of self.old)) }
         ensures how { result ≡ (seq_step program.now (state_of self.old)).how }
         ensures goes_on { IfNone result (self.new.end ≡ None) }
-        ensures kept { AreKept self.new.registers }
     {
         let place = self.here();
         let Some(bundle) = program.bundle(place.bundle) else {
@@ -238,7 +235,7 @@ impl Run {
             unreachable!()
         };
         let next = next_place(program, bundle, place);
-        let outcome = outcome_at(&self.registers, program, bundle, place, insn, next);
+        let outcome = outcome_at(&self.state, program, bundle, place, insn, next);
         let stopped = has_stop(program, bundle, place);
         self.go_on(program, outcome, next, stopped)
     }
@@ -247,15 +244,12 @@ impl Run {
     #[tactic(auto, using(ia_meaning::proofs::WholeRuns::advanced_is, ia_meaning::proofs::GroupEnds::has_few_slots))]
     fn advance(&mut self, program: &Program) -> Option<How>
         requires program { IsProgram program.now }
-        requires runnable { IsRunnable program.now }
         requires running { self.old.end ≡ None }
-        requires kept { AreKept self.old.registers }
         requires under_way { IsUnderWay program.now (progress_of self.old) }
         requires room { self.old.slots ≡ 0 → self.old.groups + 1 < 2 ^ 64 }
         ensures value { progress_of self.new ≡ advanced program.now (progress_of self.old) }
         ensures how { result ≡ (seq_step program.now (state_of self.old)).how }
         ensures goes_on { IfNone result (self.new.end ≡ None) }
-        ensures kept { AreKept self.new.registers }
         ensures under_way { IsUnderWay program.now (progress_of self.new) }
     {
         self.open_group();
@@ -266,12 +260,9 @@ impl Run {
     #[tactic(auto, using(ia_meaning::proofs::GroupEnds::advanced_ended))]
     pub fn step(&mut self, program: &Program)
         requires program { IsProgram program.now }
-        requires runnable { IsRunnable program.now }
-        requires kept { AreKept self.old.registers }
         requires under_way { IsUnderWay program.now (progress_of self.old) }
         requires room { self.old.groups + 1 < 2 ^ 64 }
         ensures value { progress_of self.new ≡ advanced program.now (progress_of self.old) }
-        ensures kept { AreKept self.new.registers }
         ensures under_way { IsUnderWay program.now (progress_of self.new) }
     {
         if self.end.is_none() {
@@ -282,14 +273,11 @@ impl Run {
     /// Runs one slot more, and tells of its group where it ends there.
     fn group_slot(&mut self, program: &Program) -> Option<GroupEvent>
         requires program { IsProgram program.now }
-        requires runnable { IsRunnable program.now }
         requires running { self.old.end ≡ None }
-        requires kept { AreKept self.old.registers }
         requires under_way { IsUnderWay program.now (progress_of self.old) }
         requires room { self.old.slots ≡ 0 → self.old.groups + 1 < 2 ^ 64 }
         ensures over { IfSome result (λ event. IsOver program.now (progress_of self.old) (progress_of self.new) event) }
         ensures goes_on { IfNone result (IsLater program.now (progress_of self.old) (progress_of self.new)) }
-        ensures kept { AreKept self.new.registers }
         ensures under_way { IsUnderWay program.now (progress_of self.new) }
     {
         let (last, slots) = (self.here(), self.slots + 1);
@@ -308,14 +296,11 @@ impl Run {
     /// Runs the group under way to its end, or the next one, and tells of it. It has at most 192 slots.
     pub fn run_group(&mut self, program: &Program) -> GroupEvent
         requires program { IsProgram program.now }
-        requires runnable { IsRunnable program.now }
         requires running { self.old.end ≡ None }
-        requires kept { AreKept self.old.registers }
         requires under_way { IsUnderWay program.now (progress_of self.old) }
         requires room { self.old.slots ≡ 0 → self.old.groups + 1 < 2 ^ 64 }
         ensures value { progress_of self.new ≡ group_further program.now (progress_of self.old) }
         ensures event { result ≡ event_further program.now (progress_of self.old) }
-        ensures kept { AreKept self.new.registers }
         ensures under_way { IsUnderWay program.now (progress_of self.new) }
     {
         for _ in 0..192_u32 {
@@ -330,12 +315,9 @@ impl Run {
     #[tactic(auto, using(crate::proofs::Groups::groups_rise, ia_meaning::proofs::GroupEnds::groups_ended))]
     pub fn run_groups(&mut self, program: &Program, groups: u64)
         requires program { IsProgram program.now }
-        requires runnable { IsRunnable program.now }
-        requires kept { AreKept self.old.registers }
         requires under_way { IsUnderWay program.now (progress_of self.old) }
         requires room { self.old.groups + groups < 2 ^ 64 }
         ensures value { progress_of self.new ≡ groups_further groups program.now (progress_of self.old) }
-        ensures kept { AreKept self.new.registers }
         ensures under_way { IsUnderWay program.now (progress_of self.new) }
     {
         for _ in 0..groups {

@@ -16,7 +16,6 @@ use Rattle.image_form.specs.Images.{Spells}
 use Rattle.image_form.specs.Laws.{ImageSize}
 use Rattle.ia64_top.specs.Programs.{IsPlain}
 use Rattle.ia64_top.specs.Violations.{IsFree}
-use Rattle.emulator.specs.Covered.{IsRunnable}
 use Rattle.ia64_top.specs.Runs.{run_of, end_status}
 use Rattle.ia64_top.specs.Readings.{as_either, BeginsAsImage}
 use Rattle.ia64_top.specs.Output.{input_limit, IsCommandOutput, IsOutput, GivesOutput, GivesPart}
@@ -75,16 +74,16 @@ only_within words command (Some l) input status e whole within only =
 -- What is run: the end of the run tells the status.
 abbrev TellsEnd : List (List ℕ) → Status → List ℕ → Type 0
 TellsEnd words status input =
-    (groups : ℕ) → command_of words ≡ Some (Run groups) → (¬ BeginsAsImage input → length input ≤ input_limit) → (p : Program) → as_either.Gives input p → IsRunnable p → status ≡ end_status (run_of p groups).end
+    (groups : ℕ) → command_of words ≡ Some (Run groups) → (¬ BeginsAsImage input → length input ≤ input_limit) → (p : Program) → as_either.Gives input p → status ≡ end_status (run_of p groups).end
 
 pub ended_beyond : ImageSize → (words : List (List ℕ)) (left : Option (List ℕ)) → IfSome left (λ l. input_limit < length l) → IfSome left (TellsEnd words TooLong)
 ended_beyond size words None h = tt
-ended_beyond size words (Some input) h = λ groups e within p g runnable. absurd (omega (arith, h, short_either size p input within g))
+ended_beyond size words (Some input) h = λ groups e within p g. absurd (omega (arith, h, short_either size p input within g))
 
 pub ended_within : (words : List (List ℕ)) (command : Command) (left : Option (List ℕ)) (input : List ℕ) (status : Status) → command_of words ≡ Some command → IfSome left (λ l. input ≡ l)
-    → ((groups : ℕ) → command ≡ Run groups → (p : Program) → as_either.Gives input p → IsRunnable p → status ≡ end_status (run_of p groups).end) → IfSome left (TellsEnd words status)
+    → ((groups : ℕ) → command ≡ Run groups → (p : Program) → as_either.Gives input p → status ≡ end_status (run_of p groups).end) → IfSome left (TellsEnd words status)
 ended_within words command None input status e whole h = tt
-ended_within words command (Some l) input status e whole h = λ groups f within p g runnable. h groups (let same : Some command ≡ Some (Run groups) = sym e ∙ f in cc) p (subst (λ i. as_either.Gives i p) (sym whole) g) runnable
+ended_within words command (Some l) input status e whole h = λ groups f within p g. h groups (let same : Some command ≡ Some (Run groups) = sym e ∙ f in cc) p (subst (λ i. as_either.Gives i p) (sym whole) g)
 
 -- more bytes than the limit were there where more were taken
 pub beyond : (P : Type 0) (left new : Option (List ℕ)) → P → IfSome left (λ l. P ↔ LosesFirst (input_limit + 1) l new) → IfSome left (λ l. input_limit < length l)

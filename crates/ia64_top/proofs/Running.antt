@@ -9,10 +9,9 @@ use Rattle.ia_meaning.specs.State.{State, zero_state}
 use Rattle.ia_meaning.specs.Progress.{Progress, begun, groups_further, end_of}
 use Rattle.ia_meaning.specs.Runs.{BeginsUnderWay, HasRun, ProgressIsRun}
 use Rattle.ia_meaning.specs.StateText.{state_text}
-use Rattle.emulator.specs.Covered.{IsRunnable}
 use Rattle.ia64_top.specs.declared.status.Status.{Status}
-use Rattle.ia64_top.specs.declared.status.Status.TheVariants.{Done, Limit, Faulted, Refused, NotYet}
-use Rattle.ia64_top.specs.Runs.{run_of, end_status, IsRunOf, IsRunAnswer}
+use Rattle.ia64_top.specs.declared.status.Status.TheVariants.{Done, Limit, Faulted, Refused}
+use Rattle.ia64_top.specs.Runs.{run_of, end_status, IsRunOf}
 use Rattle.ia64_top.specs.Readings.{Reading, IsRefusal}
 use Rattle.ia64_top.specs.Output.{IsRunAs}
 use Rattle.ia64_top.proofs.Outputs.{GivesOne, RefusesNone}
@@ -20,39 +19,31 @@ use Rattle.ia64_top.proofs.Outputs.{GivesOne, RefusesNone}
 pub is_run_refusal : (groups : ℕ) (r : Reading) (input bytes : List ℕ) (status : Status) → IsRefusal r input bytes status → IsRunAs groups r input bytes status
 is_run_refusal groups r input bytes status refused = subst (IsRunAs groups r input bytes) (sym refused.1) refused.0
 
--- the answer of a run says how it ended
-answer_of_end : (groups : ℕ) (p : Program) (bytes : List ℕ) (status : Status) (e : End) → status ≡ end_status e → IsRunnable p → IsRunOf p groups bytes status → IsRunAnswer groups p bytes status
-answer_of_end groups p bytes status (end.Break imm place) is runnable = subst (λ s. IsRunOf p groups bytes s → IsRunAnswer groups p bytes s) (sym is) (λ o. (runnable, o))
-answer_of_end groups p bytes status (end.Limit place) is runnable = subst (λ s. IsRunOf p groups bytes s → IsRunAnswer groups p bytes s) (sym is) (λ o. (runnable, o))
-answer_of_end groups p bytes status (end.Fault kind place) is runnable = subst (λ s. IsRunOf p groups bytes s → IsRunAnswer groups p bytes s) (sym is) (λ o. (runnable, o))
+-- the end of the run tells the row of its status
+by_end : (groups : ℕ) (r : Reading) (input : List ℕ) (p : Program) (bytes : List ℕ) (status : Status) (e : End) → r.Gives input p → status ≡ end_status e → IsRunOf p groups bytes status → IsRunAs groups r input bytes status
+by_end groups r input p bytes status (end.Break imm place) g is = subst (λ s. IsRunOf p groups bytes s → IsRunAs groups r input bytes s) (sym is) (λ o. (p, g, o))
+by_end groups r input p bytes status (end.Limit place) g is = subst (λ s. IsRunOf p groups bytes s → IsRunAs groups r input bytes s) (sym is) (λ o. (p, g, o))
+by_end groups r input p bytes status (end.Fault kind place) g is = subst (λ s. IsRunOf p groups bytes s → IsRunAs groups r input bytes s) (sym is) (λ o. (p, g, o))
 
-pub answer_of_run : (groups : ℕ) (p : Program) (bytes : List ℕ) (status : Status) → IsRunnable p → IsRunOf p groups bytes status → IsRunAnswer groups p bytes status
-answer_of_run groups p bytes status runnable o = answer_of_end groups p bytes status (run_of p groups).end o.ends runnable o
-
--- the answer on the program that an input is read as is that on the input
-pub run_of_answer : (groups : ℕ) (r : Reading) (input : List ℕ) (p : Program) (bytes : List ℕ) (status : Status) → r.Gives input p → IsRunAnswer groups p bytes status → IsRunAs groups r input bytes status
-run_of_answer groups r input p bytes Done g a = (p, g, a.0, a.1)
-run_of_answer groups r input p bytes Limit g a = (p, g, a.0, a.1)
-run_of_answer groups r input p bytes Faulted g a = (p, g, a.0, a.1)
-run_of_answer groups r input p bytes NotYet g a = (p, g, a.0, a.1)
-run_of_answer groups r input p bytes status g a = absurd a
+-- the run of the program that an input is read as is that of the input
+pub run_of_program : (groups : ℕ) (r : Reading) (input : List ℕ) (p : Program) (bytes : List ℕ) (status : Status) → r.Gives input p → IsRunOf p groups bytes status → IsRunAs groups r input bytes status
+run_of_program groups r input p bytes status g o = by_end groups r input p bytes status (run_of p groups).end g o.ends o
 
 -- The end of the run tells the status.
 same_end : (groups : ℕ) (p q : Program) (bytes : List ℕ) (status : Status) → p ≡ q → IsRunOf p groups bytes status → status ≡ end_status (run_of q groups).end
 same_end groups p q bytes status e o = o.ends ∙ ap (λ x. end_status (run_of x groups).end) e
 
 pub status_of_run : (groups : ℕ) (r : Reading) → GivesOne r → RefusesNone r → (input bytes : List ℕ) (status : Status) → IsRunAs groups r input bytes status
-    → (p : Program) → r.Gives input p → IsRunnable p → status ≡ end_status (run_of p groups).end
-status_of_run groups r one none input bytes Done o p g runnable = same_end groups o.0 p bytes Done (one input o.0 p o.1 g) o.3
-status_of_run groups r one none input bytes Limit o p g runnable = same_end groups o.0 p bytes Limit (one input o.0 p o.1 g) o.3
-status_of_run groups r one none input bytes Faulted o p g runnable = same_end groups o.0 p bytes Faulted (one input o.0 p o.1 g) o.3
-status_of_run groups r one none input bytes Refused o p g runnable = absurd (none input p bytes g o)
-status_of_run groups r one none input bytes NotYet o p g runnable = absurd (o.2 (subst IsRunnable (one input p o.0 g o.1) runnable))
-status_of_run groups r one none input bytes status o p g runnable = absurd o
+    → (p : Program) → r.Gives input p → status ≡ end_status (run_of p groups).end
+status_of_run groups r one none input bytes Done o p g = same_end groups o.0 p bytes Done (one input o.0 p o.1 g) o.2
+status_of_run groups r one none input bytes Limit o p g = same_end groups o.0 p bytes Limit (one input o.0 p o.1 g) o.2
+status_of_run groups r one none input bytes Faulted o p g = same_end groups o.0 p bytes Faulted (one input o.0 p o.1 g) o.2
+status_of_run groups r one none input bytes Refused o p g = absurd (none input p bytes g o)
+status_of_run groups r one none input bytes status o p g = absurd o
 
-only_of_run : (groups : ℕ) (r : Reading) → GivesOne r → RefusesNone r → (input mine : List ℕ) (status : Status) → (p : Program) → r.Gives input p → IsRunnable p → IsRunOf p groups mine status
+only_of_run : (groups : ℕ) (r : Reading) → GivesOne r → RefusesNone r → (input mine : List ℕ) (status : Status) → (p : Program) → r.Gives input p → IsRunOf p groups mine status
     → (bytes : List ℕ) (other : Status) → IsRunAs groups r input bytes other → other ≡ status
-only_of_run groups r one none input mine status p g runnable m bytes other o = status_of_run groups r one none input bytes other o p g runnable ∙ sym m.ends
+only_of_run groups r one none input mine status p g m bytes other o = status_of_run groups r one none input bytes other o p g ∙ sym m.ends
 
 -- no other status is stated for a refusal
 only_of_refusal : (groups : ℕ) (r : Reading) → RefusesNone r → (input mine : List ℕ) → r.Refuses input mine → (bytes : List ℕ) (other : Status) → IsRunAs groups r input bytes other → other ≡ Refused
@@ -60,30 +51,15 @@ only_of_refusal groups r none input mine m bytes Done o = absurd (none input o.0
 only_of_refusal groups r none input mine m bytes Limit o = absurd (none input o.0 mine o.1 m)
 only_of_refusal groups r none input mine m bytes Faulted o = absurd (none input o.0 mine o.1 m)
 only_of_refusal groups r none input mine m bytes Refused o = refl
-only_of_refusal groups r none input mine m bytes NotYet o = absurd (none input o.0 mine o.1 m)
 only_of_refusal groups r none input mine m bytes other o = absurd o
 
--- nor for a program that the machine doesn't run
-other_program : (p q : Program) → p ≡ q → IsRunnable p → ¬ IsRunnable q → ⊥
-other_program p q e runnable not = not (subst IsRunnable e runnable)
-
-only_not_yet : (groups : ℕ) (r : Reading) → GivesOne r → RefusesNone r → (input : List ℕ) (p : Program) → r.Gives input p → ¬ IsRunnable p
-    → (bytes : List ℕ) (other : Status) → IsRunAs groups r input bytes other → other ≡ NotYet
-only_not_yet groups r one none input p g not bytes Done o = absurd (other_program o.0 p (one input o.0 p o.1 g) o.2 not)
-only_not_yet groups r one none input p g not bytes Limit o = absurd (other_program o.0 p (one input o.0 p o.1 g) o.2 not)
-only_not_yet groups r one none input p g not bytes Faulted o = absurd (other_program o.0 p (one input o.0 p o.1 g) o.2 not)
-only_not_yet groups r one none input p g not bytes Refused o = absurd (none input p bytes g o)
-only_not_yet groups r one none input p g not bytes NotYet o = refl
-only_not_yet groups r one none input p g not bytes other o = absurd o
-
--- no other status is stated for what is run
+-- nor for what is run
 pub only_run : (groups : ℕ) (r : Reading) → GivesOne r → RefusesNone r → (input mine : List ℕ) (status : Status) → IsRunAs groups r input mine status
     → (bytes : List ℕ) (other : Status) → IsRunAs groups r input bytes other → other ≡ status
-only_run groups r one none input mine Done m = only_of_run groups r one none input mine Done m.0 m.1 m.2 m.3
-only_run groups r one none input mine Limit m = only_of_run groups r one none input mine Limit m.0 m.1 m.2 m.3
-only_run groups r one none input mine Faulted m = only_of_run groups r one none input mine Faulted m.0 m.1 m.2 m.3
+only_run groups r one none input mine Done m = only_of_run groups r one none input mine Done m.0 m.1 m.2
+only_run groups r one none input mine Limit m = only_of_run groups r one none input mine Limit m.0 m.1 m.2
+only_run groups r one none input mine Faulted m = only_of_run groups r one none input mine Faulted m.0 m.1 m.2
 only_run groups r one none input mine Refused m = only_of_refusal groups r none input mine m
-only_run groups r one none input mine NotYet m = only_not_yet groups r one none input m.0 m.1 m.2
 only_run groups r one none input mine status m = absurd m
 
 -- A run under way that has come so far prints the run, and ends as it does.

@@ -12,7 +12,6 @@ use Rattle.asm_build.specs.Listing.{IsListing}
 use Rattle.ia64_top.specs.Words.{command_of}
 use Rattle.ia64_top.specs.Programs.{IsPlain}
 use Rattle.ia64_top.specs.Judgements.{IsJudgement}
-use Rattle.emulator.specs.Covered.{IsRunnable}
 use Rattle.ia64_top.specs.Runs.{IsRunOf}
 use Rattle.ia64_top.specs.Readings.{Reading, as_image, as_bundles, as_text, as_either}
 
@@ -46,14 +45,12 @@ IsCheckedAs reading input bytes status = ⊥
 -- What `run` writes and answers of an input that is read in a way. Nothing is checked before the run.
 abbrev pub IsRunAs : ℕ → Reading → List ℕ → List ℕ → Status → Type 0
 IsRunAs groups reading input bytes Done =
-    (program : Program) × reading.Gives input program × IsRunnable program × IsRunOf program groups bytes Done
+    (program : Program) × reading.Gives input program × IsRunOf program groups bytes Done
 IsRunAs groups reading input bytes Limit =
-    (program : Program) × reading.Gives input program × IsRunnable program × IsRunOf program groups bytes Limit
+    (program : Program) × reading.Gives input program × IsRunOf program groups bytes Limit
 IsRunAs groups reading input bytes Faulted =
-    (program : Program) × reading.Gives input program × IsRunnable program × IsRunOf program groups bytes Faulted
+    (program : Program) × reading.Gives input program × IsRunOf program groups bytes Faulted
 IsRunAs groups reading input bytes Refused = reading.Refuses input bytes
-IsRunAs groups reading input bytes NotYet =
-    (program : Program) × reading.Gives input program × (¬ IsRunnable program) × (bytes ≡ [])
 IsRunAs groups reading input bytes status = ⊥
 
 -- a status that prints nothing

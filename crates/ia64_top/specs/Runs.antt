@@ -1,5 +1,5 @@
 -- What `run` prints and answers.
-use Rattle.std.specs.Prelude.{◌≡◌, ℕ, List, []}
+use Rattle.std.specs.Prelude.{◌≡◌, ℕ, List}
 use Rattle.ia_insn.specs.declared.ending.End.{End}
 use Rattle.ia_insn.specs.declared.ending.End.TheVariants as end
 use Rattle.ia_insn.specs.Programs.{Program}
@@ -7,8 +7,7 @@ use Rattle.ia_meaning.specs.State.{zero_state}
 use Rattle.ia_meaning.specs.Steps.{Run, seq_run}
 use Rattle.ia_meaning.specs.Runs.{run_text}
 use Rattle.ia64_top.specs.declared.status.Status.{Status}
-use Rattle.ia64_top.specs.declared.status.Status.TheVariants.{Done, Limit, Faulted, NotYet}
-use Rattle.emulator.specs.Covered.{IsRunnable}
+use Rattle.ia64_top.specs.declared.status.Status.TheVariants.{Done, Limit, Faulted}
 
 -- the run of a program from the zero state, of at most so many groups
 abbrev pub run_of : Program → ℕ → Run
@@ -20,15 +19,7 @@ end_status (end.Break imm place) = Done
 end_status (end.Limit place) = Limit
 end_status (end.Fault kind place) = Faulted
 
--- the bytes and the status of the run of a program that the machine runs
+-- the bytes and the status of the run of a program
 pub record IsRunOf (p : Program) (groups : ℕ) (bytes : List ℕ) (status : Status) : Type 0 where
   pub printed : bytes ≡ run_text (run_of p groups)
   pub ends : status ≡ end_status (run_of p groups).end
-
--- those of any program: one that the machine doesn't run isn't run yet
-abbrev pub IsRunAnswer : ℕ → Program → List ℕ → Status → Type 0
-IsRunAnswer groups p bytes Done = IsRunnable p × IsRunOf p groups bytes Done
-IsRunAnswer groups p bytes Limit = IsRunnable p × IsRunOf p groups bytes Limit
-IsRunAnswer groups p bytes Faulted = IsRunnable p × IsRunOf p groups bytes Faulted
-IsRunAnswer groups p bytes NotYet = (¬ IsRunnable p) × (bytes ≡ [])
-IsRunAnswer groups p bytes status = ⊥

@@ -6,13 +6,12 @@ ghost use Rattle.image_form.specs.Images.{Spells};
 ghost use Rattle.asm_build.specs.Listing.{IsListing};
 ghost use Rattle.ia64_top.specs.Programs.{IsPlain};
 ghost use Rattle.ia64_top.specs.Violations.{IsFree};
-ghost use Rattle.emulator.specs.Covered.{IsRunnable};
 ghost use Rattle.ia64_top.specs.GroupCounts.{group_limit};
 ghost use Rattle.ia64_top.specs.Words.{HasGroupsInRange};
 ghost use Rattle.ia64_top.specs.Judgements.{IsJudgement, IsProgramAnswer};
 ghost use Rattle.ia64_top.specs.Output.{input_limit, IsCanonical, IsMadeOutput, IsCheckedAs, IsRunAs, IsCommandOutput};
 ghost use Rattle.ia64_top.specs.Readings.{as_image, as_bundles, as_text, as_either, IsRefusal};
-ghost use Rattle.ia64_top.specs.Runs.{run_of, end_status, IsRunOf, IsRunAnswer};
+ghost use Rattle.ia64_top.specs.Runs.{run_of, end_status, IsRunOf};
 ghost use Rattle.ia64_top.specs.Texts.{refusal_text, text_refusal_text};
 ghost use Rattle.ia64_top.specs.declared.status.Status.{Status};
 
@@ -22,7 +21,7 @@ use crate::status::Status;
 use crate::text::{refusal, text_refusal, verdict};
 use crate::words::Command;
 use asm_build::{TextError, assemble, disassemble, list, no_fault_where_read, one_text_program};
-use emulator::{Machine, can_run};
+use emulator::Machine;
 use ia_insn::{End, Program};
 use ia_meaning::{groups_end, progress_is_run};
 use image_form::{
@@ -234,12 +233,11 @@ fn end_status(end: &End) -> Status
     }
 }
 
-/// The answer of `run` to a program that the machine runs.
+/// The answer of `run` to a program.
 #[tactic(auto, using(crate::proofs::Running::run_of_progress))]
-fn run_covered(alloc: Global, groups: u64, program: &Program) -> Result<Answer, AllocError>
+fn run_program(alloc: Global, groups: u64, program: &Program) -> Result<Answer, AllocError>
     requires some { 1 ≤ groups }
     requires few { groups ≤ group_limit }
-    requires runnable { IsRunnable program.now }
     ensures { IfOk result (λ answer. IsRunOf program.now groups answer.bytes.items answer.status) }
 {
     groups_end();
@@ -251,18 +249,6 @@ fn run_covered(alloc: Global, groups: u64, program: &Program) -> Result<Answer, 
         bytes: state_text(alloc, &machine, &end)?,
         status: end_status(&end),
     })
-}
-
-/// The answer of `run` to a program.
-fn run_program(alloc: Global, groups: u64, program: &Program) -> Result<Answer, AllocError>
-    requires some { 1 ≤ groups }
-    requires few { groups ≤ group_limit }
-    ensures { IfOk result (λ answer. IsRunAnswer groups program.now answer.bytes.items answer.status) }
-{
-    if !can_run(program) {
-        return Ok(unjudged(alloc));
-    }
-    run_covered(alloc, groups, program)
 }
 
 /// The answer of `run` to an image or a text.
@@ -285,7 +271,7 @@ fn run_input(alloc: Global, groups: u64, input: &[u8]) -> Result<Answer, AllocEr
     requires within { length input.now ≤ input_limit }
     ensures output { IfOk result (λ answer. IsRunAs groups as_either input.now answer.bytes.items answer.status) }
     ensures only { IfOk result (λ answer. (bytes : List ℕ) (status : Status) → IsRunAs groups as_either input.now bytes status → status ≡ answer.status) }
-    ensures ended { IfOk result (λ answer. (p : Parts) → as_either.Gives input.now p → IsRunnable p → answer.status ≡ end_status (run_of p groups).end) }
+    ensures ended { IfOk result (λ answer. (p : Parts) → as_either.Gives input.now p → answer.status ≡ end_status (run_of p groups).end) }
 {
     one_program();
     one_text_program();
@@ -301,7 +287,7 @@ pub(crate) fn respond(alloc: Global, command: Command, input: &[u8]) -> Result<A
     ensures output { IfOk result (λ answer. IsCommandOutput command input.now answer.bytes.items answer.status) }
     ensures only { IfOk result (λ answer. (bytes : List ℕ) (status : Status) → IsCommandOutput command input.now bytes status → status ≡ answer.status) }
     ensures accepted { IfOk result (λ answer. command ≡ Command.Check → (p : Parts) → as_either.Gives input.now p → IsPlain p → ((answer.status ≡ Status.Done) ↔ IsFree p)) }
-    ensures ended { IfOk result (λ answer. (groups : ℕ) → command ≡ Command.Run groups → (p : Parts) → as_either.Gives input.now p → IsRunnable p → answer.status ≡ end_status (run_of p groups).end) }
+    ensures ended { IfOk result (λ answer. (groups : ℕ) → command ≡ Command.Run groups → (p : Parts) → as_either.Gives input.now p → answer.status ≡ end_status (run_of p groups).end) }
 {
     match command {
         Command::Build => build_input(alloc, input),

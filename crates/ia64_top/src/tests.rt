@@ -210,6 +210,15 @@ rse 0 0 0 0
 pr 0000000000000001
 ";
 
+/// The state where they fall off, with a word of data.
+const FELL_OFF_WITH_DATA: &str = "end fault FellOff at 0.2
+groups 1
+frame 0 sof 0 sol 0 sor 0 rrb 0 0 0
+rse 0 0 0 0
+pr 0000000000000001
+m 0000000000100000 0000000000000001
+";
+
 /// The state after the first of two groups.
 const AT_LIMIT: &str = "end limit at 1.0
 groups 1
@@ -370,7 +379,7 @@ fn runs_have_their_output(rt: HostRuntime) -> Result<(), Fail> {
         ("run 1", image(1, NOPS), 9, text(FELL_OFF)),
         ("run 1", image(2, NOPS), 8, text(AT_LIMIT)),
         ("run 10000000", text(BREAK_TEXT), 0, text(AT_BREAK)),
-        ("run 1", text(DATA_TEXT), 10, text("")),
+        ("run 1", text(DATA_TEXT), 9, text(FELL_OFF_WITH_DATA)),
         ("run 1", text(""), 3, text("line 1: empty\n")),
     ];
     for (command, input, status, output) in rows {

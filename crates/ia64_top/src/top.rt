@@ -9,7 +9,6 @@ ghost use Rattle.ia64_top.specs.Statuses.{IsAnswer};
 ghost use Rattle.ia_insn.specs.Programs.{Program};
 ghost use Rattle.ia64_top.specs.Programs.{IsPlain};
 ghost use Rattle.ia64_top.specs.Violations.{IsFree};
-ghost use Rattle.emulator.specs.Covered.{IsRunnable};
 ghost use Rattle.ia64_top.specs.Runs.{run_of, end_status};
 ghost use Rattle.ia64_top.specs.Readings.{as_either, BeginsAsImage};
 ghost use Rattle.ia64_top.specs.Output.{input_limit, IsOutput, GivesOutput, GivesPart};
@@ -43,10 +42,10 @@ pub fn ia64<S: Source, K: Sink>(
     ensures accepted { IsAnswer result → IfSome (S.left source.old) (λ input.
         command_of words.now ≡ Some Command.Check → (¬ BeginsAsImage input → length input ≤ input_limit) → (program : Program) → as_either.Gives input program → IsPlain program → ((result ≡ Status.Done) ↔ IsFree program)) }
 
-    // The end of the run tells the status of a program that is run: `Done` comes exactly where it is a `break`,
+    // The end of the run tells the status: `Done` comes exactly where it is a `break`,
     // `Limit` where it is the limit of groups, and `Faulted` where it is a fault.
     ensures ended { IsAnswer result → IfSome (S.left source.old) (λ input. (groups : ℕ) →
-        command_of words.now ≡ Some (Command.Run groups) → (¬ BeginsAsImage input → length input ≤ input_limit) → (program : Program) → as_either.Gives input program → IsRunnable program → result ≡ end_status (run_of program groups).end) }
+        command_of words.now ≡ Some (Command.Run groups) → (¬ BeginsAsImage input → length input ≤ input_limit) → (program : Program) → as_either.Gives input program → result ≡ end_status (run_of program groups).end) }
 
     // An answer leaves the counts of faults as they were, and the source read to its end.
     ensures counts { IsAnswer result → (S.faults source.new ≡ S.faults source.old) × (K.faults sink.new ≡ K.faults sink.old) }

@@ -25,7 +25,8 @@ use Rattle.ia_meaning.specs.Actions.{Action, Compute, Fetch, Test, ToPredicates,
 use Rattle.ia_meaning.specs.Moves.{computed, fetched, source_value, test_writes, test_made, test_skipped, predicate_writes, to_predicates, to_branch, has_reserved_zeros, application_written, to_application}
 use Rattle.ia_meaning.specs.Loads.{access_fault, loaded, forgotten, has_hit, has_entry, update_register, base_writes, is_speculative, is_check, load_alat, load_nat, deferred, load_hit, load_failed, load_tried, load_checked, from_memory, takes_nat, store_made, store_tried, to_memory, check_nat, check_alat, forget}
 use Rattle.ia_meaning.specs.Frames.{stack_limit, with_sizes, has_zero_bases, allocated, cleared, call_writes, lands, marked_frame, return_fault, return_tried}
-use Rattle.ia_meaning.specs.Loops.{Turn, turn_of, turn_writes, turned}
+use Rattle.ia_meaning.specs.Loops.{turn_of, turn_writes, turned}
+use Rattle.ia_meaning.specs.declared.turn.Turn.{Turn}
 use Rattle.ia_meaning.specs.Landings.{target_of}
 use Rattle.ia_meaning.specs.Effects.{Site, act, skip, guarded}
 

@@ -2,21 +2,13 @@
 use Rattle.std.specs.Prelude.{ℕ, zero, suc, Bool, true, false, not, if◌then◌else◌, List, [], ◌∷◌, Option, Some, None}
 use Rattle.ia_insn.specs.declared.choices.BranchKind.{BranchKind}
 use Rattle.ia_insn.specs.declared.choices.BranchKind.TheVariants.{Wexit, Wtop, Cloop, Cexit, Ctop}
+use Rattle.ia_meaning.specs.declared.turn.Turn.{Turn}
 use Rattle.ia_meaning.specs.declared.state.FrameShape.{FrameShape}
 use Rattle.ia_meaning.specs.State.{Memory}
 use Rattle.ia_meaning.specs.Writes.{Write, SetPredicate, SetLc, SetEc, SetFrame, Renamed}
 use Rattle.ia_meaning.specs.Names.{predicate_place}
 use Rattle.ia_meaning.specs.Frames.{rotated}
 use Rattle.ia_meaning.specs.Outcomes.{Outcome, falls, goes}
-
--- One turn of a loop: the new LC, the new EC and the new p63, where they are written, whether the registers rotate, and
--- whether the branch is taken.
-pub record Turn : Type 0 where
-  pub lc : Option ℕ
-  pub ec : Option ℕ
-  pub p63 : Option Bool
-  pub rotates : Bool
-  pub taken : Bool
 
 -- nothing is written, and the slot falls through
 abbrev pub no_turn : Turn

@@ -13,9 +13,11 @@ mod laws;
 mod next;
 mod runs;
 mod state;
+mod turn;
 
 pub use form::{Form, Goal, Source, form_of};
 pub use laws::{entry_test, frame_test, next_place, stop_test, zero_is_start};
 pub use next::Next;
 pub use runs::{groups_end, progress_is_run, progress_text_is_run_text};
 pub use state::{AlatEntry, AlatKey, Cell, FrameShape, Rrbs, Rse};
+pub use turn::Turn;

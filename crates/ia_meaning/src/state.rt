@@ -57,8 +57,20 @@ pub enum AlatKey {
     Stacked(u32),
 }
 
+impl Default for AlatKey {
+    ghost use Rattle.std.specs.Prelude.{◌≡◌};
+    ghost use Rattle.ia_meaning.specs.declared.state.AlatKey.TheVariants.{Static};
+
+    ghost is_default = { λ key. key ≡ Static 0 };
+
+    /// r0, which no load enters.
+    fn default() -> Self {
+        AlatKey::Static(0)
+    }
+}
+
 /// An entry of the ALAT, the advanced load address table (volume 1, chapter 4, data speculation).
-#[derive(Clone, Copy, Debug, PartialEq, Eq)]
+#[derive(Clone, Copy, Debug, Default, PartialEq, Eq)]
 pub struct AlatEntry {
     /// The target of the load.
     pub key: AlatKey,

@@ -1,3 +1,5 @@
 pub mod Spelling
 pub mod Accesses
 pub mod NatBits
+pub mod Entries
+pub mod AlatLaws

@@ -1,7 +1,9 @@
--- Laws of loads and stores.
-use Rattle.std.specs.Prelude.{◌≡◌, ◌⊎◌, ℕ, ◌+◌, ◌*◌, ◌%◌, ◌^◌, ◌<◌, ◌≤◌, List, length, get_or, None}
+-- Laws of loads and stores, and of the ALAT.
+use Rattle.std.specs.Prelude.{◌≡◌, ◌⊎◌, ℕ, ◌+◌, ◌*◌, ◌%◌, ◌^◌, ◌<◌, ◌≤◌, true, not, ◌&&◌, List, length, get_or, None}
+use Rattle.ia_meaning.specs.declared.state.AlatKey.{AlatKey}
+use Rattle.ia_meaning.specs.declared.state.AlatEntry.{AlatEntry}
 use Rattle.ia_meaning.specs.State.{data_base}
-use Rattle.ia_meaning.specs.Loads.{access_fault, loaded, stored}
+use Rattle.ia_meaning.specs.Loads.{access_fault, loaded, stored, is_spot, is_apart, forgotten, entered, untouched, has_hit, has_entry}
 
 -- What is loaded is what was stored there, by its low bytes.
 abbrev pub StoredIsLoaded : Type 0
@@ -16,3 +18,19 @@ OthersStay =
     → (length (stored bytes address size value) ≡ length bytes)
     × ((place : ℕ) → (data_base + place < address) ⊎ (address + size ≤ data_base + place)
     → get_or (stored bytes address size value) place 0 ≡ get_or bytes place 0)
+
+-- An entry that was entered is hit, and no more than 32 are there.
+abbrev pub EnteredIsHit : Type 0
+EnteredIsHit = (es : List AlatEntry) (e : AlatEntry) → (has_hit (entered es e) e ≡ true) × (length (entered es e) ≤ 32)
+
+-- A register that was forgotten has no entry, and each other has one if it had one.
+abbrev pub ForgottenIsGone : Type 0
+ForgottenIsGone =
+    (es : List AlatEntry) (key other : AlatKey)
+    → has_entry (forgotten es key) other ≡ (not (is_spot key other) && has_entry es other)
+
+-- After a store an entry is hit if it was hit before and the store has none of its bytes.
+abbrev pub TouchedIsGone : Type 0
+TouchedIsGone =
+    (es : List AlatEntry) (address size : ℕ) (e : AlatEntry)
+    → has_hit (untouched es address size) e ≡ (is_apart e address size && has_hit es e)

@@ -1,6 +1,7 @@
 //! The register stack.
 
-ghost use Rattle.std.specs.Prelude.{◌≡◌, ◌+◌, ◌*◌, ◌<◌, ◌≤◌, ◌^◌, IfOk, OnOk, OnErr, IsOk, IsTrue, ◌↔◌, vec_capacity};
+ghost use Rattle.std.specs.Prelude.{◌≡◌, ◌+◌, ◌*◌, ◌<◌, ◌≤◌, ◌^◌, Some, None, MatchOption, IfOk, OnOk, OnErr, IsOk, IsTrue, ◌↔◌, vec_capacity};
+ghost use Rattle.ia_meaning.specs.declared.state.AlatKey.TheVariants.{Stacked};
 ghost use Rattle.std.specs.Result.{result_err};
 ghost use Rattle.ia_meaning.specs.State.{IsFrame};
 ghost use Rattle.ia_meaning.specs.Names.{spot};
@@ -73,6 +74,14 @@ impl Stack {
         self.range
     }
 
+    /// The number of the cell of a stacked register, r32 to r127; None exactly outside the frame.
+    pub fn cell_number(&self, r: Gr) -> Option<u32>
+        requires { 32 ≤ r }
+        ensures { MatchOption result (spot self.now.frame r ≡ None) (λ n. spot self.now.frame r ≡ Some (Stacked n)) }
+    {
+        cell_of(&self.frame, r)
+    }
+
     /// What a stacked register holds, r32 to r127.
     ///
     /// # Errors
@@ -140,6 +149,23 @@ impl Stack {
                 self.enter(frame);
                 Ok(())
             }
+            Err(fault) => Err(fault),
+        }
+    }
+
+    /// What `alloc_frame` would answer.
+    ///
+    /// # Errors
+    ///
+    /// Those of `alloc_frame`.
+    pub fn may_alloc(&self, sof: u8, sol: u8, sor: u8) -> Result<(), StackFault>
+        requires size { sof ≤ 96 }
+        requires locals { sol ≤ sof }
+        requires rotating { 8 * sor ≤ sof }
+        ensures { result_err result ≡ alloc_fault_within self.now.limit self.now.frame (with_sizes self.now.frame sof sol sor) }
+    {
+        match allocated(self.limit, &self.frame, sof, sol, sor) {
+            Ok(_) => Ok(()),
             Err(fault) => Err(fault),
         }
     }

@@ -7,7 +7,7 @@ ghost use Rattle.ia_meaning.specs.StateText.{cell_line, gr_line, gr_lines};
 use crate::word::WordText;
 use emulator::Machine;
 use ia_insn::Gr;
-use reg_stack::Cell;
+use ia_meaning::Cell;
 use std::alloc::AllocError;
 
 /// The line of a register with what it holds, unless that is 0 without NaT.
@@ -41,7 +41,7 @@ pub(crate) fn push_general_registers(
 ) -> Result<(), AllocError>
     ensures { OnOk result (string_bytes out.new ≡ string_bytes out.old ++ gr_lines machine.now.progress.state.registers) }
 {
-    let end = 32 + u64::from(machine.shape().sof);
+    let end = 32 + u64::from(machine.stack().shape().sof);
     for n in 1..end {
         push_general(out, machine, Gr::of_field(n))?;
     }

@@ -5,7 +5,7 @@ ghost use Rattle.ia_meaning.specs.StateText.{line, end_text, frame_text, range_t
 
 use emulator::Machine;
 use ia_insn::End;
-use reg_stack::{FrameShape, Rse};
+use ia_meaning::{FrameShape, Rse};
 use std::alloc::AllocError;
 use std::fmt;
 
@@ -71,10 +71,10 @@ pub(crate) fn push_head(
     let shown_end = EndText { end: *end };
     let groups = machine.groups();
     let shown_range = RangeText {
-        range: machine.rse(),
+        range: machine.stack().rse(),
     };
     writeln!(out, "{shown_end}")?;
     writeln!(out, "groups {groups}")?;
-    push_frame(out, machine.shape())?;
+    push_frame(out, machine.stack().shape())?;
     writeln!(out, "{shown_range}")
 }

@@ -43,7 +43,7 @@ pub fn state_text(alloc: Global, machine: &Machine<'_>, end: &End) -> Result<Vec
     push_predicates(&mut text, machine)?;
     push_branches(&mut text, machine)?;
     push_applications(&mut text, machine)?;
-    push_data(&mut text, machine.data())?;
-    push_alat(&mut text, machine.alat())?;
+    push_data(&mut text, machine.data().bytes())?;
+    push_alat(&mut text, machine.alat().entries())?;
     Ok(text.into_bytes())
 }

@@ -19,7 +19,6 @@ loop-preserved c =
       rest = rest_of p (progress_of c.args.self.now) (progress_of c.loop.self) (progress_of c.group_slot.new.self) c.loop.counter c.loop-test.true later c.loop.invariant.rest;
       event = event_of_rest p (progress_of c.args.self.now) (progress_of c.loop.self) (progress_of c.group_slot.new.self) c.loop.counter c.loop-test.true later c.loop.invariant.event;
       running = later.running;
-      kept = c.group_slot.ensures.kept;
       under_way = c.group_slot.ensures.under_way;
       slots = let more = later.slots in let before = c.loop.invariant.slots in omega (arith, more, before);
       room = let more = later.slots in λ none. absurd (omega (arith, more, none));

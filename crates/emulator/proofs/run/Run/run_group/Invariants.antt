@@ -2,7 +2,6 @@ use Rattle.std.proofs.Common.{◌≡◌, ◌-◌, ◌≤◌, ◌<◌, ◌+◌, �
 use Rattle.std.specs.Prelude.{None}
 use Rattle.ia_meaning.specs.Progress.{to_group_end}
 use Rattle.ia_meaning.specs.Runs.{IsUnderWay, event_to_end}
-use Rattle.emulator.specs.Registers.{AreKept}
 use Rattle.emulator.specs.Progress.{progress_of}
 use Rattle.emulator.proofs.run.Run.run_group.Given as goal
 
@@ -11,7 +10,6 @@ invariant-loop l = record {
   rest : to_group_end (192 - l.counter) l.program (progress_of l.self) ≡ to_group_end 192 l.program (progress_of l.fn.self);
   event : event_to_end (192 - l.counter) l.program (progress_of l.self) ≡ event_to_end 192 l.program (progress_of l.fn.self);
   running : l.self.end ≡ None;
-  kept : AreKept l.self.registers;
   under_way : IsUnderWay l.program (progress_of l.self);
   slots : l.counter ≤ l.self.slots;
   room : l.self.slots ≡ 0 → l.self.groups + 1 < 2 ^ 64;

@@ -1,0 +1,60 @@
+//! What a slot does.
+
+ghost use Rattle.std.specs.Prelude.{◌≡◌};
+ghost use Rattle.ia_meaning.specs.declared.next.Next.TheVariants.{Falls, Goes, Breaks, Faults};
+ghost use Rattle.machine_state.specs.declared.change.Change.TheVariants.{Nothing};
+
+use ia_insn::FaultKind;
+use ia_meaning::Next;
+use machine_state::Change;
+
+/// What a slot does: what it writes, and how the run goes on.
+#[derive(Clone, Copy, Debug)]
+pub(crate) struct Outcome {
+    /// What it writes.
+    pub change: Change,
+    /// How the run goes on.
+    pub next: Next,
+}
+
+impl Outcome {
+    /// It falls through.
+    pub fn falls(change: Change) -> Outcome
+        ensures { result ≡ record { change = change; next = Falls } }
+    {
+        Outcome {
+            change,
+            next: Next::Falls,
+        }
+    }
+
+    /// It takes a branch to a bundle.
+    pub fn goes(change: Change, bundle: u32) -> Outcome
+        ensures { result ≡ record { change = change; next = Goes bundle } }
+    {
+        Outcome {
+            change,
+            next: Next::Goes { bundle },
+        }
+    }
+
+    /// It ends the run with a number.
+    pub fn breaks(imm: u64) -> Outcome
+        ensures { result ≡ record { change = Nothing; next = Breaks imm } }
+    {
+        Outcome {
+            change: Change::Nothing,
+            next: Next::Breaks { imm },
+        }
+    }
+
+    /// It ends the run with a fault.
+    pub fn faults(kind: FaultKind) -> Outcome
+        ensures { result ≡ record { change = Nothing; next = Faults kind } }
+    {
+        Outcome {
+            change: Change::Nothing,
+            next: Next::Faults { kind },
+        }
+    }
+}

@@ -1,0 +1,5 @@
+pub mod PredicateWords
+pub mod MaskedWrites
+pub mod Names
+pub mod Frames
+pub mod Turns

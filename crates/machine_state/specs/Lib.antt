@@ -1,0 +1,3 @@
+pub mod Contents
+pub mod Changes
+pub mod Invariant

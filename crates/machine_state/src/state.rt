@@ -1,0 +1,229 @@
+//! The state.
+
+ghost use Rattle.std.specs.Prelude.{◌≡◌, ◌<◌, ◌≤◌, ◌%◌, ◌^◌, length, get_or, if◌then◌else◌, IfOk};
+ghost use Rattle.std.specs.Option.{option_map};
+ghost use Rattle.ia_meaning.specs.Names.{spot, look, predicate_place, holds};
+ghost use Rattle.ia_meaning.specs.Moves.{predicate_word, application};
+ghost use Rattle.ia_meaning.specs.Frames.{marked_frame, return_fault};
+ghost use Rattle.reg_stack.specs.Stacks.{kind_of};
+ghost use Rattle.machine_state.specs.Contents.{zero_contents, stack_of};
+
+use crate::previous_state::marker_of;
+use ia_insn::{Ar, Br, Gr, Pr};
+use ia_meaning::{AlatKey, Cell};
+use nat_alat::{Alat, DataMem};
+use reg_stack::{Stack, StackFault};
+use std::alloc::{AllocError, Global};
+use std::marker::Model;
+
+/// The most stacked registers that there may be.
+const STACK_LIMIT: u32 = 65_536;
+
+/// The registers and the memory of the machine. Contracts see what they hold, and the resident range of
+/// the register stack.
+#[derive(Debug, Drop)]
+pub struct MachineState {
+    /// r0 to r31. r0 is 0.
+    pub(crate) statics: [Cell; 32],
+    /// The stacked registers.
+    pub(crate) stack: Stack,
+    /// The predicates by place. That of p0 is 1.
+    pub(crate) predicates: [bool; 64],
+    /// b0 to b7.
+    pub(crate) branches: [u64; 8],
+    /// The NaT bits of spills.
+    pub(crate) unat: u64,
+    /// The previous function state.
+    pub(crate) pfs: u64,
+    /// The loop count.
+    pub(crate) lc: u64,
+    /// The epilog count, below 64.
+    pub(crate) ec: u64,
+    /// The data.
+    pub(crate) data: DataMem,
+    /// The advanced load address table.
+    pub(crate) alat: Alat,
+}
+
+impl Model for MachineState {
+    ghost use Rattle.machine_state.specs.Contents.{Contents};
+
+    ghost Value = { Contents };
+
+    ghost use Rattle.machine_state.specs.Invariant.{contents_of, IsKept};
+
+    ghost view = { contents_of };
+
+    ghost invariant = { IsKept };
+}
+
+/// 2 to the n-th power where the bit is set, and else 0.
+fn place_value(n: usize, is_set: bool) -> u64
+    requires { n < 64 }
+    ensures { result ≡ (if is_set then 2 ^ n else 0) }
+{
+    if is_set { 1 << n } else { 0 }
+}
+
+/// The predicates as a word: bit n is that of place n.
+#[tactic(auto, using(crate::proofs::PredicateWords::whole))]
+fn word_of(predicates: &[bool; 64]) -> u64
+    ensures { result ≡ predicate_word predicates.now }
+{
+    let mut word = 0;
+    for n in 0..64 {
+        word += place_value(n, predicates[n]);
+    }
+    word
+}
+
+impl MachineState {
+    /// Every register is 0 without NaT, p0 is 1, the frame and the ALAT are empty, and the data are these:
+    /// at most 1,048,576 bytes, a multiple of 8. No call after this one takes memory.
+    ///
+    /// # Errors
+    ///
+    /// Want of memory.
+    pub fn open(alloc: Global, bytes: &[u8]) -> Result<MachineState, AllocError>
+        requires most { length bytes.now ≤ 1_048_576 }
+        requires whole { length bytes.now % 8 ≡ 0 }
+        ensures { IfOk result (λ s. s ≡ zero_contents bytes.now) }
+    {
+        let mut predicates = [false; 64];
+        predicates[0] = true;
+        let stack = Stack::open(alloc, STACK_LIMIT)?;
+        let data = DataMem::open(alloc, bytes)?;
+        Ok(MachineState {
+            statics: [Cell {
+                value: 0,
+                nat: false,
+            }; 32],
+            stack,
+            predicates,
+            branches: [0; 8],
+            unat: 0,
+            pfs: 0,
+            lc: 0,
+            ec: 0,
+            data,
+            alat: Alat::new(),
+        })
+    }
+
+    /// The register stack.
+    pub fn stack(&self) -> &Stack
+        ensures { result.now ≡ stack_of self.now }
+    {
+        &self.stack
+    }
+
+    /// The data.
+    pub fn data(&self) -> &DataMem
+        ensures { result.now ≡ self.now.memory.bytes }
+    {
+        &self.data
+    }
+
+    /// The ALAT.
+    pub fn alat(&self) -> &Alat
+        ensures { result.now ≡ self.now.memory.alat }
+    {
+        &self.alat
+    }
+
+    /// The place of a general register; None outside the frame.
+    #[tactic(auto, using(crate::proofs::Names::spot_static))]
+    pub fn spot(&self, r: Gr) -> Option<AlatKey>
+        ensures { result ≡ spot self.now.registers.frame r }
+    {
+        let n = r.number();
+        if n < 32 {
+            return Some(AlatKey::Static(n));
+        }
+        match self.stack.cell_number(r) {
+            Some(n) => Some(AlatKey::Stacked(n)),
+            None => None,
+        }
+    }
+
+    /// What a general register holds; None outside the frame.
+    pub fn general(&self, r: Gr) -> Option<Cell>
+        ensures { result ≡ look self.now.registers r }
+    {
+        let n = r.number() as usize;
+        if n < 32 {
+            return Some(self.statics[n]);
+        }
+        match self.stack.get(r) {
+            Ok(cell) => Some(cell),
+            Err(_) => None,
+        }
+    }
+
+    /// The place of a predicate.
+    pub(crate) fn predicate_place(&self, p: Pr) -> usize
+        ensures value { result ≡ predicate_place self.now.registers.frame p }
+        ensures within { result < 64 }
+    {
+        usize::from(rotation::pr_place(p.number(), self.stack.shape().rrbs.pr))
+    }
+
+    /// Whether a predicate is 1.
+    pub fn holds(&self, p: Pr) -> bool
+        ensures { result ≡ holds self.now.registers p }
+    {
+        self.predicates[self.predicate_place(p)]
+    }
+
+    /// The predicates as a word: bit n is that of place n.
+    pub fn predicate_word(&self) -> u64
+        ensures { result ≡ predicate_word self.now.registers.predicates }
+    {
+        word_of(&self.predicates)
+    }
+
+    /// What a branch register holds.
+    pub fn branch(&self, b: Br) -> u64
+        ensures { result ≡ get_or self.now.registers.branches b 0 }
+    {
+        b.has_three_bits();
+        self.branches[b.number() as usize]
+    }
+
+    /// What an application register holds.
+    pub fn application(&self, ar: Ar) -> u64
+        ensures value { result ≡ application self.now.registers ar }
+    {
+        match ar {
+            Ar::Unat => self.unat,
+            Ar::Pfs => self.pfs,
+            Ar::Lc => self.lc,
+            Ar::Ec => self.ec,
+        }
+    }
+
+    /// The loop count.
+    pub fn loop_count(&self) -> u64
+        ensures { result ≡ self.now.registers.lc }
+    {
+        self.lc
+    }
+
+    /// The epilog count, below 64.
+    pub fn epilog_count(&self) -> u64
+        ensures value { result ≡ self.now.registers.ec }
+        ensures within { result < 64 }
+    {
+        self.ec
+    }
+
+    /// Why a return by the previous function state is refused, where it is: that it is no frame, that its
+    /// locals reach below the first cell, or that there are too many cells.
+    #[tactic(auto, using(crate::proofs::Frames::return_fault_low))]
+    pub fn return_fault(&self) -> Option<StackFault>
+        ensures { option_map kind_of result ≡ return_fault self.now.registers.frame.base (marked_frame self.now.registers.frame.base self.now.registers.pfs) }
+    {
+        reg_stack::return_fault_is_that();
+        self.stack.may_ret(marker_of(self.pfs)).err()
+    }
+}
