@@ -1,0 +1,198 @@
+-- What an instruction reads and writes (volume 3, chapter 5, resource and dependency semantics): of each form of effect
+-- rows that are there or not.
+use Rattle.std.specs.Prelude.{ℕ, zero, suc, Bool, true, false, not, ◌||◌, ◌&&◌, List, [], ◌∷◌, ◌++◌}
+use Rattle.std.specs.List.{list_any}
+use Rattle.ia_insn.specs.declared.choices.Unit.{Unit as ExecutionUnit}
+use Rattle.ia_insn.specs.declared.choices.Unit.TheVariants.{B}
+use Rattle.ia_insn.specs.declared.choices.CmpKind.{CmpKind}
+use Rattle.ia_insn.specs.declared.choices.CmpKind.TheVariants as cmp
+use Rattle.ia_insn.specs.declared.choices.LoadKind.{LoadKind}
+use Rattle.ia_insn.specs.declared.choices.LoadKind.TheVariants as load
+use Rattle.ia_insn.specs.declared.choices.StoreKind.{StoreKind}
+use Rattle.ia_insn.specs.declared.choices.StoreKind.TheVariants as store
+use Rattle.ia_insn.specs.declared.choices.BranchKind.{BranchKind}
+use Rattle.ia_insn.specs.declared.choices.BranchKind.TheVariants as branch
+use Rattle.ia_insn.specs.declared.choices.Update.{Update}
+use Rattle.ia_insn.specs.declared.choices.Update.TheVariants as update
+use Rattle.ia_insn.specs.declared.registers.Ar.{Ar}
+use Rattle.ia_insn.specs.declared.registers.Ar.TheVariants as ar
+use Rattle.ia_insn.specs.declared.insn.Insn.{Insn}
+use Rattle.ia_meaning.specs.declared.form.Source.{Source}
+use Rattle.ia_meaning.specs.declared.form.Source.TheVariants as source
+use Rattle.ia_meaning.specs.declared.form.Goal.{Goal}
+use Rattle.ia_meaning.specs.declared.form.Goal.TheVariants as goal
+use Rattle.ia_meaning.specs.declared.form.Form.{Form}
+use Rattle.ia_meaning.specs.declared.form.Form.TheVariants as form
+use Rattle.ia_meaning.specs.Names.{is_stacked, is_rotating}
+use Rattle.ia_meaning.specs.Actions.{action_of, form_of}
+use Rattle.ia_meaning.specs.Moves.{is_masked}
+use Rattle.ia_meaning.specs.Loads.{update_register}
+use Rattle.resource_sets.specs.declared.access.Resource.{Resource}
+use Rattle.resource_sets.specs.declared.access.Resource.TheVariants.{Gr, Pr, Br, Unat, Pfs, Lc, Ec, Cfm}
+use Rattle.resource_sets.specs.declared.access.Kind.{Kind}
+use Rattle.resource_sets.specs.declared.access.Kind.TheVariants.{Read, BranchRead, Write, AllocWrite, LoopWrite, OrWrite, AndWrite, Spill, Fill}
+use Rattle.resource_sets.specs.declared.access.Access.{Access}
+use Rattle.resource_sets.specs.declared.row.Row.{Row}
+use Rattle.resource_sets.specs.Rows.{is_named, gr, pr, always, listed}
+
+-- the two targets of a test
+abbrev pub test_rows : CmpKind → ℕ → ℕ → List Row
+test_rows cmp.Normal p q = pr true p Write ∷ pr true q Write ∷ []
+test_rows cmp.Unc p q = pr false p Write ∷ pr false q Write ∷ []
+test_rows cmp.Or p q = pr true p OrWrite ∷ pr true q OrWrite ∷ []
+test_rows cmp.And p q = pr true p AndWrite ∷ pr true q AndWrite ∷ []
+test_rows cmp.OrAndcm p q = pr true p OrWrite ∷ pr true q AndWrite ∷ []
+
+abbrev pub is_updated : Update → Bool
+is_updated update.None = false
+is_updated u = true
+
+-- the base of a load or a store, which may be updated
+abbrev pub base_row : Update → ℕ → Row
+base_row u r = record { there = is_updated u && is_named r; guarded = true; resource = Gr r; kind = Write }
+
+-- The rows of the registers and predicates that an instruction names.
+abbrev pub named_rows : Form → List Row
+named_rows (form.Compute r1 r2 r3) = gr r2 Read ∷ gr r3 Read ∷ gr r1 Write ∷ []
+named_rows (form.Fetch r1 source) = gr r1 Write ∷ []
+named_rows (form.Test kind p1 p2 r2 r3) = gr r2 Read ∷ gr r3 Read ∷ test_rows kind p1 p2
+named_rows (form.ToPredicates r2 mask) = gr r2 Read ∷ []
+named_rows (form.ToBranch b1 r2) = gr r2 Read ∷ []
+named_rows (form.ToApplication ar r2) = gr r2 Read ∷ []
+named_rows (form.FromMemory size kind r1 r3 u) = gr r3 Read ∷ gr (update_register u) Read ∷ gr r1 Write ∷ base_row u r3 ∷ []
+named_rows (form.ToMemory size kind r3 r2 u) = gr r3 Read ∷ gr r2 Read ∷ base_row u r3 ∷ []
+named_rows (form.CheckNat r2 disp) = gr r2 Read ∷ []
+named_rows (form.Allocate r1 sof sol sor) = gr r1 Write ∷ []
+named_rows form = []
+
+-- the register that an instruction names and neither reads nor writes, or r0
+abbrev pub other_name : Form → ℕ
+other_name (form.CheckAlat clear r1 disp) = r1
+other_name (form.Forget r1) = r1
+other_name form = 0
+
+abbrev pub application : Ar → Resource
+application ar.Unat = Unat
+application ar.Pfs = Pfs
+application ar.Lc = Lc
+application ar.Ec = Ec
+
+-- so many predicates from the n-th on
+abbrev pub predicate_rows : ℕ → ℕ → Kind → List Row
+predicate_rows zero n kind = []
+predicate_rows (suc left) n kind = pr true n kind ∷ predicate_rows left (suc n) kind
+
+abbrev pub masked_rows : ℕ → ℕ → ℕ → List Row
+masked_rows zero n mask = []
+masked_rows (suc left) n mask = record { there = is_masked mask n; guarded = true; resource = Pr n; kind = Write } ∷ masked_rows left (suc n) mask
+
+-- p1 to p63
+unfoldable pub all_predicates : List Row
+all_predicates = predicate_rows 63 1 Read
+
+unfoldable pub mask_rows : ℕ → List Row
+mask_rows mask = masked_rows 63 1 mask
+
+abbrev pub source_rows : Source → List Row
+source_rows (source.Branch b) = always true (Br b) Read ∷ []
+source_rows (source.Application a) = always true (application a) Read ∷ []
+source_rows source = []
+
+abbrev pub is_fill : LoadKind → Bool
+is_fill load.Fill = true
+is_fill kind = false
+
+abbrev pub is_spill : StoreKind → Bool
+is_spill store.Spill = true
+is_spill kind = false
+
+-- the branch register that an indirect call reads
+abbrev pub goal_row : Goal → Row
+goal_row (goal.Direct disp) = record { there = false; guarded = false; resource = Cfm; kind = Read }
+goal_row (goal.Indirect b2) = always true (Br b2) BranchRead
+
+abbrev pub call_rows : ℕ → Goal → List Row
+call_rows b1 goal =
+    always true Cfm Read ∷ always true Cfm Write ∷ always true Pfs Write ∷ always true Ec Read ∷ always true (Br b1) Write ∷ goal_row goal ∷ []
+
+-- a loop that counts by EC and rotates
+abbrev pub rotating_rows : List Row
+rotating_rows = always false Ec Read ∷ always false Ec Write ∷ always false Cfm Read ∷ always false Cfm Write ∷ always false (Pr 63) LoopWrite ∷ []
+
+abbrev pub counting_rows : List Row
+counting_rows = always false Lc Read ∷ always false Lc Write ∷ []
+
+abbrev pub loop_rows : BranchKind → List Row
+loop_rows branch.Cloop = counting_rows
+loop_rows branch.Ctop = counting_rows ++ rotating_rows
+loop_rows branch.Cexit = counting_rows ++ rotating_rows
+loop_rows branch.Wtop = rotating_rows
+loop_rows branch.Wexit = rotating_rows
+loop_rows branch.Cond = []
+
+-- The rows of what an instruction accesses besides.
+abbrev pub other_rows : Form → List Row
+other_rows (form.Fetch r1 source) = source_rows source
+other_rows (form.ToBranch b1 r2) = always true (Br b1) Write ∷ []
+other_rows (form.ToApplication a r2) = always true (application a) Write ∷ []
+other_rows (form.FromMemory size kind r1 r3 u) = record { there = is_fill kind; guarded = true; resource = Unat; kind = Fill } ∷ []
+other_rows (form.ToMemory size kind r3 r2 u) = record { there = is_spill kind; guarded = true; resource = Unat; kind = Spill } ∷ []
+other_rows (form.Allocate r1 sof sol sor) = always true Pfs Read ∷ always true Cfm Read ∷ always true Cfm AllocWrite ∷ []
+other_rows (form.JumpIndirect b2) = always true (Br b2) BranchRead ∷ []
+other_rows (form.Loop kind disp) = loop_rows kind
+other_rows (form.Call b1 goal) = call_rows b1 goal
+other_rows (form.Return b2) =
+    always true (Br b2) BranchRead ∷ always true Pfs BranchRead ∷ always true Cfm Write ∷ always true Ec Write ∷ []
+other_rows (form.ClearBases pred_only) = always true Cfm Write ∷ []
+other_rows form = []
+
+-- The rows of predicates by place.
+abbrev pub placed_rows : Form → List Row
+placed_rows (form.Fetch r1 source.Predicates) = all_predicates
+placed_rows (form.ToPredicates r2 mask) = mask_rows mask
+placed_rows form = []
+
+-- how the qualifying predicate is read
+abbrev pub reads_plainly : Form → Bool
+reads_plainly (form.Jump disp) = false
+reads_plainly (form.JumpIndirect b2) = false
+reads_plainly (form.Loop kind disp) = false
+reads_plainly (form.Call b1 goal) = false
+reads_plainly (form.Return b2) = false
+reads_plainly form = true
+
+abbrev pub is_branch_unit : ExecutionUnit → Bool
+is_branch_unit B = true
+is_branch_unit unit = false
+
+-- a `break`, `nop` or `hint` of unit B reads it in both ways
+abbrev pub reads_as_branch : Form → Bool
+reads_as_branch (form.Stop unit imm) = is_branch_unit unit
+reads_as_branch (form.Idle unit) = is_branch_unit unit
+reads_as_branch form = not (reads_plainly form)
+
+abbrev pub qp_rows : ℕ → Form → List Row
+qp_rows qp f =
+    record { there = is_named qp && reads_plainly f; guarded = false; resource = Pr qp; kind = Read }
+    ∷ record { there = is_named qp && reads_as_branch f; guarded = false; resource = Pr qp; kind = BranchRead } ∷ []
+
+-- a name of the frame
+abbrev pub is_framed : Resource → Bool
+is_framed (Gr r) = is_stacked r
+is_framed (Pr p) = is_rotating p
+is_framed resource = false
+
+abbrev pub any_framed : List Row → Bool
+any_framed rows = list_any (λ row. is_framed row.resource) rows
+
+-- what a name of the frame depends on
+abbrev pub frame_row : ℕ → Form → Row
+frame_row qp f = record { there = is_rotating qp || (is_stacked (other_name f) || any_framed (named_rows f)); guarded = false; resource = Cfm; kind = Read }
+
+-- All rows of an instruction.
+unfoldable pub rows : ℕ → Form → List Row
+rows qp f = frame_row qp f ∷ (qp_rows qp f ++ (named_rows f ++ (other_rows f ++ placed_rows f)))
+
+-- The accesses of an instruction.
+abbrev pub accesses : Insn → List Access
+accesses insn = listed insn.qp (rows insn.qp (form_of (action_of insn.op)))
