@@ -1,5 +1,5 @@
 -- Slots whose registers are in the frame, or outside it.
-use Rattle.std.proofs.Common.{ℕ, zero, suc, ◌≡◌, false, not, ◌||◌, ◌&&◌, if◌then◌else◌, [], refl, sym, subst, ◌∙◌, inl, inr}
+use Rattle.std.proofs.Common.{ℕ, zero, suc, ◌≡◌, Bool, if◌then◌else◌, refl, sym, subst, ◌∙◌, inl, inr}
 use Rattle.std.specs.Prelude.{◌≢◌, Option, Some, None}
 use Rattle.ia_insn.specs.declared.choices.LoadKind.{LoadKind}
 use Rattle.ia_insn.specs.declared.choices.StoreKind.{StoreKind}
@@ -8,12 +8,12 @@ use Rattle.ia_insn.specs.declared.ending.FaultKind.TheVariants.{OutOfFrame, NatC
 use Rattle.ia_meaning.specs.declared.state.Cell.{Cell}
 use Rattle.ia_meaning.specs.declared.state.FrameShape.{FrameShape}
 use Rattle.ia_meaning.specs.declared.state.AlatKey.{AlatKey}
-use Rattle.ia_meaning.specs.State.{zero_cell, Registers, Memory}
+use Rattle.ia_meaning.specs.State.{Registers, Memory}
 use Rattle.ia_meaning.specs.Names.{spot, look, cell_at}
 use Rattle.ia_meaning.specs.Outcomes.{faults}
 use Rattle.ia_meaning.specs.Moves.{computed}
-use Rattle.ia_meaning.specs.Loads.{access_fault, base_writes, takes_nat, load_failed, load_checked, from_memory, store_tried, to_memory}
-use Rattle.machine_state.specs.Changes.{set_some}
+use Rattle.ia_meaning.specs.Loads.{load_failed, load_checked, from_memory, to_memory}
+use Rattle.machine_state.specs.Changes.{update_at}
 use Rattle.emulator.specs.Outcomes.{IsMissing}
 
 none_missing : (d : AlatKey) (a b : Cell) → IsMissing (Some d) (Some a) (Some b) → ⊥
@@ -59,14 +59,11 @@ has_place r (suc n) c e = λ none.
     let outside : cell_at r None ≡ Some c = subst (λ d. cell_at r d ≡ Some c) none h in
     cc
 
--- A load whose registers are in the frame, with the new base w.
-pub from_memory_there : (size : ℕ) (kind : LoadKind) (u : Update) (d : AlatKey) (f : FrameShape) (r3 : ℕ) (base more : Cell) (m : Memory) (unat : ℕ) (w : Option (ℕ × Cell)) → spot f r3 ≢ None → ((e : AlatKey) → spot f r3 ≡ Some e → set_some f w [] ≡ base_writes u e base more) → from_memory size kind u (Some d) (spot f r3) (Some base) (Some more) m unat ≡ (if base.nat then load_failed NatConsumed kind d m (set_some f w []) else load_checked kind (record { key = d; address = base.value; size = size }) m unat (set_some f w []))
-from_memory_there size kind u d f r3 base more m unat w some same = by_place (spot f r3) refl
+-- A load whose registers are in the frame, and whose base may have NaT.
+pub from_memory_there : (size : ℕ) (kind : LoadKind) (u : Update) (d : AlatKey) (r : Registers) (r3 : ℕ) (base more : Cell) (m : Memory) (unat : ℕ) (nat : Bool) → look r r3 ≡ Some base → base.nat ≡ nat
+    → from_memory size kind u (Some d) (spot r.frame r3) (Some base) (Some more) m unat ≡ (if nat then load_failed NatConsumed kind d m (update_at (spot r.frame r3) u base more) else load_checked kind (record { key = d; address = base.value; size = size }) m unat (update_at (spot r.frame r3) u base more))
+from_memory_there size kind u d r r3 base more m unat nat at is = by_place (spot r.frame r3) refl
   where
-    by_place : (o : Option AlatKey) → spot f r3 ≡ o → from_memory size kind u (Some d) o (Some base) (Some more) m unat ≡ (if base.nat then load_failed NatConsumed kind d m (set_some f w []) else load_checked kind (record { key = d; address = base.value; size = size }) m unat (set_some f w []))
-    by_place None e = absurd (some e)
-    by_place (Some e) at = rw (same e at) refl
-
--- A store whose registers are in the frame, with the new base w.
-pub to_memory_there : (size : ℕ) (kind : StoreKind) (u : Update) (e : AlatKey) (f : FrameShape) (r3 : ℕ) (base x : Cell) (m : Memory) (w : Option (ℕ × Cell)) → spot f r3 ≡ Some e → ((e : AlatKey) → spot f r3 ≡ Some e → set_some f w [] ≡ base_writes u e base zero_cell) → (base.nat || (x.nat && not (takes_nat kind))) ≡ false → to_memory size kind u (Some e) (Some base) (Some x) m ≡ store_tried (access_fault m.bytes base.value size) size kind base.value x m (set_some f w [])
-to_memory_there size kind u e f r3 base x m w at same fine = rw (fine, same e at) refl
+    by_place : (o : Option AlatKey) → spot r.frame r3 ≡ o → from_memory size kind u (Some d) o (Some base) (Some more) m unat ≡ (if nat then load_failed NatConsumed kind d m (update_at o u base more) else load_checked kind (record { key = d; address = base.value; size = size }) m unat (update_at o u base more))
+    by_place None e = absurd (has_place r r3 base at e)
+    by_place (Some e) there = rw is refl

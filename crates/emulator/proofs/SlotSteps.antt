@@ -1,6 +1,6 @@
 -- A step of the machine at a place of its program.
 use Rattle.std.proofs.Common.{◌≡◌, ℕ, List, Bool, refl, sym, ap, subst, ◌∙◌}
-use Rattle.std.specs.Prelude.{Some, None, IsSome, IsSomeAnd, IsTrue, ◌↔◌, slice_get}
+use Rattle.std.specs.Prelude.{Option, Some, None, IsSome, IsSomeAnd, IsTrue, ◌↔◌, slice_get}
 use Rattle.ia_insn.specs.declared.insn.Insn.{Insn}
 use Rattle.ia_insn.specs.declared.place.Place.{Place}
 use Rattle.ia_insn.specs.Bundles.{Bundle, slot_insn, IsStopAfter}
@@ -9,14 +9,15 @@ use Rattle.ia_insn.specs.Programs.{Program}
 use Rattle.ia_meaning.specs.State.{State}
 use Rattle.ia_meaning.specs.declared.next.Next.TheVariants.{Falls, Goes}
 use Rattle.ia_meaning.specs.Sequence.{first_of, next_of, is_stopped}
-use Rattle.ia_meaning.specs.Steps.{outcome_of as step_outcome, how_falling, place_after, step_of, step_by, seq_step}
+use Rattle.ia_meaning.specs.Effects.{site, effect}
+use Rattle.ia_meaning.specs.Steps.{how_falling, step_of, seq_step}
 use Rattle.ia_meaning.specs.Progress.{slots_after, stepped}
 use Rattle.ia_meaning.proofs.Sequences.{stop_same}
 use Rattle.machine_state.specs.Changes.{outcome_with}
 use Rattle.emulator.specs.declared.outcome.Outcome.{Outcome}
 use Rattle.emulator.specs.declared.run.Run.{Run}
 use Rattle.emulator.specs.Outcomes.{outcome_of}
-use Rattle.emulator.specs.Progress.{state_of, progress_of, arrived}
+use Rattle.emulator.specs.Progress.{state_of, progress_of, settled_step, arrived}
 
 pub stop_here : (bundles : List Bundle) (place : Place) (b : Bundle) (r : Bool) → slice_get bundles place.bundle ≡ Some b → IsTrue r ↔ IsStopAfter b.template b.slots place.slot → r ≡ is_stopped bundles place
 stop_here bundles place b r at h =
@@ -41,12 +42,18 @@ unfolding seq_step
 step_is p s = refl
 
 -- the step of an instruction
-pub step_here : (p : Program) (s : State) (b : Bundle) (i : Insn) → slice_get p.bundles s.place.bundle ≡ Some b → slot_insn b.slots s.place.slot ≡ Some i → seq_step p s ≡ step_by p s (step_outcome p s i) (step_outcome p s i).next
-step_here p s b i at e = step_is p s ∙ ap (step_of p s) (insn_here p.bundles s.place b i at e)
+pub step_here : (p : Program) (s : State) (b : Bundle) (i : Insn) (next : Option Place) → slice_get p.bundles s.place.bundle ≡ Some b → slot_insn b.slots s.place.slot ≡ Some i → next ≡ next_of p.bundles s.place
+    → seq_step p s ≡ settled_step p s next (effect (site p s.place.bundle) i s.registers s.memory s.registers.unat)
+step_here p s b i next at e n =
+    step_is p s ∙ ap (step_of p s) (insn_here p.bundles s.place b i at e)
+    ∙ ap (λ n. settled_step p s n (effect (site p s.place.bundle) i s.registers s.memory s.registers.unat)) (sym n)
 
 -- A run goes on to the next place, or to a bundle, with a change.
-pub falls_on : (r : Run) (p : Program) (o : Outcome) → r.end ≡ None → stepped (progress_of r) (step_by p (state_of r) (outcome_of r.state o) Falls) ≡ arrived (progress_of r) (outcome_with r.state o.change Falls) (place_after r.place (next_of p.bundles r.place)) (slots_after r.slots (how_falling (is_stopped p.bundles r.place)))
-falls_on r p o running = cc
+pub falls_on : (r : Run) (p : Program) (o : Outcome) (next : Place) → r.end ≡ None → o.next ≡ Falls → Some next ≡ next_of p.bundles r.place
+    → stepped (progress_of r) (settled_step p (state_of r) (Some next) (outcome_of r.state o)) ≡ arrived (progress_of r) (outcome_with r.state o.change Falls) next (slots_after r.slots (how_falling (is_stopped p.bundles r.place)))
+falls_on r p o next running falls e = rw falls (rw (← e) (cc))
 
-pub goes_on : (r : Run) (p : Program) (o : Outcome) (bundle : ℕ) → r.end ≡ None → stepped (progress_of r) (step_by p (state_of r) (outcome_of r.state o) (Goes bundle)) ≡ arrived (progress_of r) (outcome_with r.state o.change Falls) (first_of bundle) 0
-goes_on r p o bundle running = cc
+pub goes_on : (r : Run) (p : Program) (o : Outcome) (next : Option Place) (bundle : ℕ) → r.end ≡ None → o.next ≡ Goes bundle
+    → stepped (progress_of r) (settled_step p (state_of r) next (outcome_of r.state o)) ≡ arrived (progress_of r) (outcome_with r.state o.change Falls) (first_of bundle) 0
+goes_on r p o None bundle running goes = rw goes (cc)
+goes_on r p o (Some next) bundle running goes = rw goes (cc)

@@ -1,8 +1,7 @@
 -- The slots of a program that the machine runs.
-use Rattle.std.proofs.Common.{◌≡◌, ℕ, List, [], ◌∷◌, Bool, true, false, refl, subst, inl, inr}
+use Rattle.std.proofs.Common.{◌≡◌, ℕ, List, [], ◌∷◌, Bool, true, false, subst, inl, inr}
 use Rattle.std.specs.Prelude.{Option, Some, None, ◌==◌, if◌then◌else◌}
 use Rattle.ia_insn.specs.declared.insn.Insn.{Insn}
-use Rattle.ia_insn.specs.declared.place.Place.{Place}
 use Rattle.ia_insn.specs.declared.choices.Unit.{Unit as ExecutionUnit}
 use Rattle.ia_insn.specs.declared.choices.Unit.TheVariants.{M, I, F, B, L, X}
 use Rattle.ia_insn.specs.declared.bundle.Slots.{Slots}
@@ -13,10 +12,6 @@ use Rattle.ia_insn.specs.Fits.{FitsUnit}
 use Rattle.ia_insn.specs.Listed.{IsListed}
 use Rattle.ia_insn.specs.Ranges.{HasRanges}
 use Rattle.ia_insn.proofs.OperandRanges.{ranges_of_listed}
-use Rattle.ia_meaning.specs.State.{Memory}
-use Rattle.ia_meaning.specs.declared.next.Next.{Next}
-use Rattle.ia_meaning.specs.Outcomes.{Outcome}
-use Rattle.ia_meaning.specs.Steps.{settled}
 
 -- each instruction of the slots has P
 abbrev pub EachSlot : (Insn → Type 0) → Slots → Type 0
@@ -59,7 +54,3 @@ listed_each (u ∷ v ∷ w ∷ x ∷ more) slots h = absurd h
 -- an instruction of a bundle has its operands in range
 pub ranges_at : (b : Bundle) (k : ℕ) (i : Insn) → IsBundle b → slot_insn b.slots k ≡ Some i → HasRanges i.op
 ranges_at b k i fit e = ranges_of_listed i (at_slot IsListed b.slots k i (listed_each (units_of b.template) b.slots fit) e)
-
--- with a next place an outcome stays as it is
-pub settled_inside : (next : Place) (m : Memory) (way : Next) (o : Outcome) → settled (Some next) m way o ≡ o
-settled_inside next m way o = refl

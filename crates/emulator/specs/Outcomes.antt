@@ -1,16 +1,18 @@
 -- What a slot does, and the actions of forms.
-use Rattle.std.specs.Prelude.{◌≡◌, ◌⊎◌, ℕ, Bool, Option, None}
+use Rattle.std.specs.Prelude.{◌≡◌, ◌⊎◌, ℕ, Bool, Option, Some, None}
 use Rattle.ia_meaning.specs.declared.state.Cell.{Cell}
 use Rattle.ia_meaning.specs.declared.state.AlatKey.{AlatKey}
 use Rattle.ia_meaning.specs.declared.form.Form.{Form}
 use Rattle.ia_meaning.specs.declared.form.Form.TheVariants as form
-use Rattle.ia_meaning.specs.State.{Memory}
+use Rattle.ia_meaning.specs.State.{Registers, Memory}
+use Rattle.ia_meaning.specs.Names.{spot}
 use Rattle.ia_meaning.specs.Actions.{Action, Compute, Fetch, Test, ToPredicates, ToBranch, ToApplication, FromMemory, ToMemory, CheckNat, CheckAlat, ForgetAll, Forget, Allocate, Jump, JumpIndirect, Loop, Call, Return, ClearBases, Stop, Idle}
 use Rattle.ia_meaning.specs.Outcomes.{Outcome}
 use Rattle.machine_state.specs.declared.change.Change.{Change}
 use Rattle.machine_state.specs.Contents.{Contents}
-use Rattle.machine_state.specs.Changes.{memory_after, spills_of, outcome_with}
+use Rattle.machine_state.specs.Changes.{held, memory_after, spills_of, outcome_with}
 use Rattle.emulator.specs.declared.outcome.Outcome.{Outcome as Held}
+use Rattle.emulator.specs.declared.loads.FoundLoad.{FoundLoad}
 
 -- the outcome of a slot from this state
 abbrev pub outcome_of : Contents → Held → Outcome
@@ -18,8 +20,13 @@ outcome_of c o = outcome_with c o.change o.next
 
 -- A change of registers alone.
 pub record IsPlain (change : Change) : Type 0 where
-  pub memory : (m : Memory) → memory_after change m ≡ m
-  pub spills : spills_of change ≡ None
+  pub memory : (r : Registers) (m : Memory) → memory_after r change m ≡ m
+  pub spills : (r : Registers) → spills_of r change ≡ None
+
+-- A load is of these registers: its target has that place, and its base that address.
+pub record IsLoadOf (r : Registers) (load : FoundLoad) : Type 0 where
+  pub place : spot r.frame load.r1 ≡ Some load.entry.key
+  pub address : (held r load.r3).value ≡ load.entry.address
 
 -- the action of a form and functions
 abbrev pub action_with : Form → (ℕ → ℕ → ℕ) → (ℕ → ℕ) → (Cell → Cell → Option Bool) → Action

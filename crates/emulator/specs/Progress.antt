@@ -1,12 +1,12 @@
 -- How far a run of the machine has come.
-use Rattle.std.specs.Prelude.{◌≡◌, ℕ, suc, ◌+◌, None}
+use Rattle.std.specs.Prelude.{◌≡◌, ℕ, suc, ◌+◌, Option, None}
 use Rattle.ia_insn.specs.declared.ending.GroupEvent.{GroupEvent}
 use Rattle.ia_insn.specs.Programs.{Program}
 use Rattle.ia_insn.specs.declared.place.Place.{Place}
 use Rattle.ia_meaning.specs.State.{State}
 use Rattle.ia_meaning.specs.Writes.{frame_changes}
 use Rattle.ia_meaning.specs.Outcomes.{Outcome}
-use Rattle.ia_meaning.specs.Steps.{registers_after}
+use Rattle.ia_meaning.specs.Steps.{Step, settled, step_by, registers_after}
 use Rattle.ia_meaning.specs.ResidentRange.{range_of}
 use Rattle.ia_meaning.specs.Progress.{Progress, to_group_end}
 use Rattle.ia_meaning.specs.Runs.{event_to_end}
@@ -22,6 +22,10 @@ state_of r = state_at r.state r.place
 
 abbrev pub progress_of : Run → Progress
 progress_of r = record { state = state_of r; end = r.end; groups = r.groups; first = r.first; slots = r.slots; range = r.state.range }
+
+-- the step of an outcome with this next place
+abbrev pub settled_step : Program → State → Option Place → Outcome → Step
+settled_step p s next o = let settled = settled next s.memory o.next o in step_by p s settled settled.next
 
 -- a run that has come to a place by an outcome, with so many slots of the group before it
 abbrev pub arrived : Progress → Outcome → Place → ℕ → Progress

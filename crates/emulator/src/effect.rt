@@ -2,7 +2,7 @@
 
 ghost use Rattle.std.specs.Prelude.{◌≡◌, ◌<◌};
 ghost use Rattle.ia_insn.specs.Ranges.{HasRanges};
-ghost use Rattle.ia_meaning.specs.Actions.{action_of};
+ghost use Rattle.ia_meaning.specs.Actions.{action_of, form_of};
 ghost use Rattle.ia_meaning.specs.Effects.{site, act, skip, effect};
 ghost use Rattle.machine_state.specs.Changes.{MayChange};
 ghost use Rattle.emulator.specs.Outcomes.{outcome_of};
@@ -15,17 +15,18 @@ use crate::moves::{compute, fetch, skip_test, test, to_application, to_branch, t
 use crate::outcome::Outcome;
 use ia_insn::{Insn, Op, Program};
 use ia_meaning::{Form, form_of};
-use machine_state::{AlatChange, Change, MachineState};
+use machine_state::{Change, MachineState};
 
 /// What an instruction does that is executed.
 #[tactic(auto, using(crate::proofs::Actions::rebuilt, crate::proofs::Ranges::load_size, crate::proofs::Ranges::store_size, crate::proofs::Ranges::frame_sizes))]
-fn act(state: &MachineState, program: &Program, bundle: u32, op: &Op) -> Outcome
+fn act(state: &MachineState, program: &Program, bundle: u32, op: &Op, form: Form) -> Outcome
     requires place { bundle < 4096 }
     requires ranges { HasRanges op.now }
+    requires form { form ≡ form_of (action_of op.now) }
     ensures value { outcome_of state.now result ≡ act (site program.now bundle) (action_of op.now) state.now.registers state.now.memory state.now.registers.unat }
     ensures may { MayChange state.now result.change }
 {
-    match form_of(op) {
+    match form {
         Form::Compute { r1, r2, r3 } => compute(state, op, r1, r2, r3),
         Form::Fetch { r1, source } => fetch(state, bundle, r1, source),
         Form::Test {
@@ -54,9 +55,7 @@ fn act(state: &MachineState, program: &Program, bundle: u32, op: &Op) -> Outcome
         } => store(state, size, kind, r3, r2, update),
         Form::CheckNat { r2, disp } => check_nat(state, bundle, r2, disp),
         Form::CheckAlat { clear, r1, disp } => check_alat(state, bundle, clear, r1, disp),
-        Form::ForgetAll => Outcome::falls(Change::Alat {
-            change: AlatChange::Clears,
-        }),
+        Form::ForgetAll => Outcome::falls(Change::AllForgotten),
         Form::Forget { r1 } => forget(state, r1),
         Form::Allocate { r1, sof, sol, sor } => allocate(state, r1, sof, sol, sor),
         Form::Jump { disp } => Outcome::goes(Change::Nothing, target(bundle, disp)),
@@ -72,12 +71,13 @@ fn act(state: &MachineState, program: &Program, bundle: u32, op: &Op) -> Outcome
 
 /// What an instruction does whose qualifying predicate is 0: nothing but for `unc` tests and loop branches.
 #[tactic(auto, using(crate::proofs::Actions::rebuilt))]
-fn skip(state: &MachineState, program: &Program, bundle: u32, op: &Op) -> Outcome
-    requires { bundle < 4096 }
+fn skip(state: &MachineState, program: &Program, bundle: u32, op: &Op, form: Form) -> Outcome
+    requires place { bundle < 4096 }
+    requires form { form ≡ form_of (action_of op.now) }
     ensures value { outcome_of state.now result ≡ skip (site program.now bundle) (action_of op.now) state.now.registers state.now.memory }
     ensures may { MayChange state.now result.change }
 {
-    match form_of(op) {
+    match form {
         Form::Test { kind, p1, p2, .. } => skip_test(kind, p1, p2),
         Form::Loop { kind, disp } => turn(state, kind, false, target(bundle, disp)),
         _ => Outcome::falls(Change::Nothing),
@@ -91,9 +91,10 @@ pub(crate) fn effect(state: &MachineState, program: &Program, bundle: u32, insn:
     ensures value { outcome_of state.now result ≡ effect (site program.now bundle) insn.now state.now.registers state.now.memory state.now.registers.unat }
     ensures may { MayChange state.now result.change }
 {
+    let form = form_of(&insn.op);
     if state.holds(insn.qp) {
-        act(state, program, bundle, &insn.op)
+        act(state, program, bundle, &insn.op, form)
     } else {
-        skip(state, program, bundle, &insn.op)
+        skip(state, program, bundle, &insn.op, form)
     }
 }

@@ -3,27 +3,36 @@
 
 ghost use Rattle.std.specs.Prelude.{◌≡◌, ◌<◌, ◌||◌, ◌&&◌, not, if◌then◌else◌, List, [], Some, None, IfOk, IfErr};
 ghost use Rattle.ia_insn.specs.Ranges.{IsLoadSize, IsStoreSize};
-ghost use Rattle.ia_meaning.specs.declared.state.FrameShape.{FrameShape};
-ghost use Rattle.ia_meaning.specs.declared.state.AlatKey.{AlatKey};
 ghost use Rattle.ia_meaning.specs.declared.state.AlatEntry.{AlatEntry};
-ghost use Rattle.ia_insn.specs.declared.ending.FaultKind.TheVariants.{NatConsumed};
 ghost use Rattle.ia_meaning.specs.Names.{spot, look};
 ghost use Rattle.ia_meaning.specs.Landings.{target_of};
-ghost use Rattle.ia_meaning.specs.Loads.{access_fault, loaded, update_register, base_writes, is_speculative, is_check, takes_nat, load_nat, load_alat, load_hit, load_failed, load_tried, load_checked, from_memory, store_tried, to_memory, check_nat, check_alat, forget};
+ghost use Rattle.ia_meaning.specs.Loads.{access_fault, loaded, update_register, is_speculative, is_check, takes_nat, load_nat, load_made, load_hit, load_failed, load_tried, load_checked, from_memory, to_memory, check_nat, check_alat, forget};
 ghost use Rattle.nat_alat.specs.Faults.{fault_of};
-ghost use Rattle.machine_state.specs.Changes.{set_some, alat_after, MayChange};
-ghost use Rattle.emulator.specs.Outcomes.{outcome_of};
+ghost use Rattle.machine_state.specs.Changes.{load_update, MayChange};
+ghost use Rattle.emulator.specs.Outcomes.{outcome_of, IsLoadOf};
 
 use crate::landings::target;
 use crate::operands::operands;
 use crate::outcome::Outcome;
 use ia_insn::{Ar, FaultKind, Gr, LoadKind, StoreKind, Update};
-use ia_meaning::{AlatEntry, AlatKey, Cell};
-use machine_state::{AlatChange, Change, MachineState};
+use ia_meaning::{AlatEntry, Cell, update_register};
+use machine_state::{Change, MachineState};
 use nat_alat::MemFault;
 
-/// A register, and what it gets.
-type Target = (Gr, Cell);
+/// A load whose registers are in the frame, and have no NaT where one forbids it.
+#[derive(Clone, Copy, Debug)]
+struct FoundLoad {
+    /// The load type.
+    kind: LoadKind,
+    /// The target.
+    r1: Gr,
+    /// The base.
+    r3: Gr,
+    /// What is added to the base.
+    update: Update,
+    /// What it loads, as an entry of the ALAT: the place of the target, the address and how many bytes.
+    entry: AlatEntry,
+}
 
 /// The fault of a slot for one of an access.
 fn fault_of(fault: MemFault) -> FaultKind
@@ -32,39 +41,6 @@ fn fault_of(fault: MemFault) -> FaultKind
     match fault {
         MemFault::Unaligned => FaultKind::Unaligned,
         MemFault::BadAddress => FaultKind::BadAddress,
-    }
-}
-
-/// The register that is added to the base, r0 where none is.
-fn update_register(update: &Update) -> Gr
-    ensures { result ≡ update_register update.now }
-{
-    match *update {
-        Update::Reg(r2) => r2,
-        _ => Gr::of_field(0),
-    }
-}
-
-/// The new base, where it is updated: `r3` with a register or an immediate added.
-fn updated(update: &Update, r3: Gr, base: Cell, more: Cell) -> Option<Target>
-    ensures { (f : FrameShape) → (e : AlatKey) → spot f r3 ≡ Some e → set_some f result [] ≡ base_writes update.now e base more }
-{
-    match *update {
-        Update::None => None,
-        Update::Reg(_) => Some((
-            r3,
-            Cell {
-                value: base.value.wrapping_add(more.value),
-                nat: base.nat || more.nat,
-            },
-        )),
-        Update::Imm(imm) => Some((
-            r3,
-            Cell {
-                value: base.value.wrapping_add(i64::from(imm).cast_unsigned()),
-                nat: base.nat,
-            },
-        )),
     }
 }
 
@@ -83,65 +59,66 @@ fn is_check(kind: LoadKind) -> bool
 }
 
 /// A load that fails: where it is speculative the fault is deferred.
-fn load_failed(
-    state: &MachineState,
-    fault: FaultKind,
-    kind: LoadKind,
-    r1: Gr,
-    key: AlatKey,
-    base: Option<Target>,
-) -> Outcome
-    requires { spot state.now.registers.frame r1 ≡ Some key }
-    ensures value { outcome_of state.now result ≡ load_failed fault kind key state.now.memory (set_some state.now.registers.frame base []) }
+fn load_failed(state: &MachineState, fault: FaultKind, load: &FoundLoad) -> Outcome
+    requires { IsLoadOf state.now.registers load.now }
+    ensures value { outcome_of state.now result ≡ load_failed fault load.now.kind load.now.entry.key state.now.memory (load_update state.now.registers load.now.r3 load.now.update) }
     ensures may { MayChange state.now result.change }
 {
     let _state = state;
-    if !is_speculative(kind) {
+    if !is_speculative(load.kind) {
         return Outcome::faults(fault);
     }
-    let cell = Cell {
-        value: 0,
-        nat: true,
-    };
-    let alat = if kind == LoadKind::Sa {
-        AlatChange::Forgets { key }
-    } else {
-        AlatChange::Keeps
-    };
     Outcome::falls(Change::Loaded {
-        target: Some((r1, cell)),
-        base,
-        alat,
+        r1: load.r1,
+        r3: load.r3,
+        forgets: load.kind == LoadKind::Sa,
+        update: load.update,
+        cell: Cell {
+            value: 0,
+            nat: true,
+        },
     })
 }
 
 /// A check that hits: the target isn't written.
-fn load_hit(state: &MachineState, kind: LoadKind, key: AlatKey, base: Option<Target>) -> Outcome
-    ensures value { outcome_of state.now result ≡ load_hit kind key state.now.memory (set_some state.now.registers.frame base []) }
+fn load_hit(state: &MachineState, load: &FoundLoad) -> Outcome
+    requires { IsLoadOf state.now.registers load.now }
+    ensures value { outcome_of state.now result ≡ load_hit load.now.kind load.now.entry.key state.now.memory (load_update state.now.registers load.now.r3 load.now.update) }
     ensures may { MayChange state.now result.change }
 {
     let _state = state;
-    let alat = if kind == LoadKind::CNc {
-        AlatChange::Keeps
-    } else {
-        AlatChange::Forgets { key }
-    };
-    Outcome::falls(Change::Loaded {
-        target: None,
-        base,
-        alat,
+    Outcome::falls(Change::Hit {
+        r1: load.r1,
+        r3: load.r3,
+        forgets: load.kind != LoadKind::CNc,
+        update: load.update,
     })
 }
 
-/// What a load that is made leaves in the ALAT.
-fn load_alat(kind: LoadKind, entry: AlatEntry) -> AlatChange
-    ensures { (es : List AlatEntry) → alat_after result es ≡ load_alat kind entry es }
+/// A load that is made.
+fn load_made(state: &MachineState, load: &FoundLoad, cell: Cell) -> Outcome
+    requires made { IsLoadOf state.now.registers load.now }
+    requires cell { cell ≡ record { value = loaded state.now.memory.bytes load.now.entry.address load.now.entry.size; nat = load_nat load.now.kind load.now.entry.address state.now.registers.unat } }
+    ensures value { outcome_of state.now result ≡ load_made load.now.kind load.now.entry state.now.memory state.now.registers.unat (load_update state.now.registers load.now.r3 load.now.update) }
+    ensures may { MayChange state.now result.change }
 {
-    match kind {
-        LoadKind::A | LoadKind::Sa | LoadKind::CNc => AlatChange::Enters { entry },
-        LoadKind::CClr | LoadKind::CClrAcq => AlatChange::Forgets { key: entry.key },
-        _ => AlatChange::Keeps,
-    }
+    let _state = state;
+    Outcome::falls(match load.kind {
+        LoadKind::A | LoadKind::Sa | LoadKind::CNc => Change::Advanced {
+            r1: load.r1,
+            r3: load.r3,
+            size: load.entry.size,
+            update: load.update,
+            cell,
+        },
+        kind => Change::Loaded {
+            r1: load.r1,
+            r3: load.r3,
+            forgets: matches!(kind, LoadKind::CClr | LoadKind::CClrAcq),
+            update: load.update,
+            cell,
+        },
+    })
 }
 
 /// What a load or a fill reads.
@@ -159,67 +136,30 @@ fn read(state: &MachineState, kind: LoadKind, address: u64, size: u8) -> Result<
     }
 }
 
-/// A load from an address, into `r1`.
-fn load_tried(
-    state: &MachineState,
-    kind: LoadKind,
-    r1: Gr,
-    entry: AlatEntry,
-    base: Option<Target>,
-) -> Outcome
-    requires size { IsLoadSize kind entry.size }
-    requires target { spot state.now.registers.frame r1 ≡ Some entry.key }
-    ensures value { outcome_of state.now result ≡ load_tried (access_fault state.now.memory.bytes entry.address entry.size) kind entry state.now.memory state.now.registers.unat (set_some state.now.registers.frame base []) }
+/// A load that isn't found in the ALAT.
+fn load_tried(state: &MachineState, load: &FoundLoad) -> Outcome
+    requires size { IsLoadSize load.now.kind load.now.entry.size }
+    requires made { IsLoadOf state.now.registers load.now }
+    ensures value { outcome_of state.now result ≡ load_tried (access_fault state.now.memory.bytes load.now.entry.address load.now.entry.size) load.now.kind load.now.entry state.now.memory state.now.registers.unat (load_update state.now.registers load.now.r3 load.now.update) }
     ensures may { MayChange state.now result.change }
 {
-    match read(state, kind, entry.address, entry.size) {
-        Err(fault) => load_failed(state, fault_of(fault), kind, r1, entry.key, base),
-        Ok(cell) => Outcome::falls(Change::Loaded {
-            target: Some((r1, cell)),
-            base,
-            alat: load_alat(kind, entry),
-        }),
+    match read(state, load.kind, load.entry.address, load.entry.size) {
+        Err(fault) => load_failed(state, fault_of(fault), load),
+        Ok(cell) => load_made(state, load, cell),
     }
 }
 
-/// A load from an address, into `r1`; a check looks for a hit first.
-fn load_checked(
-    state: &MachineState,
-    kind: LoadKind,
-    r1: Gr,
-    entry: AlatEntry,
-    base: Option<Target>,
-) -> Outcome
-    requires size { IsLoadSize kind entry.size }
-    requires target { spot state.now.registers.frame r1 ≡ Some entry.key }
-    ensures value { outcome_of state.now result ≡ load_checked kind entry state.now.memory state.now.registers.unat (set_some state.now.registers.frame base []) }
+/// A load whose base has no NaT; a check looks for a hit first.
+fn load_checked(state: &MachineState, load: &FoundLoad) -> Outcome
+    requires size { IsLoadSize load.now.kind load.now.entry.size }
+    requires made { IsLoadOf state.now.registers load.now }
+    ensures value { outcome_of state.now result ≡ load_checked load.now.kind load.now.entry state.now.memory state.now.registers.unat (load_update state.now.registers load.now.r3 load.now.update) }
     ensures may { MayChange state.now result.change }
 {
-    if is_check(kind) && state.alat().hit(entry) {
-        load_hit(state, kind, entry.key, base)
+    if is_check(load.kind) && state.alat().hit(load.entry) {
+        load_hit(state, load)
     } else {
-        load_tried(state, kind, r1, entry, base)
-    }
-}
-
-/// A load from the address in a base, which may have NaT.
-fn load_based(
-    state: &MachineState,
-    kind: LoadKind,
-    r1: Gr,
-    is_nat: bool,
-    entry: AlatEntry,
-    base: Option<Target>,
-) -> Outcome
-    requires size { IsLoadSize kind entry.size }
-    requires target { spot state.now.registers.frame r1 ≡ Some entry.key }
-    ensures value { outcome_of state.now result ≡ (if is_nat then load_failed NatConsumed kind entry.key state.now.memory (set_some state.now.registers.frame base []) else load_checked kind entry state.now.memory state.now.registers.unat (set_some state.now.registers.frame base [])) }
-    ensures may { MayChange state.now result.change }
-{
-    if is_nat {
-        load_failed(state, FaultKind::NatConsumed, kind, r1, entry.key, base)
-    } else {
-        load_checked(state, kind, r1, entry, base)
+        load_tried(state, load)
     }
 }
 
@@ -240,13 +180,23 @@ pub(crate) fn load(
     let Some(found) = operands(state, r1, r3, update_register(&update)) else {
         return Outcome::faults(FaultKind::OutOfFrame);
     };
-    let entry = AlatEntry {
-        key: found.place,
-        address: found.first.value,
-        size,
+    let base = found.first;
+    let load = FoundLoad {
+        kind,
+        r1,
+        r3,
+        update,
+        entry: AlatEntry {
+            key: found.place,
+            address: base.value,
+            size,
+        },
     };
-    let base = updated(&update, r3, found.first, found.second);
-    load_based(state, kind, r1, found.first.nat, entry, base)
+    if base.nat {
+        load_failed(state, FaultKind::NatConsumed, &load)
+    } else {
+        load_checked(state, &load)
+    }
 }
 
 /// Whether the store takes a NaT.
@@ -263,32 +213,7 @@ fn is_forbidden(kind: StoreKind, base: Cell, cell: Cell) -> bool
     base.nat || cell.nat && !takes_nat(kind)
 }
 
-/// A store to an address. Its faults are those of a load.
-fn store_tried(
-    state: &MachineState,
-    size: u8,
-    kind: StoreKind,
-    address: u64,
-    cell: Cell,
-    base: Option<Target>,
-) -> Outcome
-    requires { IsStoreSize kind size }
-    ensures value { outcome_of state.now result ≡ store_tried (access_fault state.now.memory.bytes address size) size kind address cell state.now.memory (set_some state.now.registers.frame base []) }
-    ensures may { MayChange state.now result.change }
-{
-    if let Err(fault) = state.data().load(address, size) {
-        return Outcome::faults(fault_of(fault));
-    }
-    Outcome::falls(Change::Stored {
-        address,
-        size,
-        cell,
-        spills: takes_nat(kind),
-        base,
-    })
-}
-
-/// A store.
+/// A store. Its faults are those of a load.
 #[tactic(auto, using(crate::proofs::Named::to_memory_missing))]
 pub(crate) fn store(
     state: &MachineState,
@@ -308,12 +233,16 @@ pub(crate) fn store(
     if is_forbidden(kind, found.first, found.second) {
         return Outcome::faults(FaultKind::NatConsumed);
     }
-    let zero = Cell {
-        value: 0,
-        nat: false,
-    };
-    let base = updated(&update, r3, found.first, zero);
-    store_tried(state, size, kind, found.first.value, found.second, base)
+    if let Err(fault) = state.data().load(found.first.value, size) {
+        return Outcome::faults(fault_of(fault));
+    }
+    Outcome::falls(Change::Stored {
+        r3,
+        size,
+        spills: takes_nat(kind),
+        update,
+        cell: found.second,
+    })
 }
 
 /// `chk.s`: a branch where the register has NaT.
@@ -347,12 +276,11 @@ pub(crate) fn check_alat(
     if !state.alat().has(key) {
         return Outcome::goes(Change::Nothing, target(bundle, disp));
     }
-    let change = if clear {
-        AlatChange::Forgets { key }
+    Outcome::falls(if clear {
+        Change::Forgotten { r1 }
     } else {
-        AlatChange::Keeps
-    };
-    Outcome::falls(Change::Alat { change })
+        Change::Nothing
+    })
 }
 
 /// `invala.e`: the entry of the register leaves the ALAT.
@@ -362,8 +290,6 @@ pub(crate) fn forget(state: &MachineState, r1: Gr) -> Outcome
 {
     match state.spot(r1) {
         None => Outcome::faults(FaultKind::OutOfFrame),
-        Some(key) => Outcome::falls(Change::Alat {
-            change: AlatChange::Forgets { key },
-        }),
+        Some(_) => Outcome::falls(Change::Forgotten { r1 }),
     }
 }

@@ -20,6 +20,7 @@ pub(crate) struct Found {
 }
 
 /// The operands of a slot; None where one of the three registers is outside the frame.
+#[inline(always)]
 pub(crate) fn operands(state: &MachineState, r1: Gr, r2: Gr, r3: Gr) -> Option<Found>
     ensures { MatchOption result (IsMissing (spot state.now.registers.frame r1) (look state.now.registers r2) (look state.now.registers r3)) (λ found. (spot state.now.registers.frame r1 ≡ Some found.place) × (look state.now.registers r2 ≡ Some found.first) × (look state.now.registers r3 ≡ Some found.second)) }
 {

@@ -2,7 +2,6 @@
 
 ghost use Rattle.std.specs.Prelude.{◌≡◌, ◌<◌, ◌≤◌, ◌%◌, ◌+◌, ◌^◌, [], length, Some, None, IfSome, IfNone, IfOk, slice_get};
 ghost use Rattle.ia_insn.specs.Places.{IsPlaceOf};
-ghost use Rattle.ia_insn.specs.Bundles.{slot_insn};
 ghost use Rattle.ia_insn.specs.declared.ending.How.TheVariants as how;
 ghost use Rattle.ia_meaning.specs.declared.next.Next.TheVariants.{Falls};
 ghost use Rattle.ia_meaning.specs.Progress.{begun, opened, slots_after, stepped, advanced, group_further, groups_further, end_of};
@@ -10,15 +9,14 @@ ghost use Rattle.ia_meaning.specs.Runs.{IsUnderWay, event_further};
 ghost use Rattle.ia_insn.specs.Programs.{IsProgram};
 ghost use Rattle.ia_meaning.specs.Sequence.{first_of, next_of, is_stopped};
 ghost use Rattle.ia_meaning.specs.State.{zero_registers};
-ghost use Rattle.ia_meaning.specs.Steps.{settled, how_falling, outcome_of as step_outcome, seq_step, step_by};
-ghost use Rattle.machine_state.specs.Contents.{Contents};
+ghost use Rattle.ia_meaning.specs.Steps.{how_falling, seq_step};
 ghost use Rattle.machine_state.specs.Changes.{outcome_with, MayChange};
 ghost use Rattle.emulator.specs.Outcomes.{outcome_of};
-ghost use Rattle.emulator.specs.Progress.{state_at, state_of, progress_of, arrived, IsOver, IsLater};
+ghost use Rattle.emulator.specs.Progress.{state_of, progress_of, settled_step, arrived, IsOver, IsLater};
 
 use crate::effect::effect;
 use crate::outcome::Outcome;
-use ia_insn::{BundleOf, End, FaultKind, GroupEvent, How, Insn, Place, Program};
+use ia_insn::{BundleOf, End, FaultKind, GroupEvent, How, Place, Program};
 use ia_meaning::Next;
 use machine_state::{Change, MachineState};
 use std::alloc::{AllocError, Global};
@@ -81,43 +79,6 @@ fn how_falling(stopped: bool) -> Option<How>
     if stopped { Some(How::Falls) } else { None }
 }
 
-/// The outcome of a slot that has no next place: falling through there is a fault.
-fn at_end(outcome: Outcome) -> Outcome
-    ensures value { (c : Contents) → outcome_of c result ≡ settled None c.memory outcome.next (outcome_of c outcome) }
-    ensures may { (c : Contents) → MayChange c outcome.change → MayChange c result.change }
-{
-    match outcome.next {
-        Next::Falls => Outcome::faults(FaultKind::FellOff),
-        _ => outcome,
-    }
-}
-
-/// The outcome of the slot at a place.
-#[tactic(auto, using(crate::proofs::Slots::settled_inside))]
-fn outcome_at(
-    state: &MachineState,
-    program: &Program,
-    bundle: &BundleOf,
-    place: Place,
-    insn: &Insn,
-    next: Option<Place>,
-) -> Outcome
-    requires next { next ≡ next_of program.now.bundles place }
-    requires here { slice_get program.now.bundles place.bundle ≡ Some bundle.now }
-    requires insn { slot_insn bundle.now.slots place.slot ≡ Some insn.now }
-    ensures value { outcome_of state.now result ≡ step_outcome program.now (state_at state.now place) insn.now }
-    ensures may { MayChange state.now result.change }
-{
-    // These calls tell how many bundles there are, and that the instructions fit theirs.
-    let _count = program.bundle_count();
-    let _slots = bundle.slots();
-    let outcome = effect(state, program, place.bundle, insn);
-    match next {
-        Some(_) => outcome,
-        None => at_end(outcome),
-    }
-}
-
 impl Run {
     /// The run at the start of a program with these data: at most 1,048,576 bytes, a multiple of 8.
     ///
@@ -174,47 +135,50 @@ impl Run {
     }
 
     /// Goes to a place, with a change, and so many slots of its group before it.
-    fn arrive(&mut self, change: Change, place: Place, slots: u32)
-        requires { MayChange self.old.state change }
-        ensures { progress_of self.new ≡ arrived (progress_of self.old) (outcome_with self.old.state change Falls) place slots }
+    fn arrive(&mut self, change: &Change, place: Place, slots: u32)
+        requires { MayChange self.old.state change.now }
+        ensures { progress_of self.new ≡ arrived (progress_of self.old) (outcome_with self.old.state change.now Falls) place slots }
     {
         self.state.apply(change);
         self.place = place;
         self.slots = slots;
     }
 
-    /// Goes on as an outcome says, to the next place where it falls through.
+    /// Goes on as an outcome says. To fall through where there is no next place is a fault.
     #[tactic(auto, using(crate::proofs::SlotSteps::falls_on, crate::proofs::SlotSteps::goes_on))]
     fn go_on(
         &mut self,
         program: &Program,
-        outcome: Outcome,
+        outcome: &Outcome,
         next: Option<Place>,
         stopped: bool,
     ) -> Option<How>
-        requires may { MayChange self.old.state outcome.change }
+        requires may { MayChange self.old.state outcome.now.change }
         requires running { self.old.end ≡ None }
         requires few { self.old.slots < 192 }
         requires next { next ≡ next_of program.now.bundles self.old.place }
         requires stop { stopped ≡ is_stopped program.now.bundles self.old.place }
-        ensures value { progress_of self.new ≡ stepped (progress_of self.old) (step_by program.now (state_of self.old) (outcome_of self.old.state outcome) outcome.next) }
-        ensures how { result ≡ (step_by program.now (state_of self.old) (outcome_of self.old.state outcome) outcome.next).how }
+        ensures value { progress_of self.new ≡ stepped (progress_of self.old) (settled_step program.now (state_of self.old) next (outcome_of self.old.state outcome.now)) }
+        ensures how { result ≡ (settled_step program.now (state_of self.old) next (outcome_of self.old.state outcome.now)).how }
         ensures goes_on { IfNone result (self.new.end ≡ None) }
     {
         let place = self.here();
-        match outcome.next {
-            Next::Falls => {
-                let slots = slots_after(self.slots, stopped);
-                self.arrive(outcome.change, next.unwrap_or(place), slots);
-                how_falling(stopped)
-            }
-            Next::Goes { bundle } => {
-                self.arrive(outcome.change, Place { bundle, slot: 0 }, 0);
-                Some(How::Taken)
-            }
-            Next::Breaks { imm } => self.finish(End::Break { imm, place }),
-            Next::Faults { kind } => self.finish(End::Fault { kind, place }),
-        }
+        let (goal, slots, how) = match outcome.next {
+            Next::Falls => match next {
+                Some(next) => (next, slots_after(self.slots, stopped), how_falling(stopped)),
+                None => {
+                    return self.finish(End::Fault {
+                        kind: FaultKind::FellOff,
+                        place,
+                    });
+                }
+            },
+            Next::Goes { bundle } => (Place { bundle, slot: 0 }, 0, Some(How::Taken)),
+            Next::Breaks { imm } => return self.finish(End::Break { imm, place }),
+            Next::Faults { kind } => return self.finish(End::Fault { kind, place }),
+        };
+        self.arrive(&outcome.change, goal, slots);
+        how
     }
 
     /// Runs the next slot, and tells how its group ends, where it does.
@@ -228,16 +192,18 @@ impl Run {
         ensures goes_on { IfNone result (self.new.end ≡ None) }
     {
         let place = self.here();
+        // This call tells how many bundles there are.
+        let _count = program.bundle_count();
         let Some(bundle) = program.bundle(place.bundle) else {
             unreachable!()
         };
         let Some(insn) = bundle.slots().insn(place.slot) else {
             unreachable!()
         };
+        let outcome = effect(&self.state, program, place.bundle, insn);
         let next = next_place(program, bundle, place);
-        let outcome = outcome_at(&self.state, program, bundle, place, insn, next);
         let stopped = has_stop(program, bundle, place);
-        self.go_on(program, outcome, next, stopped)
+        self.go_on(program, &outcome, next, stopped)
     }
 
     /// Runs one slot more, and tells how its group ends, where it does.

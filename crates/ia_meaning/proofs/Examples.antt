@@ -702,8 +702,9 @@ store_updates = refl
 loops_skipped :
     (run 2 (op.Br Cloop 0 false false (pos 1)) (record registers { lc = 1 }) ≡ nothing)
     × (run 2 (op.Br Ctop 0 false false (pos 1)) (record registers { lc = 1 }) ≡ nothing)
+    × (run 2 (op.Br Wtop 0 false false (pos 1)) (record registers { lc = 1 }) ≡ falls (SetPredicate 63 false ∷ []) memory)
 unfolding holds predicate_place
-loops_skipped = (refl, refl)
+loops_skipped = (refl, refl, refl)
 
 -- The resident range. A call past 96 cells spills, and a return below the first resident cell fills.
 resident :

@@ -2,6 +2,7 @@
 
 ghost use Rattle.std.specs.Prelude.{◌≡◌};
 ghost use Rattle.ia_meaning.specs.Actions.{test_kind, branch_action, action_of, form_of};
+ghost use Rattle.ia_meaning.specs.Loads.{update_register};
 
 use ia_insn::{Ar, Br, BranchKind, CmpKind, Gr, LoadKind, Op, Pr, StoreKind, Unit, Update};
 
@@ -25,6 +26,16 @@ pub enum Goal {
     Direct(i32),
     /// The address in a branch register.
     Indirect(Br),
+}
+
+/// The register that a load adds to its base, r0 where it adds none.
+pub fn update_register(update: &Update) -> Gr
+    ensures { result ≡ update_register update.now }
+{
+    match *update {
+        Update::Reg(r2) => r2,
+        _ => Gr::of_field(0),
+    }
 }
 
 /// The form of an instruction's effect: what it reads, what it writes and how it goes on, without the

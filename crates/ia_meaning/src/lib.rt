@@ -5,7 +5,8 @@
 //! is one row of a table that gives it an action, one of twenty-one kinds, and each kind of action has
 //! its effect once (Intel Itanium Architecture Software Developer's Manual, volume 1, chapters 3 and
 //! 4, and volume 3, chapter 2). The code here is what the layers above share: the parts of a state,
-//! the form of an instruction, and laws, which are functions that do nothing.
+//! the form of an instruction, how a slot goes on, the turn of a loop, and laws, which are functions
+//! that do nothing.
 #![tactic(auto)]
 
 mod form;
@@ -15,7 +16,7 @@ mod runs;
 mod state;
 mod turn;
 
-pub use form::{Form, Goal, Source, form_of};
+pub use form::{Form, Goal, Source, form_of, update_register};
 pub use laws::{entry_test, frame_test, next_place, stop_test, zero_is_start};
 pub use next::Next;
 pub use runs::{groups_end, progress_is_run, progress_text_is_run_text};

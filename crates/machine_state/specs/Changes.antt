@@ -1,26 +1,25 @@
 -- What a slot writes, as one change.
-use Rattle.std.specs.Prelude.{◌≡◌, ℕ, ◌*◌, ◌/◌, ◌%◌, ◌^◌, ◌<◌, ◌≤◌, Bool, false, if◌then◌else◌, List, [], ◌∷◌, Option, Some, None, IfSome, IsTrue}
+use Rattle.std.specs.Prelude.{◌≡◌, ℕ, ◌*◌, ◌/◌, ◌%◌, ◌^◌, ◌<◌, ◌≤◌, Bool, false, if◌then◌else◌, List, [], ◌∷◌, Option, Some, None, IsTrue}
 use Rattle.ia_insn.specs.declared.registers.Ar.{Ar}
 use Rattle.ia_insn.specs.declared.registers.Ar.TheVariants.{Unat, Pfs, Lc, Ec}
+use Rattle.ia_insn.specs.declared.choices.Update.{Update}
 use Rattle.ia_insn.specs.Ranges.{IsAccessSize}
 use Rattle.ia_meaning.specs.declared.state.Cell.{Cell}
 use Rattle.ia_meaning.specs.declared.state.FrameShape.{FrameShape}
 use Rattle.ia_meaning.specs.declared.state.AlatKey.{AlatKey as Spot}
 use Rattle.ia_meaning.specs.declared.state.AlatEntry.{AlatEntry}
 use Rattle.ia_meaning.specs.declared.next.Next.{Next}
-use Rattle.ia_meaning.specs.State.{Registers, Memory, HasReservedZeros}
+use Rattle.ia_meaning.specs.State.{zero_cell, Registers, Memory, HasReservedZeros}
 use Rattle.ia_meaning.specs.Writes.{Write, SetBranch, SetUnat, SetPfs, SetLc, SetEc, SetFrame, Resized, Renamed}
-use Rattle.ia_meaning.specs.Names.{spot, set_spot, predicate_spot, set_predicate}
+use Rattle.ia_meaning.specs.Names.{spot, look, set_spot, predicate_spot, set_predicate}
 use Rattle.ia_meaning.specs.Outcomes.{Outcome}
 use Rattle.ia_meaning.specs.Moves.{predicate_writes}
-use Rattle.ia_meaning.specs.Loads.{access_fault, stored, forgotten, entered, untouched, unat_bit}
+use Rattle.ia_meaning.specs.Loads.{access_fault, stored, forgotten, entered, untouched, update_register, base_writes, unat_bit}
 use Rattle.ia_meaning.specs.Frames.{stack_limit, with_sizes, cleared, call_state, call_frame, marked_frame, return_fault}
-use Rattle.ia_meaning.specs.Loops.{turn_writes}
+use Rattle.ia_meaning.specs.Loops.{turn_of, turn_writes}
 use Rattle.reg_stack.specs.Stacks.{alloc_fault_within, returned_frame}
-use Rattle.machine_state.specs.declared.change.AlatChange.{AlatChange}
-use Rattle.machine_state.specs.declared.change.AlatChange.TheVariants.{Keeps, Enters, Forgets, Clears}
 use Rattle.machine_state.specs.declared.change.Change.{Change}
-use Rattle.machine_state.specs.declared.change.Change.TheVariants.{Nothing, General, Predicates, PredicateWord, Branch, Application, Loaded, Stored, Alat, Allocated, Turned, Called, Returned, Cleared}
+use Rattle.machine_state.specs.declared.change.Change.TheVariants.{Nothing, General, Predicates, PredicateWord, Branch, Application, Loaded, Advanced, Hit, Stored, Forgotten, AllForgotten, Allocated, Turned, Called, Returned, Cleared}
 use Rattle.machine_state.specs.Contents.{Contents}
 
 abbrev pub application_write : Ar → ℕ → Write
@@ -34,10 +33,26 @@ abbrev pub set_at : Option Spot → Cell → List Write → List Write
 set_at None cell ws = ws
 set_at (Some d) cell ws = set_spot d cell ws
 
--- a write of a register by name, where there is one, before other writes
-abbrev pub set_some : FrameShape → Option (ℕ × Cell) → List Write → List Write
-set_some f None ws = ws
-set_some f (Some w) ws = set_at (spot f w.0) w.1 ws
+-- what a register holds, 0 outside the frame
+abbrev pub held_or_zero : Option Cell → Cell
+held_or_zero None = zero_cell
+held_or_zero (Some cell) = cell
+
+abbrev pub held : Registers → ℕ → Cell
+held r n = held_or_zero (look r n)
+
+-- the write of a base at its place, where there is one
+abbrev pub update_at : Option Spot → Update → Cell → Cell → List Write
+update_at None u base more = []
+update_at (Some d) u base more = base_writes u d base more
+
+-- the write of a base to which more may be added
+abbrev pub base_update : Registers → ℕ → Update → Cell → List Write
+base_update r r3 u more = update_at (spot r.frame r3) u (held r r3) more
+
+-- that of a load's
+abbrev pub load_update : Registers → ℕ → Update → List Write
+load_update r r3 u = base_update r r3 u (held r (update_register u))
 
 -- The writes of a change of these registers.
 abbrev pub writes_of : Registers → Change → List Write
@@ -48,40 +63,62 @@ writes_of r (Predicates p1 first p2 second) =
 writes_of r (PredicateWord mask word) = predicate_writes mask word
 writes_of r (Branch b1 value) = SetBranch b1 value ∷ []
 writes_of r (Application ar value) = application_write ar value ∷ []
-writes_of r (Loaded target base alat) = set_some r.frame target (set_some r.frame base [])
-writes_of r (Stored address size cell spills base) = set_some r.frame base []
-writes_of r (Alat change) = []
+writes_of r (Loaded r1 r3 forgets update cell) = set_at (spot r.frame r1) cell (load_update r r3 update)
+writes_of r (Advanced r1 r3 size update cell) = set_at (spot r.frame r1) cell (load_update r r3 update)
+writes_of r (Hit r1 r3 forgets update) = load_update r r3 update
+writes_of r (Stored r3 size spills update cell) = base_update r r3 update zero_cell
+writes_of r (Forgotten r1) = []
+writes_of r AllForgotten = []
 writes_of r (Allocated r1 sof sol sor) =
     SetFrame Resized (with_sizes r.frame sof sol sor)
     ∷ set_at (spot (with_sizes r.frame sof sol sor) r1) (record { value = r.pfs; nat = false }) []
-writes_of r (Turned turn) = turn_writes turn r.frame
+writes_of r (Turned kind qp) = turn_writes (turn_of kind qp r.lc r.ec) r.frame
 writes_of r (Called b1 address) =
     SetBranch b1 address ∷ SetPfs (call_state r.frame r.ec) ∷ SetFrame Resized (call_frame r.frame) ∷ []
 writes_of r Returned = SetFrame Resized (returned_frame r.frame.base r.pfs) ∷ SetEc ((r.pfs / 2 ^ 52) % 2 ^ 6) ∷ []
 writes_of r (Cleared pred_only) = SetFrame Renamed (cleared pred_only r.frame) ∷ []
 
-abbrev pub alat_after : AlatChange → List AlatEntry → List AlatEntry
-alat_after Keeps es = es
-alat_after (Enters entry) es = entered es entry
-alat_after (Forgets key) es = forgotten es key
-alat_after Clears es = []
+-- the entries without that of the register at a place, where there is one
+abbrev pub forgotten_at : Option Spot → List AlatEntry → List AlatEntry
+forgotten_at None es = es
+forgotten_at (Some d) es = forgotten es d
 
--- the memory after a change
-abbrev pub memory_after : Change → Memory → Memory
-memory_after (Loaded target base alat) m = record m { alat = alat_after alat m.alat }
-memory_after (Stored address size cell spills base) m =
-    record { bytes = stored m.bytes address size cell.value; alat = untouched m.alat address size }
-memory_after (Alat change) m = record m { alat = alat_after change m.alat }
-memory_after change m = m
+-- where it is forgotten
+abbrev pub forgotten_where : Bool → Option Spot → List AlatEntry → List AlatEntry
+forgotten_where forgets d es = if forgets then forgotten_at d es else es
 
--- the bit of UNAT that a change spills, and its value
-abbrev pub spills_of : Change → Option (ℕ × Bool)
-spills_of (Stored address size cell spills base) = if spills then Some (unat_bit address, cell.nat) else None
-spills_of change = None
+-- and with a new one
+abbrev pub entered_at : Option Spot → ℕ → ℕ → List AlatEntry → List AlatEntry
+entered_at None address size es = es
+entered_at (Some d) address size es = entered es (record { key = d; address = address; size = size })
+
+-- the memory after a change of these registers
+abbrev pub memory_after : Registers → Change → Memory → Memory
+memory_after r (Loaded r1 r3 forgets update cell) m = record m { alat = forgotten_where forgets (spot r.frame r1) m.alat }
+memory_after r (Advanced r1 r3 size update cell) m =
+    record m { alat = entered_at (spot r.frame r1) (held r r3).value size m.alat }
+memory_after r (Hit r1 r3 forgets update) m = record m { alat = forgotten_where forgets (spot r.frame r1) m.alat }
+memory_after r (Stored r3 size spills update cell) m = record {
+  bytes = stored m.bytes (held r r3).value size cell.value;
+  alat = untouched m.alat (held r r3).value size;
+}
+memory_after r (Forgotten r1) m = record m { alat = forgotten_at (spot r.frame r1) m.alat }
+memory_after r AllForgotten m = record m { alat = [] }
+memory_after r change m = m
+
+-- the bit of UNAT that a change of these registers spills, and its value
+abbrev pub spills_of : Registers → Change → Option (ℕ × Bool)
+spills_of r (Stored r3 size spills update cell) = if spills then Some (unat_bit (held r r3).value, cell.nat) else None
+spills_of r change = None
 
 -- the outcome of a slot that makes a change and goes on so
 abbrev pub outcome_with : Contents → Change → Next → Outcome
-outcome_with c change next = record { writes = writes_of c.registers change; memory = memory_after change c.memory; spills = spills_of change; next = next }
+outcome_with c change next = record {
+  writes = writes_of c.registers change;
+  memory = memory_after c.registers change c.memory;
+  spills = spills_of c.registers change;
+  next = next;
+}
 
 abbrev pub FitsApplication : Ar → ℕ → Type 0
 FitsApplication Pfs value = HasReservedZeros value
@@ -104,8 +141,7 @@ pub record MayAllocate (f : FrameShape) (sof sol sor : ℕ) : Type 0 where
 -- The change has no fault, and what goes into PFS and EC fits there.
 abbrev pub MayChange : Contents → Change → Type 0
 MayChange c (Application ar value) = FitsApplication ar value
-MayChange c (Stored address size cell spills base) = MayStore c.memory address size spills
+MayChange c (Stored r3 size spills update cell) = MayStore c.memory (held c.registers r3).value size spills
 MayChange c (Allocated r1 sof sol sor) = MayAllocate c.registers.frame sof sol sor
-MayChange c (Turned turn) = IfSome turn.ec (λ ec. ec < 64)
 MayChange c Returned = return_fault c.registers.frame.base (marked_frame c.registers.frame.base c.registers.pfs) ≡ None
 MayChange c change = Unit {0}

@@ -9,10 +9,10 @@ ghost use Rattle.ia_meaning.specs.Moves.{is_masked, masked_writes, predicate_wri
 ghost use Rattle.ia_meaning.specs.Frames.{rotated, cleared, call_state, frame_marker, marked_frame, return_fault};
 ghost use Rattle.ia_meaning.specs.Loops.{written, turn_writes};
 ghost use Rattle.machine_state.specs.Contents.{left_by};
-ghost use Rattle.machine_state.specs.declared.change.Change.TheVariants.{Stored, Allocated, Called, Returned};
-ghost use Rattle.machine_state.specs.Changes.{application_write, set_at, set_some, alat_after, outcome_with, FitsApplication, MayStore, MayAllocate, MayChange};
+ghost use Rattle.machine_state.specs.declared.change.Change.TheVariants.{Allocated, Called, Returned};
+ghost use Rattle.machine_state.specs.Changes.{application_write, set_at, outcome_with, FitsApplication, MayAllocate, MayChange};
 
-use crate::change::{AlatChange, Change};
+use crate::change::Change;
 use crate::previous_state::{call_state, epilog_of, marker_of};
 use crate::state::MachineState;
 use ia_insn::{Ar, Br, Gr, Pr};
@@ -30,7 +30,7 @@ fn is_masked(mask: u64, n: usize) -> bool
 impl MachineState {
     /// Writes a general register; r0 stays as it is, and outside the frame nothing is written.
     #[tactic(auto, using(crate::proofs::Names::set_stacked, crate::proofs::Names::set_static, crate::proofs::Names::set_zero))]
-    fn set_general(&mut self, r1: Gr, cell: Cell)
+    pub(crate) fn set_general(&mut self, r1: Gr, cell: Cell)
         ensures { self.new ≡ record self.old { registers = apply (set_at (spot self.old.registers.frame r1) cell []) self.old.registers } }
     {
         let n = r1.number() as usize;
@@ -38,15 +38,6 @@ impl MachineState {
             let _set = self.stack.set(r1, cell);
         } else if n > 0 {
             self.statics[n] = cell;
-        }
-    }
-
-    /// Writes a general register, where there is one to be written.
-    fn set_some(&mut self, target: Option<(Gr, Cell)>)
-        ensures { self.new ≡ record self.old { registers = apply (set_some self.old.registers.frame target []) self.old.registers } }
-    {
-        if let Some((r1, cell)) = target {
-            self.set_general(r1, cell);
         }
     }
 
@@ -101,34 +92,6 @@ impl MachineState {
             Ar::Lc => self.lc = value,
             Ar::Ec => self.ec = value,
         }
-    }
-
-    /// Changes the ALAT.
-    fn change_alat(&mut self, change: AlatChange)
-        ensures { self.new ≡ record self.old { memory = record self.old.memory { alat = alat_after change self.old.memory.alat } } }
-    {
-        match change {
-            AlatChange::Keeps => {}
-            AlatChange::Enters { entry } => self.alat.enter(entry),
-            AlatChange::Forgets { key } => self.alat.forget(key),
-            AlatChange::Clears => self.alat.clear(),
-        }
-    }
-
-    /// Stores a register, and where it spills writes its NaT bit to UNAT.
-    fn store(&mut self, address: u64, size: u8, cell: Cell, spills: bool)
-        requires { MayStore self.old.memory address size spills }
-        ensures { self.new ≡ left_by (outcome_with self.old (Stored address size cell spills None) Falls) self.old }
-    {
-        if spills {
-            match self.data.spill(address, cell, self.unat) {
-                Ok(unat) => self.unat = unat,
-                Err(_) => unreachable!(),
-            }
-        } else if self.data.store(address, size, cell.value).is_err() {
-            unreachable!();
-        }
-        self.alat.stored(address, size);
     }
 
     /// Gives the frame other sizes, and writes the previous function state to a register of it.
@@ -233,11 +196,11 @@ impl MachineState {
 
     /// Makes a change.
     #[tactic(auto, using(crate::proofs::MaskedWrites::no_frame))]
-    pub fn apply(&mut self, change: Change)
-        requires { MayChange self.old change }
-        ensures { self.new ≡ left_by (outcome_with self.old change Falls) self.old }
+    pub fn apply(&mut self, change: &Change)
+        requires { MayChange self.old change.now }
+        ensures { self.new ≡ left_by (outcome_with self.old change.now Falls) self.old }
     {
-        match change {
+        match *change {
             Change::Nothing => {}
             Change::General { r1, cell } => self.set_general(r1, cell),
             Change::Predicates {
@@ -252,24 +215,46 @@ impl MachineState {
             Change::PredicateWord { mask, word } => self.set_places(mask, word),
             Change::Branch { b1, value } => self.set_branch(b1, value),
             Change::Application { ar, value } => self.set_application(ar, value),
-            Change::Loaded { target, base, alat } => {
-                self.set_some(target);
-                self.set_some(base);
-                self.change_alat(alat);
+            Change::Loaded {
+                r1,
+                r3,
+                forgets,
+                update,
+                cell,
+            } => {
+                self.forget_where(forgets, r1);
+                self.load(r1, r3, &update, cell);
+            }
+            Change::Advanced {
+                r1,
+                r3,
+                size,
+                update,
+                cell,
+            } => {
+                self.enter(r1, r3, size);
+                self.load(r1, r3, &update, cell);
+            }
+            Change::Hit {
+                r1,
+                r3,
+                forgets,
+                update,
+            } => {
+                self.forget_where(forgets, r1);
+                self.hit(r3, &update);
             }
             Change::Stored {
-                address,
+                r3,
                 size,
-                cell,
                 spills,
-                base,
-            } => {
-                self.store(address, size, cell, spills);
-                self.set_some(base);
-            }
-            Change::Alat { change } => self.change_alat(change),
+                update,
+                cell,
+            } => self.store(r3, cell, size, spills, &update),
+            Change::Forgotten { r1 } => self.forget(r1),
+            Change::AllForgotten => self.alat.clear(),
             Change::Allocated { r1, sof, sol, sor } => self.allocate(r1, sof, sol, sor),
-            Change::Turned { turn } => self.turn(turn),
+            Change::Turned { kind, qp } => self.turn(self.turn_of(kind, qp)),
             Change::Called { b1, address } => self.call(b1, address),
             Change::Returned => self.ret(),
             Change::Cleared { pred_only } => self.clear(pred_only),

@@ -1,26 +1,7 @@
 //! What a slot writes.
 
-use ia_insn::{Ar, Br, Gr, Pr};
-use ia_meaning::{AlatEntry, AlatKey, Cell, Turn};
-
-/// What becomes of the ALAT.
-#[derive(Clone, Copy, Debug)]
-pub enum AlatChange {
-    /// It stays as it is.
-    Keeps,
-    /// An entry is entered.
-    Enters {
-        /// The entry.
-        entry: AlatEntry,
-    },
-    /// The entry of a register leaves.
-    Forgets {
-        /// The register's place.
-        key: AlatKey,
-    },
-    /// All entries leave.
-    Clears,
-}
+use ia_insn::{Ar, Br, BranchKind, Gr, Pr, Update};
+use ia_meaning::Cell;
 
 /// What a slot writes. A register is named in the frame before the slot, but the target of `alloc` in the
 /// frame after it. r0 and p0 may be named, and are not written.
@@ -69,31 +50,61 @@ pub enum Change {
     },
     /// A load.
     Loaded {
-        /// The target and what it gets; None where it isn't written.
-        target: Option<(Gr, Cell)>,
-        /// The base and what it gets, after the target; None where it isn't updated.
-        base: Option<(Gr, Cell)>,
-        /// What becomes of the ALAT.
-        alat: AlatChange,
+        /// The target.
+        r1: Gr,
+        /// The base.
+        r3: Gr,
+        /// Whether the target's entry leaves the ALAT.
+        forgets: bool,
+        /// What is added to the base, after the target is written.
+        update: Update,
+        /// What the target gets.
+        cell: Cell,
+    },
+    /// A load whose target enters the ALAT.
+    Advanced {
+        /// The target.
+        r1: Gr,
+        /// The base, which holds the address.
+        r3: Gr,
+        /// How many bytes are loaded.
+        size: u8,
+        /// What is added to the base, after the target is written.
+        update: Update,
+        /// What the target gets.
+        cell: Cell,
+    },
+    /// A load whose target is in the ALAT, and isn't written.
+    Hit {
+        /// The target.
+        r1: Gr,
+        /// The base.
+        r3: Gr,
+        /// Whether the target's entry leaves the ALAT.
+        forgets: bool,
+        /// What is added to the base.
+        update: Update,
     },
     /// A store.
     Stored {
-        /// Where the bytes go.
-        address: u64,
-        /// How many bytes.
+        /// The base, which holds the address.
+        r3: Gr,
+        /// How many bytes are stored.
         size: u8,
-        /// The register that is stored.
-        cell: Cell,
-        /// Whether its NaT bit goes to UNAT.
+        /// Whether the register's NaT bit goes to UNAT.
         spills: bool,
-        /// The base and what it gets; None where it isn't updated.
-        base: Option<(Gr, Cell)>,
+        /// What is added to the base; no store adds a register.
+        update: Update,
+        /// What the register holds that is stored.
+        cell: Cell,
     },
-    /// The ALAT alone.
-    Alat {
-        /// What becomes of it.
-        change: AlatChange,
+    /// The entry of a register leaves the ALAT.
+    Forgotten {
+        /// The register.
+        r1: Gr,
     },
+    /// All entries leave the ALAT.
+    AllForgotten,
     /// A new frame, and the previous function state into a register.
     Allocated {
         /// The register.
@@ -107,8 +118,10 @@ pub enum Change {
     },
     /// The turn of a loop.
     Turned {
-        /// The turn.
-        turn: Turn,
+        /// The loop branch.
+        kind: BranchKind,
+        /// Its qualifying predicate.
+        qp: bool,
     },
     /// The frame of a call, its return address and the previous function state.
     Called {

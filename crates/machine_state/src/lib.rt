@@ -6,10 +6,12 @@
 //! contracts tie a change to the writes that `ia_meaning` speaks of: [`MachineState::apply`] makes exactly those.
 #![tactic(auto)]
 
+mod accesses;
 mod apply;
 mod change;
+mod loops;
 mod previous_state;
 mod state;
 
-pub use change::{AlatChange, Change};
+pub use change::Change;
 pub use state::MachineState;

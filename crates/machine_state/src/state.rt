@@ -7,6 +7,7 @@ ghost use Rattle.ia_meaning.specs.Moves.{predicate_word, application};
 ghost use Rattle.ia_meaning.specs.Frames.{marked_frame, return_fault};
 ghost use Rattle.reg_stack.specs.Stacks.{kind_of};
 ghost use Rattle.machine_state.specs.Contents.{zero_contents, stack_of};
+ghost use Rattle.machine_state.specs.Changes.{held};
 
 use crate::previous_state::marker_of;
 use ia_insn::{Ar, Br, Gr, Pr};
@@ -131,7 +132,21 @@ impl MachineState {
         &self.alat
     }
 
+    /// The place of a stacked register; None outside the frame. It is kept out of line: most registers
+    /// that a slot names are static.
+    #[inline(never)]
+    fn stacked_spot(&self, r: Gr) -> Option<AlatKey>
+        requires { 32 ≤ r }
+        ensures { result ≡ spot self.now.registers.frame r }
+    {
+        match self.stack.cell_number(r) {
+            Some(n) => Some(AlatKey::Stacked(n)),
+            None => None,
+        }
+    }
+
     /// The place of a general register; None outside the frame.
+    #[inline(always)]
     #[tactic(auto, using(crate::proofs::Names::spot_static))]
     pub fn spot(&self, r: Gr) -> Option<AlatKey>
         ensures { result ≡ spot self.now.registers.frame r }
@@ -140,13 +155,24 @@ impl MachineState {
         if n < 32 {
             return Some(AlatKey::Static(n));
         }
-        match self.stack.cell_number(r) {
-            Some(n) => Some(AlatKey::Stacked(n)),
-            None => None,
+        self.stacked_spot(r)
+    }
+
+    /// What a stacked register holds; None outside the frame. It is kept out of line, as
+    /// [`MachineState::stacked_spot`] is.
+    #[inline(never)]
+    fn stacked(&self, r: Gr) -> Option<Cell>
+        requires { 32 ≤ r }
+        ensures { result ≡ look self.now.registers r }
+    {
+        match self.stack.get(r) {
+            Ok(cell) => Some(cell),
+            Err(_) => None,
         }
     }
 
     /// What a general register holds; None outside the frame.
+    #[inline(always)]
     pub fn general(&self, r: Gr) -> Option<Cell>
         ensures { result ≡ look self.now.registers r }
     {
@@ -154,10 +180,17 @@ impl MachineState {
         if n < 32 {
             return Some(self.statics[n]);
         }
-        match self.stack.get(r) {
-            Ok(cell) => Some(cell),
-            Err(_) => None,
-        }
+        self.stacked(r)
+    }
+
+    /// What a general register holds, 0 outside the frame.
+    pub(crate) fn held(&self, r: Gr) -> Cell
+        ensures { result ≡ held self.now.registers r }
+    {
+        self.general(r).unwrap_or(Cell {
+            value: 0,
+            nat: false,
+        })
     }
 
     /// The place of a predicate.

@@ -3,7 +3,6 @@
 ghost use Rattle.std.specs.Prelude.{◌≡◌, ◌+◌, ◌-◌, ◌≤◌, ◌<◌, ◌++◌, true, length};
 ghost use Rattle.arrayvec.specs.ArrayVec.{array_vec_len};
 ghost use Rattle.ia_meaning.specs.Actions.{action_of, form_of};
-ghost use Rattle.ia_meaning.specs.Loads.{update_register};
 ghost use Rattle.ia_meaning.specs.Moves.{is_masked};
 ghost use Rattle.ia_meaning.specs.Names.{is_stacked, is_rotating};
 ghost use Rattle.resource_sets.specs.Rows.{always, listed};
@@ -15,7 +14,7 @@ use crate::access::{Access, Kind, Resource};
 use crate::row::{Row, always, gr, pr, push, push_all};
 use arrayvec::ArrayVec;
 use ia_insn::{Ar, Br, BranchKind, CmpKind, Gr, Insn, LoadKind, Pr, StoreKind, Unit, Update};
-use ia_meaning::{Form, Goal, Source, form_of};
+use ia_meaning::{Form, Goal, Source, form_of, update_register};
 use integer_ops::bit;
 
 /// At most eight rows.
@@ -43,16 +42,6 @@ fn test_rows(kind: CmpKind, p1: Pr, p2: Pr) -> [Row; 2]
         CmpKind::Or => [pr(true, p1, Kind::OrWrite), pr(true, p2, Kind::OrWrite)],
         CmpKind::And => [pr(true, p1, Kind::AndWrite), pr(true, p2, Kind::AndWrite)],
         CmpKind::OrAndcm => [pr(true, p1, Kind::OrWrite), pr(true, p2, Kind::AndWrite)],
-    }
-}
-
-/// The register that is added to the base, r0 where none is.
-fn update_register(update: &Update) -> Gr
-    ensures { result ≡ update_register update.now }
-{
-    match *update {
-        Update::Reg(r2) => r2,
-        _ => Gr::of_field(0),
     }
 }
 

@@ -1,14 +1,7 @@
-use Rattle.std.proofs.Common.{ap, ◌∙◌, arith}
-use Rattle.std.specs.Result.{result_ok}
+use Rattle.std.proofs.Common.{arith}
 use Rattle.machine_state.specs.Invariant.{contents_of}
-use Rattle.machine_state.proofs.Names.{look_static, look_stacked}
+use Rattle.machine_state.proofs.Names.{look_static}
 use Rattle.machine_state.proofs.state.MachineState.general.Goals as goal
 
 pub returns-then-n-lt32 : goal.returns-then-n-lt32
 returns-then-n-lt32 c = rw (c.number-n.ensures.value, ← c.self.view_is) (look_static (contents_of c.self.inside).registers c.args.r c.self.invariant.zero (omega arith))
-
-pub returns-in-Ok : goal.returns-in-Ok
-returns-in-Ok c = rw (← c.self.view_is) (ap result_ok c.in-Ok.ensures ∙ look_stacked (contents_of c.self.inside).registers c.args.r (omega arith))
-
-pub returns-in-Err : goal.returns-in-Err
-returns-in-Err c = rw (← c.self.view_is) (ap result_ok c.in-Err.ensures ∙ look_stacked (contents_of c.self.inside).registers c.args.r (omega arith))
