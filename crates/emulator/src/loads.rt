@@ -19,7 +19,7 @@ use ia_meaning::{AlatEntry, Cell, update_register};
 use machine_state::{Change, MachineState};
 use nat_alat::MemFault;
 
-/// A load whose registers are in the frame, and have no NaT where one forbids it.
+/// A load whose registers are in the frame.
 #[derive(Clone, Copy, Debug)]
 struct FoundLoad {
     /// The load type.
@@ -104,7 +104,7 @@ fn load_made(state: &MachineState, load: &FoundLoad, cell: Cell) -> Outcome
 {
     let _state = state;
     Outcome::falls(match load.kind {
-        LoadKind::A | LoadKind::Sa | LoadKind::CNc => Change::Advanced {
+        LoadKind::A | LoadKind::Sa | LoadKind::CNc => Change::Entered {
             r1: load.r1,
             r3: load.r3,
             size: load.entry.size,

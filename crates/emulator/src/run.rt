@@ -46,7 +46,7 @@ fn next_place(program: &Program, bundle: &BundleOf, place: Place) -> Option<Plac
             slot: place.slot + 1,
         });
     }
-    if place.bundle < count && place.bundle + 1 < count {
+    if place.bundle + 1 < count {
         return Some(Place {
             bundle: place.bundle + 1,
             slot: 0,
@@ -60,6 +60,7 @@ fn has_stop(program: &Program, bundle: &BundleOf, place: Place) -> bool
     requires here { slice_get program.now.bundles place.bundle ≡ Some bundle.now }
     ensures { result ≡ is_stopped program.now.bundles place }
 {
+    // This call tells what the bundles are.
     let _bundles = program.bundles();
     bundle.stop_after(place.slot)
 }
@@ -102,7 +103,7 @@ impl Run {
     }
 
     /// The place of the next slot. It is read part by part, as it is written: to read both parts as one word
-    /// waits for both writes, and takes a quarter of the speed.
+    /// would wait for both writes.
     fn here(&self) -> Place
         ensures { result ≡ self.now.place }
     {

@@ -19,7 +19,7 @@ use Rattle.ia_meaning.specs.Frames.{stack_limit, with_sizes, cleared, call_state
 use Rattle.ia_meaning.specs.Loops.{turn_of, turn_writes}
 use Rattle.reg_stack.specs.Stacks.{alloc_fault_within, returned_frame}
 use Rattle.machine_state.specs.declared.change.Change.{Change}
-use Rattle.machine_state.specs.declared.change.Change.TheVariants.{Nothing, General, Predicates, PredicateWord, Branch, Application, Loaded, Advanced, Hit, Stored, Forgotten, AllForgotten, Allocated, Turned, Called, Returned, Cleared}
+use Rattle.machine_state.specs.declared.change.Change.TheVariants.{Nothing, General, Predicates, PredicateWord, Branch, Application, Loaded, Entered, Hit, Stored, Forgotten, AllForgotten, Allocated, Turned, Called, Returned, Cleared}
 use Rattle.machine_state.specs.Contents.{Contents}
 
 abbrev pub application_write : Ar → ℕ → Write
@@ -64,7 +64,7 @@ writes_of r (PredicateWord mask word) = predicate_writes mask word
 writes_of r (Branch b1 value) = SetBranch b1 value ∷ []
 writes_of r (Application ar value) = application_write ar value ∷ []
 writes_of r (Loaded r1 r3 forgets update cell) = set_at (spot r.frame r1) cell (load_update r r3 update)
-writes_of r (Advanced r1 r3 size update cell) = set_at (spot r.frame r1) cell (load_update r r3 update)
+writes_of r (Entered r1 r3 size update cell) = set_at (spot r.frame r1) cell (load_update r r3 update)
 writes_of r (Hit r1 r3 forgets update) = load_update r r3 update
 writes_of r (Stored r3 size spills update cell) = base_update r r3 update zero_cell
 writes_of r (Forgotten r1) = []
@@ -95,7 +95,7 @@ entered_at (Some d) address size es = entered es (record { key = d; address = ad
 -- the memory after a change of these registers
 abbrev pub memory_after : Registers → Change → Memory → Memory
 memory_after r (Loaded r1 r3 forgets update cell) m = record m { alat = forgotten_where forgets (spot r.frame r1) m.alat }
-memory_after r (Advanced r1 r3 size update cell) m =
+memory_after r (Entered r1 r3 size update cell) m =
     record m { alat = entered_at (spot r.frame r1) (held r r3).value size m.alat }
 memory_after r (Hit r1 r3 forgets update) m = record m { alat = forgotten_where forgets (spot r.frame r1) m.alat }
 memory_after r (Stored r3 size spills update cell) m = record {

@@ -225,7 +225,7 @@ impl MachineState {
                 self.forget_where(forgets, r1);
                 self.load(r1, r3, &update, cell);
             }
-            Change::Advanced {
+            Change::Entered {
                 r1,
                 r3,
                 size,

@@ -5,6 +5,12 @@ use ia_meaning::Cell;
 
 /// What a slot writes. A register is named in the frame before the slot, but the target of `alloc` in the
 /// frame after it. r0 and p0 may be named, and are not written.
+///
+/// It holds what the slot read and computed, and no value that [`MachineState::apply`] can make again: no new
+/// base, no entry of the ALAT, no turn of a loop. So it is small, as the speed of a run wants it; the small
+/// fields of a variant come first, since fields lie in their order.
+///
+/// [`MachineState::apply`]: crate::MachineState::apply
 #[derive(Clone, Copy, Debug)]
 pub enum Change {
     /// Nothing.
@@ -62,7 +68,7 @@ pub enum Change {
         cell: Cell,
     },
     /// A load whose target enters the ALAT.
-    Advanced {
+    Entered {
         /// The target.
         r1: Gr,
         /// The base, which holds the address.

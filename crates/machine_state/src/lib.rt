@@ -6,9 +6,9 @@
 //! contracts tie a change to the writes that `ia_meaning` speaks of: [`MachineState::apply`] makes exactly those.
 #![tactic(auto)]
 
-mod accesses;
 mod apply;
 mod change;
+mod loads;
 mod loops;
 mod previous_state;
 mod state;

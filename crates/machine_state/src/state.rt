@@ -235,21 +235,6 @@ impl MachineState {
         }
     }
 
-    /// The loop count.
-    pub fn loop_count(&self) -> u64
-        ensures { result ≡ self.now.registers.lc }
-    {
-        self.lc
-    }
-
-    /// The epilog count, below 64.
-    pub fn epilog_count(&self) -> u64
-        ensures value { result ≡ self.now.registers.ec }
-        ensures within { result < 64 }
-    {
-        self.ec
-    }
-
     /// Why a return by the previous function state is refused, where it is: that it is no frame, that its
     /// locals reach below the first cell, or that there are too many cells.
     #[tactic(auto, using(crate::proofs::Frames::return_fault_low))]

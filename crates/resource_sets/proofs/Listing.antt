@@ -1,9 +1,39 @@
 -- The accesses of rows, one part after another.
-use Rattle.std.proofs.Common.{◌≡◌, ℕ, Bool, true, false, List, [], ◌∷◌, ◌++◌, if◌then◌else◌, refl, sym, ap, ◌∙◌, append_assoc}
+use Rattle.std.proofs.Common.{◌≡◌, ℕ, Bool, true, false, List, [], ◌∷◌, ◌++◌, if◌then◌else◌, refl, sym, ap, ◌∙◌, append_assoc, inl, inr, zero, suc, ◌+◌, ◌<◌, ◌≤◌, arith}
+use Rattle.std.proofs.lemmas.Bool.{cases_eq}
+use Rattle.ia_meaning.specs.Moves.{is_masked}
+use Rattle.resource_sets.specs.declared.access.Resource.TheVariants.{Pr}
+use Rattle.resource_sets.specs.declared.access.Kind.{Kind}
 use Rattle.resource_sets.specs.declared.row.Row.{Row}
+use Rattle.resource_sets.specs.declared.access.Access.{Access}
+use Rattle.resource_sets.specs.AccessLaws.{HasRow}
 use Rattle.ia_meaning.specs.declared.form.Form.{Form}
 use Rattle.resource_sets.specs.Rows.{access, listed}
-use Rattle.resource_sets.specs.Accesses.{frame_row, qp_rows, named_rows, other_rows, placed_rows, rows}
+use Rattle.resource_sets.specs.Accesses.{frame_row, qp_rows, own_rows, place_rows, mask_rows, placed_rows, rows_by_name, rows}
+
+-- Rows of a list that is put together.
+pub has_left : (qp : ℕ) (a : Access) (front back : List Row) → HasRow qp a front → HasRow qp a (front ++ back)
+has_left qp a [] back h = absurd h
+has_left qp a (row ∷ front) back (inl h) = inl h
+has_left qp a (row ∷ front) back (inr h) = inr (has_left qp a front back h)
+
+pub has_right : (qp : ℕ) (a : Access) (front back : List Row) → HasRow qp a back → HasRow qp a (front ++ back)
+has_right qp a [] back h = h
+has_right qp a (row ∷ front) back h = inr (has_right qp a front back h)
+
+-- Rows of predicates under a mask.
+place_row : (qp left n p mask : ℕ) (kind : Kind) → n ≤ p → p < n + left → is_masked mask p ≡ true
+    → HasRow qp (record { resource = Pr p; kind = kind; guard = qp }) (place_rows left n mask kind)
+place_row qp zero n p mask kind i j e = absurd (omega arith)
+place_row qp (suc left) n p mask kind i j e = elim (cases_eq n p) [
+  | inl same ↦ inl (rw same e, cc)
+  | inr other ↦ inr (place_row qp left (suc n) p mask kind (omega arith) (omega arith) e)
+]
+
+pub mask_row : (qp p mask : ℕ) (kind : Kind) → 1 ≤ p → p < 64 → is_masked mask p ≡ true
+    → HasRow qp (record { resource = Pr p; kind = kind; guard = qp }) (mask_rows mask kind)
+unfolding mask_rows
+mask_row qp p mask kind i j e = place_row qp 63 1 p mask kind i j e
 
 listed_append : (qp : ℕ) (xs ys : List Row) → listed qp (xs ++ ys) ≡ listed qp xs ++ listed qp ys
 listed_append qp [] ys = refl
@@ -13,15 +43,13 @@ listed_append qp (x ∷ xs) ys = by_row x.there (listed_append qp xs ys)
     by_row true e = ap (λ rest. access qp x ∷ rest) e
     by_row false e = e
 
-five : (qp : ℕ) (f q n o p : List Row) → listed qp (f ++ (q ++ (n ++ (o ++ p)))) ≡ (((listed qp f ++ listed qp q) ++ listed qp n) ++ listed qp o) ++ listed qp p
-five qp f q n o p =
-    listed_append qp f (q ++ (n ++ (o ++ p)))
-    ∙ ap (λ x. listed qp f ++ x) (listed_append qp q (n ++ (o ++ p)) ∙ ap (λ x. listed qp q ++ x) (listed_append qp n (o ++ p) ∙ ap (λ x. listed qp n ++ x) (listed_append qp o p)))
-    ∙ sym (append_assoc (listed qp f) (listed qp q) (listed qp n ++ (listed qp o ++ listed qp p)))
-    ∙ sym (append_assoc (listed qp f ++ listed qp q) (listed qp n) (listed qp o ++ listed qp p))
-    ∙ sym (append_assoc ((listed qp f ++ listed qp q) ++ listed qp n) (listed qp o) (listed qp p))
-
 -- the accesses of an instruction, part by part
-pub in_parts : (qp : ℕ) (f : Form) → listed qp (rows qp f) ≡ (((listed qp (frame_row qp f ∷ []) ++ listed qp (qp_rows qp f)) ++ listed qp (named_rows f)) ++ listed qp (other_rows f)) ++ listed qp (placed_rows f)
+pub in_parts : (qp : ℕ) (f : Form)
+    → listed qp (rows qp f) ≡ ((listed qp (frame_row qp f ∷ []) ++ listed qp (qp_rows qp f)) ++ listed qp (own_rows f)) ++ listed qp (placed_rows f)
 unfolding rows
-in_parts qp f = five qp (frame_row qp f ∷ []) (qp_rows qp f) (named_rows f) (other_rows f) (placed_rows f)
+in_parts qp f =
+    listed_append qp (rows_by_name qp f) (placed_rows f)
+    ∙ ap (λ x. x ++ listed qp (placed_rows f))
+    (listed_append qp (frame_row qp f ∷ []) (qp_rows qp f ++ own_rows f)
+    ∙ ap (λ x. listed qp (frame_row qp f ∷ []) ++ x) (listed_append qp (qp_rows qp f) (own_rows f))
+    ∙ sym (append_assoc (listed qp (frame_row qp f ∷ [])) (listed qp (qp_rows qp f)) (listed qp (own_rows f))))

@@ -51,20 +51,6 @@ is_updated u = true
 abbrev pub base_row : Update → ℕ → Row
 base_row u r = record { there = is_updated u && is_named r; guarded = true; resource = Gr r; kind = Write }
 
--- The rows of the registers and predicates that an instruction names.
-abbrev pub named_rows : Form → List Row
-named_rows (form.Compute r1 r2 r3) = gr r2 Read ∷ gr r3 Read ∷ gr r1 Write ∷ []
-named_rows (form.Fetch r1 source) = gr r1 Write ∷ []
-named_rows (form.Test kind p1 p2 r2 r3) = gr r2 Read ∷ gr r3 Read ∷ test_rows kind p1 p2
-named_rows (form.ToPredicates r2 mask) = gr r2 Read ∷ []
-named_rows (form.ToBranch b1 r2) = gr r2 Read ∷ []
-named_rows (form.ToApplication ar r2) = gr r2 Read ∷ []
-named_rows (form.FromMemory size kind r1 r3 u) = gr r3 Read ∷ gr (update_register u) Read ∷ gr r1 Write ∷ base_row u r3 ∷ []
-named_rows (form.ToMemory size kind r3 r2 u) = gr r3 Read ∷ gr r2 Read ∷ base_row u r3 ∷ []
-named_rows (form.CheckNat r2 disp) = gr r2 Read ∷ []
-named_rows (form.Allocate r1 sof sol sor) = gr r1 Write ∷ []
-named_rows form = []
-
 -- the register that an instruction names and neither reads nor writes, or r0
 abbrev pub other_name : Form → ℕ
 other_name (form.CheckAlat clear r1 disp) = r1
@@ -77,21 +63,15 @@ application ar.Pfs = Pfs
 application ar.Lc = Lc
 application ar.Ec = Ec
 
--- so many predicates from the n-th on
-abbrev pub predicate_rows : ℕ → ℕ → Kind → List Row
-predicate_rows zero n kind = []
-predicate_rows (suc left) n kind = pr true n kind ∷ predicate_rows left (suc n) kind
+-- so many predicates from the n-th on, where a mask has them
+abbrev pub place_rows : (left n mask : ℕ) → Kind → List Row
+place_rows zero n mask kind = []
+place_rows (suc left) n mask kind =
+    record { there = is_masked mask n; guarded = true; resource = Pr n; kind = kind } ∷ place_rows left (suc n) mask kind
 
-abbrev pub masked_rows : ℕ → ℕ → ℕ → List Row
-masked_rows zero n mask = []
-masked_rows (suc left) n mask = record { there = is_masked mask n; guarded = true; resource = Pr n; kind = Write } ∷ masked_rows left (suc n) mask
-
--- p1 to p63
-unfoldable pub all_predicates : List Row
-all_predicates = predicate_rows 63 1 Read
-
-unfoldable pub mask_rows : ℕ → List Row
-mask_rows mask = masked_rows 63 1 mask
+-- p1 to p63, where a mask has them
+unfoldable pub mask_rows : ℕ → Kind → List Row
+mask_rows mask kind = place_rows 63 1 mask kind
 
 abbrev pub source_rows : Source → List Row
 source_rows (source.Branch b) = always true (Br b) Read ∷ []
@@ -106,6 +86,10 @@ abbrev pub is_spill : StoreKind → Bool
 is_spill store.Spill = true
 is_spill kind = false
 
+-- what a fill or a spill accesses besides
+abbrev pub unat_row : Bool → Kind → Row
+unat_row there kind = record { there = there; guarded = true; resource = Unat; kind = kind }
+
 -- the branch register that an indirect call reads
 abbrev pub goal_row : Goal → Row
 goal_row (goal.Direct disp) = record { there = false; guarded = false; resource = Cfm; kind = Read }
@@ -113,11 +97,14 @@ goal_row (goal.Indirect b2) = always true (Br b2) BranchRead
 
 abbrev pub call_rows : ℕ → Goal → List Row
 call_rows b1 goal =
-    always true Cfm Read ∷ always true Cfm Write ∷ always true Pfs Write ∷ always true Ec Read ∷ always true (Br b1) Write ∷ goal_row goal ∷ []
+    always true Cfm Read ∷ always true Cfm Write ∷ always true Pfs Write ∷ always true Ec Read
+    ∷ always true (Br b1) Write ∷ goal_row goal ∷ []
 
 -- a loop that counts by EC and rotates
 abbrev pub rotating_rows : List Row
-rotating_rows = always false Ec Read ∷ always false Ec Write ∷ always false Cfm Read ∷ always false Cfm Write ∷ always false (Pr 63) LoopWrite ∷ []
+rotating_rows =
+    always false Ec Read ∷ always false Ec Write ∷ always false Cfm Read ∷ always false Cfm Write
+    ∷ always false (Pr 63) LoopWrite ∷ []
 
 abbrev pub counting_rows : List Row
 counting_rows = always false Lc Read ∷ always false Lc Write ∷ []
@@ -130,26 +117,39 @@ loop_rows branch.Wtop = rotating_rows
 loop_rows branch.Wexit = rotating_rows
 loop_rows branch.Cond = []
 
--- The rows of what an instruction accesses besides.
-abbrev pub other_rows : Form → List Row
-other_rows (form.Fetch r1 source) = source_rows source
-other_rows (form.ToBranch b1 r2) = always true (Br b1) Write ∷ []
-other_rows (form.ToApplication a r2) = always true (application a) Write ∷ []
-other_rows (form.FromMemory size kind r1 r3 u) = record { there = is_fill kind; guarded = true; resource = Unat; kind = Fill } ∷ []
-other_rows (form.ToMemory size kind r3 r2 u) = record { there = is_spill kind; guarded = true; resource = Unat; kind = Spill } ∷ []
-other_rows (form.Allocate r1 sof sol sor) = always true Pfs Read ∷ always true Cfm Read ∷ always true Cfm AllocWrite ∷ []
-other_rows (form.JumpIndirect b2) = always true (Br b2) BranchRead ∷ []
-other_rows (form.Loop kind disp) = loop_rows kind
-other_rows (form.Call b1 goal) = call_rows b1 goal
-other_rows (form.Return b2) =
+-- The rows of an instruction, but for those of its qualifying predicate, of the frame of its names, and of predicates by
+-- place.
+abbrev pub own_rows : Form → List Row
+own_rows (form.Compute r1 r2 r3) = gr r2 Read ∷ gr r3 Read ∷ gr r1 Write ∷ []
+own_rows (form.Fetch r1 source) = gr r1 Write ∷ source_rows source
+own_rows (form.Test kind p1 p2 r2 r3) = gr r2 Read ∷ gr r3 Read ∷ test_rows kind p1 p2
+own_rows (form.ToPredicates r2 mask) = gr r2 Read ∷ []
+own_rows (form.ToBranch b1 r2) = gr r2 Read ∷ always true (Br b1) Write ∷ []
+own_rows (form.ToApplication a r2) = gr r2 Read ∷ always true (application a) Write ∷ []
+own_rows (form.FromMemory size kind r1 r3 u) =
+    gr r3 Read ∷ gr (update_register u) Read ∷ gr r1 Write ∷ base_row u r3 ∷ unat_row (is_fill kind) Fill ∷ []
+own_rows (form.ToMemory size kind r3 r2 u) =
+    gr r3 Read ∷ gr r2 Read ∷ base_row u r3 ∷ unat_row (is_spill kind) Spill ∷ []
+own_rows (form.CheckNat r2 disp) = gr r2 Read ∷ []
+own_rows (form.CheckAlat clear r1 disp) = []
+own_rows form.ForgetAll = []
+own_rows (form.Forget r1) = []
+own_rows (form.Allocate r1 sof sol sor) =
+    gr r1 Write ∷ always true Pfs Read ∷ always true Cfm Read ∷ always true Cfm AllocWrite ∷ []
+own_rows (form.Jump disp) = []
+own_rows (form.JumpIndirect b2) = always true (Br b2) BranchRead ∷ []
+own_rows (form.Loop kind disp) = loop_rows kind
+own_rows (form.Call b1 goal) = call_rows b1 goal
+own_rows (form.Return b2) =
     always true (Br b2) BranchRead ∷ always true Pfs BranchRead ∷ always true Cfm Write ∷ always true Ec Write ∷ []
-other_rows (form.ClearBases pred_only) = always true Cfm Write ∷ []
-other_rows form = []
+own_rows (form.ClearBases pred_only) = always true Cfm Write ∷ []
+own_rows (form.Stop unit imm) = []
+own_rows (form.Idle unit) = []
 
--- The rows of predicates by place.
+-- The rows of predicates by place. All of them are read: the mask has all bits.
 abbrev pub placed_rows : Form → List Row
-placed_rows (form.Fetch r1 source.Predicates) = all_predicates
-placed_rows (form.ToPredicates r2 mask) = mask_rows mask
+placed_rows (form.Fetch r1 source.Predicates) = mask_rows 0x1ffff Read
+placed_rows (form.ToPredicates r2 mask) = mask_rows mask Write
 placed_rows form = []
 
 -- how the qualifying predicate is read
@@ -187,12 +187,25 @@ any_framed rows = list_any (λ row. is_framed row.resource) rows
 
 -- what a name of the frame depends on
 abbrev pub frame_row : ℕ → Form → Row
-frame_row qp f = record { there = is_rotating qp || (is_stacked (other_name f) || any_framed (named_rows f)); guarded = false; resource = Cfm; kind = Read }
+frame_row qp f = record {
+  there = is_rotating qp || (is_stacked (other_name f) || any_framed (own_rows f));
+  guarded = false;
+  resource = Cfm;
+  kind = Read;
+}
 
--- All rows of an instruction.
+-- The rows by name.
+abbrev pub rows_by_name : ℕ → Form → List Row
+rows_by_name qp f = frame_row qp f ∷ (qp_rows qp f ++ own_rows f)
+
+-- All rows of an instruction: those by name, and those of predicates by place.
 unfoldable pub rows : ℕ → Form → List Row
-rows qp f = frame_row qp f ∷ (qp_rows qp f ++ (named_rows f ++ (other_rows f ++ placed_rows f)))
+rows qp f = rows_by_name qp f ++ placed_rows f
+
+-- the form of an instruction
+abbrev pub insn_form : Insn → Form
+insn_form insn = form_of (action_of insn.op)
 
 -- The accesses of an instruction.
 abbrev pub accesses : Insn → List Access
-accesses insn = listed insn.qp (rows insn.qp (form_of (action_of insn.op)))
+accesses insn = listed insn.qp (rows insn.qp (insn_form insn))

@@ -1,12 +1,15 @@
--- Which two accesses of one group clash (volume 1, chapter 3, instruction dependencies).
-use Rattle.std.specs.Prelude.{Bool, true, false, ◌&&◌, ◌==◌, if◌then◌else◌, Option, Some, None}
+-- Which two accesses of one group clash, and which may write a guard (volume 1, chapter 3, instruction
+-- dependencies).
+use Rattle.std.specs.Prelude.{ℕ, Bool, true, false, ◌&&◌, ◌==◌, List, if◌then◌else◌, Option, Some, None}
+use Rattle.std.specs.List.{list_any}
+use Rattle.ia_meaning.specs.Names.{is_rotating}
 use Rattle.resource_sets.specs.declared.access.Resource.{Resource}
 use Rattle.resource_sets.specs.declared.access.Resource.TheVariants.{Gr, Pr, Br, Unat, Pfs, Lc, Ec, Cfm}
 use Rattle.resource_sets.specs.declared.access.Kind.{Kind}
 use Rattle.resource_sets.specs.declared.access.Kind.TheVariants.{Read, BranchRead, Write, AllocWrite, LoopWrite, OrWrite, AndWrite, Spill, Fill}
 use Rattle.resource_sets.specs.declared.access.Access.{Access}
-use Rattle.resource_sets.specs.declared.rules.Rule.{Rule}
-use Rattle.resource_sets.specs.declared.rules.Rule.TheVariants.{Raw, Waw, War63}
+use Rattle.resource_sets.specs.declared.clashes.Rule.{Rule}
+use Rattle.resource_sets.specs.declared.clashes.Rule.TheVariants.{Raw, Waw, War63}
 
 -- a later slot of the group would see what such an access writes
 abbrev pub is_written : Kind → Bool
@@ -67,3 +70,17 @@ is_resource a b = false
 -- why an access clashes with a later one
 abbrev pub clash : Access → Access → Option Rule
 clash first second = if is_resource first.resource second.resource then clash_of first.kind second.kind else None
+
+-- An access of this kind may change the predicate of that name: it writes it, or the frame by which it is named. The frame
+-- that `alloc` writes is seen by its whole group.
+abbrev pub writes_guard : ℕ → Resource → Kind → Bool
+writes_guard g (Pr p) Write = p == g
+writes_guard g (Pr p) LoopWrite = p == g
+writes_guard g (Pr p) OrWrite = p == g
+writes_guard g (Pr p) AndWrite = p == g
+writes_guard g Cfm Write = is_rotating g
+writes_guard g q kind = false
+
+-- an instruction with these accesses may write the guard
+abbrev pub may_write_guard : ℕ → List Access → Bool
+may_write_guard g accesses = list_any (λ a. writes_guard g a.resource a.kind) accesses

@@ -3,14 +3,17 @@
 //! chapter 5, resource and dependency semantics).
 //!
 //! `accesses` is a function of the form of the instruction's effect (`ia_meaning::Form`) and its qualifying
-//! predicate; `clash` is a table of two accesses.
+//! predicate; `clash` is a table of two accesses. The laws say that no instruction depends on more than its
+//! accesses name, or writes more than they name.
 #![tactic(auto)]
 
 mod access;
-mod forms;
+mod clashes;
+mod insn_accesses;
+mod laws;
 mod row;
-mod rules;
 
 pub use access::{Access, Kind, Resource};
-pub use forms::accesses;
-pub use rules::{Rule, clash};
+pub use clashes::{Rule, clash, may_write_guard};
+pub use insn_accesses::accesses;
+pub use laws::{accesses_are_regular, accesses_clash, depends_on_accesses, writes_are_accesses};

@@ -1,0 +1,486 @@
+-- What kinds of accesses there are: each row of each form is one of few kinds.
+use Rattle.std.proofs.Common.{◌≡◌, ◌≢◌, None, ◌⊎◌, inl, inr, ℕ, zero, suc, ◌<◌, ◌≤◌, ◌+◌, Bool, true, false, ◌&&◌, List, [], ◌∷◌, ◌++◌, Contains, refl, sym, ◌∙◌, ap, if◌then◌else◌, arith, true≢false, eq-eqb}
+use Rattle.std.proofs.lemmas.List.Elements.{Contains-append_right, Contains-append_cases}
+use Rattle.std.proofs.lemmas.Bool.{and_from, and_parts, or_left, or_right, cases_lt}
+use Rattle.std.proofs.lemmas.Bool.Decides.{nat_tests}
+use Rattle.std.proofs.lemmas.Nat.Bits.{bit_at_ones}
+use Rattle.ia_meaning.specs.Arithmetic.{bit}
+use Rattle.ia_meaning.specs.Moves.{is_masked}
+use Rattle.ia_insn.specs.declared.choices.CmpKind.{CmpKind}
+use Rattle.ia_insn.specs.declared.choices.CmpKind.TheVariants as cmp
+use Rattle.ia_insn.specs.declared.choices.BranchKind.{BranchKind}
+use Rattle.ia_insn.specs.declared.choices.BranchKind.TheVariants as branch
+use Rattle.ia_insn.specs.declared.choices.Update.{Update}
+use Rattle.ia_insn.specs.declared.choices.Update.TheVariants as update
+use Rattle.ia_insn.specs.declared.registers.Ar.{Ar}
+use Rattle.ia_insn.specs.declared.registers.Ar.TheVariants as ar
+use Rattle.ia_insn.specs.declared.insn.Insn.{Insn}
+use Rattle.ia_insn.specs.declared.insn.Op.{Op}
+use Rattle.ia_insn.specs.declared.insn.Op.TheVariants as ops
+use Rattle.ia_insn.specs.declared.choices.Unit.TheVariants.{M}
+use Rattle.ia_insn.specs.Listed.{IsListed}
+use Rattle.ia_meaning.specs.declared.form.Source.TheVariants as source
+use Rattle.ia_meaning.specs.declared.form.Goal.{Goal}
+use Rattle.ia_meaning.specs.declared.form.Goal.TheVariants as goal
+use Rattle.ia_meaning.specs.declared.form.Form.{Form}
+use Rattle.ia_meaning.specs.declared.form.Form.TheVariants as form
+use Rattle.ia_meaning.specs.State.{Registers}
+use Rattle.ia_meaning.specs.Names.{is_stacked, is_rotating, holds}
+use Rattle.ia_meaning.specs.Actions.{action_of, form_of}
+use Rattle.ia_meaning.specs.Loads.{update_register}
+use Rattle.resource_sets.specs.declared.access.Resource.{Resource}
+use Rattle.resource_sets.specs.declared.access.Resource.TheVariants.{Gr, Pr, Br, Unat, Cfm}
+use Rattle.resource_sets.specs.declared.access.Kind.{Kind}
+use Rattle.resource_sets.specs.declared.access.Kind.TheVariants.{Read, BranchRead, Write, AllocWrite, LoopWrite, OrWrite, AndWrite, Spill, Fill}
+use Rattle.resource_sets.specs.declared.access.Access.{Access}
+use Rattle.resource_sets.specs.declared.row.Row.{Row}
+use Rattle.resource_sets.specs.Rows.{is_named, access, gr, pr, listed}
+use Rattle.resource_sets.specs.Accesses.{test_rows, is_updated, base_row, own_rows, other_name, application, call_rows, counting_rows, rotating_rows, loop_rows, place_rows, mask_rows, placed_rows, reads_plainly, qp_rows, is_framed, any_framed, frame_row, insn_form, rows_by_name, rows, reads_as_branch}
+use Rattle.resource_sets.specs.Clashes.{is_resource, clash_of, writes_guard, may_write_guard}
+use Rattle.resource_sets.specs.AccessLaws.{AgreesOn, AgreesAtEach, AgreesByPlace, HasRow, HasAccess}
+use Rattle.resource_sets.specs.Regularity.{IsLoop, IsChange, is_branch, NamedAsFound, AgreeByAccesses, is_allocate, frame_read, HasNamedAccess, IsTarget, IsName, IsPredicate, IsCountOrFrame, GoesBy, IsRegular, AccessesAreRegular, GuardsAreRead, IsPlaced, NamedAccessesAreAccesses, AccessesAreNamedOrPlaced, PredicatesAreRead, ListedAreRows, AccessesAreListed, GuardsAreWritten, IsInRange, AccessesAreInRange, IsExcepted, AccessesClash}
+use Rattle.resource_sets.proofs.Listing.{has_left, has_right, mask_row}
+
+-- Rows of a list that is put together.
+pub has_append : (qp : ℕ) (a : Access) (front back : List Row) → HasRow qp a (front ++ back)
+    → HasRow qp a front ⊎ HasRow qp a back
+has_append qp a [] back h = inr h
+has_append qp a (row ∷ front) back (inl h) = inl (inl h)
+has_append qp a (row ∷ front) back (inr h) = later (has_append qp a front back h)
+  where
+    later : HasRow qp a front ⊎ HasRow qp a back → HasRow qp a (row ∷ front) ⊎ HasRow qp a back
+    later (inl k) = inl (inr k)
+    later (inr k) = inr k
+
+-- What holds of an access of a form, by its kind.
+abbrev KindFact : ℕ → Form → Kind → Resource → ℕ → Type 0
+KindFact qp f Read q g = reads_plainly f ≡ false → IsCountOrFrame q
+KindFact qp f BranchRead q g =
+    (reads_plainly f ≡ false → (q ≡ Pr qp) ⊎ GoesBy f q)
+    × (reads_plainly f ≡ true → HasRow qp (record { resource = q; kind = Read; guard = g }) (rows_by_name qp f))
+KindFact qp f Write q g = Unit {0}
+KindFact qp f AllocWrite q g = (is_allocate f ≡ true) × (q ≡ Cfm)
+KindFact qp f LoopWrite q g = q ≡ Pr 63
+KindFact qp f OrWrite q g = IsPredicate q
+KindFact qp f AndWrite q g = IsPredicate q
+KindFact qp f Spill q g = (is_allocate f ≡ false) × (q ≡ Unat)
+KindFact qp f Fill q g = q ≡ Unat
+
+record RowFact (qp : ℕ) (f : Form) (row : Row) : Type 0 where
+  fact : row.there ≡ true → IsName qp f row.resource × KindFact qp f row.kind row.resource (access qp row).guard
+
+abbrev RowFacts : ℕ → Form → List Row → Type 0
+RowFacts qp f [] = Unit {0}
+RowFacts qp f (row ∷ rows) = RowFact qp f row × RowFacts qp f rows
+
+facts_append : (qp : ℕ) (f : Form) (front back : List Row) → RowFacts qp f front → RowFacts qp f back
+    → RowFacts qp f (front ++ back)
+facts_append qp f [] back h k = k
+facts_append qp f (row ∷ front) back h k = (h.0, facts_append qp f front back h.1 k)
+
+fact_of : (qp : ℕ) (f : Form) (a : Access) (rows : List Row) → RowFacts qp f rows → HasRow qp a rows
+    → IsName qp f a.resource × KindFact qp f a.kind a.resource a.guard
+fact_of qp f a [] h k = absurd k
+fact_of qp f a (row ∷ rows) h (inl k) = rw (← k.1) (h.0.fact k.0)
+fact_of qp f a (row ∷ rows) h (inr k) = fact_of qp f a rows h.1 k
+
+-- Of the registers and predicates that an instruction names.
+some_of : (n : ℕ) → is_named n ≡ true → 1 ≤ n
+some_of zero h = absurd (cc)
+some_of (suc n) h = omega arith
+
+reads : {qp : ℕ} {f : Form} (r : ℕ) → reads_plainly f ≡ true → RowFact qp f (gr r Read)
+reads r h = record { fact = λ t. (some_of r t, λ e. absurd (true≢false (sym h ∙ e))) }
+
+writes : {qp : ℕ} {f : Form} (r : ℕ) → RowFact qp f (gr r Write)
+writes r = record { fact = λ t. (some_of r t, tt) }
+
+updates : {qp : ℕ} {f : Form} (u : Update) (r : ℕ) → RowFact qp f (base_row u r)
+updates u r = record { fact = λ t. (some_of r (and_parts (is_updated u) (is_named r) t).1, tt) }
+
+target_row : {qp : ℕ} {f : Form} (guarded : Bool) (p : ℕ) (kind : Kind) → IsTarget f p
+    → KindFact qp f kind (Pr p) (if guarded then qp else 0) → RowFact qp f (pr guarded p kind)
+target_row guarded p kind h k = record { fact = λ t. ((some_of p t, inr (inl h)), k) }
+
+targets : (qp : ℕ) (kind : CmpKind) (p1 p2 r2 r3 : ℕ) → RowFacts qp (form.Test kind p1 p2 r2 r3) (test_rows kind p1 p2)
+targets qp cmp.Normal p1 p2 r2 r3 = (target_row _ p1 _ (inl refl) tt, (target_row _ p2 _ (inr refl) tt, tt))
+targets qp _ p1 p2 r2 r3 = (target_row _ p1 _ (inl refl) tt, (target_row _ p2 _ (inr refl) tt, tt))
+
+-- Of the others.
+row_of : {qp : ℕ} {f : Form} {row : Row} → IsName qp f row.resource
+    → KindFact qp f row.kind row.resource (access qp row).guard → RowFact qp f row
+row_of n k = record { fact = λ t. (n, k) }
+
+application_named : (qp : ℕ) (f : Form) (a : Ar) → IsName qp f (application a)
+application_named qp f ar.Unat = tt
+application_named qp f _ = tt
+
+counts : (qp : ℕ) (f : Form) → RowFacts qp f counting_rows
+counts qp f = (row_of tt (λ e. tt), (row_of tt tt, tt))
+
+rotates : (qp : ℕ) (f : Form) → IsLoop f → RowFacts qp f rotating_rows
+rotates qp f loop = (
+  row_of tt (λ e. tt),
+  (
+    row_of tt tt,
+    (
+      row_of tt (λ e. tt),
+      (row_of tt tt, (row_of (omega arith, inr (inr (loop, refl))) refl, tt)),
+    ),
+  ),
+)
+
+loops : (qp : ℕ) (f : Form) → IsLoop f → (kind : BranchKind) → RowFacts qp f (loop_rows kind)
+loops qp f loop branch.Cond = tt
+loops qp f loop branch.Wexit = rotates qp f loop
+loops qp f loop branch.Wtop = rotates qp f loop
+loops qp f loop branch.Cloop = counts qp f
+loops qp f loop branch.Cexit = facts_append qp f counting_rows rotating_rows (counts qp f) (rotates qp f loop)
+loops qp f loop branch.Ctop = facts_append qp f counting_rows rotating_rows (counts qp f) (rotates qp f loop)
+
+calls : (qp b1 : ℕ) (goal : Goal) → RowFacts qp (form.Call b1 goal) (call_rows b1 goal)
+calls qp b1 (goal.Direct disp) = (
+  row_of tt (λ e. tt),
+  (
+    row_of tt tt,
+    (
+      row_of tt tt,
+      (row_of tt (λ e. tt), (row_of tt tt, (row_of tt (λ e. tt), tt))),
+    ),
+  ),
+)
+calls qp b1 (goal.Indirect b2) = (
+  row_of tt (λ e. tt),
+  (
+    row_of tt tt,
+    (
+      row_of tt tt,
+      (row_of tt (λ e. tt), (row_of tt tt, (row_of tt (λ e. inr refl, λ e. absurd (cc)), tt))),
+    ),
+  ),
+)
+
+own_facts : (qp : ℕ) (f : Form) → RowFacts qp f (own_rows f)
+own_facts qp (form.Compute r1 r2 r3) = (reads r2 refl, (reads r3 refl, (writes r1, tt)))
+own_facts qp (form.Fetch r1 (source.Branch b)) = (writes r1, (row_of tt (λ e. absurd (cc)), tt))
+own_facts qp (form.Fetch r1 (source.Application a)) =
+    (writes r1, (row_of (application_named qp (form.Fetch r1 (source.Application a)) a) (λ e. absurd (cc)), tt))
+own_facts qp (form.Fetch r1 source) = (writes r1, tt)
+own_facts qp (form.Test kind p1 p2 r2 r3) = (reads r2 refl, (reads r3 refl, targets qp kind p1 p2 r2 r3))
+own_facts qp (form.ToPredicates r2 mask) = (reads r2 refl, tt)
+own_facts qp (form.ToBranch b1 r2) = (reads r2 refl, (row_of tt tt, tt))
+own_facts qp (form.ToApplication a r2) = (reads r2 refl, (row_of (application_named qp (form.ToApplication a r2) a) tt, tt))
+own_facts qp (form.FromMemory size kind r1 r3 u) =
+    (reads r3 refl, (reads (update_register u) refl, (writes r1, (updates u r3, (row_of tt refl, tt)))))
+own_facts qp (form.ToMemory size kind r3 r2 u) =
+    (reads r3 refl, (reads r2 refl, (updates u r3, (row_of tt (refl, refl), tt))))
+own_facts qp (form.CheckNat r2 disp) = (reads r2 refl, tt)
+own_facts qp (form.Allocate r1 sof sol sor) =
+    (writes r1, (row_of tt (λ e. absurd (cc)), (row_of tt (λ e. tt), (row_of tt (refl, refl), tt))))
+own_facts qp (form.JumpIndirect b2) = (row_of tt (λ e. inr refl, λ e. absurd (cc)), tt)
+own_facts qp (form.Loop kind disp) = loops qp (form.Loop kind disp) tt kind
+own_facts qp (form.Call b1 goal) = calls qp b1 goal
+own_facts qp (form.Return b2) = (
+  row_of tt (λ e. inr (inl refl), λ e. absurd (cc)),
+  (row_of tt (λ e. inr (inr refl), λ e. absurd (cc)), (row_of tt tt, (row_of tt tt, tt))),
+)
+own_facts qp (form.ClearBases pred_only) = (row_of tt tt, tt)
+own_facts qp _ = tt
+
+-- Of the read of the frame, and of the qualifying predicate.
+guard_facts : (qp : ℕ) (f : Form) → RowFacts qp f (frame_row qp f ∷ qp_rows qp f)
+guard_facts qp f =
+    let name : (b : Bool) → (is_named qp && b) ≡ true → IsName qp f (Pr qp) = λ b t. (some_of qp (and_parts _ b t).0, inl refl) in (
+      row_of tt (λ e. tt),
+      (
+        record { fact = λ t. (name _ t, λ e. absurd (true≢false (sym (and_parts (is_named qp) _ t).1 ∙ e))) },
+        (record { fact = λ t. (name _ t, (λ e. inl refl, λ e. inr (inl (and_from _ _ (and_parts _ _ t).0 e, refl)))) }, tt),
+      ),
+    )
+
+facts : (qp : ℕ) (f : Form) → RowFacts qp f (rows_by_name qp f)
+facts qp f =
+    let g = guard_facts qp f in
+    (g.0, (g.1.0, (g.1.1.0, own_facts qp f)))
+
+-- the guard of a row is p0 or the qualifying predicate
+guard_of : (qp : ℕ) (a : Access) (rows : List Row) → HasRow qp a rows → (a.guard ≡ 0) ⊎ (a.guard ≡ qp)
+guard_of qp a [] k = absurd k
+guard_of qp a (row ∷ rows) (inl k) = rw (← k.1) (by_row row.guarded)
+  where
+    by_row : (b : Bool) → ((if b then qp else 0) ≡ 0) ⊎ ((if b then qp else 0) ≡ qp)
+    by_row true = inr refl
+    by_row false = inl refl
+guard_of qp a (row ∷ rows) (inr k) = guard_of qp a rows k
+
+-- Names of the frame.
+any_of : (qp : ℕ) (a : Access) (rows : List Row) → HasRow qp a rows → is_framed a.resource ≡ true → any_framed rows ≡ true
+any_of qp a [] h e = absurd h
+any_of qp a (row ∷ rows) (inl h) e = or_left _ _ (ap (λ b. is_framed b.resource) h.1 ∙ e)
+any_of qp a (row ∷ rows) (inr h) e = or_right (is_framed row.resource) _ (any_of qp a rows h e)
+
+framed : (qp : ℕ) (f : Form) (a : Access) → HasRow qp a (rows_by_name qp f) → is_framed a.resource ≡ true
+    → HasRow qp frame_read (rows_by_name qp f)
+framed qp f a (inl h) e = absurd (true≢false (sym (rw (← h.1) at e)))
+framed qp f a (inr (inl h)) e = inl (or_left _ _ (rw (← h.1) at e), refl)
+framed qp f a (inr (inr (inl h))) e = inl (or_left _ _ (rw (← h.1) at e), refl)
+framed qp f a (inr (inr (inr h))) e =
+    inl (or_right (is_rotating qp) _ (or_right (is_stacked (other_name f)) _ (any_of qp a (own_rows f) h e)), refl)
+
+-- A branch reads its qualifying predicate as branches do, and any other instruction as others do.
+reads_so : (f : Form) → is_branch f ≡ false → reads_plainly f ≡ true
+reads_so (form.Jump disp) b = absurd (true≢false b)
+reads_so (form.JumpIndirect b2) b = absurd (true≢false b)
+reads_so (form.Loop kind disp) b = absurd (true≢false b)
+reads_so (form.Call b1 goal) b = absurd (true≢false b)
+reads_so (form.Return b2) b = absurd (true≢false b)
+reads_so _ b = refl
+
+branches_so : (f : Form) → is_branch f ≡ true → (reads_plainly f ≡ false) × (reads_as_branch f ≡ true)
+branches_so (form.Jump disp) b = (refl, refl)
+branches_so (form.JumpIndirect b2) b = (refl, refl)
+branches_so (form.Loop kind disp) b = (refl, refl)
+branches_so (form.Call b1 goal) b = (refl, refl)
+branches_so (form.Return b2) b = (refl, refl)
+branches_so _ b = absurd (true≢false (sym b))
+
+-- each access by name is one of few kinds
+pub regular : AccessesAreRegular
+regular insn a h =
+    let f = insn_form insn in
+    let x = fact_of insn.qp f a (rows_by_name insn.qp f) (facts insn.qp f) h in
+    record {
+      guard = guard_of insn.qp a (rows_by_name insn.qp f) h;
+      name = x.0;
+      framed = framed insn.qp f a h;
+      branch_read = λ b e. (rw e at x.1) (branches_so f b).0;
+      branch_goes = λ b e. (rw e at x.1).0 (branches_so f b).0;
+      reads_too = λ b e. (rw e at x.1).1 (reads_so f b);
+      alloc_write = λ e. rw e at x.1;
+      loop_write = λ e. rw e at x.1;
+      or_write = λ e. rw e at x.1;
+      and_write = λ e. rw e at x.1;
+      spill = λ e. rw e at x.1;
+      fill = λ e. rw e at x.1;
+    }
+
+-- the qualifying predicate is read, and where it rotates the frame
+pub guards : GuardsAreRead
+guards insn = record {
+  plain = λ n b. inr (inl (and_from _ _ n (reads_so (insn_form insn) b), refl));
+  branch = λ n b. inr (inr (inl (and_from _ _ n (branches_so (insn_form insn) b).1, refl)));
+  framed = λ r. inl (or_left _ _ r, refl);
+}
+
+-- Accesses by name, and by place.
+pub named_accesses : NamedAccessesAreAccesses
+unfolding rows
+named_accesses insn a h =
+    has_left insn.qp a (rows_by_name insn.qp (insn_form insn)) (placed_rows (insn_form insn)) h
+
+places : (insn : Insn) (a : Access) (left n mask : ℕ) (kind : Kind) → (kind ≡ Read) ⊎ (kind ≡ Write) → 1 ≤ n → left + n ≤ 64
+    → HasRow insn.qp a (place_rows left n mask kind) → IsPlaced insn a
+places insn a zero n mask kind w h k r = absurd r
+places insn a (suc left) n mask kind w h k (inl r) =
+    record { name = n; some = h; below = omega arith; resource = cc; kind = rw (← r.1) w; guard = cc }
+places insn a (suc left) n mask kind w h k (inr r) = places insn a left (suc n) mask kind w (omega arith) (omega arith) r
+
+placed : (insn : Insn) (a : Access) (f : Form) → HasRow insn.qp a (placed_rows f) → IsPlaced insn a
+unfolding mask_rows
+placed insn a (form.Fetch r1 source.Predicates) h = places insn a 63 1 0x1ffff Read (inl refl) (omega arith) (omega arith) h
+placed insn a (form.Fetch r1 source) h = absurd h
+placed insn a (form.ToPredicates r2 mask) h = places insn a 63 1 mask Write (inr refl) (omega arith) (omega arith) h
+placed insn a _ h = absurd h
+
+pub named_or_placed : AccessesAreNamedOrPlaced
+unfolding rows
+named_or_placed insn a h = by_part (has_append insn.qp a (rows_by_name insn.qp f) (placed_rows f) h)
+  where
+    f : Form
+    f = insn_form insn
+
+    by_part : HasRow insn.qp a (rows_by_name insn.qp f) ⊎ HasRow insn.qp a (placed_rows f)
+        → HasNamedAccess insn a ⊎ IsPlaced insn a
+    by_part (inl k) = inl k
+    by_part (inr k) = inr (placed insn a f k)
+
+-- the mask with all bits has each place
+all_masked : (p : ℕ) → is_masked 0x1ffff p ≡ true
+all_masked p = elim (cases_lt p 16) [
+  | inl low ↦ let set : bit 0x1ffff p ≡ true = eq-eqb _ _ (bit_at_ones 17 p (omega arith)) in grind (arith, nat_tests)
+  | inr high ↦ grind (arith, nat_tests)
+]
+
+pub predicates_read : PredicatesAreRead
+unfolding rows
+predicates_read insn r1 p e h k =
+    let f = insn_form insn in
+    let a : Access = record { resource = Pr p; kind = Read; guard = insn.qp } in
+    let has = mask_row insn.qp p 0x1ffff Read h k (all_masked p) in
+    has_right insn.qp a (rows_by_name insn.qp f) (placed_rows f) (rw e has)
+
+-- The list of the accesses of rows.
+has_listed : (qp : ℕ) (a : Access) (from : List Row) → Contains (listed qp from) a → HasRow qp a from
+has_listed qp a [] h = absurd (omega (arith, h.1))
+has_listed qp a (row ∷ from) h = by_row row.there refl h (has_listed qp a from)
+  where
+    first : Contains (access qp row ∷ []) a → access qp row ≡ a
+    first (zero, below, is) = is
+    first (suc k, below, is) = absurd (omega arith)
+
+    by_row : (b : Bool) → row.there ≡ b → Contains (if b then access qp row ∷ listed qp from else listed qp from) a
+        → (Contains (listed qp from) a → HasRow qp a from) → HasRow qp a (row ∷ from)
+    by_row true e h go =
+        elim (Contains-append_cases (access qp row ∷ []) (listed qp from) a h) [ inl k ↦ inl (e, first k) | inr k ↦ inr (go k) ]
+    by_row false e h go = inr (go h)
+
+is_listed : (qp : ℕ) (a : Access) (from : List Row) → HasRow qp a from → Contains (listed qp from) a
+is_listed qp a [] h = absurd h
+is_listed qp a (row ∷ from) h = by_row row.there refl h (is_listed qp a from)
+  where
+    by_row : (b : Bool) → row.there ≡ b → HasRow qp a (row ∷ from) → (HasRow qp a from → Contains (listed qp from) a)
+        → Contains (if b then access qp row ∷ listed qp from else listed qp from) a
+    by_row true e (inl h) go = (0, omega arith, h.1)
+    by_row true e (inr h) go = Contains-append_right (access qp row ∷ []) (listed qp from) a (go h)
+    by_row false e (inl h) go = absurd (true≢false (sym h.0 ∙ e))
+    by_row false e (inr h) go = go h
+
+pub listed_has : ListedAreRows
+listed_has qp a from = (has_listed qp a from, is_listed qp a from)
+
+pub accesses_listed : AccessesAreListed
+accesses_listed insn a = listed_has insn.qp a (rows insn.qp (insn_form insn))
+
+-- What writes a guard.
+may_write : (qp : ℕ) (a : Access) (g : ℕ) (from : List Row) → HasRow qp a from
+    → writes_guard g a.resource a.kind ≡ true → may_write_guard g (listed qp from) ≡ true
+may_write qp a g [] h e = absurd h
+may_write qp a g (row ∷ from) h e = by_row row.there refl h (λ k. may_write qp a g from k e)
+  where
+    by_row : (b : Bool) → row.there ≡ b → HasRow qp a (row ∷ from) → (HasRow qp a from → may_write_guard g (listed qp from) ≡ true)
+        → may_write_guard g (if b then access qp row ∷ listed qp from else listed qp from) ≡ true
+    by_row true there (inl h) go = or_left _ _ (ap (λ b. writes_guard g b.resource b.kind) h.1 ∙ e)
+    by_row true there (inr h) go = or_right (writes_guard g row.resource row.kind) _ (go h)
+    by_row false there (inl h) go = absurd (true≢false (sym h.0 ∙ there))
+    by_row false there (inr h) go = go h
+
+abbrev IsGuard : ℕ → Resource → Type 0
+IsGuard g q = (q ≡ Pr g) ⊎ ((q ≡ Cfm) × (is_rotating g ≡ true))
+
+guard_write : (g : ℕ) (q : Resource) → IsGuard g q → writes_guard g q Write ≡ true
+guard_write g q (inl e) = rw e (eq-eqb g g refl)
+guard_write g q (inr h) = rw h.0 h.1
+
+named_write : (insn : Insn) (a : Access) (g : ℕ) → IsRegular insn a → IsChange a.kind → IsGuard g a.resource
+    → writes_guard g a.resource a.kind ≡ true
+named_write insn a g r = by_kind a.kind refl
+  where
+    by_kind : (kind : Kind) → a.kind ≡ kind → IsChange kind → IsGuard g a.resource → writes_guard g a.resource kind ≡ true
+    by_kind Write e w x = guard_write g a.resource x
+    by_kind LoopWrite e w (inl q) = rw q (eq-eqb g g refl)
+    by_kind LoopWrite e w (inr q) = absurd (let x = r.loop_write e in cc)
+    by_kind OrWrite e w (inl q) = rw q (eq-eqb g g refl)
+    by_kind OrWrite e w (inr q) = absurd (rw q.0 at r.or_write e)
+    by_kind AndWrite e w (inl q) = rw q (eq-eqb g g refl)
+    by_kind AndWrite e w (inr q) = absurd (rw q.0 at r.and_write e)
+    by_kind Spill e w (inl q) = absurd (let x = (r.spill e).1 in cc)
+    by_kind Spill e w (inr q) = absurd (let x = (r.spill e).1 in cc)
+    by_kind _ e w x = absurd w
+
+placed_write : (insn : Insn) (a : Access) (g : ℕ) → (a.kind ≡ Read) ⊎ (a.kind ≡ Write) → IsChange a.kind
+    → IsGuard g a.resource → writes_guard g a.resource a.kind ≡ true
+placed_write insn a g (inl e) w x = absurd (rw e at w)
+placed_write insn a g (inr e) w x = rw e (guard_write g a.resource x)
+
+pub guards_written : GuardsAreWritten
+guards_written insn a g h w x =
+    may_write insn.qp a g (rows insn.qp (insn_form insn)) h (by_part (named_or_placed insn a h))
+  where
+    by_part : HasNamedAccess insn a ⊎ IsPlaced insn a → writes_guard g a.resource a.kind ≡ true
+    by_part (inl k) = named_write insn a g (regular insn a k) w x
+    by_part (inr k) = placed_write insn a g k.kind w x
+
+-- The range of predicates: the qualifying predicate and the targets of tests. The clauses before the last tell apart the
+-- operations whose fields are not of one shape.
+record AreBelow (qp : ℕ) (f : Form) : Type 0 where
+  guard : qp < 64
+  targets : (p : ℕ) → IsTarget f p → p < 64
+
+below : (qp : ℕ) (op : Op) → IsListed (record { qp = qp; op = op }) → AreBelow qp (form_of (action_of op))
+below qp (ops.ChkS M r2 disp) l = record { guard = grind arith; targets = λ p t. grind arith }
+below qp (ops.MovToAr ar.Unat r2) l = record { guard = grind arith; targets = λ p t. grind arith }
+below qp (ops.MovToArImm ar.Unat imm) l = record { guard = grind arith; targets = λ p t. grind arith }
+below qp (ops.MovFromAr r1 ar.Unat) l = record { guard = grind arith; targets = λ p t. grind arith }
+below qp (ops.Load size kind hint r1 r3 update.None) l = record { guard = grind arith; targets = λ p t. grind arith }
+below qp (ops.Store size kind hint r3 r2 update.None) l = record { guard = grind arith; targets = λ p t. grind arith }
+below qp (ops.Br branch.Cond wh many clr disp) l = record { guard = grind arith; targets = λ p t. grind arith }
+below qp (ops.Break M imm) l = record { guard = grind arith; targets = λ p t. grind arith }
+below qp (ops.Nop M imm) l = record { guard = grind arith; targets = λ p t. grind arith }
+below qp (ops.Hint M imm) l = record { guard = grind arith; targets = λ p t. grind arith }
+below qp _ l = record { guard = grind arith; targets = λ p t. grind arith }
+
+name_in_range : (qp : ℕ) (f : Form) (q : Resource) → AreBelow qp f → IsName qp f q → IsInRange q
+name_in_range qp f (Pr p) b h = (h.0, by_name h.1)
+  where
+    by_name : (p ≡ qp) ⊎ (IsTarget f p ⊎ (IsLoop f × (p ≡ 63))) → p < 64
+    by_name (inl e) = rw e b.guard
+    by_name (inr (inl t)) = b.targets p t
+    by_name (inr (inr e)) = omega (arith, e.1)
+name_in_range qp f _ b h = tt
+
+pub in_range : AccessesAreInRange
+in_range insn a listed h = by_part (named_or_placed insn a h)
+  where
+    by_part : HasNamedAccess insn a ⊎ IsPlaced insn a → IsInRange a.resource
+    by_part (inl k) = name_in_range insn.qp (insn_form insn) a.resource (below insn.qp insn.op listed) (regular insn a k).name
+    by_part (inr k) = rw k.resource (k.some, k.below)
+
+-- Accesses that clash.
+same_resource : (q : Resource) → is_resource q q ≡ true
+same_resource (Gr n) = eq-eqb n n refl
+same_resource (Pr n) = eq-eqb n n refl
+same_resource (Br n) = eq-eqb n n refl
+same_resource _ = refl
+
+kinds_clash : (first second : Kind) → IsChange first → (clash_of first second ≢ None) ⊎ IsExcepted first second
+unfolding clash_of
+kinds_clash OrWrite OrWrite w = inr tt
+kinds_clash AndWrite AndWrite w = inr tt
+kinds_clash Spill Spill w = inr tt
+kinds_clash Spill Fill w = inr tt
+kinds_clash _ BranchRead w = inr tt
+kinds_clash Read _ w = absurd w
+kinds_clash BranchRead _ w = absurd w
+kinds_clash AllocWrite _ w = absurd w
+kinds_clash Fill _ w = absurd w
+kinds_clash _ _ w = inl (λ e. cc)
+
+pub accesses_clash : AccessesClash
+accesses_clash a b same w = rw (← same) (rw (same_resource a.resource) (kinds_clash a.kind b.kind w))
+
+pub named_as_found : NamedAsFound
+named_as_found (form.Allocate r1 sof sol sor) shape n = absurd (true≢false n)
+named_as_found _ shape n = refl
+
+-- Agreement, access by access.
+agree_each : (qp : ℕ) (v w : Registers) (x y : ℕ) (from : List Row)
+    → ((a : Access) → HasRow qp a from → holds v a.guard ≡ true → AgreesOn v w x y a.kind a.resource)
+    → AgreesAtEach qp v w x y from
+agree_each qp v w x y [] h = tt
+agree_each qp v w x y (row ∷ from) h =
+    (λ there. h (access qp row) (inl (there, refl)), agree_each qp v w x y from (λ a k. h a (inr k)))
+
+agree_placed : (insn : Insn) (v w : Registers) (f : Form) → insn_form insn ≡ f
+    → (is_branch f ≡ false
+    → ((p : ℕ) → 1 ≤ p → p < 64 → HasAccess insn (record { resource = Pr p; kind = Read; guard = insn.qp }))
+    → v.predicates ≡ w.predicates)
+    → AgreesByPlace f v w
+agree_placed insn v w (form.Fetch r1 source.Predicates) e h = h refl (λ p. predicates_read insn r1 p e)
+agree_placed insn v w (form.Fetch r1 source) e h = tt
+agree_placed insn v w _ e h = tt
+
+pub agree_by : AgreeByAccesses
+agree_by insn v w x y h p = record {
+  named = agree_each insn.qp v w x y (rows_by_name insn.qp (insn_form insn)) h;
+  placed = λ g. agree_placed insn v w (insn_form insn) refl (λ r. p r g);
+}

@@ -1,0 +1,352 @@
+//! The accesses of an instruction.
+
+ghost use Rattle.std.specs.Prelude.{◌≡◌, ◌+◌, ◌-◌, ◌≤◌, ◌<◌, ◌++◌, ◌∷◌, true, length};
+ghost use Rattle.arrayvec.specs.ArrayVec.{array_vec_len};
+ghost use Rattle.ia_meaning.specs.Actions.{action_of, form_of};
+ghost use Rattle.ia_meaning.specs.Moves.{is_masked};
+ghost use Rattle.ia_meaning.specs.Names.{is_stacked, is_rotating};
+ghost use Rattle.resource_sets.specs.Rows.{gr, always, listed};
+ghost use Rattle.resource_sets.specs.declared.access.Resource.TheVariants as spec;
+ghost use Rattle.resource_sets.specs.declared.access.Kind.TheVariants.{Read, Write};
+ghost use Rattle.resource_sets.specs.Accesses.{test_rows, base_row, own_rows, other_name, application, source_rows, unat_row, loop_rows, call_rows, place_rows, mask_rows, placed_rows, reads_plainly, reads_as_branch, qp_rows, is_framed, any_framed, frame_row, rows, accesses};
+
+use crate::access::{Access, Kind, Resource};
+use crate::row::{Row, always, gr, pr, push, push_all};
+use arrayvec::ArrayVec;
+use ia_insn::{Ar, Br, BranchKind, CmpKind, Gr, Insn, LoadKind, Pr, StoreKind, Unit, Update};
+use ia_meaning::{Form, Goal, Source, form_of, update_register};
+use integer_ops::bit;
+
+/// At most eight rows.
+type Rows = ArrayVec<Row, 8>;
+
+/// The rows of a slice.
+fn list(rows: &[Row]) -> Rows
+    requires { length rows.now ≤ 8 }
+    ensures { result.items ≡ rows.now }
+{
+    let mut out = ArrayVec::new();
+    if out.try_extend_from_slice(rows).is_err() {
+        unreachable!();
+    }
+    out
+}
+
+/// The two targets of a test.
+fn test_rows(kind: CmpKind, p1: Pr, p2: Pr) -> [Row; 2]
+    ensures { result ≡ test_rows kind p1 p2 }
+{
+    match kind {
+        CmpKind::Normal => [pr(true, p1, Kind::Write), pr(true, p2, Kind::Write)],
+        CmpKind::Unc => [pr(false, p1, Kind::Write), pr(false, p2, Kind::Write)],
+        CmpKind::Or => [pr(true, p1, Kind::OrWrite), pr(true, p2, Kind::OrWrite)],
+        CmpKind::And => [pr(true, p1, Kind::AndWrite), pr(true, p2, Kind::AndWrite)],
+        CmpKind::OrAndcm => [pr(true, p1, Kind::OrWrite), pr(true, p2, Kind::AndWrite)],
+    }
+}
+
+/// The base of a load or a store, which may be updated.
+fn base_row(update: &Update, r3: Gr) -> Row
+    ensures { result ≡ base_row update.now r3 }
+{
+    let mut row = gr(r3, Kind::Write);
+    if *update == Update::None {
+        row.there = false;
+    }
+    row
+}
+
+/// The register that an instruction names and neither reads nor writes, or r0.
+fn other_name(form: &Form) -> Gr
+    ensures { result ≡ other_name form.now }
+{
+    match *form {
+        Form::CheckAlat { r1, .. } | Form::Forget { r1 } => r1,
+        _ => Gr::of_field(0),
+    }
+}
+
+/// An application register.
+fn application(ar: Ar) -> Resource
+    ensures { result ≡ application ar }
+{
+    match ar {
+        Ar::Unat => Resource::Unat,
+        Ar::Pfs => Resource::Pfs,
+        Ar::Lc => Resource::Lc,
+        Ar::Ec => Resource::Ec,
+    }
+}
+
+/// A branch register under the qualifying predicate.
+fn br(b: Br, kind: Kind) -> Row
+    ensures { result ≡ always true (spec.Br b) kind }
+{
+    always(true, Resource::Br(b.number()), kind)
+}
+
+/// A copy into a general register.
+fn fetch_rows(r1: Gr, source: Source) -> Rows
+    ensures { result.items ≡ gr r1 Write ∷ source_rows source }
+{
+    let target = gr(r1, Kind::Write);
+    match source {
+        Source::Branch(b) => list(&[target, br(b, Kind::Read)]),
+        Source::Application(ar) => list(&[target, always(true, application(ar), Kind::Read)]),
+        _ => list(&[target]),
+    }
+}
+
+/// What a fill or a spill accesses besides.
+fn unat_row(there: bool, kind: Kind) -> Row
+    ensures { result ≡ unat_row there kind }
+{
+    let mut row = always(true, Resource::Unat, kind);
+    row.there = there;
+    row
+}
+
+/// What a loop branch accesses.
+fn loop_rows(kind: BranchKind) -> Rows
+    ensures { result.items ≡ loop_rows kind }
+{
+    let fixed = |resource, kind| always(false, resource, kind);
+    match kind {
+        BranchKind::Cond => list(&[]),
+        BranchKind::Cloop => list(&[
+            fixed(Resource::Lc, Kind::Read),
+            fixed(Resource::Lc, Kind::Write),
+        ]),
+        BranchKind::Ctop | BranchKind::Cexit => list(&[
+            fixed(Resource::Lc, Kind::Read),
+            fixed(Resource::Lc, Kind::Write),
+            fixed(Resource::Ec, Kind::Read),
+            fixed(Resource::Ec, Kind::Write),
+            fixed(Resource::Cfm, Kind::Read),
+            fixed(Resource::Cfm, Kind::Write),
+            fixed(Resource::Pr(63), Kind::LoopWrite),
+        ]),
+        BranchKind::Wtop | BranchKind::Wexit => list(&[
+            fixed(Resource::Ec, Kind::Read),
+            fixed(Resource::Ec, Kind::Write),
+            fixed(Resource::Cfm, Kind::Read),
+            fixed(Resource::Cfm, Kind::Write),
+            fixed(Resource::Pr(63), Kind::LoopWrite),
+        ]),
+    }
+}
+
+/// What a call accesses.
+fn call_rows(b1: Br, goal: Goal) -> Rows
+    ensures { result.items ≡ call_rows b1 goal }
+{
+    let own = |resource, kind| always(true, resource, kind);
+    let b2 = match goal {
+        Goal::Direct(_) => Row::default(),
+        Goal::Indirect(b2) => br(b2, Kind::BranchRead),
+    };
+    list(&[
+        own(Resource::Cfm, Kind::Read),
+        own(Resource::Cfm, Kind::Write),
+        own(Resource::Pfs, Kind::Write),
+        own(Resource::Ec, Kind::Read),
+        br(b1, Kind::Write),
+        b2,
+    ])
+}
+
+/// The rows of an instruction, but for those of its qualifying predicate and of predicates by place.
+fn own_rows(form: &Form) -> Rows
+    ensures { result.items ≡ own_rows form.now }
+{
+    let own = |resource, kind| always(true, resource, kind);
+    match *form {
+        Form::Compute { r1, r2, r3 } => list(&[
+            gr(r2, Kind::Read),
+            gr(r3, Kind::Read),
+            gr(r1, Kind::Write),
+        ]),
+        Form::Fetch { r1, source } => fetch_rows(r1, source),
+        Form::Test {
+            kind,
+            p1,
+            p2,
+            r2,
+            r3,
+        } => {
+            let targets = test_rows(kind, p1, p2);
+            list(&[
+                gr(r2, Kind::Read),
+                gr(r3, Kind::Read),
+                targets[0],
+                targets[1],
+            ])
+        }
+        Form::ToPredicates { r2, .. } | Form::CheckNat { r2, .. } => list(&[gr(r2, Kind::Read)]),
+        Form::ToBranch { b1, r2 } => list(&[gr(r2, Kind::Read), br(b1, Kind::Write)]),
+        Form::ToApplication { ar, r2 } => list(&[
+            gr(r2, Kind::Read),
+            own(application(ar), Kind::Write),
+        ]),
+        Form::FromMemory {
+            kind,
+            r1,
+            r3,
+            update,
+            ..
+        } => list(&[
+            gr(r3, Kind::Read),
+            gr(update_register(&update), Kind::Read),
+            gr(r1, Kind::Write),
+            base_row(&update, r3),
+            unat_row(kind == LoadKind::Fill, Kind::Fill),
+        ]),
+        Form::ToMemory {
+            kind,
+            r3,
+            r2,
+            update,
+            ..
+        } => list(&[
+            gr(r3, Kind::Read),
+            gr(r2, Kind::Read),
+            base_row(&update, r3),
+            unat_row(kind == StoreKind::Spill, Kind::Spill),
+        ]),
+        Form::Allocate { r1, .. } => list(&[
+            gr(r1, Kind::Write),
+            own(Resource::Pfs, Kind::Read),
+            own(Resource::Cfm, Kind::Read),
+            own(Resource::Cfm, Kind::AllocWrite),
+        ]),
+        Form::JumpIndirect { b2 } => list(&[br(b2, Kind::BranchRead)]),
+        Form::Loop { kind, .. } => loop_rows(kind),
+        Form::Call { b1, goal } => call_rows(b1, goal),
+        Form::Return { b2 } => list(&[
+            br(b2, Kind::BranchRead),
+            own(Resource::Pfs, Kind::BranchRead),
+            own(Resource::Cfm, Kind::Write),
+            own(Resource::Ec, Kind::Write),
+        ]),
+        Form::ClearBases { .. } => list(&[own(Resource::Cfm, Kind::Write)]),
+        _ => list(&[]),
+    }
+}
+
+/// Whether the qualifying predicate is read as registers are.
+fn reads_plainly(form: &Form) -> bool
+    ensures { result ≡ reads_plainly form.now }
+{
+    !matches!(
+        form,
+        Form::Jump { .. }
+            | Form::JumpIndirect { .. }
+            | Form::Loop { .. }
+            | Form::Call { .. }
+            | Form::Return { .. }
+    )
+}
+
+/// Whether the qualifying predicate is read as branches read it.
+fn reads_as_branch(form: &Form) -> bool
+    ensures { result ≡ reads_as_branch form.now }
+{
+    match *form {
+        Form::Stop { unit, .. } | Form::Idle { unit } => unit == Unit::B,
+        _ => !reads_plainly(form),
+    }
+}
+
+/// The reads of the qualifying predicate.
+fn qp_rows(qp: Pr, form: &Form) -> [Row; 2]
+    ensures { result ≡ qp_rows qp form.now }
+{
+    let mut plain = pr(false, qp, Kind::Read);
+    plain.there = plain.there && reads_plainly(form);
+    let mut branch = pr(false, qp, Kind::BranchRead);
+    branch.there = branch.there && reads_as_branch(form);
+    [plain, branch]
+}
+
+/// Whether what a name stands for depends on the frame.
+fn is_framed(resource: Resource) -> bool
+    ensures { result ≡ is_framed resource }
+{
+    match resource {
+        Resource::Gr(r) => r >= 32,
+        Resource::Pr(p) => p >= 16,
+        _ => false,
+    }
+}
+
+/// Whether one of the rows names the frame.
+fn any_framed(rows: &[Row]) -> bool
+    ensures { result ≡ any_framed rows.now }
+{
+    rows.iter().any(|row| is_framed(row.resource))
+}
+
+/// The read of the frame by names that depend on it.
+fn frame_row(qp: Pr, form: &Form, own: &[Row]) -> Row
+    requires { own.now ≡ own_rows form.now }
+    ensures { result ≡ frame_row qp form.now }
+{
+    let mut row = always(false, Resource::Cfm, Kind::Read);
+    row.there = qp.number() >= 16 || other_name(form).number() >= 32 || any_framed(own);
+    row
+}
+
+/// Appends an access of the n-th predicate, where a mask has it.
+fn push_place(out: &mut ArrayVec<Access, 80>, qp: Pr, mask: u64, kind: Kind, n: u64)
+    requires room { array_vec_len out.old < 80 }
+    requires some { 1 ≤ n }
+    requires most { n < 64 }
+    ensures items { out.old.items ++ listed qp (place_rows (64 - n) n mask kind) ≡ out.new.items ++ listed qp (place_rows (64 - (n + 1)) (n + 1) mask kind) }
+    ensures len { array_vec_len out.new ≤ array_vec_len out.old + 1 }
+{
+    let mut row = pr(true, Pr::of_field(n), kind);
+    row.there = bit(mask, n.min(16) as u8);
+    push(out, qp, row);
+}
+
+/// Appends accesses of the predicates that a mask has.
+#[tactic(auto, unfolding(crate::specs::Accesses::mask_rows))]
+fn push_mask(out: &mut ArrayVec<Access, 80>, qp: Pr, mask: u64, kind: Kind)
+    requires { array_vec_len out.old ≤ 17 }
+    ensures { out.new.items ≡ out.old.items ++ listed qp (mask_rows mask kind) }
+{
+    for n in 1..64 {
+        push_place(out, qp, mask, kind, n);
+    }
+}
+
+/// Appends the accesses of predicates by place.
+fn push_placed(out: &mut ArrayVec<Access, 80>, qp: Pr, form: &Form)
+    requires { array_vec_len out.old ≤ 17 }
+    ensures { out.new.items ≡ out.old.items ++ listed qp (placed_rows form.now) }
+{
+    match *form {
+        Form::Fetch {
+            source: Source::Predicates,
+            ..
+        } => push_mask(out, qp, 0x1ffff, Kind::Read),
+        Form::ToPredicates { mask, .. } => push_mask(out, qp, mask, Kind::Write),
+        _ => {}
+    }
+}
+
+/// The accesses of an instruction: what it reads and writes, and under which guard, at most 80.
+#[tactic(auto, using(crate::proofs::Listing::in_parts))]
+pub fn accesses(insn: &Insn) -> ArrayVec<Access, 80>
+    ensures { result.items ≡ accesses insn.now }
+{
+    let qp = insn.qp;
+    let form = form_of(&insn.op);
+    let own = own_rows(&form);
+    let mut out = ArrayVec::new();
+    push(&mut out, qp, frame_row(qp, &form, own.as_slice()));
+    push_all(&mut out, qp, &qp_rows(qp, &form));
+    push_all(&mut out, qp, own.as_slice());
+    push_placed(&mut out, qp, &form);
+    out
+}

@@ -1,0 +1,47 @@
+//! The laws of accesses, which tie what an instruction accesses to what it does (volume 3, chapter 5, resource
+//! and dependency semantics). A law is a function that does nothing.
+//!
+//! A reader of these laws need not look at an instruction: what two slots of a group do to each other
+//! follows from their accesses.
+
+ghost use Rattle.resource_sets.specs.AccessLaws.{DependsOnAccesses, WritesAreAccesses, CellsAreInside, WritesAreApart, SpillsAreAccesses};
+ghost use Rattle.resource_sets.specs.Regularity.{AccessesAreRegular, GuardsAreRead, NamedAccessesAreAccesses, AccessesAreNamedOrPlaced, PredicatesAreRead, ListedAreRows, AccessesAreListed, AccessesAreInRange, NamedAsFound, AgreeByAccesses, GuardsAreWritten, AccessesClash};
+
+/// What an instruction does is the same from registers that agree on its accesses: on what those whose
+/// guard is 1 read, and on the frame where one of these accesses the frame.
+pub fn depends_on_accesses()
+    ensures { DependsOnAccesses }
+{}
+
+/// What an instruction writes it accesses so: each write lies on a resource that an access of a kind that
+/// writes names, whose guard is 1, and a cell inside the frame; no two writes of a listed instruction go to one location; and a bit of UNAT
+/// is written by an executed spill alone.
+pub fn writes_are_accesses()
+    ensures covered { WritesAreAccesses }
+    ensures inside { CellsAreInside }
+    ensures apart { WritesAreApart }
+    ensures spills { SpillsAreAccesses }
+{}
+
+/// What accesses there are: their guards, their kinds and what comes with them. `accesses` lists the rows of
+/// an instruction that are there, by name or by place.
+pub fn accesses_are_regular()
+    ensures regular { AccessesAreRegular }
+    ensures guards { GuardsAreRead }
+    ensures named { NamedAccessesAreAccesses }
+    ensures placed { AccessesAreNamedOrPlaced }
+    ensures predicates { PredicatesAreRead }
+    ensures listed { ListedAreRows }
+    ensures accesses { AccessesAreListed }
+    ensures range { AccessesAreInRange }
+    ensures found { NamedAsFound }
+    ensures agree { AgreeByAccesses }
+{}
+
+/// Which accesses clash: each with an earlier write of its resource, but for a branch's read, for writes that
+/// may come in both orders, and for a fill after a spill. And what writes a guard, or the frame of its name, is
+/// found by `may_write_guard`.
+pub fn accesses_clash()
+    ensures clash { AccessesClash }
+    ensures guards { GuardsAreWritten }
+{}
