@@ -1,11 +1,12 @@
 #!/usr/bin/env python3
-"""Times build, show and list beside the GNU tools on the same work, and prints a table. No part of the gate.
+"""Times build, show and list beside the GNU tools on the same work, and run on loops, and prints two
+tables. No part of the gate.
 
 The inputs are programs of so many bundles, each with a label, a load, an addition and a branch to
 another bundle. A time is the best of five, with the start of the program; all outputs go to files. The
 GNU assembler looks for violated dependencies under -xexplicit and not under -xnone; `build` doesn't,
 as `check` does that. `objdump -d` and `list` print bytes and instructions, `show` a text that builds
-again.
+again. A loop is run to its `break`; of its speed the slots of its turns are counted alone.
 
 Call it after the program was built: bench/run.py
 """
@@ -97,6 +98,29 @@ def measure(count, folder):
         require_same(folder)
 
 
+# Turns, the slots of each, and the text before, in and after the loop.
+TURNS = 1000000
+LOOPS = {
+    "a counted loop": (3, "{ .mlx\n  nop.m 0\n  movl r9=%d ;;\n}\n{ .mii\n  nop.m 0\n  mov.i ar.lc=r9\n  nop.i 0 ;;\n}\n"
+        "loop:\n{ .mib\n  add r8=r8,r9\n  adds r10=1,r10\n  br.cloop.sptk.few loop ;;\n}\n"
+        "{ .mib\n  nop.m 0\n  nop.i 0\n  break.b 0 ;;\n}\n"),
+    "a load, a store and a rotation": (6, "{ .mlx\n  alloc r8=ar.pfs,8,8,0,8\n  movl r9=0x100000 ;;\n}\n"
+        "{ .mlx\n  nop.m 0\n  movl r10=%d ;;\n}\n{ .mii\n  nop.m 0\n  mov.i ar.lc=r10\n  mov.i ar.ec=1 ;;\n}\n"
+        "loop:\n{ .mmi\n  ld8 r32=[r9]\n  st8 [r9]=r33\n  adds r11=1,r11 ;;\n}\n"
+        "{ .mib\n  nop.m 0\n  add r34=r33,r11\n  br.ctop.sptk.few loop ;;\n}\n"
+        "{ .mib\n  nop.m 0\n  nop.i 0\n  break.b 0 ;;\n}\n.data\ndata8 1\n"),
+}
+
+
+def measure_loop(name, folder):
+    """Prints the line of a loop: how many million slots a second `run` makes."""
+    slots, text = LOOPS[name]
+    source = folder / "loop.s"
+    source.write_text(text % (TURNS - 1))
+    taken = seconds([PROGRAM, "run", "10000000"], source, folder / "state")
+    print(f"| {name} | {slots * TURNS / taken / 1e6:.1f} |", flush=True)
+
+
 def main():
     if not PROGRAM.exists():
         sys.exit(f"{PROGRAM} is not there: call ./ia64 once, which builds it")
@@ -108,6 +132,9 @@ def main():
     with tempfile.TemporaryDirectory() as folder:
         for count in SIZES:
             measure(count, pathlib.Path(folder))
+        print("\n| Run | Million slots a second, best of 5 |\n|---|---|")
+        for name in LOOPS:
+            measure_loop(name, pathlib.Path(folder))
 
 
 if __name__ == "__main__":

@@ -1,0 +1,167 @@
+-- What comes along an edge.
+use Rattle.std.proofs.Common.{◌≡◌, ◌≢◌, ℕ, ◌+◌, ◌≤◌, ◌⊎◌, Bool, true, false, cond, Option, None, Some, List, length, set, length-set, refl, sym, ap, ◌∙◌, subst, inl, inr}
+use Rattle.std.proofs.lemmas.Bool.{true≢false}
+use Rattle.std.proofs.lemmas.Option.{same_Some}
+use Rattle.ia_insn.specs.declared.insn.Insn.{Insn}
+use Rattle.ia_insn.specs.declared.place.Place.{Place}
+use Rattle.ia_insn.specs.Places.{place_number, insn_at}
+use Rattle.ia_insn.specs.Programs.{Program, IsEntry}
+use Rattle.ia_meaning.specs.Sequence.{first_of}
+use Rattle.predicate_rel.specs.declared.edge.Edge.{Edge}
+use Rattle.predicate_rel.specs.declared.edge.Edge.TheVariants.{Falls, Taken}
+use Rattle.predicate_rel.specs.Pairs.{Table, Pairs, pairs_of, no_pairs, IsWithin}
+use Rattle.predicate_rel.specs.Rules.{pairs_after}
+use Rattle.predicate_rel.specs.RuleLaws.{WhyMissing, whatever, since, why_missing, pairs_after-within}
+use Rattle.flow_facts.specs.Walks.{Known, known_at, Walk, begins, goes_on, EndsAt, HasEdge, facts_on, pairs_past, pairs_past_insn}
+use Rattle.flow_facts.specs.Tables.{weight, place_count, IsNumbered, AtMost, Shrinks, Joined, IsWitnessed, EdgeSettled, IsSettled, Passed, IsUnderWay, is_dirty}
+use Rattle.flow_facts.proofs.Numbering.{is_numbered, cases_place, value_at-set_same, value_at-set_other}
+
+-- what is known past an instruction is what is known past its place
+pub past_insn : (p : Program) (from : Place) (insn : Insn) (e : Edge) (f : Pairs) → insn_at p.bundles from ≡ Some insn → pairs_after f insn e ≡ pairs_past p from e f
+unfolding pairs_past
+past_insn p from insn e f is = rw is refl
+
+-- more before a place is more past it
+pub past_within : (p : Program) (from : Place) (e : Edge) (f g : Pairs) → IsWithin f g → IsWithin (pairs_past p from e f) (pairs_past p from e g)
+unfolding pairs_past
+past_within p from e f g w = of (insn_at p.bundles from)
+  where
+    of : (o : Option Insn) → IsWithin (pairs_past_insn o e f) (pairs_past_insn o e g)
+    of None = w
+    of (Some insn) = pairs_after-within f g insn e w
+
+-- A pair is missing past a place whatever was known before it, or since one pair was missing there.
+pub data WhyMissingPast (p : Program) (from : Place) (e : Edge) (f : Pairs) (x y : ℕ) : Type 0 where
+  whatever_before : ((g : Pairs) → pairs_past p from e g x y ≡ false) → WhyMissingPast p from e f x y
+  since_before : (a b : ℕ) → f a b ≡ false → ((g : Pairs) → g a b ≡ false → pairs_past p from e g x y ≡ false) → WhyMissingPast p from e f x y
+
+-- why a pair is missing past a place
+pub why_missing_past : (p : Program) (from : Place) (e : Edge) (f : Pairs) (x y : ℕ) → pairs_past p from e f x y ≡ false → WhyMissingPast p from e f x y
+unfolding pairs_past
+why_missing_past p from e f x y h = of (insn_at p.bundles from) refl h
+  where
+    of : (o : Option Insn) → insn_at p.bundles from ≡ o → pairs_past_insn o e f x y ≡ false → WhyMissingPast p from e f x y
+    of None is h = since_before x y h (λ g q. rw is q)
+    of (Some insn) is h = by_rule (why_missing f insn e x y h)
+      where
+        by_rule : WhyMissing f insn e x y → WhyMissingPast p from e f x y
+        by_rule (whatever all) = whatever_before (λ g. rw is (all g))
+        by_rule (since a b n r) = since_before a b n (λ g q. rw is (r g q))
+
+-- an edge of one sort leads to one place
+pub leads_to_one : (p : Program) (from : Place) (e : Edge) (a b : Place) → HasEdge p from e a → HasEdge p from e b → a ≡ b
+leads_to_one p from e a b f g = same_Some _ _ (sym f.leads ∙ g.leads)
+
+-- a walk goes on along an edge from its end
+pub longer : (p : Program) (from to : Place) (e : Edge) (w : Walk) → EndsAt p from w → HasEdge p from e to → EndsAt p to (goes_on w e to)
+longer p from to e w is edge = record { walks = (is.walks, (let P : Place → Type 0 = λ k. HasEdge p k e to in subst P (sym is.ends) edge)); ends = refl }
+
+-- and what is known on it is what is known past that place
+pub facts_longer : (p : Program) (from to : Place) (e : Edge) (w : Walk) → EndsAt p from w → facts_on p (goes_on w e to) ≡ pairs_past p from e (facts_on p w)
+facts_longer p from to e w is = ap (λ (k : Place). pairs_past p k e (facts_on p w)) is.ends
+
+-- a pair that is missing after an edge is missing on some walk
+lacking_along : (p : Program) (t : List Known) (from : Place) (e : Edge) (to : Place) (rows : Table) → IsWitnessed p t → known_at t from ≡ Some rows → HasEdge p from e to → (x y : ℕ) → WhyMissingPast p from e (pairs_of rows) x y → (w : Walk) × EndsAt p to w × (facts_on p w x y ≡ false)
+lacking_along p t from e to rows wit at edge x y (whatever_before h) =
+    let (w, is) = wit.reached from rows at in
+    (goes_on w e to, longer p from to e w is edge, ap (λ (f : Pairs). f x y) (facts_longer p from to e w is) ∙ h (facts_on p w))
+lacking_along p t from e to rows wit at edge x y (since_before a b n h) =
+    let (w, is, m) = wit.lacking from rows at a b n in
+    (goes_on w e to, longer p from to e w is edge, ap (λ (f : Pairs). f x y) (facts_longer p from to e w is) ∙ h (facts_on p w) m)
+
+-- what came to a place, for a reason, leaves witnesses of each place
+pub witnessed_by : (p : Program) (t t' : List Known) (to : Place) (out : Pairs) → IsWitnessed p t → (w : Walk) × EndsAt p to w → ((x y : ℕ) → out x y ≡ false → (w : Walk) × EndsAt p to w × (facts_on p w x y ≡ false)) → Joined t t' to out → IsWitnessed p t'
+witnessed_by p t t' to out wit reach why joined = record {
+  reached = λ k rows at. reached k rows at (cases_place k to);
+  lacking = λ k rows at x y n. lacking k rows at x y n (cases_place k to);
+}
+  where
+    reached : (k : Place) (rows : Table) → known_at t' k ≡ Some rows → (k ≡ to) ⊎ (k ≡ to → ⊥) → (w : Walk) × EndsAt p k w
+    reached k rows at (inl e) = let P : Place → Type 0 = λ m. (w : Walk) × EndsAt p m w in subst P (sym e) reach
+    reached k rows at (inr e) = wit.reached k rows (sym (joined.others k e) ∙ at)
+
+    lacking : (k : Place) (rows : Table) → known_at t' k ≡ Some rows → (x y : ℕ) → pairs_of rows x y ≡ false → (k ≡ to) ⊎ (k ≡ to → ⊥) → (w : Walk) × EndsAt p k w × (facts_on p w x y ≡ false)
+    lacking k rows at x y n (inl e) =
+        let P : Place → Type 0 = λ m. (w : Walk) × EndsAt p m w × (facts_on p w x y ≡ false) in
+        subst P (sym e) (elim (joined.lacking rows (ap (known_at t') (sym e) ∙ at) x y n) [ inl m ↦ why x y m | inr m ↦ wit.lacking to m.0 m.1 x y m.2 ])
+    lacking k rows at x y n (inr e) = wit.lacking k rows (sym (joined.others k e) ∙ at) x y n
+
+-- what came along an edge leaves witnesses
+pub witnessed_pass : (p : Program) (t t' : List Known) (from : Place) (e : Edge) (to : Place) (rows : Table) → IsWitnessed p t → known_at t from ≡ Some rows → HasEdge p from e to → Joined t t' to (pairs_past p from e (pairs_of rows)) → IsWitnessed p t'
+witnessed_pass p t t' from e to rows wit at edge joined =
+    witnessed_by p t t' to (pairs_past p from e (pairs_of rows)) wit
+    (let (w, is) = wit.reached from rows at in (goes_on w e to, longer p from to e w is edge))
+    (λ x y n. lacking_along p t from e to rows wit at edge x y (why_missing_past p from e (pairs_of rows) x y n)) joined
+
+-- and so does an entry, where nothing is known
+pub witnessed_entry : (p : Program) (t t' : List Known) (bundle : ℕ) → IsWitnessed p t → IsEntry p bundle → Joined t t' (first_of bundle) no_pairs → IsWitnessed p t'
+unfolding no_pairs
+witnessed_entry p t t' bundle wit entry joined =
+    witnessed_by p t t' (first_of bundle) no_pairs wit (begins bundle, record { walks = entry; ends = refl })
+    (λ x y n. (begins bundle, record { walks = entry; ends = refl }, refl)) joined
+
+-- a place that isn't dirty after one was marked is another
+pub not_dirty_there : (d : List Bool) (k to : Place) → IsNumbered (length d) to → is_dirty (set d (place_number to) true) k ≡ false → k ≢ to
+not_dirty_there d k to l clean e =
+    true≢false (sym (value_at-set_same false true d to l) ∙ ap (is_dirty (set d (place_number to) true)) (sym e) ∙ clean)
+
+-- the end of an edge was changed and marked
+pub passed_changed : (p : Program) (from : Place) (e : Edge) (to : Place) (t t' : List Known) (d : List Bool) (rows : Table) (r : Bool) → HasEdge p from e to → length d ≡ place_count p → IsWitnessed p t → known_at t from ≡ Some rows → Joined t t' to (pairs_past p from e (pairs_of rows)) → r ≡ true → weight t' + cond r 1 0 ≤ weight t → Passed p from e t d t' (set d (place_number to) true) r
+passed_changed p from e to t t' d rows r edge sized wit at joined is less = record {
+  witnessed = witnessed_pass p t t' from e to rows wit at edge joined;
+  settled = λ clean to' edge'. record {
+    settles = λ rows' at'.
+        let one : to ≡ to' = leads_to_one p from e to to' edge edge' in
+        let same : rows ≡ rows' = same_Some _ _ (sym at ∙ sym (joined.others from (not_dirty_there d from to short clean)) ∙ at') in
+        let P : Place → Table → Type 0 = λ k r. AtMost t' k (pairs_past p from e (pairs_of r)) in
+        subst (λ (k : Place). P k rows') one (subst (λ (r : Table). P to r) same joined.below);
+  };
+  progress = record {
+    shrinks = joined.shrinks;
+    same_length = length-set d (place_number to) true;
+    clean = λ k c.
+        let apart = not_dirty_there d k to short c in
+        (sym (value_at-set_other false true d to k short.slot apart) ∙ c, joined.others k apart);
+  };
+  lost = less;
+  quiet = λ n. absurd (true≢false (sym is ∙ n));
+}
+  where
+    short : IsNumbered (length d) to
+    short = is_numbered p (length d) to sized edge.lands
+
+-- what is settled stays so while its own place keeps its facts
+pub still_settled : (p : Program) (t t' : List Known) (k : Place) (e : Edge) (to : Place) → Shrinks t t' → known_at t' k ≡ known_at t k → EdgeSettled p t k e to → EdgeSettled p t' k e to
+still_settled p t t' k e to s same h = record { settles = λ rows at. s.keeps to _ (h.settles rows (sym same ∙ at)) }
+
+-- two steps are one
+pub shrinks_twice : (a b c : List Known) → Shrinks a b → Shrinks b c → Shrinks a c
+shrinks_twice a b c f g = record { same_length = g.same_length ∙ f.same_length; keeps = λ k h m. g.keeps k h (f.keeps k h m) }
+
+-- the place is no longer dirty, and what was known there has come along both sorts of edges
+pub two_passes : (p : Program) (t t1 t2 : List Known) (d d1 d2 : List Bool) (from : Place) (a b : Bool) → IsUnderWay p t d → IsNumbered (place_count p) from → Passed p from Falls t (set d (place_number from) false) t1 d1 a → Passed p from Taken t1 d1 t2 d2 b → IsUnderWay p t2 d2
+two_passes p t t1 t2 d d1 d2 from a b u l f g = record {
+  table_length = all.same_length ∙ u.table_length;
+  dirty_length = g.progress.same_length ∙ f.progress.same_length ∙ length-set d (place_number from) false ∙ u.dirty_length;
+  witnessed = g.witnessed;
+  entries = λ bundle en. all.keeps (first_of bundle) no_pairs (u.entries bundle en);
+  settled = λ k c. settled k c (cases_place k from);
+}
+  where
+    all : Shrinks t t2
+    all = shrinks_twice t t1 t2 f.progress.shrinks g.progress.shrinks
+
+    here : is_dirty d2 from ≡ false → IsSettled p t2 from
+    here c2 = let c1 = g.progress.clean from c2 in record { edge = λ s to edge. sorts s to edge c1.0 c1.1 }
+      where
+        sorts : (s : Edge) (to : Place) → HasEdge p from s to → is_dirty d1 from ≡ false → known_at t2 from ≡ known_at t1 from → EdgeSettled p t2 from s to
+        sorts Falls to edge c1 same = still_settled p t1 t2 from Falls to g.progress.shrinks same (f.settled c1 to edge)
+        sorts Taken to edge c1 same = g.settled c2 to edge
+
+    settled : (k : Place) → is_dirty d2 k ≡ false → (k ≡ from) ⊎ (k ≡ from → ⊥) → IsSettled p t2 k
+    settled k c (inl e) = subst (IsSettled p t2) (sym e) (here (ap (is_dirty d2) (sym e) ∙ c))
+    settled k c (inr e) =
+        let c2 = g.progress.clean k c in
+        let c1 = f.progress.clean k c2.0 in
+        let c0 : is_dirty d k ≡ false = sym (value_at-set_other false false d from k l.slot e) ∙ c1.0 in
+        record { edge = λ s to edge. still_settled p t t2 k s to all (c2.1 ∙ c1.1) ((u.settled k c0).edge s to edge) }

@@ -1,0 +1,5 @@
+pub mod BitLemmas
+pub mod PairLemmas
+pub mod Literals
+pub mod OrAndcm
+mod Examples

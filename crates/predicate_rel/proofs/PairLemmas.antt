@@ -1,0 +1,71 @@
+-- Laws of sets of pairs.
+use Rattle.std.proofs.Common.{◌≡◌, ℕ, ◌<◌, Bool, true, false, ◌&&◌, ◌⊎◌, refl, sym, ◌∙◌, inl, inr, arith, ltb, eqb, ◌||◌}
+use mathlib.Core.Path.{fun_ext}
+use Rattle.std.proofs.lemmas.Bool.{cases_Bool, ltb-true, lt-ltb, and_parts, and_from, and_left}
+use Rattle.std.proofs.lemmas.Bool.Decides.{nat_tests}
+use Rattle.predicate_rel.specs.Pairs.{Pairs, Table, in_range, common, other_of, is_same_pair, with_pair, pairs_of, truth, IsWithin, HasMore}
+
+pub in_range_from : (x y : ℕ) → x < 64 → y < 64 → in_range x y ≡ true
+unfolding in_range
+in_range_from x y a b = and_from (ltb x 64) (ltb y 64) (lt-ltb x 64 a) (lt-ltb y 64 b)
+
+pub in_range_parts : (x y : ℕ) → in_range x y ≡ true → (x < 64) × (y < 64)
+unfolding in_range
+in_range_parts x y h = let both = and_parts (ltb x 64) (ltb y 64) h in (ltb-true x 64 both.0, ltb-true y 64 both.1)
+
+-- a table shows a set that has the same pairs of predicates, and no other
+pub shows : (rows : Table) (f : Pairs) → ((x y : ℕ) → x < 64 → y < 64 → truth rows x y ≡ f x y) → ((x y : ℕ) → in_range x y ≡ false → f x y ≡ false) → pairs_of rows ≡ f
+unfolding pairs_of
+shows rows f inside outside = fun_ext (λ x. fun_ext (λ y.
+    ⊎_by (cases_Bool (in_range x y)) (λ t. let p = in_range_parts x y t in rw t (inside x y p.0 p.1)) (λ n. rw n (sym (outside x y n)))))
+  where
+    ⊎_by : {A B C : Type 0} → A ⊎ B → (A → C) → (B → C) → C
+    ⊎_by (inl a) f g = f a
+    ⊎_by (inr b) f g = g b
+
+pub pairs_of_out : (rows : Table) (x y : ℕ) → in_range x y ≡ false → pairs_of rows x y ≡ false
+unfolding pairs_of
+pairs_of_out rows x y n = and_left (in_range x y) _ n
+
+pub pairs_of_in : (rows : Table) (x y : ℕ) → x < 64 → y < 64 → pairs_of rows x y ≡ truth rows x y
+unfolding pairs_of
+pairs_of_in rows x y a b = rw (in_range_from x y a b)
+
+pub common_out : (f g : Pairs) → ((x y : ℕ) → in_range x y ≡ false → f x y ≡ false) → (x y : ℕ) → in_range x y ≡ false → common f g x y ≡ false
+unfolding common
+common_out f g out x y n = and_left (f x y) (g x y) (out x y n)
+
+pub common_in : (a b : Table) (x y : ℕ) → x < 64 → y < 64 → (truth a x y && truth b x y) ≡ common (pairs_of a) (pairs_of b) x y
+unfolding common
+common_in a b x y p q = rw (pairs_of_in a x y p q, pairs_of_in b x y p q)
+
+-- a pair of two predicates is one of predicates, also where it is written otherwise
+same_pair_out : (a b x y : ℕ) → a < 64 → b < 64 → in_range x y ≡ false → is_same_pair a (other_of a b) x (other_of x y) ≡ false
+unfolding in_range
+same_pair_out a b x y p q n = grind (arith, nat_tests, n)
+
+pub with_pair_out : (rows : Table) (a b : ℕ) → a < 64 → b < 64 → (x y : ℕ) → in_range x y ≡ false → with_pair (pairs_of rows) a b x y ≡ false
+unfolding with_pair
+with_pair_out rows a b p q x y n = rw (pairs_of_out rows x y n) (same_pair_out a b x y p q n)
+
+-- the bits that a pair adds to a row: each of its two in the row of the other, and in its own where the other is p0
+pub pair_bits : (a b x y : ℕ) (f : Bool) → (((f || (eqb x a && eqb y (other_of a b))) || (eqb x (other_of a b) && eqb y a)) || (is_same_pair a (other_of a b) x 0 && eqb y x)) ≡ (f || is_same_pair a (other_of a b) x (other_of x y))
+pair_bits a b x y true = refl
+pair_bits a b x y false = grind (arith, nat_tests)
+
+pub within_tables : (a b : Table) → ((x y : ℕ) → x < 64 → y < 64 → truth a x y ≡ true → truth b x y ≡ true) → IsWithin (pairs_of a) (pairs_of b)
+unfolding pairs_of
+within_tables a b each = record {
+  each = λ x y h. let both = and_parts (in_range x y) (truth a x y) h in let p = in_range_parts x y both.0 in
+      and_from (in_range x y) (truth b x y) both.0 (each x y p.0 p.1 both.1);
+}
+
+pub more_in_tables : (a b : Table) (x y : ℕ) → x < 64 → y < 64 → truth a x y ≡ true → truth b x y ≡ false → HasMore (pairs_of a) (pairs_of b)
+more_in_tables a b x y p q t n = record {
+  first = x;
+  second = y;
+  first_below = p;
+  second_below = q;
+  there = pairs_of_in a x y p q ∙ t;
+  missing = pairs_of_in b x y p q ∙ n;
+}

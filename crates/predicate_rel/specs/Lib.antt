@@ -1,0 +1,5 @@
+pub mod Pairs
+pub mod Rules
+pub mod RuleLaws
+pub mod Unordered
+pub mod Rows

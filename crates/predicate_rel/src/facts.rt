@@ -1,0 +1,146 @@
+//! Sets of pairs of predicates that are known not to be both 1.
+
+ghost use Rattle.std.specs.Prelude.{◌≡◌, ℕ, ◌<◌, ◌||◌};
+ghost use Rattle.std.specs.Bool.{OnTrue, OnFalse};
+ghost use Rattle.predicate_rel.specs.Pairs.{Table, has_bit, pairs_of, no_pairs, all_pairs, common, other_of, is_same_pair, with_pair, IsWithin, HasMore};
+ghost use Rattle.predicate_rel.specs.Rules.{pairs_after};
+
+use crate::bits::{bit, both, is_within, with_bit_where};
+use crate::edge::Edge;
+use ia_insn::{Insn, Pr};
+use ia_meaning::form_of;
+use std::marker::Model;
+
+/// A set of pairs of predicates that are known not to be both 1 (volume 1, chapter 3, instruction
+/// dependencies). The order of a pair says nothing, and a pair (x, x) stands for (x, p0): since p0 is 1, it
+/// says that x is 0. The functions here keep that (`specs/Unordered`). A set is 512 bytes, and none of them
+/// takes other memory.
+#[derive(Drop)]
+pub struct Facts {
+    rows: [u64; 64],
+}
+
+impl Model for Facts {
+    ghost Value = { Table };
+
+    ghost view = { λ facts. facts.rows };
+}
+
+/// The second predicate of a pair, p0 where it is the first.
+fn other_of(x: u8, y: u8) -> u8
+    ensures other { result ≡ other_of x y }
+    ensures range { y < 64 → result < 64 }
+{
+    if x == y { 0 } else { y }
+}
+
+/// Whether two pairs are one, in either order.
+fn is_same_pair(a: u8, b: u8, x: u8, y: u8) -> bool
+    ensures { result ≡ is_same_pair a b x y }
+{
+    (x == a && y == b) || (x == b && y == a)
+}
+
+impl Facts {
+    /// The set without a pair: nothing is known.
+    pub fn empty() -> Self
+        ensures { pairs_of result ≡ no_pairs }
+    {
+        Facts { rows: [0; 64] }
+    }
+
+    /// The set of all pairs of the 64 predicates.
+    pub fn all() -> Self
+        ensures { pairs_of result ≡ all_pairs }
+    {
+        Facts {
+            rows: [u64::MAX; 64],
+        }
+    }
+
+    /// Whether the pair is in the set.
+    pub fn has(&self, x: Pr, y: Pr) -> bool
+        ensures { result ≡ pairs_of self.now x y }
+    {
+        self.at(x.number(), y.number())
+    }
+
+    /// The pairs that are in both sets.
+    pub fn meet(&self, other: &Facts) -> Facts
+        ensures { pairs_of result ≡ common (pairs_of self.now) (pairs_of other.now) }
+    {
+        let mut rows = [0; 64];
+        for x in 0..64 {
+            rows[x] = both(self.rows[x], other.rows[x]);
+        }
+        Facts { rows }
+    }
+
+    /// The same set and this pair, in both orders; (x, x) is also (x, p0).
+    pub fn plus(&self, x: Pr, y: Pr) -> Facts
+        ensures { pairs_of result ≡ with_pair (pairs_of self.now) x y }
+    {
+        let mut rows = [0; 64];
+        for row in 0..64u8 {
+            rows[row as usize] = self.row_with(row, x.number(), y.number());
+        }
+        Facts { rows }
+    }
+
+    /// What is known after an instruction from what is known before it, where control goes on along the edge
+    /// (volume 3, chapter 2). Every instruction has an answer on both edges, also on one that never leaves it;
+    /// the rules are meant for listed instructions, whose loop branches are under p0 where they count.
+    pub fn after(&self, insn: &Insn, edge: Edge) -> Facts
+        ensures { pairs_of result ≡ pairs_after (pairs_of self.now) insn.now edge }
+    {
+        let form = form_of(&insn.op);
+        let mut rows = [0; 64];
+        for x in 0..64u8 {
+            rows[x as usize] = self.form_row(&form, edge, insn.qp, x);
+        }
+        Facts { rows }
+    }
+
+    /// Whether each pair of the set is in the other; where it isn't, one that is missing there.
+    pub fn is_subset(&self, other: &Facts) -> bool
+        ensures within { OnTrue result (IsWithin (pairs_of self.now) (pairs_of other.now)) }
+        ensures more { OnFalse result (HasMore (pairs_of self.now) (pairs_of other.now)) }
+    {
+        for x in 0..64 {
+            if !is_within(self.rows[x], other.rows[x]) {
+                return false;
+            }
+        }
+        true
+    }
+
+    /// Whether the pair of the x-th and the y-th predicate is in the set, each below 64.
+    pub(crate) fn at(&self, x: u8, y: u8) -> bool
+        requires left { x < 64 }
+        requires right { y < 64 }
+        ensures { result ≡ pairs_of self.now x y }
+    {
+        bit(self.rows[x as usize], y)
+    }
+
+    /// The pairs of the x-th predicate.
+    pub(crate) fn row(&self, x: u8) -> u64
+        requires { x < 64 }
+        ensures { (y : ℕ) → y < 64 → has_bit result y ≡ pairs_of self.now x y }
+    {
+        self.rows[x as usize]
+    }
+
+    /// The pairs of the x-th predicate, and that of `a` and `b`.
+    fn row_with(&self, x: u8, a: u8, b: u8) -> u64
+        requires range { x < 64 }
+        requires first { a < 64 }
+        requires second { b < 64 }
+        ensures { (y : ℕ) → y < 64 → has_bit result y ≡ (pairs_of self.now x y || is_same_pair a (other_of a b) x (other_of x y)) }
+    {
+        let b = other_of(a, b);
+        let row = with_bit_where(self.row(x), b, x == a);
+        let row = with_bit_where(row, a, x == b);
+        with_bit_where(row, x, is_same_pair(a, b, x, 0))
+    }
+}

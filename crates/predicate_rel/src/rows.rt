@@ -1,0 +1,225 @@
+//! What an instruction leaves of the pairs of one predicate.
+
+ghost use Rattle.std.specs.Prelude.{◌≡◌, ◌≢◌, ℕ, ◌-◌, ◌<◌, ◌&&◌, ◌||◌, ◌==◌, Bool, nat_lt, if◌then◌else◌, true, false};
+ghost use Rattle.ia_insn.specs.declared.choices.CmpKind.TheVariants.{Normal, Unc, OrAndcm};
+ghost use Rattle.predicate_rel.specs.Pairs.{has_bit, pairs_of};
+ghost use Rattle.predicate_rel.specs.Rules.{PairRule, always, never, is_met, kept_rule, written_rule, raised_rule, is_target, test_rule, is_moved, falls_rule, static_rule, name_before, rotated_rule, loop_rule, form_rule};
+ghost use Rattle.predicate_rel.specs.Rows.{HasBits, IsRow};
+
+use crate::bits::{all_if, bit, both, chosen, joined, kept_if, moved_up, with_bit, with_bit_where};
+use crate::edge::Edge;
+use crate::facts::Facts;
+use ia_insn::{BranchKind, CmpKind, Pr};
+use ia_meaning::Form;
+
+/// Where a pair of a predicate that is written and one that isn't is there after an instruction.
+#[derive(Clone, Copy, Debug, PartialEq, Eq)]
+pub(crate) enum Kept {
+    /// Where it was there before.
+    Own,
+    /// Where the pair of the qualifying predicate and the one that isn't written was.
+    Guard,
+    /// Where both were.
+    Both,
+}
+
+/// The targets of a test, but for p0.
+#[tactic(auto, using(crate::proofs::BitLemmas::has_bit_none))]
+fn targets(p1: Pr, p2: Pr) -> u64
+    ensures { HasBits result (is_target p1 p2) }
+{
+    let row = with_bit_where(0, p1.number(), true);
+    let row = with_bit_where(row, p2.number(), true);
+    with_bit(row, 0, false)
+}
+
+/// The predicates that a move writes under its mask, but for p0.
+#[tactic(auto, using(crate::proofs::BitLemmas::moved_bits))]
+fn moved(mask: u64) -> u64
+    ensures { HasBits result (is_moved mask) }
+{
+    with_bit(joined(mask, all_if(bit(mask, 16))), 0, false)
+}
+
+/// The name before a rotation of what is named x after it, which isn't p16.
+fn name_before(x: u8) -> u8
+    requires { x < 64 }
+    ensures name { result ≡ name_before x }
+    ensures range { result < 64 }
+{
+    if x < 16 { x } else { x - 1 }
+}
+
+/// A row with the names after a rotation, but for p16.
+fn renamed(row: u64) -> u64
+    ensures { (y : ℕ) → y < 64 → y ≢ 16 → has_bit result y ≡ has_bit row (name_before y) }
+{
+    joined(row, moved_up(row))
+}
+
+impl Facts {
+    /// The pairs of a predicate that is written with those that aren't.
+    fn kept_row(&self, kept: Kept, g: Pr, x: u8) -> u64
+        requires { x < 64 }
+        ensures { (y : ℕ) → y < 64 → has_bit result y ≡ is_met (kept_rule kept g x y y) (pairs_of self.now) }
+    {
+        match kept {
+            Kept::Own => self.row(x),
+            Kept::Guard => self.row(g.number()),
+            Kept::Both => both(self.row(x), self.row(g.number())),
+        }
+    }
+
+    /// The pairs of a predicate that isn't written with those that are.
+    fn kept_column(&self, kept: Kept, g: Pr, x: u8) -> u64
+        requires { x < 64 }
+        ensures { (y : ℕ) → y < 64 → has_bit result y ≡ is_met (kept_rule kept g x y x) (pairs_of self.now) }
+    {
+        match kept {
+            Kept::Own => self.row(x),
+            Kept::Guard => all_if(self.at(g.number(), x)),
+            Kept::Both => kept_if(self.row(x), self.at(g.number(), x)),
+        }
+    }
+
+    /// The row of a predicate where the predicates of `written` are written, and p0 isn't. It has `pairs` with
+    /// them where it is one of them.
+    fn written_row(&self, written: u64, pairs: u64, kept: Kept, g: Pr, x: u8) -> u64
+        requires { x < 64 }
+        ensures { (test : ℕ → Bool) (both : ℕ → ℕ → PairRule) → test 0 ≡ false → HasBits written test → IsRow pairs (both x) (pairs_of self.now) → IsRow result (written_rule test both (λ _. kept) g x) (pairs_of self.now) }
+    {
+        if bit(written, x) {
+            let row = self.kept_row(kept, g, x);
+            with_bit(chosen(written, pairs, row), x, bit(row, 0))
+        } else {
+            chosen(written, self.kept_column(kept, g, x), self.row(x))
+        }
+    }
+
+    /// The row after any values or ones are written into the predicates of `written`.
+    fn raised_row(&self, written: u64, g: Pr, x: u8) -> u64
+        requires { x < 64 }
+        ensures { (test : ℕ → Bool) → test 0 ≡ false → HasBits written test → IsRow result (raised_rule test g x) (pairs_of self.now) }
+    {
+        let pairs = kept_if(self.row(x), self.at(g.number(), 0));
+        self.written_row(written, pairs, Kept::Both, g, x)
+    }
+
+    /// The row after a normal test.
+    fn normal_row(&self, p1: Pr, p2: Pr, g: Pr, x: u8) -> u64
+        requires { x < 64 }
+        ensures { IsRow result (test_rule Normal p1 p2 g x) (pairs_of self.now) }
+    {
+        let pair = g.is_zero() || self.has(p1, p2);
+        self.written_row(targets(p1, p2), all_if(pair), Kept::Both, g, x)
+    }
+
+    /// The row after a test that clears its targets also where it isn't executed.
+    fn unc_row(&self, p1: Pr, p2: Pr, g: Pr, x: u8) -> u64
+        requires { x < 64 }
+        ensures { IsRow result (test_rule Unc p1 p2 g x) (pairs_of self.now) }
+    {
+        self.written_row(targets(p1, p2), u64::MAX, Kept::Guard, g, x)
+    }
+
+    /// The row after an `or.andcm`.
+    fn or_andcm_row(&self, p1: Pr, p2: Pr, g: Pr, x: u8) -> u64
+        requires { x < 64 }
+        ensures { IsRow result (test_rule OrAndcm p1 p2 g x) (pairs_of self.now) }
+    {
+        let raised = targets(p1, p1);
+        let written = targets(p1, p2);
+        let row = self.row(x);
+        if bit(raised, x) {
+            self.written_row(written, row, Kept::Both, g, x)
+        } else if bit(written, x) {
+            self.written_row(written, row, Kept::Own, g, x)
+        } else {
+            self.written_row(raised, row, Kept::Both, g, x)
+        }
+    }
+
+    /// The row after a test.
+    fn test_row(&self, kind: CmpKind, p1: Pr, p2: Pr, g: Pr, x: u8) -> u64
+        requires { x < 64 }
+        ensures { IsRow result (test_rule kind p1 p2 g x) (pairs_of self.now) }
+    {
+        match kind {
+            CmpKind::Normal => self.normal_row(p1, p2, g, x),
+            CmpKind::Unc => self.unc_row(p1, p2, g, x),
+            CmpKind::Or => self.raised_row(targets(p1, p2), g, x),
+            CmpKind::And => self.row(x),
+            CmpKind::OrAndcm => self.or_andcm_row(p1, p2, g, x),
+        }
+    }
+
+    /// The row after a branch that falls through.
+    #[tactic(auto, using(crate::proofs::BitLemmas::has_bit_all))]
+    fn falls_row(&self, g: Pr, x: u8) -> u64
+        requires { x < 64 }
+        ensures { IsRow result (falls_rule g x) (pairs_of self.now) }
+    {
+        let g = g.number();
+        let row = with_bit_where(with_bit(self.row(x), g, true), x, g == 0);
+        if x == g { u64::MAX } else { row }
+    }
+
+    /// The row where only the pairs below p16 stay.
+    #[tactic(auto, using(crate::proofs::BitLemmas::has_bit_none))]
+    fn static_row(&self, x: u8) -> u64
+        requires { x < 64 }
+        ensures { IsRow result (static_rule x) (pairs_of self.now) }
+    {
+        joined(kept_if(self.row(x), x < 16), 0)
+    }
+
+    /// The row after a rotation; `first` says whether the new p16 is known to be 0.
+    fn rotated_row(&self, first: bool, x: u8) -> u64
+        requires { x < 64 }
+        ensures { IsRow result (rotated_rule (if first then always else never) x) (pairs_of self.now) }
+    {
+        if x == 16 {
+            return all_if(first);
+        }
+        with_bit(renamed(self.row(name_before(x))), 16, first)
+    }
+
+    /// The row after a loop branch.
+    fn loop_row(&self, kind: BranchKind, edge: Edge, x: u8) -> u64
+        requires { x < 64 }
+        ensures { IsRow result (loop_rule kind edge x) (pairs_of self.now) }
+    {
+        match (kind, edge) {
+            (BranchKind::Ctop, Edge::Taken) | (BranchKind::Cexit, Edge::Falls) => {
+                self.rotated_row(false, x)
+            }
+            (BranchKind::Wtop, Edge::Taken) | (BranchKind::Wexit, Edge::Falls) => {
+                self.rotated_row(true, x)
+            }
+            (BranchKind::Cloop | BranchKind::Cond, _) => self.row(x),
+            _ => self.static_row(x),
+        }
+    }
+
+    /// The pairs of the x-th predicate, below 64, after an instruction of this form.
+    pub(crate) fn form_row(&self, form: &Form, edge: Edge, g: Pr, x: u8) -> u64
+        requires { x < 64 }
+        ensures { IsRow result (form_rule form.now edge g x) (pairs_of self.now) }
+    {
+        match (*form, edge) {
+            (Form::Test { kind, p1, p2, .. }, _) => self.test_row(kind, p1, p2, g, x),
+            (Form::ToPredicates { mask, .. }, _) => self.raised_row(moved(mask), g, x),
+            (
+                Form::Jump { .. }
+                | Form::Call { .. }
+                | Form::JumpIndirect { .. }
+                | Form::Return { .. }
+                | Form::Stop { .. },
+                Edge::Falls,
+            ) => self.falls_row(g, x),
+            (Form::Call { .. }, Edge::Taken) | (Form::ClearBases { .. }, _) => self.static_row(x),
+            (Form::Loop { kind, .. }, _) => self.loop_row(kind, edge, x),
+            _ => self.row(x),
+        }
+    }
+}
