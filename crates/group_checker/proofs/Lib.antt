@@ -1,0 +1,12 @@
+pub mod Members
+pub mod Rising
+pub mod Falling
+pub mod Masks
+pub mod Meets
+pub mod Entries
+pub mod Windowing
+pub mod Excusing
+pub mod Pairing
+pub mod Adding
+pub mod Reporting
+pub mod Uniqueness

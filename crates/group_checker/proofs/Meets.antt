@@ -1,0 +1,81 @@
+-- What is known on a set of walks, and past one more instruction.
+use Rattle.std.proofs.Common.{◌≡◌, ℕ, Bool, true, false, ◌&&◌, Option, None, Some, refl, sym, ap, ◌∙◌, subst}
+use mathlib.Core.Path.{fun_ext}
+use Rattle.std.proofs.lemmas.Bool.{true≢false}
+use Rattle.ia_insn.specs.declared.insn.Insn.{Insn}
+use Rattle.ia_insn.specs.declared.place.Place.{Place}
+use Rattle.ia_insn.specs.Places.{insn_at}
+use Rattle.ia_insn.specs.Programs.{Program}
+use Rattle.ia_meaning.specs.declared.form.Form.{Form}
+use Rattle.ia_meaning.specs.declared.form.Form.TheVariants as form
+use Rattle.ia_meaning.specs.Actions.{action_of, form_of}
+use Rattle.predicate_rel.specs.declared.edge.Edge.TheVariants.{Falls}
+use Rattle.predicate_rel.specs.Pairs.{Table, Pairs, pairs_of, in_range, truth, IsWithin}
+use Rattle.predicate_rel.specs.Rules.{PairRule, one, is_met, form_rule, rule_of, pairs_after}
+use Rattle.predicate_rel.specs.RuleLaws.{WhyMissing, whatever, since, why_missing, pairs_after-within}
+use Rattle.flow_facts.specs.Walks.{Walk, EndsAt, facts_on, pairs_past, pairs_past_insn, IsMeet}
+use Rattle.group_checker.specs.Windows.{IsMeetOf, changes_facts}
+
+-- who knows more before an instruction knows more past it
+past_within : (o : Option Insn) (f g : Pairs) → IsWithin f g → IsWithin (pairs_past_insn o Falls f) (pairs_past_insn o Falls g)
+past_within None f g h = h
+-- who knows more before an instruction knows more past it
+past_within (Some insn) f g h = pairs_after-within f g insn Falls h
+
+-- the walks of the new set are those of the old one, gone on past the slot at j
+pub record GoOn (p : Program) (j : Place) (IsOld IsNew : Walk → Type 0) : Type 0 where
+  pub on : (w : Walk) → IsOld w → (v : Walk) × IsNew v × (facts_on p v ≡ pairs_past p j Falls (facts_on p w))
+  pub back : (v : Walk) → IsNew v → (w : Walk) × IsOld w × (facts_on p v ≡ pairs_past p j Falls (facts_on p w))
+
+-- some walk lacks the pair past the slot too
+lacks_past : (p : Program) (o : Option Insn) (IsOld : Walk → Type 0) (f : Pairs) (x y : ℕ) → IsMeetOf p IsOld f → pairs_past_insn o Falls f x y ≡ false → (w : Walk) × IsOld w × (pairs_past_insn o Falls (facts_on p w) x y ≡ false)
+lacks_past p None IsOld f x y meet h = meet.exact x y h
+lacks_past p (Some insn) IsOld f x y meet h = by_why (why_missing f insn Falls x y h)
+  where
+    by_why : WhyMissing f insn Falls x y → (w : Walk) × IsOld w × (pairs_after (facts_on p w) insn Falls x y ≡ false)
+    by_why (whatever all) = let (w, is) = meet.reached in (w, is, all (facts_on p w))
+    by_why (since a b n more) = let (w, is, m) = meet.exact a b n in (w, is, more (facts_on p w) m)
+
+-- what is known on all of the old walks, past the slot, is what is known on all of the new ones
+pub meet_past : (p : Program) (j : Place) (IsOld IsNew : Walk → Type 0) (f : Pairs) → GoOn p j IsOld IsNew → IsMeetOf p IsOld f → IsMeetOf p IsNew (pairs_past p j Falls f)
+unfolding pairs_past
+meet_past p j IsOld IsNew f go meet = record {
+  reached = let (w, is) = meet.reached in let (v, new, e) = go.on w is in (v, new);
+  sound = λ v new. let (w, is, e) = go.back v new in
+      subst (IsWithin (pairs_past_insn (insn_at p.bundles j) Falls f)) (sym e) (past_within (insn_at p.bundles j) f (facts_on p w) (meet.sound w is));
+  exact = λ x y h. let (w, is, m) = lacks_past p (insn_at p.bundles j) IsOld f x y meet h in
+      let (v, new, e) = go.on w is in (v, new, ap (λ (q : Pairs). q x y) e ∙ m);
+}
+
+-- the meet at a place is that of all walks that end there
+pub meet_at : (p : Program) (j : Place) (f : Pairs) → IsMeet p j f → IsMeetOf p (EndsAt p j) f
+meet_at p j f meet = record { reached = meet.reached; sound = meet.sound; exact = meet.exact }
+
+-- past the instruction at the slot
+pub past_insn : (p : Program) (j : Place) (insn : Insn) (f : Pairs) → insn_at p.bundles j ≡ Some insn → pairs_past p j Falls f ≡ pairs_after f insn Falls
+unfolding pairs_past
+past_insn p j insn f e = ap (λ (o : Option Insn). pairs_past_insn o Falls f) e
+
+-- an instruction that doesn't change what is known keeps each pair where control falls through
+kept_rule : (f : Form) (g x y : ℕ) → changes_facts f ≡ false → form_rule f Falls g x y ≡ one x y
+kept_rule (form.Test kind p1 p2 r2 r3) g x y e = absurd (true≢false e)
+kept_rule (form.ToPredicates r2 mask) g x y e = absurd (true≢false e)
+kept_rule (form.Jump disp) g x y e = absurd (true≢false e)
+kept_rule (form.JumpIndirect b2) g x y e = absurd (true≢false e)
+kept_rule (form.Loop kind disp) g x y e = absurd (true≢false e)
+kept_rule (form.Call b1 goal) g x y e = absurd (true≢false e)
+kept_rule (form.Return b2) g x y e = absurd (true≢false e)
+kept_rule (form.Stop unit imm) g x y e = absurd (true≢false e)
+kept_rule (form.ClearBases pred_only) g x y e = absurd (true≢false e)
+kept_rule f g x y e = refl
+
+-- a test made twice
+twice : (a b : Bool) → (a && (a && b)) ≡ (a && b)
+twice true b = refl
+twice false b = refl
+
+-- so the facts stay
+pub facts_kept : (insn : Insn) (rows : Table) → changes_facts (form_of (action_of insn.op)) ≡ false → pairs_after (pairs_of rows) insn Falls ≡ pairs_of rows
+unfolding pairs_after rule_of pairs_of
+facts_kept insn rows e = fun_ext (λ x. fun_ext (λ y.
+    ap (λ (r : PairRule). in_range x y && is_met r (pairs_of rows)) (kept_rule (form_of (action_of insn.op)) insn.qp x y e) ∙ twice (in_range x y) (truth rows x y)))

@@ -1,0 +1,233 @@
+-- The report counts and begins to show the one rising list of all violations.
+use Rattle.std.proofs.Common.{◌≡◌, ℕ, zero, suc, ◌+◌, ◌^◌, ◌<◌, ◌≤◌, ◌⊎◌, true, false, cond, eqb, eq-eqb, None, Some, List, [], ◌∷◌, ◌++◌, length, length-append, length-take, append_assoc, get_or, take, refl, sym, ap, ◌∙◌, subst, arith, inl, inr}
+use Rattle.std.specs.Prelude.{Contains}
+use Rattle.std.proofs.lemmas.Bool.{cases_eq, ne_eqb}
+use Rattle.std.proofs.lemmas.List.{take_all, take_more, take-append-le}
+use Rattle.std.proofs.lemmas.List.Elements.{Contains-append_left, Contains-append_right, Contains-append_cases}
+use Rattle.ia_insn.specs.declared.place.Place.{Place}
+use Rattle.ia_insn.specs.Places.{place_number, IsBefore, IsNext, IsPlaceOf}
+use Rattle.ia_insn.specs.Programs.{Program, IsProgram}
+use Rattle.ia_insn.proofs.InOrder.{bundle_small, slot_small}
+use Rattle.ia_meaning.specs.Sequence.{first_of, next_of}
+use Rattle.ia_meaning.proofs.Follows.{next_is}
+use Rattle.ia_meaning.proofs.Sequences.{next_fits}
+use Rattle.group_checker.specs.declared.violation.Violation.{Violation}
+use Rattle.group_checker.specs.declared.window.Entry.{Entry}
+use Rattle.group_checker.specs.declared.report.Verdict.TheVariants.{Accepted, Violations}
+use Rattle.group_checker.specs.Order.{Precedes, IsListOf}
+use Rattle.group_checker.specs.Shown.{Report}
+use Rattle.group_checker.specs.Violations.{Violates}
+use Rattle.group_checker.specs.Reports.{Shows, IsVerdict}
+use Rattle.group_checker.specs.Windows.{IsWindow, IsAt}
+use Rattle.group_checker.specs.Findings.{IsNthPair}
+use Rattle.group_checker.specs.Progress.{HasReported, IsEarlier, IsEarlierPair, IsUpTo}
+use Rattle.group_checker.proofs.Members.{not_in_none}
+use Rattle.group_checker.proofs.Falling.{before_trans, number_rises, place_cases, comes_from}
+use Rattle.group_checker.proofs.Rising.{rises_append}
+
+-- what is cut is cut again
+pub take_again : {A : Type 0} (n : ℕ) (xs ys : List A) → take n (take n xs ++ ys) ≡ take n (xs ++ ys)
+take_again zero xs ys = refl
+-- what is cut is cut again
+take_again (suc n) [] ys = refl
+-- what is cut is cut again
+take_again (suc n) (x ∷ xs) ys = ap (λ l. x ∷ l) (take_again n xs ys)
+
+-- a full list shows no more
+pub take_full : {A : Type 0} (n : ℕ) (xs ys : List A) → length xs ≡ n → take n (xs ++ ys) ≡ xs
+take_full n xs ys e = take-append-le n xs ys (omega arith) ∙ take_all n xs (omega arith)
+
+-- at most so many are shown
+pub shown_short : (n : ℕ) (r : List Violation) (all : List Violation) → r ≡ take n all → length r ≤ n
+shown_short n r all e = rw e (simp length-take (omega arith))
+
+-- a loop that shows one more
+pub show_more : (a f xs ys : List Violation) (k : ℕ) (d : Violation) → k < length f → xs ≡ take 100 (a ++ take k f) → ys ≡ take 100 (xs ++ get_or f k d ∷ []) → ys ≡ take 100 (a ++ take (k + 1) f)
+show_more a f xs ys k d l is next =
+    let v = get_or f k d in
+    next ∙ ap (λ (q : List Violation). take 100 (q ++ v ∷ [])) is ∙ take_again 100 (a ++ take k f) (v ∷ [])
+    ∙ ap (λ (q : List Violation). take 100 q) (append_assoc a (take k f) (v ∷ []) ∙ ap (λ (q : List Violation). a ++ q) (sym (take_more f k d l)))
+
+-- a list of some violations is followed by one of later ones
+list_append : (P Q R : Violation → Type 0) (xs ys : List Violation) → ((v : Violation) → P v → R v) → ((v : Violation) → Q v → R v) → ((v : Violation) → R v → P v ⊎ Q v) → ((v w : Violation) → P v → Q w → Precedes v w) → IsListOf P xs → IsListOf Q ys → IsListOf R (xs ++ ys)
+list_append P Q R xs ys p q r before a b = record {
+  rises = rises_append xs ys a.rises b.rises (λ v w c d. before v w (a.only v c) (b.only w d));
+  has = λ v h. elim (r v h) [ inl x ↦ Contains-append_left xs ys v (a.has v x) | inr y ↦ Contains-append_right xs ys v (b.has v y) ];
+  only = λ v c. elim (Contains-append_cases xs ys v c) [ inl d ↦ p v (a.only v d) | inr d ↦ q v (b.only v d) ];
+}
+
+-- the same list, told by a property that says the same
+list_like : (P Q : Violation → Type 0) (xs : List Violation) → ((v : Violation) → P v → Q v) → ((v : Violation) → Q v → P v) → IsListOf P xs → IsListOf Q xs
+list_like P Q xs to from a = record { rises = a.rises; has = λ v q. a.has v (from v q); only = λ v c. to v (a.only v c) }
+
+-- the same report, told of other violations
+retold : (p : Program) (r : Report) (P Q : Violation → Type 0) (bound more : ℕ) → bound ≤ more → ((v : Violation) → Violates p v → P v → Q v) → ((v : Violation) → Violates p v → Q v → P v) → HasReported p r P bound → HasReported p r Q more
+retold p r P Q bound more l to from u = record {
+  all = u.all;
+  list = list_like (λ v. Violates p v × P v) (λ v. Violates p v × Q v) u.all (λ v h. (h.0, to v h.0 h.1)) (λ v h. (h.0, from v h.0 h.1)) u.list;
+  shows = u.shows;
+  small = omega (arith, u.small);
+}
+
+-- a report with a wider bound
+pub bounded : (p : Program) (r : Report) (P : Violation → Type 0) (bound more : ℕ) → bound ≤ more → HasReported p r P bound → HasReported p r P more
+bounded p r P bound more l u = retold p r P P bound more l (λ v x h. h) (λ v x h. h) u
+
+-- violations with an earlier second slot come first
+precedes_by_second : (v w : Violation) → IsBefore v.second w.second → Precedes v w
+precedes_by_second v w (inl h) = inl h
+precedes_by_second v w (inr h) = inr (h.0, inl h.1)
+
+-- then those with an earlier first slot
+precedes_by_first : (v w : Violation) → v.second ≡ w.second → IsBefore v.first w.first → Precedes v w
+precedes_by_first v w e (inl l) = inr (ap (λ (q : Place). q.bundle) e, inr (ap (λ (q : Place). q.slot) e, inl l))
+precedes_by_first v w e (inr l) = inr (ap (λ (q : Place). q.bundle) e, inr (ap (λ (q : Place). q.slot) e, inr (l.0, inl l.1)))
+
+-- pairs with an earlier first slot come before
+pair_precedes : (p : Program) (es : List Entry) (j : Place) (n : ℕ) (v w : Violation) → IsWindow p es j → IsEarlierPair es j n v → IsNthPair es n j w → Precedes v w
+pair_precedes p es j n v w win (inl h) k = precedes_by_second v w (subst (IsBefore v.second) (sym k.pair.1) h)
+pair_precedes p es j n v w win (inr h) k =
+    let has = h.1.has in
+    let up = win.rises has.index n has.entry k.entry has.at k.at h.1.below in
+    precedes_by_first v w (h.0 ∙ sym k.pair.1)
+    (subst (λ (q : Place). IsBefore q w.first) has.is (subst (IsBefore has.entry.place) (sym k.pair.0) up))
+
+-- the violations of one more pair of slots
+pub pair_reported : (p : Program) (old new : Report) (es : List Entry) (j : Place) (n bound : ℕ) (found : List Violation) → IsWindow p es j → HasReported p old (IsEarlierPair es j n) bound → IsListOf (λ v. IsNthPair es n j v × Violates p v) found → length found ≤ 6402 → new.total ≡ old.total + length found → new.shown ≡ take 100 (old.shown ++ found) → HasReported p new (IsEarlierPair es j (n + 1)) (bound + 2 ^ 13)
+pair_reported p old new es j n bound found win r list few total shown = record {
+  all = r.all ++ found;
+  list = list_append (λ v. Violates p v × IsEarlierPair es j n v) (λ v. IsNthPair es n j v × Violates p v) (λ v. Violates p v × IsEarlierPair es j (n + 1) v) r.all found
+      (λ v h. (h.0, wider v h.1)) (λ v h. (h.1, added v h.0)) (λ v h. split v h.0 h.1)
+      (λ v w h k. pair_precedes p es j n v w win h.1 k.0) r.list list;
+  shows = record {
+    total = total ∙ ap (λ (n : ℕ). n + length found) r.shows.total ∙ sym (length-append r.all found);
+    shown = shown ∙ ap (λ (l : List Violation). take 100 (l ++ found)) r.shows.shown ∙ take_again 100 r.all found;
+  };
+  small = omega (arith, length-append r.all found, r.small);
+}
+  where
+    wider : (v : Violation) → IsEarlierPair es j n v → IsEarlierPair es j (n + 1) v
+    wider v (inl l) = inl l
+    wider v (inr e) = inr (e.0, record { has = e.1.has; below = omega (arith, e.1.below) })
+
+    added : (v : Violation) → IsNthPair es n j v → IsEarlierPair es j (n + 1) v
+    added v k = inr (k.pair.1, record { has = record { index = n; entry = k.entry; at = k.at; is = sym k.pair.0 }; below = omega arith })
+
+    split : (v : Violation) → Violates p v → IsEarlierPair es j (n + 1) v → (Violates p v × IsEarlierPair es j n v) ⊎ (IsNthPair es n j v × Violates p v)
+    split v x (inl l) = inl (x, inl l)
+    split v x (inr e) = elim (cases_eq e.1.has.index n) [
+      | inl q ↦ inr (record { entry = e.1.has.entry; at = subst (λ (m : ℕ). IsAt es m e.1.has.entry) q e.1.has.at; pair = (sym e.1.has.is, e.0) }, x)
+      | inr q ↦ inl (x, inr (e.0, record { has = e.1.has; below = omega (arith, e.1.below) }))
+    ]
+
+-- at the first slot of the window
+pub none_of_second : (p : Program) (r : Report) (es : List Entry) (j : Place) (bound : ℕ) → HasReported p r (IsEarlier j) bound → HasReported p r (IsEarlierPair es j 0) bound
+none_of_second p r es j bound u = retold p r (IsEarlier j) (IsEarlierPair es j 0) bound bound (omega arith) (λ v x h. inl h) (λ v x h. of v h) u
+  where
+    of : (v : Violation) → IsEarlierPair es j 0 v → IsEarlier j v
+    of v (inl h) = h
+    of v (inr h) = absurd (omega (arith, h.1.below))
+
+-- and past the last
+pub second_reported : (p : Program) (r : Report) (es : List Entry) (j : Place) (bound : ℕ) → IsWindow p es j → HasReported p r (IsEarlierPair es j (length es)) bound → HasReported p r (IsUpTo j) bound
+second_reported p r es j bound win u = retold p r (IsEarlierPair es j (length es)) (IsUpTo j) bound bound (omega arith) (λ v x h. less v h) more u
+  where
+    less : (v : Violation) → IsEarlierPair es j (length es) v → IsUpTo j v
+    less v (inl h) = inl h
+    less v (inr h) = inr h.0
+
+    more : (v : Violation) → Violates p v → IsUpTo j v → IsEarlierPair es j (length es) v
+    more v x (inl h) = inl h
+    more v x (inr h) =
+        let has = win.all x.walk (record { walks = x.there.walks; ends = x.there.ends ∙ h }) v.first x.inside in
+        inr (h, record { has = has; below = has.at.short })
+
+-- the second slot of a violation is a place
+second_is_place : (p : Program) (v : Violation) → Violates p v → IsPlaceOf p.bundles v.second
+second_is_place p v x =
+    let from = comes_from p x.walk v.first x.there.walks x.inside in
+    subst (IsPlaceOf p.bundles) x.there.ends from.edge.lands
+
+-- the places of a program have numbers below 3 * 4,096
+pub number_small : (p : Program) (j : Place) → IsProgram p → IsPlaceOf p.bundles j → place_number j < 2 ^ 14
+number_small p j program is =
+    let slot = slot_small p.bundles j is in
+    let bundle = bundle_small p.bundles j is in
+    omega (arith, program.counts.bundles)
+
+-- the next place is a place
+pub next_place : (p : Program) (j next : Place) → next_of p.bundles j ≡ Some next → IsPlaceOf p.bundles next
+next_place p j next follows = let n = next_is p.bundles j next follows in n.is
+
+-- and has a higher number
+pub number_next : (p : Program) (j next : Place) → IsPlaceOf p.bundles j → next_of p.bundles j ≡ Some next → place_number j < place_number next
+number_next p j next is follows = let n = next_is p.bundles j next follows in number_rises j next (slot_small p.bundles j is) n.after
+
+-- what comes before the next place is what came up to this one
+pub next_reported : (p : Program) (r : Report) (j next : Place) (bound more : ℕ) → next_of p.bundles j ≡ Some next → bound ≤ more → HasReported p r (IsUpTo j) bound → HasReported p r (IsEarlier next) more
+next_reported p r j next bound more follows l u = retold p r (IsUpTo j) (IsEarlier next) bound more l to from u
+  where
+    is : IsNext p.bundles j next
+    is = next_is p.bundles j next follows
+
+    to : (v : Violation) → Violates p v → IsUpTo j v → IsEarlier next v
+    to v x (inl h) = before_trans v.second j next h is.after
+    to v x (inr h) = subst (λ (q : Place). IsBefore q next) (sym h) is.after
+
+    from : (v : Violation) → Violates p v → IsEarlier next v → IsUpTo j v
+    from v x h = elim (place_cases v.second j) [
+      | inl low ↦ inl low
+      | inr e ↦ elim e [ inl same ↦ inr same | inr high ↦ absurd (is.first v.second (second_is_place p v x) high h) ]
+    ]
+
+-- where no place follows, all are reported
+record ReportsAll (p : Program) (r : Report) : Type 0 where
+  all : List Violation
+  list : IsListOf (Violates p) all
+  shows : Shows r all
+
+-- what came up to the last place is all
+all_reported : (p : Program) (r : Report) (j : Place) (bound : ℕ) → next_of p.bundles j ≡ None → HasReported p r (IsUpTo j) bound → ReportsAll p r
+all_reported p r j bound end u = record {
+  all = u.all;
+  list = list_like (λ v. Violates p v × IsUpTo j v) (Violates p) u.all (λ v h. h.0) (λ v x. (x, up_to v x)) u.list;
+  shows = u.shows;
+}
+  where
+    none : (q : Place) → IsPlaceOf p.bundles q → IsBefore j q → ⊥
+    none = rw end at (next_fits p.bundles j)
+
+    up_to : (v : Violation) → Violates p v → IsUpTo j v
+    up_to v x = elim (place_cases v.second j) [
+      | inl low ↦ inl low
+      | inr e ↦ elim e [ inl same ↦ inr same | inr high ↦ absurd (none v.second (second_is_place p v x) high) ]
+    ]
+
+-- the verdict of a report
+verdict_of : (p : Program) (r : Report) → ReportsAll p r → IsVerdict p (cond (eqb r.total 0) Accepted (Violations r))
+verdict_of p r a = of a.all refl
+  where
+    of : (all : List Violation) → a.all ≡ all → IsVerdict p (cond (eqb r.total 0) Accepted (Violations r))
+    of [] e =
+        let none : eqb r.total 0 ≡ true = eq-eqb r.total 0 (a.shows.total ∙ ap length e) in
+        rw none (λ v x. not_in_none v (subst (λ (l : List Violation). Contains l v) e (a.list.has v x)))
+    of (v ∷ vs) e =
+        let some : eqb r.total 0 ≡ false = ne_eqb r.total 0 (λ z. omega (arith, a.shows.total, ap length e)) in
+        rw some (record { all = a.all; list = a.list; some = omega (arith, ap length e); shows = a.shows })
+
+-- and the verdict says it
+pub verdict_reported : (p : Program) (r : Report) (j : Place) (bound : ℕ) → next_of p.bundles j ≡ None → HasReported p r (IsUpTo j) bound → IsVerdict p (cond (eqb r.total 0) Accepted (Violations r))
+verdict_reported p r j bound end u = verdict_of p r (all_reported p r j bound end u)
+
+-- at the first place nothing is reported
+pub none_reported : (p : Program) (r : Report) → r.total ≡ 0 → r.shown ≡ [] → HasReported p r (IsEarlier (first_of 0)) 0
+none_reported p r a b = record {
+  all = [];
+  list = record { rises = tt; has = λ v h. absurd (never v h.1); only = λ v c. absurd (not_in_none v c) };
+  shows = record { total = a; shown = b };
+  small = omega arith;
+}
+  where
+    never : (v : Violation) → IsEarlier (first_of 0) v → ⊥
+    never v (inl l) = omega arith
+    never v (inr e) = omega (arith, e.1)

@@ -1,0 +1,38 @@
+-- A program has one verdict.
+use Rattle.std.proofs.Common.{◌≡◌, ◌≤◌, List, [], ◌∷◌, length, take, refl, sym, ap, ◌∙◌, arith}
+use Rattle.ia_insn.specs.Programs.{Program}
+use Rattle.group_checker.specs.declared.violation.Violation.{Violation}
+use Rattle.group_checker.specs.declared.report.Verdict.TheVariants.{Accepted, Violations}
+use Rattle.group_checker.specs.Order.{IsListOf}
+use Rattle.group_checker.specs.Shown.{Report}
+use Rattle.group_checker.specs.Violations.{Violates}
+use Rattle.group_checker.specs.Reports.{IsReport, OneVerdict}
+use Rattle.group_checker.proofs.Members.{in_head}
+use Rattle.group_checker.proofs.Rising.{one_rising_list}
+
+-- the rising list of what has a property is one
+one_list : (P : Violation → Type 0) (xs ys : List Violation) → IsListOf P xs → IsListOf P ys → xs ≡ ys
+one_list P xs ys a b = one_rising_list xs ys a.rises b.rises (λ v c. b.has v (a.only v c)) (λ v c. a.has v (b.only v c))
+
+-- a report tells of some violation
+not_free : (p : Program) (r : Report) → IsReport p r → ((v : Violation) → ¬ Violates p v) → ⊥
+not_free p r is none = of is.all is.list is.some
+  where
+    of : (all : List Violation) → IsListOf (Violates p) all → 1 ≤ length all → ⊥
+    of [] list some = omega arith
+    of (v ∷ vs) list some = none v (list.only v (in_head v v vs refl))
+
+-- two reports on one program are the same
+one_report : (p : Program) (r s : Report) → IsReport p r → IsReport p s → r ≡ s
+one_report p r s a b =
+    let same : a.all ≡ b.all = one_list (Violates p) a.all b.all a.list b.list in
+    let total : r.total ≡ s.total = a.shows.total ∙ ap (length {A = Violation}) same ∙ sym b.shows.total in
+    let shown : r.shown ≡ s.shown = a.shows.shown ∙ ap (λ (l : List Violation). take 100 l) same ∙ sym b.shows.shown in
+    λ i. record { total = total i; shown = shown i }
+
+-- and so are two verdicts
+pub same_verdict : OneVerdict
+same_verdict p Accepted Accepted a b = refl
+same_verdict p Accepted (Violations s) a b = absurd (not_free p s b a)
+same_verdict p (Violations r) Accepted a b = absurd (not_free p r a b)
+same_verdict p (Violations r) (Violations s) a b = ap Violations (one_report p r s a b)

@@ -1,0 +1,67 @@
+-- What is found of two slots of one group by their accesses and by what is known of them.
+use Rattle.std.specs.Prelude.{◌≡◌, ℕ, Bool, true, false, not, ◌&&◌, ◌⊎◌, List, Contains, Some}
+use Rattle.ia_insn.specs.declared.place.Place.{Place}
+use Rattle.ia_insn.specs.Programs.{Program}
+use Rattle.resource_sets.specs.declared.access.Resource.TheVariants.{Cfm}
+use Rattle.resource_sets.specs.declared.access.Access.{Access}
+use Rattle.resource_sets.specs.declared.clashes.Rule.{Rule}
+use Rattle.resource_sets.specs.declared.clashes.Rule.TheVariants.{Raw, Waw, War63, AllocFirst, ClearLast}
+use Rattle.resource_sets.specs.Clashes.{clash}
+use Rattle.predicate_rel.specs.Pairs.{has_bit, pairs_of}
+use Rattle.group_checker.specs.declared.violation.Violation.{Violation}
+use Rattle.group_checker.specs.declared.window.Entry.{Entry}
+use Rattle.group_checker.specs.Violations.{allocates_at, clears_at}
+use Rattle.group_checker.specs.Windows.{IsAt}
+
+-- Each walk through the first slot excuses accesses under these guards.
+abbrev pub excused_by : Entry → ℕ → ℕ → Bool
+excused_by first g h = pairs_of first.known g h && not (has_bit first.written g)
+
+-- Only reads and writes after writes may be excused. Both accesses of a War63 have the guard p0, and the pair (p0, p0) is
+-- known on no walk that goes on, so this changes no answer there: it says what the rule says.
+abbrev pub may_be_excused : Rule → Bool
+may_be_excused Raw = true
+may_be_excused Waw = true
+may_be_excused War63 = false
+may_be_excused AllocFirst = false
+may_be_excused ClearLast = false
+
+-- Two accesses break the rule on the resource, and some walk doesn't excuse them.
+pub record FindsBy (first : Entry) (a b : Access) (v : Violation) : Type 0 where
+  pub first_on : a.resource ≡ v.resource
+  pub second_on : b.resource ≡ v.resource
+  pub clash : clash a b ≡ Some v.rule
+  pub stays : (may_be_excused v.rule && excused_by first a.guard b.guard) ≡ false
+
+-- one of the accesses of the second slot
+abbrev pub FindsWith : Entry → Access → List Access → Violation → Type 0
+FindsWith first a seconds v = (b : Access) × Contains seconds b × FindsBy first a b v
+
+-- and one of the first
+abbrev pub FindsIn : Entry → List Access → List Access → Violation → Type 0
+FindsIn first firsts seconds v = (a : Access) × Contains firsts a × FindsWith first a seconds v
+
+abbrev pub IsPair : Place → Place → Violation → Type 0
+IsPair first second v = (v.first ≡ first) × (v.second ≡ second)
+
+-- The violation is of the n-th slot of the window, and of this second one.
+pub record IsNthPair (window : List Entry) (n : ℕ) (second : Place) (v : Violation) : Type 0 where
+  pub entry : Entry
+  pub at : IsAt window n entry
+  pub pair : IsPair entry.place second v
+
+-- An `alloc` comes just after another slot of its group.
+pub record IsAllocRule (p : Program) (j : Place) (v : Violation) : Type 0 where
+  pub rule : v.rule ≡ AllocFirst
+  pub allocates : allocates_at p j ≡ true
+  pub resource : v.resource ≡ Cfm
+
+-- A slot of the group comes just after a `clrrrb`.
+pub record IsClearRule (p : Program) (i : Place) (v : Violation) : Type 0 where
+  pub rule : v.rule ≡ ClearLast
+  pub clears : clears_at p i ≡ true
+  pub resource : v.resource ≡ Cfm
+
+-- The rules on two slots of which one follows the other.
+abbrev pub IsSlotRule : Program → Place → Place → Violation → Type 0
+IsSlotRule p i j v = IsAllocRule p j v ⊎ IsClearRule p i v

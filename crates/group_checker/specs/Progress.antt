@@ -1,0 +1,36 @@
+-- What is reported while slots are gone over.
+use Rattle.std.specs.Prelude.{◌≡◌, ◌<◌, ◌≤◌, ℕ, ◌⊎◌, List, length}
+use Rattle.ia_insn.specs.declared.place.Place.{Place}
+use Rattle.ia_insn.specs.Places.{IsBefore}
+use Rattle.ia_insn.specs.Programs.{Program}
+use Rattle.group_checker.specs.declared.violation.Violation.{Violation}
+use Rattle.group_checker.specs.declared.window.Entry.{Entry}
+use Rattle.group_checker.specs.Violations.{Violates}
+use Rattle.group_checker.specs.Order.{IsListOf}
+use Rattle.group_checker.specs.Reports.{Shows}
+use Rattle.group_checker.specs.Shown.{Report}
+use Rattle.group_checker.specs.Windows.{HasPlace}
+
+-- The violations that are done with are reported.
+pub record HasReported (p : Program) (r : Report) (IsDone : Violation → Type 0) (bound : ℕ) : Type 0 where
+  pub all : List Violation
+  pub list : IsListOf (λ v. Violates p v × IsDone v) all
+  pub shows : Shows r all
+  pub small : length all ≤ bound
+
+-- those with an earlier second slot
+abbrev pub IsEarlier : Place → Violation → Type 0
+IsEarlier j v = IsBefore v.second j
+
+-- The first slot is one of the first n of the window.
+pub record IsAmong (window : List Entry) (n : ℕ) (place : Place) : Type 0 where
+  pub has : HasPlace window place
+  pub below : has.index < n
+
+-- and those of j with one of the first n slots of its window
+abbrev pub IsEarlierPair : List Entry → Place → ℕ → Violation → Type 0
+IsEarlierPair window j n v = IsBefore v.second j ⊎ ((v.second ≡ j) × IsAmong window n v.first)
+
+-- and all those of j
+abbrev pub IsUpTo : Place → Violation → Type 0
+IsUpTo j v = IsBefore v.second j ⊎ (v.second ≡ j)

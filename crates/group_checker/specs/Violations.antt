@@ -1,0 +1,73 @@
+-- Which pairs of slots of a group break a rule on some walk (volume 1, chapter 3, instruction dependencies; volume 3,
+-- chapter 5, resource and dependency semantics).
+use Rattle.std.specs.Prelude.{◌≡◌, Bool, true, false, Option, None, Some, Contains}
+use Rattle.ia_insn.specs.declared.insn.Insn.{Insn}
+use Rattle.ia_insn.specs.declared.place.Place.{Place}
+use Rattle.ia_insn.specs.Places.{insn_at}
+use Rattle.ia_insn.specs.Programs.{Program}
+use Rattle.ia_meaning.specs.declared.form.Form.{Form}
+use Rattle.ia_meaning.specs.declared.form.Form.TheVariants.{Allocate, ClearBases}
+use Rattle.ia_meaning.specs.Actions.{action_of, form_of}
+use Rattle.resource_sets.specs.declared.access.Resource.{Resource}
+use Rattle.resource_sets.specs.declared.access.Resource.TheVariants.{Cfm}
+use Rattle.resource_sets.specs.declared.access.Access.{Access}
+use Rattle.resource_sets.specs.declared.clashes.Rule.{Rule}
+use Rattle.resource_sets.specs.declared.clashes.Rule.TheVariants.{Raw, Waw, War63, AllocFirst, ClearLast}
+use Rattle.resource_sets.specs.Clashes.{clash}
+use Rattle.flow_facts.specs.Walks.{Walk, EndsAt, end_of, earlier_in_group}
+use Rattle.group_checker.specs.declared.violation.Violation.{Violation}
+use Rattle.group_checker.specs.Excuses.{accesses_at, IsExcused, IsLatest}
+
+-- An access of slot i and one of a later slot j of its group, both of one resource, clash by the rule.
+pub record Clashes (p : Program) (i j : Place) (rule : Rule) (q : Resource) : Type 0 where
+  pub first : Access
+  pub second : Access
+  pub of_first : Contains (accesses_at p i) first
+  pub of_second : Contains (accesses_at p j) second
+  pub first_on : first.resource ≡ q
+  pub second_on : second.resource ≡ q
+  pub clash : clash first second ≡ Some rule
+
+-- So they do with the walk's last slot, and are not excused on the walk.
+pub record ClashesUnexcused (p : Program) (w : Walk) (i : Place) (rule : Rule) (q : Resource) : Type 0 where
+  pub clashes : Clashes p i (end_of w) rule q
+  pub stays : ¬ IsExcused p w i clashes.first.guard clashes.second.guard
+
+-- `alloc`
+abbrev pub allocates : Form → Bool
+allocates (Allocate r1 sof sol sor) = true
+allocates form = false
+
+-- `clrrrb` and `clrrrb.pr`
+abbrev pub clears : Form → Bool
+clears (ClearBases pred_only) = true
+clears form = false
+
+abbrev pub has_form : (Form → Bool) → Option Insn → Bool
+has_form test None = false
+has_form test (Some insn) = test (form_of (action_of insn.op))
+
+-- the place holds an `alloc`
+unfoldable pub allocates_at : Program → Place → Bool
+allocates_at p place = has_form allocates (insn_at p.bundles place)
+
+-- the place holds a `clrrrb` or `clrrrb.pr`
+unfoldable pub clears_at : Program → Place → Bool
+clears_at p place = has_form clears (insn_at p.bundles place)
+
+-- Slot i, of the walk's group, and the walk's last slot break the rule. Only reads and writes after writes may be excused.
+-- An `alloc` may have no slot before it in its group, and a `clrrrb` none after it; of `alloc` only the slot just before it,
+-- and of `clrrrb` only the slot just after it, makes the pair that is reported.
+abbrev pub Breaks : Program → Walk → Place → Rule → Resource → Type 0
+Breaks p w i Raw q = ClashesUnexcused p w i Raw q
+Breaks p w i Waw q = ClashesUnexcused p w i Waw q
+Breaks p w i War63 q = Clashes p i (end_of w) War63 q
+Breaks p w i AllocFirst q = (allocates_at p (end_of w) ≡ true) × IsLatest (earlier_in_group p w) i × (q ≡ Cfm)
+Breaks p w i ClearLast q = (clears_at p i ≡ true) × IsLatest (earlier_in_group p w) i × (q ≡ Cfm)
+
+-- On some walk to the second slot, with the first earlier in its group, the two break the rule.
+pub record Violates (p : Program) (v : Violation) : Type 0 where
+  pub walk : Walk
+  pub there : EndsAt p v.second walk
+  pub inside : Contains (earlier_in_group p walk) v.first
+  pub breaks : Breaks p walk v.first v.rule v.resource

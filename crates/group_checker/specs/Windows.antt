@@ -1,0 +1,98 @@
+-- What is known, at the place under way, of the earlier slots of its group.
+use Rattle.std.specs.Prelude.{◌≡◌, ◌<◌, ◌≤◌, ℕ, ◌+◌, Bool, true, false, List, Contains, length, slice_index_or, bit_or}
+use Rattle.ia_insn.specs.declared.place.Place.{Place}
+use Rattle.ia_insn.specs.Places.{place_number, IsBefore}
+use Rattle.ia_insn.specs.Programs.{Program}
+use Rattle.ia_meaning.specs.declared.form.Form.{Form}
+use Rattle.ia_meaning.specs.declared.form.Form.TheVariants as form
+use Rattle.resource_sets.specs.declared.access.Access.{Access}
+use Rattle.resource_sets.specs.Clashes.{may_write_guard}
+use Rattle.predicate_rel.specs.declared.edge.Edge.TheVariants.{Falls}
+use Rattle.predicate_rel.specs.Pairs.{Pairs, has_bit, pairs_of, IsWithin}
+use Rattle.flow_facts.specs.Walks.{Walk, EndsAt, HasEdge, facts_on, pairs_past, earlier_in_group}
+use Rattle.group_checker.specs.declared.window.Entry.{Entry}
+use Rattle.group_checker.specs.Excuses.{accesses_at}
+
+-- a walk to j with i earlier in its group
+pub record IsThrough (p : Program) (i j : Place) (w : Walk) : Type 0 where
+  pub there : EndsAt p j w
+  pub inside : Contains (earlier_in_group p w) i
+
+-- The pairs are those that are known on all of these walks, of which there is one.
+pub record IsMeetOf (p : Program) (IsOne : Walk → Type 0) (f : Pairs) : Type 0 where
+  pub reached : (w : Walk) × IsOne w
+  pub sound : (w : Walk) → IsOne w → IsWithin f (facts_on p w)
+  pub exact : (x y : ℕ) → f x y ≡ false → (w : Walk) × IsOne w × (facts_on p w x y ≡ false)
+
+-- the m-th entry
+pub record IsAt (window : List Entry) (m : ℕ) (e : Entry) : Type 0 where
+  pub short : m < length window
+  pub is : slice_index_or window m e ≡ e
+
+-- At j the entry is that of a slot earlier in the group: it has what all walks through the slot know at j.
+pub record IsCarried (p : Program) (j : Place) (e : Entry) : Type 0 where
+  pub accesses : e.accesses.items ≡ accesses_at p e.place
+  pub known : IsMeetOf p (IsThrough p e.place j) (pairs_of e.known)
+  pub below : IsBefore e.place j
+
+-- The slot of the m-th entry or of a later one may write the predicate.
+pub record HasWriter (p : Program) (window : List Entry) (m g : ℕ) : Type 0 where
+  pub index : ℕ
+  pub entry : Entry
+  pub late : m ≤ index
+  pub at : IsAt window index entry
+  pub writes : may_write_guard g (accesses_at p entry.place) ≡ true
+
+-- The bits of the word are the predicates that the slots from the m-th entry on may write.
+pub record IsWritten (p : Program) (window : List Entry) (m written : ℕ) : Type 0 where
+  pub has : (g : ℕ) → g < 64 → HasWriter p window m g → has_bit written g ≡ true
+  pub only : (g : ℕ) → g < 64 → has_bit written g ≡ true → HasWriter p window m g
+
+-- Some entry is of the place.
+pub record HasPlace (window : List Entry) (place : Place) : Type 0 where
+  pub index : ℕ
+  pub entry : Entry
+  pub at : IsAt window index entry
+  pub is : entry.place ≡ place
+
+-- The entries are those of all slots that are earlier in the group on some walk to j, in order. A walk through one of them
+-- passes all later ones, and the last falls to j. Each entry has the predicates that the slots from its own on may write.
+pub record IsWindow (p : Program) (window : List Entry) (j : Place) : Type 0 where
+  pub size : length window ≤ place_number j
+  pub carried : (m : ℕ) (a : Entry) → IsAt window m a → IsCarried p j a
+  pub rises : (m n : ℕ) (a b : Entry) → IsAt window m a → IsAt window n b → m < n → IsBefore a.place b.place
+  pub passes : (m n : ℕ) (a b : Entry) → IsAt window m a → IsAt window n b → m < n →
+      (w : Walk) → IsThrough p a.place j w → Contains (earlier_in_group p w) b.place
+  pub written : (m : ℕ) (a : Entry) → IsAt window m a → IsWritten p window m a.written
+  pub last : (m : ℕ) (a : Entry) → IsAt window m a → m + 1 ≡ length window → HasEdge p a.place Falls j
+  pub all : (w : Walk) → EndsAt p j w → (i : Place) → Contains (earlier_in_group p w) i → HasPlace window i
+
+-- the bits of the word are the predicates that an instruction with these accesses may write
+abbrev pub IsGuardMask : ℕ → List Access → Type 0
+IsGuardMask mask accesses = (g : ℕ) → g < 64 → has_bit mask g ≡ may_write_guard g accesses
+
+-- the entry with what is known past the slot at j, which may write the predicates of the mask
+pub record GoesOn (p : Program) (j : Place) (mask : ℕ) (old new : Entry) : Type 0 where
+  pub place : new.place ≡ old.place
+  pub accesses : new.accesses ≡ old.accesses
+  pub known : pairs_of new.known ≡ pairs_past p j Falls (pairs_of old.known)
+  pub written : new.written ≡ bit_or old.written mask
+
+-- The first n entries have gone on.
+pub record HasAdvanced (p : Program) (j : Place) (mask : ℕ) (old new : List Entry) (n : ℕ) : Type 0 where
+  pub same_length : length new ≡ length old
+  pub done : (m : ℕ) (b : Entry) → m < n → IsAt new m b → (a : Entry) × IsAt old m a × GoesOn p j mask a b
+  pub left : (m : ℕ) (b : Entry) → n ≤ m → IsAt new m b → IsAt old m b
+
+-- where control falls through, an instruction of any other form leaves what is known of predicates as it is
+abbrev pub changes_facts : Form → Bool
+changes_facts (form.Test kind p1 p2 r2 r3) = true
+changes_facts (form.ToPredicates r2 mask) = true
+changes_facts (form.Jump disp) = true
+changes_facts (form.JumpIndirect b2) = true
+changes_facts (form.Loop kind disp) = true
+changes_facts (form.Call b1 goal) = true
+changes_facts (form.Return b2) = true
+changes_facts (form.Stop unit imm) = true
+changes_facts (form.ClearBases pred_only) = true
+changes_facts f = false

@@ -1,0 +1,196 @@
+//! What two slots of one group break.
+
+ghost use Rattle.std.specs.Prelude.{◌≡◌, ◌+◌, ◌*◌, ◌≤◌, ◌<◌, true, false, length, IfOk, OnOk, ◌&&◌};
+ghost use Rattle.ia_insn.specs.declared.place.Place.{Place};
+ghost use Rattle.ia_insn.specs.Places.{insn_at, IsPlaceOf};
+ghost use Rattle.group_checker.specs.Order.{Rises, Adds, IsListOf};
+ghost use Rattle.group_checker.specs.Excuses.{accesses_at};
+ghost use Rattle.group_checker.specs.Violations.{allocates, clears, allocates_at, clears_at, Violates};
+ghost use Rattle.group_checker.specs.Windows.{IsWindow};
+ghost use Rattle.group_checker.specs.Findings.{IsNthPair, may_be_excused, excused_by, FindsBy, FindsWith, FindsIn, IsPair, IsSlotRule};
+
+use crate::guards::has_predicate;
+use crate::violation::{Violation, note, note_if};
+use crate::window::Entry;
+use arrayvec::ArrayVec;
+use ia_insn::{Place, Pr, Program};
+use ia_meaning::{Form, form_of};
+use resource_sets::{Access, Resource, Rule, accesses, clash};
+use std::alloc::{AllocError, Global};
+
+/// What the instruction at a place accesses. Nothing where there is no such place.
+#[tactic(auto, unfolding(crate::specs::Excuses::accesses_at))]
+pub(crate) fn accesses_at(program: &Program, place: Place) -> ArrayVec<Access, 80>
+    ensures { result.items ≡ accesses_at program.now place }
+{
+    match program.insn_at(place) {
+        None => ArrayVec::new(),
+        Some(insn) => accesses(insn),
+    }
+}
+
+/// Whether the place holds an `alloc`.
+#[tactic(auto, unfolding(crate::specs::Violations::allocates_at))]
+fn allocates_at(program: &Program, place: Place) -> bool
+    ensures { result ≡ allocates_at program.now place }
+{
+    match program.insn_at(place) {
+        None => false,
+        Some(insn) => matches!(form_of(&insn.op), Form::Allocate { .. }),
+    }
+}
+
+/// Whether the place holds a `clrrrb` or `clrrrb.pr`.
+#[tactic(auto, unfolding(crate::specs::Violations::clears_at))]
+fn clears_at(program: &Program, place: Place) -> bool
+    ensures { result ≡ clears_at program.now place }
+{
+    match program.insn_at(place) {
+        None => false,
+        Some(insn) => matches!(form_of(&insn.op), Form::ClearBases { .. }),
+    }
+}
+
+/// Whether accesses that break the rule may be excused. A write after a branch's read may not, as the rule
+/// says; this changes no answer, since both its accesses have the guard p0, and no walk that goes on knows that p0
+/// isn't 1.
+fn may_be_excused(rule: Rule) -> bool
+    ensures { result ≡ may_be_excused rule }
+{
+    matches!(rule, Rule::Raw | Rule::Waw)
+}
+
+/// Whether each walk through the first slot excuses accesses under these guards, if the rule is one that may
+/// be excused.
+fn is_excused(first: &Entry, rule: Rule, a: Pr, b: Pr) -> bool
+    ensures { result ≡ (may_be_excused rule && excused_by first.now a b) }
+{
+    may_be_excused(rule) && first.known.has(a, b) && !has_predicate(first.written, a)
+}
+
+/// Notes the rule that two accesses break, where some walk doesn't excuse them.
+fn clash_of_two(
+    first: &Entry,
+    second: Place,
+    a: &Access,
+    b: &Access,
+    found: &mut Vec<Violation>,
+) -> Result<(), AllocError>
+    requires rises { Rises found.old.items }
+    ensures rises { OnOk result (Rises found.new.items) }
+    ensures length { OnOk result (length found.new.items ≤ length found.old.items + 1) }
+    ensures adds { OnOk result (Adds found.old.items found.new.items (λ v. IsPair first.now.place second v × FindsBy first.now a.now b.now v)) }
+{
+    let Some(rule) = clash(a, b) else {
+        return Ok(());
+    };
+    if is_excused(first, rule, a.guard, b.guard) {
+        return Ok(());
+    }
+    let violation = Violation {
+        second,
+        first: first.place,
+        rule,
+        resource: a.resource,
+    };
+    note(found, violation)?;
+    Ok(())
+}
+
+/// Notes the rules that one access of the first slot breaks with those of the second.
+fn clashes_with(
+    first: &Entry,
+    second: Place,
+    a: &Access,
+    seconds: &[Access],
+    found: &mut Vec<Violation>,
+) -> Result<(), AllocError>
+    requires rises { Rises found.old.items }
+    ensures rises { OnOk result (Rises found.new.items) }
+    ensures length { OnOk result (length found.new.items ≤ length found.old.items + length seconds.now) }
+    ensures adds { OnOk result (Adds found.old.items found.new.items (λ v. IsPair first.now.place second v × FindsWith first.now a.now seconds.now v)) }
+{
+    for b in seconds {
+        clash_of_two(first, second, a, b, found)?;
+    }
+    Ok(())
+}
+
+/// Notes the rules that the accesses of two slots break.
+fn clashes(
+    first: &Entry,
+    second: Place,
+    seconds: &[Access],
+    found: &mut Vec<Violation>,
+) -> Result<(), AllocError>
+    requires few { length seconds.now ≤ 80 }
+    requires rises { Rises found.old.items }
+    ensures rises { OnOk result (Rises found.new.items) }
+    ensures length { OnOk result (length found.new.items ≤ length found.old.items + 6400) }
+    ensures adds { OnOk result (Adds found.old.items found.new.items (λ v. IsPair first.now.place second v × FindsIn first.now first.now.accesses.items seconds.now v)) }
+{
+    for a in first.accesses.as_slice() {
+        clashes_with(first, second, a, seconds, found)?;
+    }
+    Ok(())
+}
+
+/// Notes the rules on a slot and the one just after it: `alloc` comes first in its group, `clrrrb` last.
+fn slot_rules(
+    program: &Program,
+    first: Place,
+    second: Place,
+    found: &mut Vec<Violation>,
+) -> Result<(), AllocError>
+    requires rises { Rises found.old.items }
+    ensures rises { OnOk result (Rises found.new.items) }
+    ensures length { OnOk result (length found.new.items ≤ length found.old.items + 2) }
+    ensures adds { OnOk result (Adds found.old.items found.new.items (λ v. IsPair first second v × IsSlotRule program.now first second v)) }
+{
+    let alloc_first = Violation {
+        second,
+        first,
+        rule: Rule::AllocFirst,
+        resource: Resource::Cfm,
+    };
+    let clear_last = Violation {
+        second,
+        first,
+        rule: Rule::ClearLast,
+        resource: Resource::Cfm,
+    };
+    note_if(found, allocates_at(program, second), alloc_first)?;
+    note_if(found, clears_at(program, first), clear_last)?;
+    Ok(())
+}
+
+/// What the n-th slot of the window and the slot under way break on some walk: each rule and resource once, in
+/// order. `seconds` are the accesses of the slot under way.
+///
+/// # Errors
+///
+/// Want of memory.
+pub(crate) fn pair_violations(
+    alloc: Global,
+    program: &Program,
+    window: &[Entry],
+    n: usize,
+    second: Place,
+    seconds: &[Access],
+) -> Result<Vec<Violation>, AllocError>
+    requires inside { n < length window.now }
+    requires few { length seconds.now ≤ 80 }
+    requires seconds { seconds.now ≡ accesses_at program.now second }
+    requires window { IsWindow program.now window.now second }
+    ensures list { IfOk result (λ found. IsListOf (λ v. IsNthPair window.now n second v × Violates program.now v) found.items) }
+    ensures few { IfOk result (λ found. length found.items ≤ 6402) }
+{
+    let mut found = Vec::new(alloc);
+    let first = &window[n];
+    clashes(first, second, seconds, &mut found)?;
+    if n + 1 < window.len() {
+        return Ok(found);
+    }
+    slot_rules(program, first.place, second, &mut found)?;
+    Ok(found)
+}
