@@ -16,7 +16,7 @@
 //   b0 0000000000010020
 //   ar.pfs c000000000000082
 //
-// `ia64 check` doesn't judge frames, calls and returns yet and ends with status 10.
+// `ia64 check` prints `accepted`.
 { .mii
   alloc r32=ar.pfs,0,1,1,0
   nop.i 0

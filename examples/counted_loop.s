@@ -13,7 +13,7 @@
 //   r8 0000000000000037
 //   pr 0000000000000001
 //
-// `ia64 check` doesn't judge branches yet and ends with status 10.
+// `ia64 check` prints `accepted`.
 { .mii
   addl r9=10,r0
   mov.i ar.lc=9

@@ -10,7 +10,7 @@
 //   rse 0 0 0 0
 //   pr 0000000000000081
 //
-// `ia64 check` doesn't judge predicates yet and ends with status 10.
+// `ia64 check` prints `accepted`: it knows that p6 and p7 are never both 1 there.
 { .mii
   cmp.lt p6,p7=r8,r9
   nop.i 0

@@ -1,8 +1,7 @@
 // The additions of read_after_write.s with a stop between them: two instruction groups, and right.
 // `ia64 check` prints `accepted`.
 //
-// One bundle would do, `add r8=r9,r10 ;;` and then the other addition, and is as right. `ia64 build`
-// makes that bundle too; `ia64 check` doesn't judge a stop inside a bundle yet and ends with status 10.
+// One bundle would do, `add r8=r9,r10 ;;` and then the other addition, and is as right.
 { .mii
   nop.m 0
   nop.i 0

@@ -20,7 +20,7 @@
 //   m 0000000000100008 0000000000100010
 //   m 0000000000100010 0000000000000016
 //
-// `ia64 check` doesn't judge loads and checks yet and ends with status 10.
+// `ia64 check` prints `accepted`.
 { .mlx
   nop.m 0
   movl r9=list ;;

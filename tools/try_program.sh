@@ -61,10 +61,11 @@ for name in count counted_loop predicated call speculation; do
   try "$name, as it says" 0 "$dir/$name" "examples/$name.s" run 100
 done
 
-# A text of tries/ says in its first line for how many groups it is run and with which status that ends.
+# A text of tries/ says in its first line for how many groups it is run and with which status that ends. All are accepted.
 for text in tries/*.s; do
   read -r _ _ groups _ status _ < <(tr -d ',:' < "$text")
   try "$text" "$status" "${text%.s}.state" "$text" run "$groups"
+  try "$text, checked" 0 "$dir/accepted" "$text" check
 done
 
 # The largest program: 4,096 bundles and 1,048,576 bytes of data, whose last word is loaded.
@@ -98,13 +99,36 @@ try run_of_nothing 3 "$dir/empty" /dev/null run 1
 for word in 0 01 +5 10000001 5x; do try "run $word" 2 "$dir/nothing" examples/count.s run "$word"; done
 try run_alone 2 "$dir/nothing" examples/count.s run
 
-# The examples that aren't judged yet: built, shown and built again they give one image.
-for name in predicated counted_loop call speculation; do
-  try "$name" 10 "$dir/nothing" "examples/$name.s" check
+# The examples that are right: accepted, as text and as image. Built, shown and built again they give one image.
+for name in count predicated counted_loop call speculation; do
+  try "$name" 0 "$dir/accepted" "examples/$name.s" check
   "$program" build < "examples/$name.s" > "$dir/image" && "$program" show < "$dir/image" > "$dir/shown"
   note $? "$name: not built or not shown"
   try "$name, built again" 0 "$dir/image" "$dir/shown" build
+  try "$name, an image" 0 "$dir/accepted" "$dir/image" check
 done
+
+# Each text of tries/check/ has its verdict beside it, and so has its image.
+for text in tries/check/*.s; do
+  verdict=${text%.s}.verdict
+  cmp -s "$verdict" "$dir/accepted"
+  status=$?
+  try "$text" "$status" "$verdict" "$text" check
+  "$program" build < "$text" > "$dir/image"
+  try "$text, an image" "$status" "$verdict" "$dir/image" check
+done
+
+# 4,096 bundles with two clashes each: all are counted, and the first hundred are shown.
+for _ in {1..4096}; do printf '{ .mii\nnop 0\nadd r8=r9,r10\nadd r8=r8,r9 ;;\n}\n'; done > "$dir/clashes"
+{
+  echo 'violations 8192'
+  for n in {0..49}; do printf 'RAW r8 %d.1 %d.2\nWAW r8 %d.1 %d.2\n' "$n" "$n" "$n" "$n"; done
+} > "$dir/hundred"
+try 'the most bundles that clash' 1 "$dir/hundred" "$dir/clashes" check
+
+# The same number of bundles in groups of 192 slots, in which each slot is held against all before it.
+for n in {1..4096}; do printf '{ .mii\nnop 0\nnop 0\nnop 0%s\n}\n' "$([ $((n % 64)) = 0 ] && echo ' ;;')"; done > "$dir/long_groups"
+try 'the longest groups' 0 "$dir/accepted" "$dir/long_groups" check
 
 # TEXT WORD BYTES: the command refuses these bytes, given as printf takes them, with this text.
 refused() {
@@ -180,9 +204,8 @@ note $? "README: a text as a listing"
 note $? "README: a text as its canonical text"
 ./ia64 check < examples/read_after_write.s 2> /dev/null | cmp -s - "$dir/raw"
 note $? "README: a hazard in a text"
-./ia64 check < examples/call.s 2> "$dir/err"
-[ $? = 10 ] && grep -q 'not judged yet' "$dir/err"
-note $? "ia64 says what is not judged yet"
+./ia64 check < examples/call.s 2> /dev/null | cmp -s - "$dir/accepted"
+note $? "README: a program with register frames"
 ./ia64 run 100 < examples/count.s 2> /dev/null | cmp -s - "$dir/count"
 note $? "README: a run"
 ./ia64 run 100 < examples/call.s 2> /dev/null | cmp -s - "$dir/call"

@@ -14,8 +14,7 @@ use Rattle.ia64_top.specs.Words.{command_of}
 use Rattle.ia_insn.specs.Programs.{Program}
 use Rattle.image_form.specs.Images.{Spells}
 use Rattle.image_form.specs.Laws.{ImageSize}
-use Rattle.ia64_top.specs.Programs.{IsPlain}
-use Rattle.ia64_top.specs.Violations.{IsFree}
+use Rattle.group_checker.specs.Reports.{IsFree}
 use Rattle.ia64_top.specs.Runs.{run_of, end_status}
 use Rattle.ia64_top.specs.Readings.{as_either, BeginsAsImage}
 use Rattle.ia64_top.specs.Output.{input_limit, IsCommandOutput, IsOutput, GivesOutput, GivesPart}
@@ -43,7 +42,7 @@ given_in_part words command (Some l) given new input bytes status e whole within
 -- What is accepted: a text has to be within the limit, and an image is.
 abbrev AcceptsFree : List (List ℕ) → Status → List ℕ → Type 0
 AcceptsFree words status input =
-    command_of words ≡ Some Check → (¬ BeginsAsImage input → length input ≤ input_limit) → (p : Program) → as_either.Gives input p → IsPlain p → ((status ≡ Done) ↔ IsFree p)
+    command_of words ≡ Some Check → (¬ BeginsAsImage input → length input ≤ input_limit) → (p : Program) → as_either.Gives input p → ((status ≡ Done) ↔ IsFree p)
 
 short_image : ImageSize → (p : Program) (input : List ℕ) → Spells p input → length input ≤ input_limit
 short_image size p input s = let n = size p input s in let r = s.program.counts in omega (arith, n, r.bundles, r.entries, r.bytes)
@@ -54,12 +53,12 @@ short_either size p input within (inr text) = within text.0
 
 pub accepted_beyond : ImageSize → (words : List (List ℕ)) (left : Option (List ℕ)) → IfSome left (λ l. input_limit < length l) → IfSome left (AcceptsFree words TooLong)
 accepted_beyond size words None h = tt
-accepted_beyond size words (Some input) h = λ e within p g plain. absurd (omega (arith, h, short_either size p input within g))
+accepted_beyond size words (Some input) h = λ e within p g. absurd (omega (arith, h, short_either size p input within g))
 
 pub accepted_within : (words : List (List ℕ)) (command : Command) (left : Option (List ℕ)) (input : List ℕ) (status : Status) → command_of words ≡ Some command → IfSome left (λ l. input ≡ l)
-    → (command ≡ Check → (p : Program) → as_either.Gives input p → IsPlain p → ((status ≡ Done) ↔ IsFree p)) → IfSome left (AcceptsFree words status)
+    → (command ≡ Check → (p : Program) → as_either.Gives input p → ((status ≡ Done) ↔ IsFree p)) → IfSome left (AcceptsFree words status)
 accepted_within words command None input status e whole h = tt
-accepted_within words command (Some l) input status e whole h = λ f within p g plain. h (let same : Some command ≡ Some Check = sym e ∙ f in cc) p (subst (λ i. as_either.Gives i p) (sym whole) g) plain
+accepted_within words command (Some l) input status e whole h = λ f within p g. h (let same : Some command ≡ Some Check = sym e ∙ f in cc) p (subst (λ i. as_either.Gives i p) (sym whole) g)
 
 -- no other status is stated for the words and the input than the command's
 output_back : (words : List (List ℕ)) (command : Command) (input bytes : List ℕ) (status : Status) → command_of words ≡ Some command → length input ≤ input_limit → IsOutput words input bytes status → IsCommandOutput command input bytes status

@@ -1,12 +1,7 @@
 mod Numerals
 mod Ranges
-mod Rising
-mod Adding
-mod Clashes
-mod Groups
-mod Walking
-mod Plain
 mod Printing
 mod Outputs
+mod Judging
 mod Running
 mod Answering

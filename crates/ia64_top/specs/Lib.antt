@@ -1,10 +1,6 @@
 pub mod GroupCounts
 pub mod Words
 pub mod Statuses
-pub mod Programs
-pub mod Violations
-pub mod Verdicts
-pub mod Reports
 pub mod Texts
 pub mod Judgements
 pub mod Readings

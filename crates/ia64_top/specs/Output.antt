@@ -4,13 +4,12 @@ use Rattle.std.specs.Io.KnownBytes.{Appends}
 use Rattle.ia64_top.specs.declared.words.Command.{Command}
 use Rattle.ia64_top.specs.declared.words.Command.TheVariants as command
 use Rattle.ia64_top.specs.declared.status.Status.{Status}
-use Rattle.ia64_top.specs.declared.status.Status.TheVariants.{Done, Violated, Words, Refused, TooLong, Limit, Faulted, NotYet}
+use Rattle.ia64_top.specs.declared.status.Status.TheVariants.{Done, Violated, Words, Refused, TooLong, Limit, Faulted}
 use Rattle.ia_insn.specs.Programs.{Program}
 use Rattle.image_form.specs.Images.{Spells}
 use Rattle.asm_build.specs.CanonicalText.{canonical_text}
 use Rattle.asm_build.specs.Listing.{IsListing}
 use Rattle.ia64_top.specs.Words.{command_of}
-use Rattle.ia64_top.specs.Programs.{IsPlain}
 use Rattle.ia64_top.specs.Judgements.{IsJudgement}
 use Rattle.ia64_top.specs.Runs.{IsRunOf}
 use Rattle.ia64_top.specs.Readings.{Reading, as_image, as_bundles, as_text, as_either}
@@ -34,12 +33,10 @@ pub record IsCanonical (program : Program) (text : List ℕ) : Type 0 where
 -- What `check` writes and answers of an input that is read in a way.
 abbrev pub IsCheckedAs : Reading → List ℕ → List ℕ → Status → Type 0
 IsCheckedAs reading input bytes Done =
-    (program : Program) × reading.Gives input program × IsPlain program × IsJudgement program bytes Done
+    (program : Program) × reading.Gives input program × IsJudgement program bytes Done
 IsCheckedAs reading input bytes Violated =
-    (program : Program) × reading.Gives input program × IsPlain program × IsJudgement program bytes Violated
+    (program : Program) × reading.Gives input program × IsJudgement program bytes Violated
 IsCheckedAs reading input bytes Refused = reading.Refuses input bytes
-IsCheckedAs reading input bytes NotYet =
-    (program : Program) × reading.Gives input program × (¬ IsPlain program) × (bytes ≡ [])
 IsCheckedAs reading input bytes status = ⊥
 
 -- What `run` writes and answers of an input that is read in a way. Nothing is checked before the run.

@@ -2,7 +2,7 @@
 use Rattle.std.specs.Prelude.{ℕ}
 use Rattle.ia64_top.specs.declared.status.Status.{Status}
 use Rattle.ia64_top.specs.declared.status.Status.TheVariants.{Done, Violated, Words, Refused, TooLong}
-use Rattle.ia64_top.specs.declared.status.Status.TheVariants.{ReadFault, WriteFault, NoMemory, Limit, Faulted, NotYet}
+use Rattle.ia64_top.specs.declared.status.Status.TheVariants.{ReadFault, WriteFault, NoMemory, Limit, Faulted}
 
 -- the exit status
 abbrev pub status_number : Status → ℕ
@@ -16,7 +16,6 @@ status_number WriteFault = 6
 status_number NoMemory = 7
 status_number Limit = 8
 status_number Faulted = 9
-status_number NotYet = 10
 
 -- The call gave an answer: no fault of the source or the sink and no want of memory came in its place.
 abbrev pub IsAnswer : Status → Type 0

@@ -1,11 +1,14 @@
 -- What is printed. Every line ends with a line feed.
-use Rattle.std.specs.Prelude.{ℕ, List, [], ◌∷◌, ◌++◌, ◌==◌, if◌then◌else◌, codes, decimal, flat_map}
+use Rattle.std.specs.Prelude.{ℕ, List, [], ◌∷◌, ◌++◌, codes, decimal, flat_map}
 use Rattle.ia_insn.specs.declared.place.Place.{Place}
-use Rattle.ia_insn.specs.Texts.{gr_text, place_text}
-use Rattle.ia64_top.specs.declared.violation.Rule.{Rule}
-use Rattle.ia64_top.specs.declared.violation.Rule.TheVariants.{Raw, Waw}
-use Rattle.ia64_top.specs.declared.violation.Violation.{Violation}
-use Rattle.ia64_top.specs.declared.violation.Report.{Report}
+use Rattle.ia_insn.specs.Texts.{gr_text, pr_text, br_text, place_text}
+use Rattle.resource_sets.specs.declared.access.Resource.{Resource}
+use Rattle.resource_sets.specs.declared.access.Resource.TheVariants.{Gr, Pr, Br, Unat, Pfs, Lc, Ec, Cfm}
+use Rattle.resource_sets.specs.declared.clashes.Rule.{Rule}
+use Rattle.resource_sets.specs.declared.clashes.Rule.TheVariants.{Raw, Waw, War63, AllocFirst, ClearLast}
+use Rattle.group_checker.specs.declared.violation.Violation.{Violation}
+use Rattle.group_checker.specs.declared.report.Verdict.{Verdict}
+use Rattle.group_checker.specs.declared.report.Verdict.TheVariants.{Accepted, Violations}
 use Rattle.insn_codec.specs.declared.bundle.SlotFault.TheVariants.{ReservedTemplate, Unlisted}
 use Rattle.asm_build.specs.declared.reason.TextError.{TextError}
 use Rattle.asm_build.specs.declared.reason.TextError.TheVariants as error
@@ -20,19 +23,31 @@ line text = text ++ 10 ∷ []
 abbrev pub rule_text : Rule → List ℕ
 rule_text Raw = codes "RAW"
 rule_text Waw = codes "WAW"
+rule_text War63 = codes "WAR63"
+rule_text AllocFirst = codes "ALLOC"
+rule_text ClearLast = codes "CLEAR"
 
--- the rule, the register, and the first and the second place, parted by spaces
+abbrev pub resource_text : Resource → List ℕ
+resource_text (Gr n) = gr_text n
+resource_text (Pr n) = pr_text n
+resource_text (Br n) = br_text n
+resource_text Unat = codes "unat"
+resource_text Pfs = codes "pfs"
+resource_text Lc = codes "lc"
+resource_text Ec = codes "ec"
+resource_text Cfm = codes "cfm"
+
+-- the rule, the resource, and the first and the second place, parted by spaces
 abbrev pub violation_text : Violation → List ℕ
 violation_text v =
-    rule_text v.rule ++ codes " " ++ gr_text v.resource ++ codes " " ++ place_text v.first ++ codes " "
+    rule_text v.rule ++ codes " " ++ resource_text v.resource ++ codes " " ++ place_text v.first ++ codes " "
     ++ place_text v.second
 
 -- `accepted`, or how many violations there are, and a line for each that is shown
-abbrev pub verdict_text : Report → List ℕ
-verdict_text report =
-    if report.total == 0 then line (codes "accepted")
-    else line (codes "violations " ++ decimal report.total)
-    ++ flat_map (λ v. line (violation_text v)) report.shown.items
+abbrev pub verdict_text : Verdict → List ℕ
+verdict_text Accepted = line (codes "accepted")
+verdict_text (Violations report) =
+    line (codes "violations " ++ decimal report.total) ++ flat_map (λ v. line (violation_text v)) report.shown
 
 -- the bundle and the slot of a place
 abbrev pub slot_text : Place → List ℕ

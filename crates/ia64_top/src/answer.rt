@@ -1,27 +1,25 @@
 //! The answers of the commands.
 
-ghost use Rattle.std.specs.Prelude.{◌≡◌, ◌≢◌, ◌↔◌, ◌≤◌, ℕ, List, [], length, IfOk, MatchResult};
+ghost use Rattle.std.specs.Prelude.{◌≡◌, ◌≢◌, ◌↔◌, ◌≤◌, ℕ, List, length, IfOk, MatchResult};
 ghost use Rattle.ia_insn.specs.Programs.{Program as Parts};
 ghost use Rattle.image_form.specs.Images.{Spells};
 ghost use Rattle.asm_build.specs.Listing.{IsListing};
-ghost use Rattle.ia64_top.specs.Programs.{IsPlain};
-ghost use Rattle.ia64_top.specs.Violations.{IsFree};
 ghost use Rattle.ia64_top.specs.GroupCounts.{group_limit};
 ghost use Rattle.ia64_top.specs.Words.{HasGroupsInRange};
-ghost use Rattle.ia64_top.specs.Judgements.{IsJudgement, IsProgramAnswer};
+ghost use Rattle.group_checker.specs.Reports.{IsFree};
+ghost use Rattle.ia64_top.specs.Judgements.{IsJudgement, verdict_status};
 ghost use Rattle.ia64_top.specs.Output.{input_limit, IsCanonical, IsMadeOutput, IsCheckedAs, IsRunAs, IsCommandOutput};
 ghost use Rattle.ia64_top.specs.Readings.{as_image, as_bundles, as_text, as_either, IsRefusal};
 ghost use Rattle.ia64_top.specs.Runs.{run_of, end_status, IsRunOf};
 ghost use Rattle.ia64_top.specs.Texts.{refusal_text, text_refusal_text};
 ghost use Rattle.ia64_top.specs.declared.status.Status.{Status};
 
-use crate::checker::check;
-use crate::program::is_plain;
 use crate::status::Status;
-use crate::text::{refusal, text_refusal, verdict};
+use crate::text::{refusal, text_refusal, verdict_text};
 use crate::words::Command;
 use asm_build::{TextError, assemble, disassemble, list, no_fault_where_read, one_text_program};
 use emulator::Machine;
+use group_checker::{Verdict, check};
 use ia_insn::{End, Program};
 use ia_meaning::{groups_end, progress_is_run};
 use image_form::{
@@ -36,23 +34,6 @@ use std::alloc::{AllocError, Global};
 pub(crate) struct Answer {
     pub bytes: Vec<u8>,
     pub status: Status,
-}
-
-/// The verdict on a plain program.
-fn judge(alloc: Global, program: &Program) -> Result<Answer, AllocError>
-    ensures { IfOk result (λ answer. IsJudgement program.now answer.bytes.items answer.status) }
-{
-    let report = check(alloc, program)?;
-    let text = verdict(alloc, &report)?;
-    let status = if report.total == 0 {
-        Status::Done
-    } else {
-        Status::Violated
-    };
-    Ok(Answer {
-        bytes: text.into_bytes(),
-        status,
-    })
 }
 
 /// The answer to an image or bare bundles with a fault.
@@ -78,17 +59,6 @@ fn refuse_text(alloc: Global, error: TextError) -> Result<Answer, AllocError>
             status: Status::Refused,
         }),
         TextError::Memory => Err(AllocError),
-    }
-}
-
-/// The answer to an input that isn't judged yet.
-fn unjudged(alloc: Global) -> Answer
-    ensures bytes { result.bytes.items ≡ [] }
-    ensures status { result.status ≡ Status.NotYet }
-{
-    Answer {
-        bytes: Vec::new(alloc),
-        status: Status::NotYet,
     }
 }
 
@@ -153,14 +123,25 @@ fn wrap_input(alloc: Global, input: &[u8]) -> Result<Answer, AllocError>
     }
 }
 
+/// How a call ends that says this of a program: it is done where the program is accepted.
+fn verdict_status(verdict: &Verdict) -> Status
+    ensures { result ≡ verdict_status verdict.now }
+{
+    match verdict {
+        Verdict::Accepted => Status::Done,
+        Verdict::Violations(_) => Status::Violated,
+    }
+}
+
 /// The answer of `check` to a program.
 fn check_program(alloc: Global, program: &Program) -> Result<Answer, AllocError>
-    ensures { IfOk result (λ answer. IsProgramAnswer program.now answer.bytes.items answer.status) }
+    ensures { IfOk result (λ answer. IsJudgement program.now answer.bytes.items answer.status) }
 {
-    if !is_plain(program) {
-        return Ok(unjudged(alloc));
-    }
-    judge(alloc, program)
+    let verdict = check(alloc, program)?;
+    Ok(Answer {
+        bytes: verdict_text(alloc, &verdict)?.into_bytes(),
+        status: verdict_status(&verdict),
+    })
 }
 
 /// The program of an image, or the answer to one with a fault.
@@ -213,7 +194,7 @@ fn check_input(alloc: Global, input: &[u8]) -> Result<Answer, AllocError>
     requires { length input.now ≤ input_limit }
     ensures output { IfOk result (λ answer. IsCheckedAs as_either input.now answer.bytes.items answer.status) }
     ensures only { IfOk result (λ answer. (bytes : List ℕ) (status : Status) → IsCheckedAs as_either input.now bytes status → status ≡ answer.status) }
-    ensures accepted { IfOk result (λ answer. (p : Parts) → as_either.Gives input.now p → IsPlain p → ((answer.status ≡ Status.Done) ↔ IsFree p)) }
+    ensures accepted { IfOk result (λ answer. (p : Parts) → as_either.Gives input.now p → ((answer.status ≡ Status.Done) ↔ IsFree p)) }
 {
     one_program();
     one_text_program();
@@ -286,7 +267,7 @@ pub(crate) fn respond(alloc: Global, command: Command, input: &[u8]) -> Result<A
     requires within { length input.now ≤ input_limit }
     ensures output { IfOk result (λ answer. IsCommandOutput command input.now answer.bytes.items answer.status) }
     ensures only { IfOk result (λ answer. (bytes : List ℕ) (status : Status) → IsCommandOutput command input.now bytes status → status ≡ answer.status) }
-    ensures accepted { IfOk result (λ answer. command ≡ Command.Check → (p : Parts) → as_either.Gives input.now p → IsPlain p → ((answer.status ≡ Status.Done) ↔ IsFree p)) }
+    ensures accepted { IfOk result (λ answer. command ≡ Command.Check → (p : Parts) → as_either.Gives input.now p → ((answer.status ≡ Status.Done) ↔ IsFree p)) }
     ensures ended { IfOk result (λ answer. (groups : ℕ) → command ≡ Command.Run groups → (p : Parts) → as_either.Gives input.now p → answer.status ≡ end_status (run_of p groups).end) }
 {
     match command {

@@ -26,12 +26,10 @@ pub enum Status {
     Limit = 8,
     /// A run ended in a fault.
     Faulted = 9,
-    /// The input is one that this version doesn't judge yet. Nothing was written.
-    NotYet = 10,
 }
 
 impl Status {
-    /// The exit status of a program that ends so, 0 to 10.
+    /// The exit status of a program that ends so, 0 to 9.
     pub fn number(&self) -> u8
         ensures { result ≡ status_number self.now }
     {

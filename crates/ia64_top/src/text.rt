@@ -1,52 +1,110 @@
 //! What is printed.
 
 ghost use Rattle.std.specs.Prelude.{◌≡◌, ◌++◌, IfOk, Some, string_bytes};
-ghost use Rattle.ia64_top.specs.Texts.{rule_text, violation_text, verdict_text, slot_text, fault_text, refusal_text, text_fault_text, text_refusal_text};
+ghost use Rattle.ia64_top.specs.Texts.{rule_text, resource_text, violation_text, verdict_text, slot_text, fault_text, refusal_text, text_fault_text, text_refusal_text};
+ghost use Rattle.group_checker.specs.declared.report.Verdict.TheVariants.{Violations};
 ghost use Rattle.asm_build.specs.declared.reason.TextError.TheVariants as error;
 
-use crate::violation::{Report, Rule, Violation};
 use asm_build::Reason;
+use group_checker::{Report, Verdict, Violation};
 use ia_insn::Place;
 use image_form::ImageFault;
 use insn_codec::SlotFault;
+use resource_sets::{Resource, Rule};
 use std::alloc::{AllocError, Global};
 use std::fmt;
 
-impl fmt::Display for Rule {
-    ghost output = { λ rule. Some (rule_text rule) };
+/// A rule of groups, as it is printed.
+#[derive(Clone, Copy, Debug)]
+struct RuleText {
+    rule: Rule,
+}
 
+impl fmt::Display for RuleText {
+    ghost output = { λ shown. Some (rule_text shown.rule) };
+
+    /// The rule's name.
     fn fmt<W: fmt::Write>(&self, f: &mut fmt::Formatter<W>) -> fmt::Result {
-        match self {
+        match self.rule {
             Rule::Raw => write!(f, "RAW"),
             Rule::Waw => write!(f, "WAW"),
+            Rule::War63 => write!(f, "WAR63"),
+            Rule::AllocFirst => write!(f, "ALLOC"),
+            Rule::ClearLast => write!(f, "CLEAR"),
         }
     }
 }
 
-impl fmt::Display for Violation {
-    ghost output = { λ violation. Some (violation_text violation) };
+/// A resource, as it is printed.
+#[derive(Clone, Copy, Debug)]
+struct ResourceText {
+    resource: Resource,
+}
 
-    /// The rule, the register, and the first and the second place.
+impl fmt::Display for ResourceText {
+    ghost output = { λ shown. Some (resource_text shown.resource) };
+
+    /// The resource's name.
     fn fmt<W: fmt::Write>(&self, f: &mut fmt::Formatter<W>) -> fmt::Result {
-        let (rule, resource) = (self.rule, self.resource);
-        let (first, second) = (self.first, self.second);
+        match self.resource {
+            Resource::Gr(n) => write!(f, "r{n}"),
+            Resource::Pr(n) => write!(f, "p{n}"),
+            Resource::Br(n) => write!(f, "b{n}"),
+            Resource::Unat => write!(f, "unat"),
+            Resource::Pfs => write!(f, "pfs"),
+            Resource::Lc => write!(f, "lc"),
+            Resource::Ec => write!(f, "ec"),
+            Resource::Cfm => write!(f, "cfm"),
+        }
+    }
+}
+
+/// A violation, as it is printed.
+#[derive(Clone, Copy, Debug)]
+struct ViolationText {
+    violation: Violation,
+}
+
+impl fmt::Display for ViolationText {
+    ghost output = { λ shown. Some (violation_text shown.violation) };
+
+    /// The rule, the resource, and the first and the second place.
+    fn fmt<W: fmt::Write>(&self, f: &mut fmt::Formatter<W>) -> fmt::Result {
+        let Violation {
+            second,
+            first,
+            rule,
+            resource,
+        } = self.violation;
+        let rule = RuleText { rule };
+        let resource = ResourceText { resource };
         write!(f, "{rule} {resource} {first} {second}")
     }
 }
 
 /// What is printed of a program's violations.
-pub(crate) fn verdict(alloc: Global, report: &Report) -> Result<String, AllocError>
-    ensures { IfOk result (λ text. string_bytes text ≡ verdict_text report.now) }
+fn violations(alloc: Global, report: &Report) -> Result<String, AllocError>
+    ensures { IfOk result (λ text. string_bytes text ≡ verdict_text (Violations report.now)) }
 {
-    if report.total == 0 {
-        return String::from_str(alloc, "accepted\n");
-    }
-    let total = report.total;
+    let total = report.total();
     let mut text = format!(in alloc; "violations {total}\n")?;
-    for violation in &report.shown {
-        writeln!(text, "{violation}")?;
+    for violation in report.shown() {
+        let shown = ViolationText {
+            violation: *violation,
+        };
+        writeln!(text, "{shown}")?;
     }
     Ok(text)
+}
+
+/// What is printed of a program's verdict.
+pub(crate) fn verdict_text(alloc: Global, verdict: &Verdict) -> Result<String, AllocError>
+    ensures { IfOk result (λ text. string_bytes text ≡ verdict_text verdict.now) }
+{
+    match verdict {
+        Verdict::Accepted => String::from_str(alloc, "accepted\n"),
+        Verdict::Violations(report) => violations(alloc, report),
+    }
 }
 
 /// A slot of an image, as it is printed.

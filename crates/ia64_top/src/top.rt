@@ -7,8 +7,7 @@ ghost use Rattle.io_seam.specs.Bytes.{LosesFirst, LosesAtMost};
 ghost use Rattle.ia64_top.specs.Words.{command_of};
 ghost use Rattle.ia64_top.specs.Statuses.{IsAnswer};
 ghost use Rattle.ia_insn.specs.Programs.{Program};
-ghost use Rattle.ia64_top.specs.Programs.{IsPlain};
-ghost use Rattle.ia64_top.specs.Violations.{IsFree};
+ghost use Rattle.group_checker.specs.Reports.{IsFree};
 ghost use Rattle.ia64_top.specs.Runs.{run_of, end_status};
 ghost use Rattle.ia64_top.specs.Readings.{as_either, BeginsAsImage};
 ghost use Rattle.ia64_top.specs.Output.{input_limit, IsOutput, GivesOutput, GivesPart};
@@ -38,9 +37,9 @@ pub fn ia64<S: Source, K: Sink>(
     ensures only { IsAnswer result → IfSome (S.left source.old) (λ input.
         (bytes : List ℕ) (status : Status) → IsOutput words.now input bytes status → status ≡ result) }
 
-    // `accepted` is printed exactly where no two slots of a group of the walk clash.
+    // `accepted` is printed exactly where on no walk two slots of a group break a rule.
     ensures accepted { IsAnswer result → IfSome (S.left source.old) (λ input.
-        command_of words.now ≡ Some Command.Check → (¬ BeginsAsImage input → length input ≤ input_limit) → (program : Program) → as_either.Gives input program → IsPlain program → ((result ≡ Status.Done) ↔ IsFree program)) }
+        command_of words.now ≡ Some Command.Check → (¬ BeginsAsImage input → length input ≤ input_limit) → (program : Program) → as_either.Gives input program → ((result ≡ Status.Done) ↔ IsFree program)) }
 
     // The end of the run tells the status: `Done` comes exactly where it is a `break`,
     // `Limit` where it is the limit of groups, and `Faulted` where it is a fault.

@@ -1,5 +1,6 @@
 use Rattle.ia64_top.specs.Readings.{as_either}
-use Rattle.ia64_top.proofs.Outputs.{GivesOne, RefusesNone, if_ok, either_gives_one, either_refuses_none, only_checked, done_where_free}
+use Rattle.ia64_top.proofs.Outputs.{GivesOne, RefusesNone, if_ok, either_gives_one, either_refuses_none}
+use Rattle.ia64_top.proofs.Judging.{only_checked, done_where_free}
 use Rattle.ia64_top.proofs.answer.check_input.Goals as goal
 
 pub returns-clause-only : goal.returns-clause-only
