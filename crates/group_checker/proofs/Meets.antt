@@ -19,7 +19,6 @@ use Rattle.group_checker.specs.Windows.{IsMeetOf, changes_facts}
 -- who knows more before an instruction knows more past it
 past_within : (o : Option Insn) (f g : Pairs) → IsWithin f g → IsWithin (pairs_past_insn o Falls f) (pairs_past_insn o Falls g)
 past_within None f g h = h
--- who knows more before an instruction knows more past it
 past_within (Some insn) f g h = pairs_after-within f g insn Falls h
 
 -- the walks of the new set are those of the old one, gone on past the slot at j

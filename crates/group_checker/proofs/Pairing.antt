@@ -48,11 +48,8 @@ clash_rule a b rule e = of_three (is_resource a.resource b.resource) (is_raw a.k
 
 -- resources that pass the test are one
 same_resource : (a b : Resource) → is_resource a b ≡ true → a ≡ b
--- resources that pass the test are one
 same_resource (Gr n) (Gr k) e = ap Gr (eqb-true n k e)
--- resources that pass the test are one
 same_resource (Pr n) (Pr k) e = ap Pr (eqb-true n k e)
--- resources that pass the test are one
 same_resource (Br n) (Br k) e = ap Br (eqb-true n k e)
 same_resource Unat Unat e = refl
 same_resource Pfs Pfs e = refl

@@ -28,9 +28,7 @@ use Rattle.group_checker.proofs.Rising.{rises_append}
 -- what is cut is cut again
 pub take_again : {A : Type 0} (n : ℕ) (xs ys : List A) → take n (take n xs ++ ys) ≡ take n (xs ++ ys)
 take_again zero xs ys = refl
--- what is cut is cut again
 take_again (suc n) [] ys = refl
--- what is cut is cut again
 take_again (suc n) (x ∷ xs) ys = ap (λ l. x ∷ l) (take_again n xs ys)
 
 -- a full list shows no more

@@ -13,11 +13,8 @@ lex_trans : (a b c : List ℕ) → IsLexBefore a b → IsLexBefore b c → IsLex
 lex_trans [] [] c h k = absurd h
 lex_trans [] (y ∷ ys) [] h k = absurd k
 lex_trans [] (y ∷ ys) (z ∷ zs) h k = tt
--- the order of lists of numbers goes on
 lex_trans (x ∷ xs) [] c h k = absurd h
--- the order of lists of numbers goes on
 lex_trans (x ∷ xs) (y ∷ ys) [] h k = absurd k
--- the order of lists of numbers goes on
 lex_trans (x ∷ xs) (y ∷ ys) (z ∷ zs) h k = by_case h k (λ a b. lex_trans xs ys zs a b)
   where
     by_case : (x < y) ⊎ ((x ≡ y) × IsLexBefore xs ys) → (y < z) ⊎ ((y ≡ z) × IsLexBefore ys zs) → (IsLexBefore xs ys → IsLexBefore ys zs → IsLexBefore xs zs) → (x < z) ⊎ ((x ≡ z) × IsLexBefore xs zs)
@@ -29,9 +26,7 @@ lex_trans (x ∷ xs) (y ∷ ys) (z ∷ zs) h k = by_case h k (λ a b. lex_trans 
 -- and no list comes before itself
 lex_apart : (a : List ℕ) → IsLexBefore a a → ⊥
 lex_apart [] h = h
--- and no list comes before itself
 lex_apart (x ∷ xs) (inl l) = omega arith
--- and no list comes before itself
 lex_apart (x ∷ xs) (inr e) = lex_apart xs e.1
 
 -- the order of violations goes on
@@ -59,7 +54,6 @@ before_all x (y ∷ ys) h = (h y (head_in y ys), before_all x ys (λ z c. h z (i
 -- rising lists of which the first is before the second rise together
 pub rises_append : (xs ys : List Violation) → Rises xs → Rises ys → ((x y : Violation) → Contains xs x → Contains ys y → Precedes x y) → Rises (xs ++ ys)
 rises_append [] ys a b h = b
--- rising lists of which the first is before the second rise together
 rises_append (x ∷ xs) ys a b h =
     (before_all x (xs ++ ys) (λ y c. by_case y (Contains-append_cases xs ys y c)), rises_append xs ys a.1 b (λ z y c d. h z y (in_tail x z xs c) d))
   where
@@ -76,7 +70,6 @@ pub record RisesInParts (xs ys : List Violation) : Type 0 where
 -- so it is where they rise together
 pub rises_parts : (xs ys : List Violation) → Rises (xs ++ ys) → RisesInParts xs ys
 rises_parts [] ys h = record { front = tt; back = h; across = λ x y c d. absurd (not_in_none x c) }
--- so it is where they rise together
 rises_parts (x ∷ xs) ys h =
     let r = rises_parts xs ys h.1 in
     record {

@@ -78,8 +78,6 @@ fn check_second(
 /// two accesses are known there not to be both 1, and no slot from the first on and before the second may write
 /// the guard of the first.
 ///
-/// The time grows with the number of slots, and with the square of the length of a group alone.
-///
 /// # Errors
 ///
 /// Want of memory.

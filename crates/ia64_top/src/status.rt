@@ -8,7 +8,7 @@ ghost use Rattle.ia64_top.specs.Statuses.{status_number};
 pub enum Status {
     /// The command did what it does, and what it printed is the whole answer.
     Done = 0,
-    /// The program has violations, which are printed.
+    /// The program has violations, of which the first hundred are printed.
     Violated = 1,
     /// The words are no command. Nothing was read or written.
     Words = 2,
