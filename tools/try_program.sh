@@ -130,6 +130,35 @@ try 'the most bundles that clash' 1 "$dir/hundred" "$dir/clashes" check
 for n in {1..4096}; do printf '{ .mii\nnop 0\nnop 0\nnop 0%s\n}\n' "$([ $((n % 64)) = 0 ] && echo ' ;;')"; done > "$dir/long_groups"
 try 'the longest groups' 0 "$dir/accepted" "$dir/long_groups" check
 
+# Groups of 120 slots, in which each slot reads what the first writes under the other predicate of a compare.
+{
+  printf '{ .mii\ncmp.eq p6,p7=r8,r9\nnop 0\nnop 0 ;;\n}\n'
+  for group in {1..102}; do
+    for first in {8..125..3}; do
+      [ "$first" = 8 ] && under=p6 || under=p7
+      printf '{ .mii\n(%s) add r%s=r8,r8\n(p7) add r%s=r8,r8\n(p7) add r%s=r8,r8%s\n}\n' \
+        "$under" "$first" "$((first + 1))" "$((first + 2))" "$([ "$first" = 125 ] && echo ' ;;')"
+    done
+  done
+} > "$dir/excused_groups"
+try 'the longest excused groups' 0 "$dir/accepted" "$dir/excused_groups" check
+
+# A loop of branches back from bundle to bundle, in which two cycles of predicates, of 32 and of 31, go on by one
+# each time: what is known at its start gets lost pair by pair, in many rounds.
+branch() { printf '{ .mib\nnop.m 0\nnop.i 0\n%s ;;\n}\n' "$1"; }
+copy() { printf '{ .mii\n(p%s) cmp.eq.unc p%s,p0=r0,r0\nnop.i 0\nnop.i 0 ;;\n}\n' "$1" "$2"; }
+cycle() { copy "$1" 62; for n in $(seq "$1" $(($2 - 1))); do copy $((n + 1)) "$n"; done; copy 62 "$2"; }
+{
+  for n in {2..31} {33..61}; do branch "(p$n) br.cond end"; done
+  branch 'br.cond back100'
+  printf 'back0:\n'; branch 'br.cond turn'
+  for n in {1..100}; do printf 'back%s:\n' "$n"; branch "br.cond back$((n - 1))"; done
+  printf 'turn:\n'; cycle 1 31; cycle 32 61
+  branch 'br.cloop back100'
+  printf 'end:\n'; branch 'break.b 0'
+} > "$dir/many_rounds"
+try 'facts that are lost in many rounds' 0 "$dir/accepted" "$dir/many_rounds" check
+
 # TEXT WORD BYTES: the command refuses these bytes, given as printf takes them, with this text.
 refused() {
   printf 'image: %s\n' "$1" > "$dir/wanted"
