@@ -45,6 +45,8 @@ try build_hazard 0 examples/read_after_write.image examples/read_after_write.s b
 try check_text 0 "$dir/accepted" examples/three_nops.s check
 try check_hazard 1 "$dir/raw" examples/read_after_write.s check
 try check_mended 0 "$dir/accepted" examples/read_after_write_mended.s check
+try run_hazard 1 "$dir/raw" examples/read_after_write.s run 100
+try run_hazard_image 1 "$dir/raw" examples/read_after_write.image run 100
 try no_words 2 "$dir/nothing" examples/three_nops.image
 try unknown_word 2 "$dir/nothing" examples/three_nops.image Check
 try two_words 2 "$dir/nothing" examples/three_nops.image check now
@@ -108,7 +110,8 @@ for name in count predicated counted_loop call speculation; do
   try "$name, an image" 0 "$dir/accepted" "$dir/image" check
 done
 
-# Each text of tries/check/ has its verdict beside it, and so has its image.
+# Each text of tries/check/ has its verdict beside it, and so has its image. Where that is violations, `run` prints it too,
+# and nothing else.
 for text in tries/check/*.s; do
   verdict=${text%.s}.verdict
   cmp -s "$verdict" "$dir/accepted"
@@ -116,6 +119,7 @@ for text in tries/check/*.s; do
   try "$text" "$status" "$verdict" "$text" check
   "$program" build < "$text" > "$dir/image"
   try "$text, an image" "$status" "$verdict" "$dir/image" check
+  [ "$status" = 1 ] && try "$text, run" 1 "$verdict" "$text" run 100
 done
 
 # 4,096 bundles with two clashes each: all are counted, and the first hundred are shown.
@@ -125,6 +129,7 @@ for _ in {1..4096}; do printf '{ .mii\nnop 0\nadd r8=r9,r10\nadd r8=r8,r9 ;;\n}\
   for n in {0..49}; do printf 'RAW r8 %d.1 %d.2\nWAW r8 %d.1 %d.2\n' "$n" "$n" "$n" "$n"; done
 } > "$dir/hundred"
 try 'the most bundles that clash' 1 "$dir/hundred" "$dir/clashes" check
+try 'the most bundles that clash, run' 1 "$dir/hundred" "$dir/clashes" run 100
 
 # The same number of bundles in groups of 192 slots, in which each slot is held against all before it.
 for n in {1..4096}; do printf '{ .mii\nnop 0\nnop 0\nnop 0%s\n}\n' "$([ $((n % 64)) = 0 ] && echo ' ;;')"; done > "$dir/long_groups"

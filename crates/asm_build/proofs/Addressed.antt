@@ -1,5 +1,5 @@
 -- An instruction with an address put in fits its slot as before, and its target is the bundle of the label.
-use Rattle.std.proofs.Common.{◌≡◌, ◌∙◌, subst, sym, inl, inr, ℕ, zero, suc, ◌+◌, ◌-◌, ◌*◌, ◌/◌, ◌<◌, ◌≤◌, ◌^◌, true, false, cond, ltb, pos, negsuc, ◌+ℤ◌, ◌-ℤ◌, ◌≤ℤ◌, ◌<ℤ◌, Option, Some, None, arith}
+use Rattle.std.proofs.Common.{◌≡◌, ◌∙◌, subst, sym, inl, inr, ℕ, zero, suc, ◌+◌, ◌-◌, ◌/◌, ◌<◌, ◌≤◌, ◌^◌, true, false, cond, ltb, pos, negsuc, ◌+ℤ◌, ◌-ℤ◌, ◌≤ℤ◌, ◌<ℤ◌, Option, Some, None, arith}
 use Rattle.std.specs.Prelude.{IfSome}
 use lib.Dec.{le→leb, lt→ltb}
 use Rattle.std.proofs.Math.IntN.{+ℤ_comm, -ℤ-+ℤ_cancel}
@@ -19,6 +19,7 @@ use Rattle.ia_insn.specs.FormatsF.{IsListedF}
 use Rattle.ia_insn.specs.FormatsX.{IsListedX}
 use Rattle.ia_insn.specs.Fits.{Fits, FitsUnit, IsBranchSlot}
 use Rattle.ia_insn.specs.Signed.{FitsSigned}
+use Rattle.ia_insn.specs.Addresses.{bundle_address, data_address}
 use Rattle.ia_insn.specs.Targets.{displacement, IsBundleAt}
 use Rattle.asm_build.specs.declared.address.Address.{Address}
 use Rattle.asm_build.specs.declared.address.Address.TheVariants.{Bundle, Byte}
@@ -100,8 +101,8 @@ stays_x qp (op.ChkS u r2 disp) a n h k l = absurd l.range
 stays_x qp (op.ChkA clear r1 disp) a n h k l = absurd l.range
 stays_x qp (op.Br kind wh many clr disp) a n h k l = absurd l.range
 stays_x qp (op.BrCall b1 wh many clr disp) a n h k l = absurd l.range
-stays_x qp (op.Movl r1 imm) (Bundle m) n h k l = moved qp r1 imm (0x10000 + 16 * m) (omega (arith, h)) l
-stays_x qp (op.Movl r1 imm) (Byte at) n h k l = moved qp r1 imm (0x100000 + at) (omega (arith, h)) l
+stays_x qp (op.Movl r1 imm) (Bundle m) n h k l = moved qp r1 imm (bundle_address m) (omega (arith, h)) l
+stays_x qp (op.Movl r1 imm) (Byte at) n h k l = moved qp r1 imm (data_address at) (omega (arith, h)) l
 stays_x qp x a n h k l = tt
 
 -- so does the slot of a branch

@@ -3,28 +3,17 @@ use Rattle.std.proofs.Common.{ℤ, pos, ◌+ℤ◌, ◌≤ℤ◌, ℕ, inl, inr,
 use Rattle.std.specs.Prelude.{IfSome, IsSome, slice_get}
 use Rattle.ia_insn.specs.declared.insn.Insn.{Insn}
 use Rattle.ia_insn.specs.declared.choices.Unit.{Unit as ExecutionUnit}
-use Rattle.ia_insn.specs.declared.choices.Unit.TheVariants.{M, I, F, B, L, X}
 use Rattle.ia_insn.specs.declared.bundle.Slots.{Slots}
 use Rattle.ia_insn.specs.declared.bundle.Slots.TheVariants.{Three, Long}
 use Rattle.ia_insn.specs.Bundles.{Bundle, FitUnits, IsBundle}
-use Rattle.ia_insn.specs.Fits.{FitsUnit}
 use Rattle.ia_insn.specs.Listed.{IsListed}
 use Rattle.ia_insn.specs.Places.{bundle_insn, insn_at, EachPlace}
 use Rattle.ia_insn.specs.Programs.{Program, IsProgram}
 use Rattle.ia_insn.specs.Targets.{displacement, IsBundleAt, IsTargetInside}
 use Rattle.ia_insn.specs.Templates.{units_of}
+use Rattle.ia_insn.proofs.ListedSlots.{unit_listed}
 use Rattle.asm_text.specs.SlotTexts.{HasTarget}
 use Rattle.asm_build.specs.Marks.{IsSound, AreSound, AreAllSound}
-
-unit_listed : (i : Insn) (u : ExecutionUnit) (slot : ℕ) → FitsUnit i u slot → IsListed i
-unit_listed i M slot (inl h) = inl h
-unit_listed i M slot (inr h) = inr (inr (inl h))
-unit_listed i I slot (inl h) = inl h
-unit_listed i I slot (inr h) = inr (inl h)
-unit_listed i F slot h = inr (inr (inr (inr (inl h))))
-unit_listed i B slot h = inr (inr (inr (inl h.0)))
-unit_listed i L slot h = inr (inr (inr (inr (inr h.0))))
-unit_listed i X slot h = inr (inr (inr (inr (inr h.0))))
 
 -- the target of an instruction, where it has one, is one of so many bundles
 abbrev pub IsInside : ℕ → ℕ → Option Insn → Type 0

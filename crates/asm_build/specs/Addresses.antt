@@ -1,9 +1,17 @@
 -- What a label names, and what its name means in an instruction.
-use Rattle.std.specs.Prelude.{ℕ, ◌+◌, ◌*◌, ◌<◌, ◌≤◌, pos, ◌-ℤ◌, Option, Some, None, ⊤}
+use Rattle.std.specs.Prelude.{ℕ, ◌<◌, ◌≤◌, pos, ◌-ℤ◌, Option, Some, None, ⊤}
 use Rattle.ia_insn.specs.declared.insn.Op.{Op}
 use Rattle.ia_insn.specs.declared.insn.Op.TheVariants as op
+use Rattle.ia_insn.specs.Addresses.{bundle_address, data_address}
 use Rattle.asm_build.specs.declared.address.Address.{Address}
 use Rattle.asm_build.specs.declared.address.Address.TheVariants.{Bundle, Byte}
+
+-- what the label of a bundle names, and that of a byte of data
+abbrev pub of_bundle : ℕ → Address
+of_bundle n = Bundle n
+
+abbrev pub of_byte : ℕ → Address
+of_byte at = Byte at
 
 -- an address that a program may have, or the end of its bundles or data
 abbrev pub IsWithin : Address → Type 0
@@ -16,12 +24,12 @@ IsInside count (Bundle n) = n < count
 IsInside count (Byte at) = ⊤
 
 -- The operation in the n-th bundle with an address put in: a direct branch or check takes a bundle, as the
--- distance to it, and `movl` a bundle or a byte of data, as the address at which it stands.
+-- distance to it, and `movl` a bundle or a byte of data, as the address at which it stands in memory.
 abbrev pub addressed : Op → Address → ℕ → Option Op
 addressed (op.ChkS unit r2 disp) (Bundle m) n = Some (op.ChkS unit r2 (pos m -ℤ pos n))
 addressed (op.ChkA clear r1 disp) (Bundle m) n = Some (op.ChkA clear r1 (pos m -ℤ pos n))
 addressed (op.Br kind wh many clr disp) (Bundle m) n = Some (op.Br kind wh many clr (pos m -ℤ pos n))
 addressed (op.BrCall b1 wh many clr disp) (Bundle m) n = Some (op.BrCall b1 wh many clr (pos m -ℤ pos n))
-addressed (op.Movl r1 imm) (Bundle m) n = Some (op.Movl r1 (0x10000 + 16 * m))
-addressed (op.Movl r1 imm) (Byte at) n = Some (op.Movl r1 (0x100000 + at))
+addressed (op.Movl r1 imm) (Bundle m) n = Some (op.Movl r1 (bundle_address m))
+addressed (op.Movl r1 imm) (Byte at) n = Some (op.Movl r1 (data_address at))
 addressed x address n = None

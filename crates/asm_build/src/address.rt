@@ -4,7 +4,7 @@ ghost use Rattle.std.specs.Prelude.{◌≡◌, ◌↔◌, ◌<◌, ◌≤◌, po
 ghost use Rattle.asm_build.specs.declared.address.Address.TheVariants as address;
 ghost use Rattle.asm_build.specs.Addresses.{IsInside, IsWithin, addressed};
 
-use ia_insn::Op;
+use ia_insn::{Op, bundle_address, data_address};
 
 /// What a label names: the next bundle, or the next byte of data.
 #[derive(Clone, Copy)]
@@ -47,7 +47,7 @@ pub(crate) fn addressed(op: &Op, address: Address, n: u32) -> Option<Op>
         Address::Byte { at } => match op {
             Op::Movl { r1, .. } => Some(Op::Movl {
                 r1: *r1,
-                imm: 0x100000 + u64::from(at),
+                imm: data_address(at),
             }),
             _ => None,
         },
@@ -99,7 +99,7 @@ fn with_bundle(op: &Op, there: u32, n: u32) -> Option<Op>
         },
         Op::Movl { r1, .. } => Op::Movl {
             r1: *r1,
-            imm: 0x10000 + 16 * u64::from(there),
+            imm: bundle_address(there),
         },
         _ => return None,
     })

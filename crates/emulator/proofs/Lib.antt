@@ -1,10 +1,8 @@
 pub mod Named
-pub mod Ranges
 pub mod Actions
 pub mod ReservedZeros
 pub mod EntryTests
 pub mod NewFrames
-pub mod Slots
 pub mod SlotSteps
 pub mod Advancing
 pub mod Groups

@@ -1,5 +1,5 @@
 -- A step of the machine at a place of its program.
-use Rattle.std.proofs.Common.{◌≡◌, ℕ, List, Bool, refl, sym, ap, subst, ◌∙◌}
+use Rattle.std.proofs.Common.{◌≡◌, ℕ, List, Bool, sym, ap, subst, ◌∙◌}
 use Rattle.std.specs.Prelude.{Option, Some, None, IsSome, IsSomeAnd, IsTrue, ◌↔◌, slice_get}
 use Rattle.ia_insn.specs.declared.insn.Insn.{Insn}
 use Rattle.ia_insn.specs.declared.place.Place.{Place}
@@ -10,9 +10,10 @@ use Rattle.ia_meaning.specs.State.{State}
 use Rattle.ia_meaning.specs.declared.next.Next.TheVariants.{Falls, Goes}
 use Rattle.ia_meaning.specs.Sequence.{first_of, next_of, is_stopped}
 use Rattle.ia_meaning.specs.Effects.{site, effect}
-use Rattle.ia_meaning.specs.Steps.{how_falling, step_of, seq_step}
+use Rattle.ia_meaning.specs.Steps.{how_falling, seq_step}
 use Rattle.ia_meaning.specs.Progress.{slots_after, stepped}
 use Rattle.ia_meaning.proofs.Sequences.{stop_same}
+use Rattle.ia_meaning.proofs.StepHere.{step_here as step_at}
 use Rattle.machine_state.specs.Changes.{outcome_with}
 use Rattle.emulator.specs.declared.outcome.Outcome.{Outcome}
 use Rattle.emulator.specs.declared.run.Run.{Run}
@@ -37,15 +38,11 @@ insn_here : (bundles : List Bundle) (place : Place) (b : Bundle) (i : Insn) → 
 unfolding insn_at
 insn_here bundles place b i at e = ap (λ o. bundle_insn o place.slot) at ∙ e
 
-step_is : (p : Program) (s : State) → seq_step p s ≡ step_of p s (insn_at p.bundles s.place)
-unfolding seq_step
-step_is p s = refl
-
 -- the step of an instruction
 pub step_here : (p : Program) (s : State) (b : Bundle) (i : Insn) (next : Option Place) → slice_get p.bundles s.place.bundle ≡ Some b → slot_insn b.slots s.place.slot ≡ Some i → next ≡ next_of p.bundles s.place
     → seq_step p s ≡ settled_step p s next (effect (site p s.place.bundle) i s.registers s.memory s.registers.unat)
 step_here p s b i next at e n =
-    step_is p s ∙ ap (step_of p s) (insn_here p.bundles s.place b i at e)
+    step_at p s i (insn_here p.bundles s.place b i at e)
     ∙ ap (λ n. settled_step p s n (effect (site p s.place.bundle) i s.registers s.memory s.registers.unat)) (sym n)
 
 -- A run goes on to the next place, or to a bundle, with a change.

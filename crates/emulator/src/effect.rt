@@ -18,7 +18,7 @@ use ia_meaning::{Form, form_of};
 use machine_state::{Change, MachineState};
 
 /// What an instruction does that is executed.
-#[tactic(auto, using(crate::proofs::Actions::rebuilt, crate::proofs::Ranges::load_size, crate::proofs::Ranges::store_size, crate::proofs::Ranges::frame_sizes))]
+#[tactic(auto, using(crate::proofs::Actions::rebuilt, ia_meaning::proofs::FormSizes::load_size, ia_meaning::proofs::FormSizes::store_size, ia_meaning::proofs::FormSizes::frame_sizes))]
 fn act(state: &MachineState, program: &Program, bundle: u32, op: &Op, form: Form) -> Outcome
     requires place { bundle < 4096 }
     requires ranges { HasRanges op.now }

@@ -10,9 +10,9 @@ ghost use Rattle.reg_stack.specs.Stacks.{kind_of};
 ghost use Rattle.machine_state.specs.Changes.{writes_of, MayChange};
 ghost use Rattle.emulator.specs.Outcomes.{outcome_of, IsPlain};
 
-use crate::landings::{address_of, landing, target};
+use crate::landings::{landing, target};
 use crate::outcome::Outcome;
-use ia_insn::{Br, FaultKind, Gr, Program};
+use ia_insn::{Br, FaultKind, Gr, Program, bundle_address};
 use ia_meaning::Goal;
 use machine_state::{Change, MachineState};
 use reg_stack::StackFault;
@@ -76,7 +76,7 @@ pub(crate) fn call(
 {
     let change = Change::Called {
         b1,
-        address: address_of(bundle + 1),
+        address: bundle_address(bundle + 1),
     };
     match goal {
         Goal::Direct(disp) => Outcome::goes(change, target(bundle, disp)),

@@ -9,10 +9,9 @@ ghost use Rattle.machine_state.specs.Contents.{Contents};
 ghost use Rattle.machine_state.specs.Changes.{writes_of, MayChange};
 ghost use Rattle.emulator.specs.Outcomes.{outcome_of, IsPlain};
 
-use crate::landings::address_of;
 use crate::operands::operands;
 use crate::outcome::Outcome;
-use ia_insn::{Ar, Br, CmpKind, FaultKind, Gr, Op, Pr};
+use ia_insn::{Ar, Br, CmpKind, FaultKind, Gr, Op, Pr, bundle_address};
 use ia_meaning::{Cell, Source};
 use integer_ops::{computed, moved, tested};
 use machine_state::{Change, MachineState};
@@ -43,7 +42,7 @@ fn source_value(state: &MachineState, bundle: u32, source: Source) -> u64
         Source::Branch(b) => state.branch(b),
         Source::Application(ar) => state.application(ar),
         Source::Predicates => state.predicate_word(),
-        Source::Ip => address_of(bundle),
+        Source::Ip => bundle_address(bundle),
     }
 }
 

@@ -12,7 +12,8 @@ use Rattle.predicate_rel.specs.declared.edge.Edge.TheVariants.{Falls, Taken}
 use Rattle.predicate_rel.specs.Pairs.{Table, Pairs, pairs_of, no_pairs, IsWithin}
 use Rattle.predicate_rel.specs.Rules.{pairs_after}
 use Rattle.predicate_rel.specs.RuleLaws.{WhyMissing, whatever, since, why_missing, pairs_after-within}
-use Rattle.flow_facts.specs.Walks.{Known, known_at, Walk, begins, goes_on, EndsAt, HasEdge, facts_on, pairs_past, pairs_past_insn}
+use Rattle.predicate_rel.specs.Edges.{HasEdge, pairs_past, pairs_past_insn}
+use Rattle.flow_facts.specs.Walks.{Known, known_at, Walk, begins, goes_on, EndsAt, facts_on}
 use Rattle.flow_facts.specs.Tables.{weight, place_count, IsNumbered, AtMost, Shrinks, Joined, IsWitnessed, EdgeSettled, IsSettled, Passed, IsUnderWay, is_dirty}
 use Rattle.flow_facts.proofs.Numbering.{is_numbered, cases_place, value_at-set_same, value_at-set_other}
 

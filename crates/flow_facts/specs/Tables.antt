@@ -6,7 +6,8 @@ use Rattle.ia_insn.specs.Programs.{Program, IsEntry}
 use Rattle.ia_meaning.specs.Sequence.{first_of}
 use Rattle.predicate_rel.specs.declared.edge.Edge.{Edge}
 use Rattle.predicate_rel.specs.Pairs.{Table, Pairs, no_pairs, pairs_of, IsWithin}
-use Rattle.flow_facts.specs.Walks.{Walk, EndsAt, HasEdge, Known, known_at, value_at, facts_on, pairs_past}
+use Rattle.predicate_rel.specs.Edges.{HasEdge, pairs_past}
+use Rattle.flow_facts.specs.Walks.{Walk, EndsAt, Known, known_at, value_at, facts_on}
 
 -- how many of the first n numbers a row has
 unfoldable pub row_size : (ℕ → Bool) → ℕ → ℕ

@@ -11,7 +11,8 @@ use Rattle.ia_insn.specs.Programs.{Program}
 use Rattle.ia_meaning.specs.Sequence.{next_of, is_stopped}
 use Rattle.ia_meaning.proofs.Follows.{next_is}
 use Rattle.predicate_rel.specs.declared.edge.Edge.TheVariants.{Falls, Taken}
-use Rattle.flow_facts.specs.Walks.{Walk, begins, goes_on, IsWalk, end_of, HasEdge, edge_of, edge_end, may_fall, pairs_past, facts_on, earlier_in_group}
+use Rattle.predicate_rel.specs.Edges.{HasEdge, edge_of, edge_end, may_fall, pairs_past}
+use Rattle.flow_facts.specs.Walks.{Walk, begins, goes_on, IsWalk, end_of, facts_on, earlier_in_group}
 use Rattle.group_checker.proofs.Members.{not_in_none}
 
 -- what holds holds where a test does

@@ -10,3 +10,15 @@ pub mod Pairing
 pub mod Adding
 pub mod Reporting
 pub mod Uniqueness
+pub mod Walked
+pub mod Orders
+pub mod Untouched
+pub mod Gathering
+pub mod Seeing
+pub mod Advancing
+pub mod NoClashes
+pub mod GroupOrders
+pub mod FirstSlots
+pub mod Agreeing
+pub mod RunOrders
+pub mod OrderExamples

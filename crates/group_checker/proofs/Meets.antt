@@ -13,7 +13,8 @@ use Rattle.predicate_rel.specs.declared.edge.Edge.TheVariants.{Falls}
 use Rattle.predicate_rel.specs.Pairs.{Table, Pairs, pairs_of, in_range, truth, IsWithin}
 use Rattle.predicate_rel.specs.Rules.{PairRule, one, is_met, form_rule, rule_of, pairs_after}
 use Rattle.predicate_rel.specs.RuleLaws.{WhyMissing, whatever, since, why_missing, pairs_after-within}
-use Rattle.flow_facts.specs.Walks.{Walk, EndsAt, facts_on, pairs_past, pairs_past_insn, IsMeet}
+use Rattle.predicate_rel.specs.Edges.{pairs_past, pairs_past_insn}
+use Rattle.flow_facts.specs.Walks.{Walk, EndsAt, facts_on, IsMeet}
 use Rattle.group_checker.specs.Windows.{IsMeetOf, changes_facts}
 
 -- who knows more before an instruction knows more past it

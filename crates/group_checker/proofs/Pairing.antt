@@ -11,7 +11,8 @@ use Rattle.resource_sets.specs.declared.access.Resource.TheVariants.{Gr, Pr, Br,
 use Rattle.resource_sets.specs.declared.clashes.Rule.{Rule}
 use Rattle.resource_sets.specs.declared.clashes.Rule.TheVariants.{Raw, Waw, War63, AllocFirst, ClearLast}
 use Rattle.resource_sets.specs.Clashes.{clash, clash_of, is_resource, is_raw, is_waw, is_war63}
-use Rattle.flow_facts.specs.Walks.{Walk, end_of, earlier_in_group, HasEdge}
+use Rattle.predicate_rel.specs.Edges.{HasEdge}
+use Rattle.flow_facts.specs.Walks.{Walk, end_of, earlier_in_group}
 use Rattle.predicate_rel.specs.declared.edge.Edge.TheVariants.{Falls}
 use Rattle.group_checker.specs.declared.violation.Violation.{Violation}
 use Rattle.group_checker.specs.declared.window.Entry.{Entry}

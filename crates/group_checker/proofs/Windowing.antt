@@ -10,7 +10,8 @@ use Rattle.ia_meaning.specs.Sequence.{first_of, next_of, is_stopped}
 use Rattle.resource_sets.specs.Clashes.{may_write_guard}
 use Rattle.predicate_rel.specs.declared.edge.Edge.TheVariants.{Falls}
 use Rattle.predicate_rel.specs.Pairs.{Pairs, Table, has_bit, pairs_of}
-use Rattle.flow_facts.specs.Walks.{Walk, goes_on, EndsAt, end_of, HasEdge, facts_on, pairs_past, earlier_in_group, IsMeet, Known, IsSolution, NoWalk, known_at}
+use Rattle.predicate_rel.specs.Edges.{HasEdge, pairs_past}
+use Rattle.flow_facts.specs.Walks.{Walk, goes_on, EndsAt, end_of, facts_on, earlier_in_group, IsMeet, Known, IsSolution, NoWalk, known_at}
 use Rattle.group_checker.specs.declared.window.Entry.{Entry}
 use Rattle.group_checker.specs.Excuses.{accesses_at}
 use Rattle.group_checker.specs.Windows.{IsThrough, IsMeetOf, IsAt, IsCarried, HasWriter, IsWritten, HasPlace, IsWindow, IsGuardMask, GoesOn, HasAdvanced}

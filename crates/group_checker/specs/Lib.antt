@@ -6,3 +6,7 @@ pub mod Reports
 pub mod Windows
 pub mod Findings
 pub mod Progress
+pub mod Traces
+pub mod Agreement
+pub mod OrderLaws
+pub mod OrderExamples

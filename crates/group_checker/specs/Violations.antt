@@ -6,8 +6,8 @@ use Rattle.ia_insn.specs.declared.place.Place.{Place}
 use Rattle.ia_insn.specs.Places.{insn_at}
 use Rattle.ia_insn.specs.Programs.{Program}
 use Rattle.ia_meaning.specs.declared.form.Form.{Form}
-use Rattle.ia_meaning.specs.declared.form.Form.TheVariants.{Allocate, ClearBases}
-use Rattle.ia_meaning.specs.Actions.{action_of, form_of}
+use Rattle.ia_meaning.specs.declared.form.Form.TheVariants.{ClearBases}
+use Rattle.ia_meaning.specs.Actions.{insn_form, allocates}
 use Rattle.resource_sets.specs.declared.access.Resource.{Resource}
 use Rattle.resource_sets.specs.declared.access.Resource.TheVariants.{Cfm}
 use Rattle.resource_sets.specs.declared.access.Access.{Access}
@@ -33,27 +33,22 @@ pub record ClashesUnexcused (p : Program) (w : Walk) (i : Place) (rule : Rule) (
   pub clashes : Clashes p i (end_of w) rule q
   pub stays : ¬ IsExcused p w i clashes.first.guard clashes.second.guard
 
--- `alloc`
-abbrev pub allocates : Form → Bool
-allocates (Allocate r1 sof sol sor) = true
-allocates form = false
-
 -- `clrrrb` and `clrrrb.pr`
 abbrev pub clears : Form → Bool
 clears (ClearBases pred_only) = true
 clears form = false
 
-abbrev pub has_form : (Form → Bool) → Option Insn → Bool
-has_form test None = false
-has_form test (Some insn) = test (form_of (action_of insn.op))
+abbrev pub clears_in : Option Insn → Bool
+clears_in None = false
+clears_in (Some insn) = clears (insn_form insn)
 
 -- the place holds an `alloc`
 unfoldable pub allocates_at : Program → Place → Bool
-allocates_at p place = has_form allocates (insn_at p.bundles place)
+allocates_at p place = allocates (insn_at p.bundles place)
 
 -- the place holds a `clrrrb` or `clrrrb.pr`
 unfoldable pub clears_at : Program → Place → Bool
-clears_at p place = has_form clears (insn_at p.bundles place)
+clears_at p place = clears_in (insn_at p.bundles place)
 
 -- Slot i, of the walk's group, and the walk's last slot break the rule. Only reads and writes after writes may be excused.
 -- An `alloc` may have no slot before it in its group, and a `clrrrb` none after it; of `alloc` only the slot just before it,

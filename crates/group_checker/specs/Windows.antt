@@ -9,7 +9,8 @@ use Rattle.resource_sets.specs.declared.access.Access.{Access}
 use Rattle.resource_sets.specs.Clashes.{may_write_guard}
 use Rattle.predicate_rel.specs.declared.edge.Edge.TheVariants.{Falls}
 use Rattle.predicate_rel.specs.Pairs.{Pairs, has_bit, pairs_of, IsWithin}
-use Rattle.flow_facts.specs.Walks.{Walk, EndsAt, HasEdge, facts_on, pairs_past, earlier_in_group}
+use Rattle.predicate_rel.specs.Edges.{HasEdge, pairs_past}
+use Rattle.flow_facts.specs.Walks.{Walk, EndsAt, facts_on, earlier_in_group}
 use Rattle.group_checker.specs.declared.window.Entry.{Entry}
 use Rattle.group_checker.specs.Excuses.{accesses_at}
 

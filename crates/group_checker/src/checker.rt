@@ -3,6 +3,7 @@
 ghost use Rattle.std.specs.Prelude.{◌≡◌, ◌+◌, ◌*◌, ◌≤◌, ◌<◌, ◌^◌, length, IfOk, OnOk, Some, None};
 ghost use Rattle.ia_insn.specs.Places.{IsPlaceOf, place_number};
 ghost use Rattle.ia_insn.specs.Programs.{IsProgram};
+ghost use Rattle.ia_meaning.specs.OrderIndependence.{IsRobust};
 ghost use Rattle.ia_meaning.specs.Sequence.{first_of, next_of};
 ghost use Rattle.group_checker.specs.Excuses.{accesses_at};
 ghost use Rattle.group_checker.specs.Reports.{IsVerdict, OneVerdict};
@@ -78,11 +79,15 @@ fn check_second(
 /// two accesses are known there not to be both 1, and no slot from the first on and before the second may write
 /// the guard of the first.
 ///
+/// An accepted program is order independent: from every start state, for every number of groups and every order
+/// of the writes in each group, groups at once leave what slots one by one leave.
+///
 /// # Errors
 ///
 /// Want of memory.
 pub fn check(alloc: Global, program: &Program) -> Result<Verdict, AllocError>
-    ensures { IfOk result (λ verdict. IsVerdict program.now verdict) }
+    ensures verdict { IfOk result (λ verdict. IsVerdict program.now verdict) }
+    ensures robust { IfOk result (λ verdict. verdict ≡ Verdict.Accepted → IsRobust program.now) }
 {
     let facts = solve(alloc, program)?;
     let mut report = Report::empty(alloc);

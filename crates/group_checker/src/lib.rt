@@ -16,6 +16,7 @@
 
 mod checker;
 mod guards;
+mod laws;
 mod moves;
 mod pairs;
 mod report;
@@ -23,5 +24,6 @@ mod violation;
 mod window;
 
 pub use checker::{check, one_verdict};
+pub use laws::{law_orders, law_two_orders, law_view, law_walk};
 pub use report::{Report, Verdict};
 pub use violation::Violation;

@@ -8,7 +8,8 @@ ghost use Rattle.ia_insn.specs.Places.{insn_at, IsPlaceOf};
 ghost use Rattle.ia_meaning.specs.Actions.{action_of, form_of};
 ghost use Rattle.ia_meaning.specs.Sequence.{next_of, is_stopped};
 ghost use Rattle.predicate_rel.specs.declared.edge.Edge.TheVariants.{Falls};
-ghost use Rattle.flow_facts.specs.Walks.{HasEdge, IsSolution};
+ghost use Rattle.predicate_rel.specs.Edges.{HasEdge};
+ghost use Rattle.flow_facts.specs.Walks.{IsSolution};
 ghost use Rattle.group_checker.specs.Excuses.{accesses_at};
 ghost use Rattle.group_checker.specs.Windows.{IsWindow, GoesOn, HasAdvanced, changes_facts};
 

@@ -5,7 +5,7 @@ ghost use Rattle.ia_insn.specs.declared.place.Place.{Place};
 ghost use Rattle.ia_insn.specs.Places.{insn_at, IsPlaceOf};
 ghost use Rattle.group_checker.specs.Order.{Rises, Adds, IsListOf};
 ghost use Rattle.group_checker.specs.Excuses.{accesses_at};
-ghost use Rattle.group_checker.specs.Violations.{allocates, clears, allocates_at, clears_at, Violates};
+ghost use Rattle.group_checker.specs.Violations.{clears, allocates_at, clears_at, Violates};
 ghost use Rattle.group_checker.specs.Windows.{IsWindow};
 ghost use Rattle.group_checker.specs.Findings.{IsNthPair, may_be_excused, excused_by, FindsBy, FindsWith, FindsIn, IsPair, IsSlotRule};
 

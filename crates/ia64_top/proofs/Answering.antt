@@ -9,8 +9,8 @@ use Rattle.ia64_top.specs.declared.words.Command.{Command}
 use Rattle.ia64_top.specs.declared.words.Command.TheVariants as command
 use Rattle.ia64_top.specs.declared.words.Command.TheVariants.{Check, Run}
 use Rattle.ia64_top.specs.declared.status.Status.{Status}
-use Rattle.ia64_top.specs.declared.status.Status.TheVariants.{Done, Words, TooLong}
-use Rattle.ia64_top.specs.Words.{command_of}
+use Rattle.ia64_top.specs.declared.status.Status.TheVariants.{Done, Violated, Words, TooLong}
+use Rattle.ia64_top.specs.Words.{command_of, Judges}
 use Rattle.ia_insn.specs.Programs.{Program}
 use Rattle.image_form.specs.Images.{Spells}
 use Rattle.image_form.specs.Laws.{ImageSize}
@@ -39,10 +39,14 @@ pub given_in_part : (words : List (List ℕ)) (command : Command) (left given ne
 given_in_part words command None given new input bytes status e whole within o part = tt
 given_in_part words command (Some l) given new input bytes status e whole within o part = (bytes, status, subst (λ (i : List ℕ). IsOutput words i bytes status) whole (output_within words command input bytes status e within o), part)
 
--- What is accepted: a text has to be within the limit, and an image is.
-abbrev AcceptsFree : List (List ℕ) → Status → List ℕ → Type 0
-AcceptsFree words status input =
-    command_of words ≡ Some Check → (¬ BeginsAsImage input → length input ≤ input_limit) → (p : Program) → as_either.Gives input p → ((status ≡ Done) ↔ IsFree p)
+-- a slice of what was read whole is the whole too
+pub same_whole : (left : Option (List ℕ)) (slice input : List ℕ) → slice ≡ input → IfSome left (λ l. input ≡ l) → IfSome left (λ l. slice ≡ l)
+same_whole None slice input e whole = tt
+same_whole (Some l) slice input e whole = e ∙ whole
+
+-- What is said of the program that an input is read as: a text has to be within the limit, and an image is.
+abbrev OfProgram : (Program → Type 0) → List ℕ → Type 0
+OfProgram P input = (¬ BeginsAsImage input → length input ≤ input_limit) → (p : Program) → as_either.Gives input p → P p
 
 short_image : ImageSize → (p : Program) (input : List ℕ) → Spells p input → length input ≤ input_limit
 short_image size p input s = let n = size p input s in let r = s.program.counts in omega (arith, n, r.bundles, r.entries, r.bytes)
@@ -51,14 +55,43 @@ short_either : ImageSize → (p : Program) (input : List ℕ) → (¬ BeginsAsIm
 short_either size p input within (inl image) = short_image size p input image.1
 short_either size p input within (inr text) = within text.0
 
+-- a longer input is read as no program
+none_beyond : ImageSize → (P : Program → Type 0) (input : List ℕ) → input_limit < length input → OfProgram P input
+none_beyond size P input h within p g = absurd (omega (arith, h, short_either size p input within g))
+
+-- what is said of the input that was read whole
+of_whole : (P : Program → Type 0) (l input : List ℕ) → input ≡ l → ((p : Program) → as_either.Gives input p → P p) → OfProgram P l
+of_whole P l input whole h within p g = h p (subst (λ i. as_either.Gives i p) (sym whole) g)
+
+-- What is accepted.
+abbrev AcceptsFree : List (List ℕ) → Status → List ℕ → Type 0
+AcceptsFree words status input = command_of words ≡ Some Check → OfProgram (λ p. (status ≡ Done) ↔ IsFree p) input
+
 pub accepted_beyond : ImageSize → (words : List (List ℕ)) (left : Option (List ℕ)) → IfSome left (λ l. input_limit < length l) → IfSome left (AcceptsFree words TooLong)
 accepted_beyond size words None h = tt
-accepted_beyond size words (Some input) h = λ e within p g. absurd (omega (arith, h, short_either size p input within g))
+accepted_beyond size words (Some input) h = λ e. none_beyond size (λ p. (TooLong ≡ Done) ↔ IsFree p) input h
 
 pub accepted_within : (words : List (List ℕ)) (command : Command) (left : Option (List ℕ)) (input : List ℕ) (status : Status) → command_of words ≡ Some command → IfSome left (λ l. input ≡ l)
     → (command ≡ Check → (p : Program) → as_either.Gives input p → ((status ≡ Done) ↔ IsFree p)) → IfSome left (AcceptsFree words status)
 accepted_within words command None input status e whole h = tt
-accepted_within words command (Some l) input status e whole h = λ f within p g. h (let same : Some command ≡ Some Check = sym e ∙ f in cc) p (subst (λ i. as_either.Gives i p) (sym whole) g)
+accepted_within words command (Some l) input status e whole h =
+    λ f. of_whole (λ p. (status ≡ Done) ↔ IsFree p) l input whole (h (let same : Some command ≡ Some Check = sym e ∙ f in cc))
+
+-- What has violations.
+abbrev JudgesProgram : List (List ℕ) → Status → List ℕ → Type 0
+JudgesProgram words status input =
+    (command : Command) → command_of words ≡ Some command → Judges command → OfProgram (λ p. (status ≡ Violated) ↔ (¬ IsFree p)) input
+
+pub judged_beyond : ImageSize → (words : List (List ℕ)) (left : Option (List ℕ)) → IfSome left (λ l. input_limit < length l) → IfSome left (JudgesProgram words TooLong)
+judged_beyond size words None h = tt
+judged_beyond size words (Some input) h = λ command e judges. none_beyond size (λ p. (TooLong ≡ Violated) ↔ (¬ IsFree p)) input h
+
+pub judged_within : (words : List (List ℕ)) (command : Command) (left : Option (List ℕ)) (input : List ℕ) (status : Status) → command_of words ≡ Some command → IfSome left (λ l. input ≡ l)
+    → (Judges command → (p : Program) → as_either.Gives input p → ((status ≡ Violated) ↔ (¬ IsFree p))) → IfSome left (JudgesProgram words status)
+judged_within words command None input status e whole h = tt
+judged_within words command (Some l) input status e whole h =
+    λ other f judges. of_whole (λ p. (status ≡ Violated) ↔ (¬ IsFree p)) l input whole
+    (h (let same : Some other ≡ Some command = sym f ∙ e in let is : other ≡ command = cc in subst Judges is judges))
 
 -- no other status is stated for the words and the input than the command's
 output_back : (words : List (List ℕ)) (command : Command) (input bytes : List ℕ) (status : Status) → command_of words ≡ Some command → length input ≤ input_limit → IsOutput words input bytes status → IsCommandOutput command input bytes status
@@ -73,16 +106,18 @@ only_within words command (Some l) input status e whole within only =
 -- What is run: the end of the run tells the status.
 abbrev TellsEnd : List (List ℕ) → Status → List ℕ → Type 0
 TellsEnd words status input =
-    (groups : ℕ) → command_of words ≡ Some (Run groups) → (¬ BeginsAsImage input → length input ≤ input_limit) → (p : Program) → as_either.Gives input p → status ≡ end_status (run_of p groups).end
+    (groups : ℕ) → command_of words ≡ Some (Run groups) → OfProgram (λ p. IsFree p → status ≡ end_status (run_of p groups).end) input
 
 pub ended_beyond : ImageSize → (words : List (List ℕ)) (left : Option (List ℕ)) → IfSome left (λ l. input_limit < length l) → IfSome left (TellsEnd words TooLong)
 ended_beyond size words None h = tt
-ended_beyond size words (Some input) h = λ groups e within p g. absurd (omega (arith, h, short_either size p input within g))
+ended_beyond size words (Some input) h = λ groups e. none_beyond size (λ p. IsFree p → TooLong ≡ end_status (run_of p groups).end) input h
 
 pub ended_within : (words : List (List ℕ)) (command : Command) (left : Option (List ℕ)) (input : List ℕ) (status : Status) → command_of words ≡ Some command → IfSome left (λ l. input ≡ l)
-    → ((groups : ℕ) → command ≡ Run groups → (p : Program) → as_either.Gives input p → status ≡ end_status (run_of p groups).end) → IfSome left (TellsEnd words status)
+    → ((groups : ℕ) → command ≡ Run groups → (p : Program) → as_either.Gives input p → IsFree p → status ≡ end_status (run_of p groups).end) → IfSome left (TellsEnd words status)
 ended_within words command None input status e whole h = tt
-ended_within words command (Some l) input status e whole h = λ groups f within p g. h groups (let same : Some command ≡ Some (Run groups) = sym e ∙ f in cc) p (subst (λ i. as_either.Gives i p) (sym whole) g)
+ended_within words command (Some l) input status e whole h =
+    λ groups f. of_whole (λ p. IsFree p → status ≡ end_status (run_of p groups).end) l input whole
+    (h groups (let same : Some command ≡ Some (Run groups) = sym e ∙ f in cc))
 
 -- more bytes than the limit were there where more were taken
 pub beyond : (P : Type 0) (left new : Option (List ℕ)) → P → IfSome left (λ l. P ↔ LosesFirst (input_limit + 1) l new) → IfSome left (λ l. input_limit < length l)

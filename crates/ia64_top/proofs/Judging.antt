@@ -1,26 +1,26 @@
 -- What is stated of `check`.
-use Rattle.std.proofs.Common.{◌≡◌, ℕ, ◌≤◌, List, [], ◌∷◌, length, refl, sym, subst, arith}
+use Rattle.std.proofs.Common.{◌≡◌, ℕ, ◌≤◌, inl, inr, List, [], ◌∷◌, length, refl, sym, ◌∙◌, subst, arith}
 use Rattle.std.specs.Prelude.{◌↔◌, Contains}
-use Rattle.ia_insn.specs.Programs.{Program}
+use Rattle.ia_insn.specs.Programs.{Program, IsProgram}
 use Rattle.group_checker.specs.declared.violation.Violation.{Violation}
 use Rattle.group_checker.specs.declared.report.Verdict.{Verdict}
 use Rattle.group_checker.specs.declared.report.Verdict.TheVariants.{Accepted, Violations}
-use Rattle.group_checker.specs.Reports.{IsReport, IsVerdict}
+use Rattle.group_checker.specs.Reports.{IsReport, IsVerdict, IsFree}
 use Rattle.group_checker.specs.Shown.{Report}
 use Rattle.ia64_top.specs.declared.status.Status.{Status}
 use Rattle.ia64_top.specs.declared.status.Status.TheVariants.{Done, Violated, Refused}
-use Rattle.group_checker.specs.Reports.{IsFree}
 use Rattle.ia64_top.specs.Judgements.{verdict_status, IsJudgement}
+use Rattle.ia64_top.specs.Texts.{verdict_text}
 use Rattle.ia64_top.specs.Readings.{Reading, IsRefusal}
 use Rattle.ia64_top.specs.Output.{IsCheckedAs}
-use Rattle.ia64_top.proofs.Outputs.{GivesOne, RefusesNone}
+use Rattle.ia64_top.proofs.Outputs.{GivesOne, RefusesNone, IsTold, TellsOne, holds_where_told, only_told}
 
 some_of : (all : List Violation) → 1 ≤ length all → (v : Violation) × Contains all v
 some_of [] l = absurd (omega arith)
 some_of (v ∷ vs) l = (v, (0, omega arith, refl))
 
 -- a program with a report isn't free
-not_free : (p : Program) (report : Report) → IsReport p report → IsFree p → ⊥
+not_free : (p : Program) (report : Report) → IsReport p report → ¬ IsFree p
 not_free p report r free = let m = some_of r.all r.some in free m.0 (r.list.only m.0 m.1)
 
 -- the verdict tells whether the program is free
@@ -28,8 +28,27 @@ done_of_verdict : (p : Program) (v : Verdict) → IsVerdict p v → ((verdict_st
 done_of_verdict p Accepted exact = (λ e. exact, λ f. refl)
 done_of_verdict p (Violations r) exact = (λ e. cc, λ f. absurd (not_free p r exact f))
 
-done_of_judgement : (p q : Program) (bytes : List ℕ) (status : Status) → p ≡ q → IsJudgement p bytes status → ((status ≡ Done) ↔ IsFree q)
-done_of_judgement p q bytes status e j = subst (λ x. (status ≡ Done) ↔ IsFree x) e (subst (λ s. (s ≡ Done) ↔ IsFree p) (sym j.tells) (done_of_verdict p j.verdict j.exact))
+violated_of_verdict : (p : Program) (v : Verdict) → IsVerdict p v → ((verdict_status v ≡ Violated) ↔ (¬ IsFree p))
+violated_of_verdict p Accepted exact = (λ e. cc, λ n. absurd (n exact))
+violated_of_verdict p (Violations r) exact = (λ e. not_free p r exact, λ n. refl)
+
+-- and has one status
+one_of_verdicts : (p : Program) (v w : Verdict) → IsVerdict p v → IsVerdict p w → verdict_status w ≡ verdict_status v
+one_of_verdicts p Accepted w mine other = (done_of_verdict p w other).1 mine
+one_of_verdicts p (Violations r) w mine other = (violated_of_verdict p w other).1 (not_free p r mine)
+
+-- a verdict as it is printed and answered
+pub judgement_of : (p : Program) (v : Verdict) (bytes : List ℕ) (status : Status) → IsProgram p → IsVerdict p v → (bytes ≡ verdict_text v) × (status ≡ verdict_status v) → IsJudgement p bytes status
+judgement_of p v bytes status program exact told = record { program = program; verdict = v; exact = exact; printed = told.0; tells = told.1 }
+
+pub done_of_judgement : (p : Program) (bytes : List ℕ) (status : Status) → IsJudgement p bytes status → ((status ≡ Done) ↔ IsFree p)
+done_of_judgement p bytes status j = subst (λ s. (s ≡ Done) ↔ IsFree p) (sym j.tells) (done_of_verdict p j.verdict j.exact)
+
+pub violated_of_judgement : (p : Program) (bytes : List ℕ) (status : Status) → IsJudgement p bytes status → ((status ≡ Violated) ↔ (¬ IsFree p))
+violated_of_judgement p bytes status j = subst (λ s. (s ≡ Violated) ↔ (¬ IsFree p)) (sym j.tells) (violated_of_verdict p j.verdict j.exact)
+
+one_judgement : TellsOne IsJudgement
+one_judgement p mine bytes status other m o = o.tells ∙ one_of_verdicts p m.verdict o.verdict m.exact o.exact ∙ sym m.tells
 
 -- what is checked of an input that is refused
 pub is_checked_refusal : (r : Reading) (input bytes : List ℕ) (status : Status) → IsRefusal r input bytes status → IsCheckedAs r input bytes status
@@ -44,26 +63,26 @@ by_verdict r input p bytes status (Violations report) g is = subst (λ s. IsJudg
 pub check_of_program : (r : Reading) (input : List ℕ) (p : Program) (bytes : List ℕ) (status : Status) → r.Gives input p → IsJudgement p bytes status → IsCheckedAs r input bytes status
 check_of_program r input p bytes status g o = by_verdict r input p bytes status o.verdict g o.tells o
 
--- `Done` is the answer exactly where the program is free
+-- each row tells the judgement of the program, or the refusal
+told_of_check : (r : Reading) (input bytes : List ℕ) (status : Status) → IsCheckedAs r input bytes status → IsTold r IsJudgement input bytes status
+told_of_check r input bytes Done o = inl o
+told_of_check r input bytes Violated o = inl o
+told_of_check r input bytes Refused o = inr (o, refl)
+told_of_check r input bytes status o = absurd o
+
+-- `Done` is the answer exactly where the program is free, and `Violated` where it isn't
 pub done_where_free : (r : Reading) → GivesOne r → RefusesNone r → (input bytes : List ℕ) (status : Status) → IsCheckedAs r input bytes status
     → (p : Program) → r.Gives input p → ((status ≡ Done) ↔ IsFree p)
-done_where_free r one none input bytes Done o p g = done_of_judgement o.0 p bytes Done (one input o.0 p o.1 g) o.2
-done_where_free r one none input bytes Violated o p g = done_of_judgement o.0 p bytes Violated (one input o.0 p o.1 g) o.2
-done_where_free r one none input bytes Refused o p g = absurd (none input p bytes g o)
-done_where_free r one none input bytes status o p g = absurd o
+done_where_free r one none input bytes status o =
+    holds_where_told r IsJudgement (λ p s. (s ≡ Done) ↔ IsFree p) done_of_judgement one none input bytes status (told_of_check r input bytes status o)
+
+pub violated_where_not_free : (r : Reading) → GivesOne r → RefusesNone r → (input bytes : List ℕ) (status : Status) → IsCheckedAs r input bytes status
+    → (p : Program) → r.Gives input p → ((status ≡ Violated) ↔ (¬ IsFree p))
+violated_where_not_free r one none input bytes status o =
+    holds_where_told r IsJudgement (λ p s. (s ≡ Violated) ↔ (¬ IsFree p)) violated_of_judgement one none input bytes status (told_of_check r input bytes status o)
 
 -- no other status is stated for what is checked
 pub only_checked : (r : Reading) → GivesOne r → RefusesNone r → (input mine : List ℕ) (status : Status) → IsCheckedAs r input mine status
     → (bytes : List ℕ) (other : Status) → IsCheckedAs r input bytes other → other ≡ status
-only_checked r one none input mine Done m bytes other o =
-    (done_where_free r one none input bytes other o m.0 m.1).1 ((done_where_free r one none input mine Done m m.0 m.1).0 refl)
-only_checked r one none input mine Violated m bytes Done o =
-    sym ((done_where_free r one none input mine Violated m o.0 o.1).1 ((done_where_free r one none input bytes Done o o.0 o.1).0 refl))
-only_checked r one none input mine Violated m bytes Violated o = refl
-only_checked r one none input mine Violated m bytes Refused o = absurd (none input m.0 bytes m.1 o)
-only_checked r one none input mine Violated m bytes other o = absurd o
-only_checked r one none input mine Refused m bytes Done o = absurd (none input o.0 mine o.1 m)
-only_checked r one none input mine Refused m bytes Violated o = absurd (none input o.0 mine o.1 m)
-only_checked r one none input mine Refused m bytes Refused o = refl
-only_checked r one none input mine Refused m bytes other o = absurd o
-only_checked r one none input mine status m bytes other o = absurd m
+only_checked r one none input mine status m bytes other o =
+    only_told r IsJudgement one_judgement one none input mine bytes status other (told_of_check r input mine status m) (told_of_check r input bytes other o)

@@ -5,3 +5,4 @@ mod Outputs
 mod Judging
 mod Running
 mod Answering
+mod Ordering

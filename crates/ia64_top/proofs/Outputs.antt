@@ -1,6 +1,6 @@
 -- One output is stated for an input.
-use Rattle.std.proofs.Common.{◌≡◌, ℕ, inl, inr, List, refl, sym, subst}
-use Rattle.std.specs.Prelude.{IfOk, MatchResult, Result, Ok, Err}
+use Rattle.std.proofs.Common.{◌≡◌, ℕ, inl, inr, List, refl, sym, ◌∙◌, subst}
+use Rattle.std.specs.Prelude.{◌⊎◌, IfOk, MatchResult, Result, Ok, Err}
 use Rattle.ia_insn.specs.Programs.{Program}
 use Rattle.image_form.specs.Laws.{OneProgram, NoFaultWhereSpelled, NoFaultWhereRaw}
 use Rattle.asm_build.specs.Laws.{OneTextProgram, NoFaultWhereRead}
@@ -43,6 +43,30 @@ either_gives_one image text input p q (inl a) (inl b) = image input p q a.1 b.1
 either_gives_one image text input p q (inl a) (inr b) = absurd (b.0 a.0)
 either_gives_one image text input p q (inr a) (inl b) = absurd (a.0 b.0)
 either_gives_one image text input p q (inr a) (inr b) = text input p q a.1 b.1
+
+-- What is told of the program that an input is read as, or that it is refused.
+abbrev pub IsTold : Reading → (Program → List ℕ → Status → Type 0) → List ℕ → List ℕ → Status → Type 0
+IsTold r Tells input bytes status =
+    ((p : Program) × r.Gives input p × Tells p bytes status) ⊎ IsRefusal r input bytes status
+
+-- What holds of each program that it is told of holds of what the input is read as.
+pub holds_where_told : (r : Reading) (Tells : Program → List ℕ → Status → Type 0) (P : Program → Status → Type 0)
+    → ((p : Program) (bytes : List ℕ) (status : Status) → Tells p bytes status → P p status)
+    → GivesOne r → RefusesNone r → (input bytes : List ℕ) (status : Status) → IsTold r Tells input bytes status → (p : Program) → r.Gives input p → P p status
+holds_where_told r Tells P holds one none input bytes status (inl t) p g = subst (λ x. P x status) (one input t.0 p t.1 g) (holds t.0 bytes status t.2)
+holds_where_told r Tells P holds one none input bytes status (inr t) p g = absurd (none input p bytes g t.0)
+
+-- One status is told of a program.
+abbrev pub TellsOne : (Program → List ℕ → Status → Type 0) → Type 0
+TellsOne Tells = (p : Program) (mine bytes : List ℕ) (status other : Status) → Tells p mine status → Tells p bytes other → other ≡ status
+
+-- And so one is told of an input.
+pub only_told : (r : Reading) (Tells : Program → List ℕ → Status → Type 0) → TellsOne Tells
+    → GivesOne r → RefusesNone r → (input mine bytes : List ℕ) (status other : Status) → IsTold r Tells input mine status → IsTold r Tells input bytes other → other ≡ status
+only_told r Tells single one none input mine bytes status other (inl m) (inl o) = single m.0 mine bytes status other m.2 (subst (λ x. Tells x bytes other) (one input o.0 m.0 o.1 m.1) o.2)
+only_told r Tells single one none input mine bytes status other (inl m) (inr o) = absurd (none input m.0 bytes m.1 o.0)
+only_told r Tells single one none input mine bytes status other (inr m) (inl o) = absurd (none input o.0 mine o.1 m.0)
+only_told r Tells single one none input mine bytes status other (inr m) (inr o) = o.1 ∙ sym m.1
 
 -- What is made of an input that is read has no other status, and neither has what is refused.
 pub only_made : (r : Reading) (Makes : Program → List ℕ → Type 0) → RefusesNone r → (input : List ℕ) (p : Program) → r.Gives input p

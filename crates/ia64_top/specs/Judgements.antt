@@ -1,6 +1,6 @@
--- What `check` prints and answers.
+-- The verdict on a program, as `check` prints it, and `run` where it runs nothing.
 use Rattle.std.specs.Prelude.{◌≡◌, ℕ, List}
-use Rattle.ia_insn.specs.Programs.{Program}
+use Rattle.ia_insn.specs.Programs.{Program, IsProgram}
 use Rattle.group_checker.specs.declared.report.Verdict.{Verdict}
 use Rattle.group_checker.specs.declared.report.Verdict.TheVariants.{Accepted, Violations}
 use Rattle.group_checker.specs.Reports.{IsVerdict}
@@ -15,7 +15,12 @@ verdict_status (Violations report) = Violated
 
 -- the bytes and the status of the verdict on a program
 pub record IsJudgement (p : Program) (bytes : List ℕ) (status : Status) : Type 0 where
+  pub program : IsProgram p
   pub verdict : Verdict
   pub exact : IsVerdict p verdict
   pub printed : bytes ≡ verdict_text verdict
   pub tells : status ≡ verdict_status verdict
+
+-- those of a verdict with violations
+abbrev pub IsJudgedViolated : Program → List ℕ → Status → Type 0
+IsJudgedViolated p bytes status = IsJudgement p bytes status × (status ≡ Violated)

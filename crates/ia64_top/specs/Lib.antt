@@ -6,3 +6,4 @@ pub mod Judgements
 pub mod Readings
 pub mod Runs
 pub mod Output
+pub mod NamedAddresses

@@ -1,5 +1,5 @@
 -- The stated output: what the words and the input give. Each command has a table of its own, a row for each status.
-use Rattle.std.specs.Prelude.{◌≡◌, ℕ, ◌<◌, nat_lt, List, [], length, take, Option, MatchOption, MatchBool}
+use Rattle.std.specs.Prelude.{◌≡◌, ℕ, ◌<◌, ◌≤◌, nat_lt, List, [], length, take, Option, MatchOption, MatchBool}
 use Rattle.std.specs.Io.KnownBytes.{Appends}
 use Rattle.ia64_top.specs.declared.words.Command.{Command}
 use Rattle.ia64_top.specs.declared.words.Command.TheVariants as command
@@ -11,12 +11,16 @@ use Rattle.asm_build.specs.CanonicalText.{canonical_text}
 use Rattle.asm_build.specs.Listing.{IsListing}
 use Rattle.ia64_top.specs.Words.{command_of}
 use Rattle.ia64_top.specs.Judgements.{IsJudgement}
-use Rattle.ia64_top.specs.Runs.{IsRunOf}
-use Rattle.ia64_top.specs.Readings.{Reading, as_image, as_bundles, as_text, as_either}
+use Rattle.ia64_top.specs.Runs.{IsRunOf, IsRunOfEveryOrder}
+use Rattle.ia64_top.specs.Readings.{Reading, BeginsAsImage, as_image, as_bundles, as_text, as_either}
 
 -- the longest input that is taken, in bytes
 abbrev pub input_limit : ℕ
 input_limit = 4194304
+
+-- An input that isn't too long. An image is never longer than the limit.
+abbrev pub IsWithinLimit : List ℕ → Type 0
+IsWithinLimit input = ¬ BeginsAsImage input → length input ≤ input_limit
 
 -- What a command writes and answers that makes something of the program that its input is read as: a row for
 -- each status, with where it comes.
@@ -39,10 +43,13 @@ IsCheckedAs reading input bytes Violated =
 IsCheckedAs reading input bytes Refused = reading.Refuses input bytes
 IsCheckedAs reading input bytes status = ⊥
 
--- What `run` writes and answers of an input that is read in a way. Nothing is checked before the run.
+-- What `run` writes and answers of an input that is read in a way. A program with violations isn't run: it gets the
+-- verdict that `check` gives it.
 abbrev pub IsRunAs : ℕ → Reading → List ℕ → List ℕ → Status → Type 0
 IsRunAs groups reading input bytes Done =
     (program : Program) × reading.Gives input program × IsRunOf program groups bytes Done
+IsRunAs groups reading input bytes Violated =
+    (program : Program) × reading.Gives input program × IsJudgement program bytes Violated
 IsRunAs groups reading input bytes Limit =
     (program : Program) × reading.Gives input program × IsRunOf program groups bytes Limit
 IsRunAs groups reading input bytes Faulted =
@@ -80,3 +87,8 @@ abbrev pub GivesPart : List (List ℕ) → List ℕ → Option (List ℕ) → Op
 GivesPart words input old new =
     (bytes : List ℕ) × (status : Status) × IsOutput words input bytes status
     × ((count : ℕ) × (count < length bytes) × Appends old new (take count bytes))
+
+-- The sink got the bytes of the run of a program, which are those of every order of the writes in its groups.
+abbrev pub GivesRunOfEveryOrder : Program → ℕ → Option (List ℕ) → Option (List ℕ) → Status → Type 0
+GivesRunOfEveryOrder program groups old new status =
+    (bytes : List ℕ) × Appends old new bytes × IsRunOfEveryOrder program groups bytes status

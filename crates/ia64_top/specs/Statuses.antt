@@ -1,5 +1,7 @@
 -- How a call of the top call may end.
 use Rattle.std.specs.Prelude.{ℕ}
+use Rattle.ia64_top.specs.declared.words.Command.{Command}
+use Rattle.ia64_top.specs.declared.words.Command.TheVariants as command
 use Rattle.ia64_top.specs.declared.status.Status.{Status}
 use Rattle.ia64_top.specs.declared.status.Status.TheVariants.{Done, Violated, Words, Refused, TooLong}
 use Rattle.ia64_top.specs.declared.status.Status.TheVariants.{ReadFault, WriteFault, NoMemory, Limit, Faulted}
@@ -23,3 +25,11 @@ IsAnswer ReadFault = ⊥
 IsAnswer WriteFault = ⊥
 IsAnswer NoMemory = ⊥
 IsAnswer status = Unit {0}
+
+-- The status of a command tells that the program is accepted: `check` is done, or `run` printed a state.
+abbrev pub TellsAccepted : Status → Command → Type 0
+TellsAccepted Done command.Check = Unit {0}
+TellsAccepted Done (command.Run groups) = Unit {0}
+TellsAccepted Limit (command.Run groups) = Unit {0}
+TellsAccepted Faulted (command.Run groups) = Unit {0}
+TellsAccepted status command = ⊥

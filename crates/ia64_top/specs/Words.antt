@@ -9,6 +9,12 @@ abbrev pub HasGroupsInRange : Command → Type 0
 HasGroupsInRange (Run groups) = (1 ≤ groups) × (groups ≤ group_limit)
 HasGroupsInRange command = ⊤
 
+-- `check` and `run` judge a program, and `run` runs it only where it is accepted.
+abbrev pub Judges : Command → Type 0
+Judges Check = ⊤
+Judges (Run groups) = ⊤
+Judges command = ⊥
+
 -- a run of so many groups, where there is a number
 abbrev pub run_command : Option ℕ → Option Command
 run_command (Some groups) = Some (Run groups)

@@ -1,17 +1,17 @@
 //! The answers of the commands.
 
-ghost use Rattle.std.specs.Prelude.{◌≡◌, ◌≢◌, ◌↔◌, ◌≤◌, ℕ, List, length, IfOk, MatchResult};
+ghost use Rattle.std.specs.Prelude.{◌≡◌, ◌≢◌, ◌↔◌, ◌⊎◌, ◌≤◌, ℕ, List, length, IfOk, MatchResult};
 ghost use Rattle.ia_insn.specs.Programs.{Program as Parts};
 ghost use Rattle.image_form.specs.Images.{Spells};
 ghost use Rattle.asm_build.specs.Listing.{IsListing};
 ghost use Rattle.ia64_top.specs.GroupCounts.{group_limit};
-ghost use Rattle.ia64_top.specs.Words.{HasGroupsInRange};
+ghost use Rattle.ia64_top.specs.Words.{HasGroupsInRange, Judges};
 ghost use Rattle.group_checker.specs.Reports.{IsFree};
-ghost use Rattle.ia64_top.specs.Judgements.{IsJudgement, verdict_status};
+ghost use Rattle.ia64_top.specs.Judgements.{IsJudgement, IsJudgedViolated, verdict_status};
 ghost use Rattle.ia64_top.specs.Output.{input_limit, IsCanonical, IsMadeOutput, IsCheckedAs, IsRunAs, IsCommandOutput};
 ghost use Rattle.ia64_top.specs.Readings.{as_image, as_bundles, as_text, as_either, IsRefusal};
 ghost use Rattle.ia64_top.specs.Runs.{run_of, end_status, IsRunOf};
-ghost use Rattle.ia64_top.specs.Texts.{refusal_text, text_refusal_text};
+ghost use Rattle.ia64_top.specs.Texts.{refusal_text, text_refusal_text, verdict_text};
 ghost use Rattle.ia64_top.specs.declared.status.Status.{Status};
 
 use crate::status::Status;
@@ -19,9 +19,9 @@ use crate::text::{refusal, text_refusal, verdict_text};
 use crate::words::Command;
 use asm_build::{TextError, assemble, disassemble, list, no_fault_where_read, one_text_program};
 use emulator::Machine;
-use group_checker::{Verdict, check};
+use group_checker::{Verdict, check, law_orders};
 use ia_insn::{End, Program};
-use ia_meaning::{groups_end, progress_is_run};
+use ia_meaning::progress_is_run;
 use image_form::{
     ImageFault, is_image, no_fault_where_raw, no_fault_where_spelled, one_program, read_image,
     wrap_raw, write_image,
@@ -133,15 +133,24 @@ fn verdict_status(verdict: &Verdict) -> Status
     }
 }
 
+/// The answer that a verdict is.
+fn judge(alloc: Global, verdict: &Verdict) -> Result<Answer, AllocError>
+    ensures { IfOk result (λ answer. (answer.bytes.items ≡ verdict_text verdict.now) × (answer.status ≡ verdict_status verdict.now)) }
+{
+    Ok(Answer {
+        bytes: verdict_text(alloc, verdict)?.into_bytes(),
+        status: verdict_status(verdict),
+    })
+}
+
 /// The answer of `check` to a program.
 fn check_program(alloc: Global, program: &Program) -> Result<Answer, AllocError>
     ensures { IfOk result (λ answer. IsJudgement program.now answer.bytes.items answer.status) }
 {
+    // This call tells that the program is one.
+    program.bundle_count();
     let verdict = check(alloc, program)?;
-    Ok(Answer {
-        bytes: verdict_text(alloc, &verdict)?.into_bytes(),
-        status: verdict_status(&verdict),
-    })
+    judge(alloc, &verdict)
 }
 
 /// The program of an image, or the answer to one with a fault.
@@ -195,6 +204,7 @@ fn check_input(alloc: Global, input: &[u8]) -> Result<Answer, AllocError>
     ensures output { IfOk result (λ answer. IsCheckedAs as_either input.now answer.bytes.items answer.status) }
     ensures only { IfOk result (λ answer. (bytes : List ℕ) (status : Status) → IsCheckedAs as_either input.now bytes status → status ≡ answer.status) }
     ensures accepted { IfOk result (λ answer. (p : Parts) → as_either.Gives input.now p → ((answer.status ≡ Status.Done) ↔ IsFree p)) }
+    ensures judged { IfOk result (λ answer. (p : Parts) → as_either.Gives input.now p → ((answer.status ≡ Status.Violated) ↔ (¬ IsFree p))) }
 {
     one_program();
     one_text_program();
@@ -214,15 +224,15 @@ fn end_status(end: &End) -> Status
     }
 }
 
-/// The answer of `run` to a program.
-#[tactic(auto, using(crate::proofs::Running::run_of_progress))]
-fn run_program(alloc: Global, groups: u64, program: &Program) -> Result<Answer, AllocError>
+/// The answer of `run` to an accepted program.
+fn run_accepted(alloc: Global, groups: u64, program: &Program) -> Result<Answer, AllocError>
     requires some { 1 ≤ groups }
     requires few { groups ≤ group_limit }
+    requires free { IsFree program.now }
     ensures { IfOk result (λ answer. IsRunOf program.now groups answer.bytes.items answer.status) }
 {
-    groups_end();
     progress_is_run();
+    law_orders();
     program.bundle_count();
     let mut machine = Machine::open(alloc, program)?;
     let end = machine.run(groups);
@@ -230,6 +240,21 @@ fn run_program(alloc: Global, groups: u64, program: &Program) -> Result<Answer, 
         bytes: state_text(alloc, &machine, &end)?,
         status: end_status(&end),
     })
+}
+
+/// The answer of `run` to a program: a program with violations isn't run, and gets the answer of `check`.
+fn run_program(alloc: Global, groups: u64, program: &Program) -> Result<Answer, AllocError>
+    requires some { 1 ≤ groups }
+    requires few { groups ≤ group_limit }
+    ensures { IfOk result (λ answer. IsRunOf program.now groups answer.bytes.items answer.status ⊎ IsJudgedViolated program.now answer.bytes.items answer.status) }
+{
+    // This call tells that the program is one.
+    program.bundle_count();
+    let verdict = check(alloc, program)?;
+    match &verdict {
+        Verdict::Accepted => run_accepted(alloc, groups, program),
+        Verdict::Violations(_) => judge(alloc, &verdict),
+    }
 }
 
 /// The answer of `run` to an image or a text.
@@ -252,7 +277,8 @@ fn run_input(alloc: Global, groups: u64, input: &[u8]) -> Result<Answer, AllocEr
     requires within { length input.now ≤ input_limit }
     ensures output { IfOk result (λ answer. IsRunAs groups as_either input.now answer.bytes.items answer.status) }
     ensures only { IfOk result (λ answer. (bytes : List ℕ) (status : Status) → IsRunAs groups as_either input.now bytes status → status ≡ answer.status) }
-    ensures ended { IfOk result (λ answer. (p : Parts) → as_either.Gives input.now p → answer.status ≡ end_status (run_of p groups).end) }
+    ensures judged { IfOk result (λ answer. (p : Parts) → as_either.Gives input.now p → ((answer.status ≡ Status.Violated) ↔ (¬ IsFree p))) }
+    ensures ended { IfOk result (λ answer. (p : Parts) → as_either.Gives input.now p → IsFree p → answer.status ≡ end_status (run_of p groups).end) }
 {
     one_program();
     one_text_program();
@@ -268,7 +294,8 @@ pub(crate) fn respond(alloc: Global, command: Command, input: &[u8]) -> Result<A
     ensures output { IfOk result (λ answer. IsCommandOutput command input.now answer.bytes.items answer.status) }
     ensures only { IfOk result (λ answer. (bytes : List ℕ) (status : Status) → IsCommandOutput command input.now bytes status → status ≡ answer.status) }
     ensures accepted { IfOk result (λ answer. command ≡ Command.Check → (p : Parts) → as_either.Gives input.now p → ((answer.status ≡ Status.Done) ↔ IsFree p)) }
-    ensures ended { IfOk result (λ answer. (groups : ℕ) → command ≡ Command.Run groups → (p : Parts) → as_either.Gives input.now p → answer.status ≡ end_status (run_of p groups).end) }
+    ensures judged { IfOk result (λ answer. Judges command → (p : Parts) → as_either.Gives input.now p → ((answer.status ≡ Status.Violated) ↔ (¬ IsFree p))) }
+    ensures ended { IfOk result (λ answer. (groups : ℕ) → command ≡ Command.Run groups → (p : Parts) → as_either.Gives input.now p → IsFree p → answer.status ≡ end_status (run_of p groups).end) }
 {
     match command {
         Command::Build => build_input(alloc, input),

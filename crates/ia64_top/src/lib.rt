@@ -2,11 +2,13 @@
 #![tactic(auto)]
 
 mod answer;
+mod laws;
 mod status;
 mod text;
 mod top;
 mod words;
 
+pub use laws::law_names;
 pub use status::Status;
 pub use top::ia64;
 pub use words::{Command, Words, one_numeral};

@@ -211,6 +211,14 @@ RAW b6 1.1 1.2
 RAW unat 2.0 2.1
 ";
 
+/// Two writes of one register, of which no run shows a state.
+const TWO_WRITES_TEXT: &str = "{ .mii
+adds r14=1,r0
+adds r14=2,r0
+nop.i 0 ;;
+}
+";
+
 /// A label again, before a bundle that is open at the end.
 const TWICE_TEXT: &str = "{ .mii
 nop.m 0
@@ -410,6 +418,12 @@ fn runs_have_their_output(rt: HostRuntime) -> Result<(), Fail> {
         ("run 1", image(2, NOPS), 8, text(AT_LIMIT)),
         ("run 10000000", text(BREAK_TEXT), 0, text(AT_BREAK)),
         ("run 1", text(DATA_TEXT), 9, text(FELL_OFF_WITH_DATA)),
+        (
+            "run 5",
+            text(TWO_WRITES_TEXT),
+            1,
+            text("violations 1\nWAW r14 0.0 0.1\n"),
+        ),
         ("run 1", text(""), 3, text("line 1: empty\n")),
     ];
     for (command, input, status, output) in rows {

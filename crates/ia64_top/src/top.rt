@@ -4,18 +4,22 @@ ghost use Rattle.std.specs.Prelude.{◌≡◌, ◌≢◌, ◌≤◌, ◌+◌, �
 ghost use Rattle.std.specs.Io.KnownBytes.{IsAtEnd};
 ghost use Rattle.io_seam.specs.Faults.{Rose};
 ghost use Rattle.io_seam.specs.Bytes.{LosesFirst, LosesAtMost};
-ghost use Rattle.ia64_top.specs.Words.{command_of};
-ghost use Rattle.ia64_top.specs.Statuses.{IsAnswer};
+ghost use Rattle.ia64_top.specs.Words.{command_of, Judges};
+ghost use Rattle.ia64_top.specs.Statuses.{IsAnswer, TellsAccepted};
 ghost use Rattle.ia_insn.specs.Programs.{Program};
+ghost use Rattle.ia_meaning.specs.OrderIndependence.{IsRobust};
 ghost use Rattle.group_checker.specs.Reports.{IsFree};
 ghost use Rattle.ia64_top.specs.Runs.{run_of, end_status};
-ghost use Rattle.ia64_top.specs.Readings.{as_either, BeginsAsImage};
-ghost use Rattle.ia64_top.specs.Output.{input_limit, IsOutput, GivesOutput, GivesPart};
+ghost use Rattle.ia64_top.specs.Readings.{as_either};
+ghost use Rattle.ia64_top.specs.Output.{input_limit, IsWithinLimit, IsOutput, GivesOutput, GivesPart, GivesRunOfEveryOrder};
 
 use crate::answer::respond;
 use crate::status::Status;
 use crate::words::{Command, Words};
-use image_form::image_size;
+use asm_build::one_text_program;
+use group_checker::law_orders;
+use ia_meaning::zero_is_start;
+use image_form::{image_size, one_program};
 use io_seam::{ReadError, Sink, Source, read_all, write_all};
 use std::alloc::Global;
 
@@ -39,12 +43,30 @@ pub fn ia64<S: Source, K: Sink>(
 
     // `accepted` is printed exactly where on no walk two slots of a group break a rule.
     ensures accepted { IsAnswer result → IfSome (S.left source.old) (λ input.
-        command_of words.now ≡ Some Command.Check → (¬ BeginsAsImage input → length input ≤ input_limit) → (program : Program) → as_either.Gives input program → ((result ≡ Status.Done) ↔ IsFree program)) }
+        command_of words.now ≡ Some Command.Check → IsWithinLimit input → (program : Program) → as_either.Gives input program →
+        ((result ≡ Status.Done) ↔ IsFree program)) }
 
-    // The end of the run tells the status: `Done` comes exactly where it is a `break`,
+    // What `accepted` promises. Where `check` is done, or `run` prints a state, the program is order independent: from every
+    // state at an entry, for every number of groups and every order of the writes in each group, groups at once leave
+    // what slots one by one leave.
+    ensures robust { IsAnswer result → IfSome (S.left source.old) (λ input. (command : Command) →
+        command_of words.now ≡ Some command → TellsAccepted result command → (program : Program) → as_either.Gives input program → IsRobust program) }
+
+    // So the state that `run` prints is the one of groups at once from the zero state, whatever the order of their writes.
+    ensures ordered { IsAnswer result → IfSome (S.left source.old) (λ input. (groups : ℕ) →
+        command_of words.now ≡ Some (Command.Run groups) → TellsAccepted result (Command.Run groups) → (program : Program) → as_either.Gives input program →
+        GivesRunOfEveryOrder program groups (K.given sink.old) (K.given sink.new) result) }
+
+    // `check` and `run` answer with violations exactly where on some walk two slots of a group break a rule.
+    ensures judged { IsAnswer result → IfSome (S.left source.old) (λ input. (command : Command) →
+        command_of words.now ≡ Some command → Judges command → IsWithinLimit input → (program : Program) → as_either.Gives input program →
+        ((result ≡ Status.Violated) ↔ (¬ IsFree program))) }
+
+    // Of any other program the end of the run tells the status: `Done` comes exactly where it is a `break`,
     // `Limit` where it is the limit of groups, and `Faulted` where it is a fault.
     ensures ended { IsAnswer result → IfSome (S.left source.old) (λ input. (groups : ℕ) →
-        command_of words.now ≡ Some (Command.Run groups) → (¬ BeginsAsImage input → length input ≤ input_limit) → (program : Program) → as_either.Gives input program → result ≡ end_status (run_of program groups).end) }
+        command_of words.now ≡ Some (Command.Run groups) → IsWithinLimit input → (program : Program) → as_either.Gives input program → IsFree program →
+        result ≡ end_status (run_of program groups).end) }
 
     // An answer leaves the counts of faults as they were, and the source read to its end.
     ensures counts { IsAnswer result → (S.faults source.new ≡ S.faults source.old) × (K.faults sink.new ≡ K.faults sink.old) }
@@ -79,6 +101,10 @@ pub fn ia64<S: Source, K: Sink>(
     ensures sink_told { IsSome (K.given sink.old) ↔ IsSome (K.given sink.new) }
 {
     image_size();
+    one_program();
+    one_text_program();
+    law_orders();
+    zero_is_start();
     let Some(command) = words.command() else {
         return Status::Words;
     };

@@ -20,7 +20,7 @@ pub enum Command {
     Wrap,
     /// Checks the groups of a program.
     Check,
-    /// Runs a program.
+    /// Runs a program that is accepted.
     Run {
         /// How many groups it may have, 1 to 10,000,000.
         groups: u64,

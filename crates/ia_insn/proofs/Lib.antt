@@ -7,3 +7,4 @@ pub mod Stops
 pub mod Reaching
 pub mod ProgramFaults
 pub mod OperandRanges
+pub mod ListedSlots

@@ -16,4 +16,5 @@ pub mod Places
 pub mod Runs
 pub mod Targets
 pub mod Programs
+pub mod Addresses
 pub mod Texts

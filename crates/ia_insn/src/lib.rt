@@ -9,6 +9,7 @@
 //! words and back.
 #![tactic(auto)]
 
+mod addresses;
 mod bundle;
 mod choices;
 mod ending;
@@ -33,6 +34,7 @@ mod slot_fitness;
 mod targets;
 mod template;
 
+pub use addresses::{BUNDLE_BASE, DATA_BASE, bundle_address, data_address};
 pub use bundle::{BundleOf, Slots};
 pub use choices::{AluFn, BranchKind, CmpKind, LoadKind, Rel, ShiftFn, StoreKind, Unit, Update};
 pub use ending::{End, FaultKind, GroupEvent, How};

@@ -8,7 +8,7 @@ use Rattle.ia_insn.specs.Places.{IsNext, IsStopped}
 use Rattle.ia_insn.specs.Programs.{Program}
 use Rattle.ia_insn.specs.Targets.{IsBundleAt}
 use Rattle.ia_meaning.proofs.Sequences.{entry_decides, next_fits, stop_decides}
-use Rattle.ia_meaning.specs.State.{bundle_address}
+use Rattle.ia_insn.specs.Addresses.{bundle_address}
 use Rattle.ia_meaning.specs.Landings.{target_of, is_entry, landing}
 use Rattle.ia_meaning.specs.Sequence.{next_of, is_stopped}
 

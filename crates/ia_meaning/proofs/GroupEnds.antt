@@ -28,9 +28,11 @@ opened_keeps m = of (m.slots == 0)
 pub begun_under_way : (p : Program) (s : State) → IsPlaceOf p.bundles s.place → IsUnderWay p (begun s)
 begun_under_way p s is = record { place = is; before = []; stand = tt; count = refl }
 
+-- slot 0 of bundle 0 is a place of the program
 pub zero_is_place : (p : Program) → IsProgram p → IsPlaceOf p.bundles (zero_state p).place
 zero_is_place p program = let c = program.counts in first_is_place p.bundles 0 (omega (arith, c.some))
 
+-- so is one that begins at the zero state
 pub begins_under_way : (p : Program) → IsProgram p → IsUnderWay p (begun (zero_state p))
 begins_under_way p program = begun_under_way p (zero_state p) (zero_is_place p program)
 

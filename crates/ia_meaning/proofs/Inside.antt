@@ -1,5 +1,5 @@
--- The place that a step leaves a state at.
-use Rattle.std.proofs.Common.{◌≡◌, ℕ, ◌<◌, Bool, true, false, List, length, Option, Some, None, refl, sym, subst, inl, inr, arith}
+-- The place that a step leaves a state at, and the one to which a slot falls through.
+use Rattle.std.proofs.Common.{◌≡◌, ℕ, ◌<◌, Bool, true, false, List, length, Option, Some, None, refl, inl, inr, arith}
 use Rattle.std.specs.Prelude.{ℤ, IfSome, IsSome}
 use Rattle.ia_insn.specs.declared.insn.Insn.{Insn}
 use Rattle.ia_insn.specs.declared.place.Place.{Place}
@@ -11,11 +11,12 @@ use Rattle.ia_insn.specs.Targets.{displacement, IsBundleAt, IsTargetInside}
 use Rattle.ia_insn.proofs.InOrder.{is_place, get_some}
 use Rattle.ia_meaning.specs.declared.next.Next.{Next}
 use Rattle.ia_meaning.specs.declared.next.Next.TheVariants.{Falls, Goes, Breaks, Faults}
-use Rattle.ia_meaning.specs.State.{State}
+use Rattle.ia_meaning.specs.State.{Registers, Memory, State}
 use Rattle.ia_meaning.specs.Outcomes.{Outcome}
 use Rattle.ia_meaning.specs.Effects.{site, effect}
 use Rattle.ia_meaning.specs.Sequence.{first_of, next_of, is_stopped}
 use Rattle.ia_meaning.specs.Steps.{Step, outcome_of, step_by, step_of, seq_step, how_falling, place_after}
+use Rattle.ia_meaning.specs.ParallelGroups.{outcome_from}
 use Rattle.ia_meaning.proofs.GoesOn.{IsGoodNext, IsGoodWay, IsGoodTarget, effect_on, settled_on, falls_to, effect_leaves}
 use Rattle.ia_meaning.proofs.Follows.{landing_small, target_small, next_is, not_stopped}
 
@@ -64,16 +65,26 @@ falling_on : (stopped : Bool) → how_falling stopped ≡ None → stopped ≡ f
 falling_on true e = absurd cc
 falling_on false e = refl
 
--- where a step ends no group, its instruction falls through and no stop follows
-pub record FallsOn (p : Program) (s : State) (o : Outcome) (way : Next) : Type 0 where
-  pub falls : way ≡ Falls
-  pub runs : is_stopped p.bundles s.place ≡ false
+-- there is a next place, and no run of slots ends here
+pub record FallsOn (p : Program) (place : Place) : Type 0 where
+  pub next : IsNext p.bundles place (place_after place (next_of p.bundles place))
+  pub on : ¬ EndsRun p.bundles place
 
-step_falls : (p : Program) (s : State) (o : Outcome) (way : Next) → (step_by p s o way).how ≡ None → FallsOn p s o way
-step_falls p s o Falls e = record { falls = refl; runs = falling_on (is_stopped p.bundles s.place) e }
-step_falls p s o (Goes bundle) e = absurd cc
-step_falls p s o (Breaks imm) e = absurd cc
-step_falls p s o (Faults kind) e = absurd cc
+falls_on_to : (p : Program) (place next : Place) → next_of p.bundles place ≡ Some next → ¬ EndsRun p.bundles place → FallsOn p place
+falls_on_to p place next e on = record { next = rw e (next_is p.bundles place next e); on = on }
+
+-- where an instruction falls through, whatever it reads, and no stop follows, no run ends
+run_goes_on : (p : Program) (place : Place) (insn : Insn) (r : Registers) (m : Memory) (unat : ℕ) → insn_at p.bundles place ≡ Some insn → is_stopped p.bundles place ≡ false → (effect (site p place.bundle) insn r m unat).next ≡ Falls → EndsRun p.bundles place → ⊥
+run_goes_on p place insn r m unat e runs falls (inl stop) = not_stopped p.bundles place runs stop
+run_goes_on p place insn r m unat e runs falls (inr leaving) =
+    let h : (insn.qp ≡ 0) × IsLeaving insn.op = rw e at leaving in
+    effect_leaves (site p place.bundle) insn r m unat h.0 h.1 falls
+
+-- An instruction that falls through, whatever it reads, goes on to the next place where no stop follows.
+pub slot_falls_on : (p : Program) (place : Place) (insn : Insn) (r : Registers) (m : Memory) (unat : ℕ) → insn_at p.bundles place ≡ Some insn → is_stopped p.bundles place ≡ false → (outcome_from p place insn r m unat).next ≡ Falls → FallsOn p place
+slot_falls_on p place insn r m unat e runs falls =
+    let f = falls_to (next_of p.bundles place) m (effect (site p place.bundle) insn r m unat) falls in
+    falls_on_to p place f.place f.is (run_goes_on p place insn r m unat e runs f.falls)
 
 -- A step that ends no group: the instruction falls through to the next place, and no run of slots ends there.
 pub record Continues (p : Program) (s : State) (step : Step) : Type 0 where
@@ -81,32 +92,19 @@ pub record Continues (p : Program) (s : State) (step : Step) : Type 0 where
   pub on : ¬ EndsRun p.bundles s.place
   pub end : step.end ≡ None
 
-continues_falling : (p : Program) (s : State) (o : Outcome) (place : Place) → next_of p.bundles s.place ≡ Some place → ¬ EndsRun p.bundles s.place → Continues p s (step_by p s o Falls)
-continues_falling p s o place e on = record {
-  next = rw e (next_is p.bundles s.place place e);
-  on = on;
-  end = refl;
-}
-
--- where an instruction falls through and no stop follows, no run ends
-run_goes_on : (p : Program) (s : State) (insn : Insn) → insn_at p.bundles s.place ≡ Some insn → is_stopped p.bundles s.place ≡ false → (effect (site p s.place.bundle) insn s.registers s.memory s.registers.unat).next ≡ Falls → EndsRun p.bundles s.place → ⊥
-run_goes_on p s insn e runs falls (inl stop) = not_stopped p.bundles s.place runs stop
-run_goes_on p s insn e runs falls (inr leaving) =
-    let h : (insn.qp ≡ 0) × IsLeaving insn.op = rw e at leaving in
-    effect_leaves (site p s.place.bundle) insn s.registers s.memory s.registers.unat h.0 h.1 falls
-
-continues_at : (p : Program) (s : State) (insn : Insn) → insn_at p.bundles s.place ≡ Some insn → (step_by p s (outcome_of p s insn) (outcome_of p s insn).next).how ≡ None → Continues p s (step_by p s (outcome_of p s insn) (outcome_of p s insn).next)
-continues_at p s insn e h =
-    let f = step_falls p s (outcome_of p s insn) (outcome_of p s insn).next h in
-    let g = falls_to (next_of p.bundles s.place) s.memory (effect (site p s.place.bundle) insn s.registers s.memory s.registers.unat) f.falls in
-    subst (λ (way : Next). Continues p s (step_by p s (outcome_of p s insn) way)) (sym f.falls)
-    (continues_falling p s (outcome_of p s insn) g.place g.is (run_goes_on p s insn e f.runs g.falls))
+continues_by : (p : Program) (s : State) (o : Outcome) (way : Next) → (is_stopped p.bundles s.place ≡ false → way ≡ Falls → FallsOn p s.place) → (step_by p s o way).how ≡ None → Continues p s (step_by p s o way)
+continues_by p s o Falls falls e =
+    let f = falls (falling_on (is_stopped p.bundles s.place) e) refl in record { next = f.next; on = f.on; end = refl }
+continues_by p s o (Goes bundle) falls e = absurd cc
+continues_by p s o (Breaks imm) falls e = absurd cc
+continues_by p s o (Faults kind) falls e = absurd cc
 
 -- A step that ends no group continues.
 pub step_continues : (p : Program) (s : State) → IsPlaceOf p.bundles s.place → (seq_step p s).how ≡ None → Continues p s (seq_step p s)
-unfolding seq_step insn_at
+unfolding seq_step
 step_continues p s is h = of (insn_at p.bundles s.place) refl is h
   where
     of : (o : Option Insn) → insn_at p.bundles s.place ≡ o → IsSome o → (step_of p s o).how ≡ None → Continues p s (step_of p s o)
     of None e is h = absurd cc
-    of (Some insn) e is h = continues_at p s insn e h
+    of (Some insn) e is h =
+        continues_by p s (outcome_of p s insn) (outcome_of p s insn).next (slot_falls_on p s.place insn s.registers s.memory s.registers.unat e) h

@@ -1,10 +1,24 @@
 pub mod Sequences
+pub mod FormSizes
 pub mod Inversions
 mod Examples
 pub mod GoesOn
 pub mod Follows
 pub mod Inside
+pub mod GroupLengths
 pub mod GroupEnds
 pub mod WholeRuns
 pub mod GroupEvents
+pub mod GroupRests
+pub mod RunEvents
 pub mod Starts
+pub mod Codes
+pub mod AtAddresses
+pub mod Resizing
+pub mod ReturnFrames
+pub mod AlatLists
+pub mod DataAccesses
+pub mod WriteLists
+pub mod PredicatePlaces
+pub mod StepHere
+pub mod ListedNames

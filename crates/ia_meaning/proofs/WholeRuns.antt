@@ -11,13 +11,13 @@ use Rattle.ia_insn.specs.Programs.{Program, IsProgram}
 use Rattle.ia_meaning.specs.declared.next.Next.{Next}
 use Rattle.ia_meaning.specs.declared.next.Next.TheVariants.{Falls, Goes, Breaks, Faults}
 use Rattle.ia_meaning.specs.declared.state.Rse.{Rse}
-use Rattle.ia_meaning.specs.State.{State, zero_state}
+use Rattle.ia_meaning.specs.State.{State}
 use Rattle.ia_meaning.specs.Outcomes.{Outcome}
 use Rattle.ia_meaning.specs.ResidentRange.{range_after, range_of}
 use Rattle.ia_meaning.specs.Steps.{Step, step_by, step_of, seq_step, outcome_of, Group, and_then, group_by, group_within, seq_group, event_of, Run, run_by, run_from, seq_run}
 use Rattle.ia_meaning.specs.Progress.{Progress, begun, opened, slots_after, stepped, advanced, rest_by, to_group_end, group_further, groups_further, end_of}
 use Rattle.ia_meaning.specs.Runs.{IsUnderWay, HasRun, run_text, progress_text}
-use Rattle.ia_meaning.proofs.GroupEnds.{begun_under_way, zero_is_place, group_under_way, group_comes_to_end, groups_ended}
+use Rattle.ia_meaning.proofs.GroupEnds.{begun_under_way, group_under_way, group_comes_to_end, groups_ended}
 
 -- the range after frame changes and more of them
 range_appended : (r : Rse) (changes more : List (ℕ × ℕ)) → range_of (range_of r changes) more ≡ range_of r (changes ++ more)
@@ -126,13 +126,13 @@ run_step m next after group event rest has ended goes None is =
     }
 
 -- So many groups further is the run of so many groups, from between two groups.
-pub rest_is : (n number : ℕ) (p : Program) (m : Progress) → IsProgram p → IsUnderWay p m → m.end ≡ None → m.slots ≡ 0 → HasRest m (groups_further n p m) (run_from number n p m.state)
+pub rest_is : (n number : ℕ) (p : Program) (m : Progress) → IsProgram p → IsUnderWay p m → m.end ≡ None → m.slots ≡ 0 → HasRest m (groups_further n p m) (run_from (λ k s. seq_group p s) number n m.state)
 rest_is zero number p m program u none slots = record { state = refl; end = rw none refl; groups = omega arith; range = refl }
 rest_is (suc n) number p m program u none slots =
     let has = subst (λ (o : Progress). HasGroup o (group_further p m) (seq_group p m.state)) (opened_between m slots) (group_is p m none) in
-    run_step m (group_further p m) (groups_further n p (group_further p m)) (seq_group p m.state) (event_of number m.state.place (seq_group p m.state)) (run_from (suc number) n p (seq_group p m.state).state)
+    run_step m (group_further p m) (groups_further n p (group_further p m)) (seq_group p m.state) (event_of number m.state.place (seq_group p m.state)) (run_from (λ k s. seq_group p s) (suc number) n (seq_group p m.state).state)
     has (groups_ended n p (group_further p m))
-    (λ goes. subst (λ (s : State). HasRest (group_further p m) (groups_further n p (group_further p m)) (run_from (suc number) n p s)) has.state
+    (λ goes. subst (λ (s : State). HasRest (group_further p m) (groups_further n p (group_further p m)) (run_from (λ k t. seq_group p t) (suc number) n s)) has.state
     (rest_is n (suc number) p (group_further p m) program (group_under_way p m program u) goes (group_comes_to_end p m program u none)))
     (seq_group p m.state).end refl
 
@@ -144,7 +144,6 @@ progress_is_run n p s program is =
 same_text : (m : Progress) (run : Run) → HasRun m run → progress_text m ≡ run_text run
 same_text m run h = let e = h.state in let f = h.end in let g = h.groups in let k = h.range in cc
 
-pub progress_text_is_run_text : (n : ℕ) (p : Program) → IsProgram p → progress_text (groups_further n p (begun (zero_state p))) ≡ run_text (seq_run p n (zero_state p))
-progress_text_is_run_text n p program =
-    same_text (groups_further n p (begun (zero_state p))) (seq_run p n (zero_state p))
-    (progress_is_run n p (zero_state p) program (zero_is_place p program))
+pub progress_text_is_run_text : (n : ℕ) (p : Program) (s : State) → IsProgram p → IsPlaceOf p.bundles s.place → progress_text (groups_further n p (begun s)) ≡ run_text (seq_run p n s)
+progress_text_is_run_text n p s program is =
+    same_text (groups_further n p (begun s)) (seq_run p n s) (progress_is_run n p s program is)

@@ -1,6 +1,6 @@
 -- What each operation does: one row an operation, in the manual's order, which gives it an action. An action is one
 -- of few kinds, and each kind has its effect once (Effects).
-use Rattle.std.specs.Prelude.{ℕ, ℤ, ◌^◌, Bool, false, not, if◌then◌else◌, Option, Some, None, count_ones}
+use Rattle.std.specs.Prelude.{ℕ, ℤ, ◌^◌, Bool, true, false, not, if◌then◌else◌, Option, Some, None, count_ones}
 use Rattle.ia_insn.specs.declared.choices.Unit.{Unit as ExecutionUnit}
 use Rattle.ia_insn.specs.declared.choices.Unit.TheVariants.{M}
 use Rattle.ia_insn.specs.declared.choices.CmpKind.{CmpKind}
@@ -11,6 +11,7 @@ use Rattle.ia_insn.specs.declared.choices.BranchKind.{BranchKind}
 use Rattle.ia_insn.specs.declared.choices.BranchKind.TheVariants.{Cond}
 use Rattle.ia_insn.specs.declared.choices.Update.{Update}
 use Rattle.ia_insn.specs.declared.registers.Ar.{Ar}
+use Rattle.ia_insn.specs.declared.insn.Insn.{Insn}
 use Rattle.ia_insn.specs.declared.insn.Op.{Op}
 use Rattle.ia_insn.specs.declared.insn.Op.TheVariants as op
 use Rattle.ia_meaning.specs.declared.state.Cell.{Cell}
@@ -150,3 +151,25 @@ word_function_of action = λ _. 0
 abbrev pub test_of : Action → Cell → Cell → Option Bool
 test_of (Test kind p1 p2 r2 r3 f) = f
 test_of action = λ _ _. None
+
+-- the form of an instruction
+abbrev pub insn_form : Insn → Form
+insn_form insn = form_of (action_of insn.op)
+
+-- a branch, direct or indirect, loop branches, calls and returns among them
+abbrev pub is_branch : Form → Bool
+is_branch (form.Jump disp) = true
+is_branch (form.JumpIndirect b2) = true
+is_branch (form.Loop kind disp) = true
+is_branch (form.Call b1 goal) = true
+is_branch (form.Return b2) = true
+is_branch f = false
+
+abbrev pub is_alloc : Form → Bool
+is_alloc (form.Allocate r1 sof sol sor) = true
+is_alloc f = false
+
+-- a slot that is an `alloc`
+abbrev pub allocates : Option Insn → Bool
+allocates None = false
+allocates (Some insn) = is_alloc (insn_form insn)

@@ -3,9 +3,10 @@
 use Rattle.std.specs.Prelude.{ℕ, ◌+◌, ◌-◌, ◌*◌, ◌/◌, ◌%◌, ◌^◌, Bool, false, not, ◌&&◌, ◌||◌, ◌==◌, if◌then◌else◌, List, [], ◌∷◌, Option, Some, None, nat_lt, IsTrue, ◌↔◌}
 use Rattle.ia_insn.specs.declared.ending.FaultKind.{FaultKind}
 use Rattle.ia_insn.specs.declared.ending.FaultKind.TheVariants.{OutOfFrame, BadFrame, ReservedField, Underflow, StackLimit, BadLanding}
+use Rattle.ia_insn.specs.Addresses.{bundle_address}
 use Rattle.ia_meaning.specs.declared.state.FrameShape.{FrameShape}
 use Rattle.ia_meaning.specs.declared.state.AlatKey.{AlatKey as Spot}
-use Rattle.ia_meaning.specs.State.{zero_bases, bundle_address, Memory, IsFrame}
+use Rattle.ia_meaning.specs.State.{zero_bases, Memory, IsFrame}
 use Rattle.ia_meaning.specs.Writes.{Write, SetBranch, SetPfs, SetEc, SetFrame, Resized}
 use Rattle.ia_meaning.specs.Names.{set_spot}
 use Rattle.ia_meaning.specs.Outcomes.{Outcome, falls, goes, faults}

@@ -1,13 +1,13 @@
 -- Where branches go (volume 3, chapter 2, `br`): the target of a direct one, and the entries on which an indirect one
 -- lands. The tests are those of the relations of programs (`entry_test`).
-use Rattle.std.specs.Prelude.{ℕ, ℤ, pos, ◌+ℤ◌, nat_abs, ◌-◌, ◌/◌, Bool, true, false, ◌&&◌, ◌||◌, ◌==◌, if◌then◌else◌, List, [], ◌∷◌, length, slice_get, Option, Some, None, nat_lt, nat_le, IsTrue, ◌↔◌}
+use Rattle.std.specs.Prelude.{◌≡◌, ℕ, ℤ, pos, ◌+ℤ◌, nat_abs, ◌-◌, ◌/◌, Bool, true, false, ◌&&◌, ◌||◌, ◌==◌, if◌then◌else◌, List, [], ◌∷◌, length, slice_get, Option, Some, None, nat_lt, nat_le, IsTrue, ◌↔◌}
 use Rattle.ia_insn.specs.declared.insn.Op.{Op}
 use Rattle.ia_insn.specs.declared.insn.Op.TheVariants.{BrCall, BrCallInd}
 use Rattle.ia_insn.specs.declared.bundle.Slots.{Slots}
 use Rattle.ia_insn.specs.declared.bundle.Slots.TheVariants.{Three, Long}
 use Rattle.ia_insn.specs.Bundles.{Bundle}
 use Rattle.ia_insn.specs.Programs.{Program, IsEntry}
-use Rattle.ia_meaning.specs.State.{bundle_address}
+use Rattle.ia_insn.specs.Addresses.{bundle_address}
 
 -- The bundle that is so many from this one. A program's targets are its bundles, so the sum isn't negative; of a negative
 -- one it is the distance.
@@ -48,3 +48,7 @@ landing p x =
 -- The test says of each bundle whether it is an entry.
 abbrev pub EntryTest : Type 0
 EntryTest = (p : Program) (n : ℕ) → IsTrue (is_entry p n) ↔ IsEntry p n
+
+-- An indirect branch to the address of an entry lands on it.
+abbrev pub EntryIsAtItsAddress : Type 0
+EntryIsAtItsAddress = (p : Program) (n : ℕ) → IsEntry p n → landing p (bundle_address n) ≡ Some n

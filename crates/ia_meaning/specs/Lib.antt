@@ -12,6 +12,10 @@ pub mod Landings
 pub mod Effects
 pub mod Sequence
 pub mod Steps
+pub mod WriteOrders
+pub mod Views
+pub mod ParallelGroups
+pub mod OrderIndependence
 pub mod ResidentRange
 pub mod Progress
 pub mod StateText

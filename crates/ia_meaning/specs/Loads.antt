@@ -1,6 +1,6 @@
 -- The effects of loads, stores and checks (volume 1, chapter 4, control and data speculation, and volume 3, chapter 2,
 -- `ld`, `st`, `chk` and `invala`).
-use Rattle.std.specs.Prelude.{ℕ, zero, suc, ◌+◌, ◌-◌, ◌*◌, ◌/◌, ◌%◌, Bool, true, false, not, ◌&&◌, ◌||◌, ◌==◌, if◌then◌else◌, List, [], ◌∷◌, ◌++◌, length, get_or, set, drop, Option, Some, None, nat_le}
+use Rattle.std.specs.Prelude.{◌≡◌, ℕ, zero, suc, ◌+◌, ◌-◌, ◌*◌, ◌/◌, ◌%◌, ◌<◌, Bool, true, false, not, ◌&&◌, ◌||◌, ◌==◌, if◌then◌else◌, List, [], ◌∷◌, ◌++◌, length, get_or, set, drop, Option, Some, None, nat_le}
 use Rattle.ia_insn.specs.declared.choices.LoadKind.{LoadKind}
 use Rattle.ia_insn.specs.declared.choices.LoadKind.TheVariants as load
 use Rattle.ia_insn.specs.declared.choices.StoreKind.{StoreKind}
@@ -9,12 +9,13 @@ use Rattle.ia_insn.specs.declared.choices.Update.{Update}
 use Rattle.ia_insn.specs.declared.choices.Update.TheVariants as update
 use Rattle.ia_insn.specs.declared.ending.FaultKind.{FaultKind}
 use Rattle.ia_insn.specs.declared.ending.FaultKind.TheVariants.{OutOfFrame, NatConsumed, Unaligned, BadAddress}
+use Rattle.ia_insn.specs.Addresses.{data_base, data_address}
 use Rattle.ia_meaning.specs.declared.state.Cell.{Cell}
 use Rattle.ia_meaning.specs.declared.state.AlatKey.{AlatKey as Spot}
 use Rattle.ia_meaning.specs.declared.state.AlatKey.TheVariants.{Static, Stacked}
 use Rattle.ia_meaning.specs.declared.state.AlatEntry.{AlatEntry}
 use Rattle.ia_meaning.specs.declared.next.Next.TheVariants.{Falls}
-use Rattle.ia_meaning.specs.State.{zero_cell, data_base, Memory}
+use Rattle.ia_meaning.specs.State.{zero_cell, Memory}
 use Rattle.ia_meaning.specs.Writes.{Write}
 use Rattle.ia_meaning.specs.Names.{set_spot}
 use Rattle.ia_meaning.specs.Arithmetic.{word, immediate, bit}
@@ -33,6 +34,12 @@ bytes_at bytes at (suc n) = get_or bytes at 0 + 256 * bytes_at bytes (suc at) n
 
 unfoldable pub loaded : List ℕ → ℕ → ℕ → ℕ
 loaded bytes address size = bytes_at bytes (address - data_base) size
+
+-- A load of one byte from the address of a data byte is without fault, and gives that byte.
+abbrev pub ByteIsAtItsAddress : Type 0
+ByteIsAtItsAddress =
+    (bytes : List ℕ) (n : ℕ) → n < length bytes
+    → (access_fault bytes (data_address n) 1 ≡ None) × (loaded bytes (data_address n) 1 ≡ get_or bytes n 0)
 
 -- the bytes with the low bytes of a number from a place on
 abbrev pub with_bytes : List ℕ → ℕ → ℕ → ℕ → List ℕ

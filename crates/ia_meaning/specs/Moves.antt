@@ -5,11 +5,12 @@ use Rattle.ia_insn.specs.declared.choices.CmpKind.TheVariants.{Normal, Unc, And,
 use Rattle.ia_insn.specs.declared.registers.Ar.{Ar}
 use Rattle.ia_insn.specs.declared.registers.Ar.TheVariants.{Unat, Pfs, Lc, Ec}
 use Rattle.ia_insn.specs.declared.ending.FaultKind.TheVariants.{OutOfFrame, NatConsumed, ReservedField}
+use Rattle.ia_insn.specs.Addresses.{bundle_address}
 use Rattle.ia_meaning.specs.declared.state.Cell.{Cell}
 use Rattle.ia_meaning.specs.declared.state.AlatKey.{AlatKey as Spot}
 use Rattle.ia_meaning.specs.declared.form.Source.{Source}
 use Rattle.ia_meaning.specs.declared.form.Source.TheVariants as source
-use Rattle.ia_meaning.specs.State.{Registers, Memory, bundle_address}
+use Rattle.ia_meaning.specs.State.{Registers, Memory}
 use Rattle.ia_meaning.specs.Writes.{Write, SetPredicate, SetBranch, SetUnat, SetPfs, SetLc, SetEc}
 use Rattle.ia_meaning.specs.Names.{set_spot, set_predicate}
 use Rattle.ia_meaning.specs.Arithmetic.{bit}

@@ -4,6 +4,7 @@ use Rattle.ia_insn.specs.declared.place.Place.{Place}
 use Rattle.ia_insn.specs.Places.{IsPlaceOf}
 use Rattle.ia_insn.specs.Programs.{Program, IsProgram, IsEntry, AreBytes}
 use Rattle.ia_insn.specs.Ranges.{IsAccessSize}
+use Rattle.ia_insn.specs.Addresses.{data_base}
 use Rattle.ia_meaning.specs.declared.state.Cell.{Cell}
 use Rattle.ia_meaning.specs.declared.state.Rrbs.{Rrbs}
 use Rattle.ia_meaning.specs.declared.state.FrameShape.{FrameShape}
@@ -56,14 +57,6 @@ zero_state p = record {
   memory = record { bytes = p.bytes; alat = [] };
   place = record { bundle = 0; slot = 0 };
 }
-
--- the address of the first data byte
-abbrev pub data_base : ℕ
-data_base = 0x100000
-
--- the address of the n-th bundle
-abbrev pub bundle_address : ℕ → ℕ
-bundle_address n = 0x10000 + 16 * n
 
 -- bits 51:38 and 61:58 of a previous function state are zero
 abbrev pub HasReservedZeros : ℕ → Type 0

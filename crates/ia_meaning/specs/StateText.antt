@@ -4,13 +4,14 @@ use Rattle.std.specs.Fmt.{digits}
 use Rattle.ia_insn.specs.Texts.{gr_text, br_text, place_text, fault_name}
 use Rattle.ia_insn.specs.declared.ending.End.{End}
 use Rattle.ia_insn.specs.declared.ending.End.TheVariants.{Break, Limit, Fault}
+use Rattle.ia_insn.specs.Addresses.{data_base}
 use Rattle.ia_meaning.specs.declared.state.Cell.{Cell}
 use Rattle.ia_meaning.specs.declared.state.FrameShape.{FrameShape}
 use Rattle.ia_meaning.specs.declared.state.Rse.{Rse}
 use Rattle.ia_meaning.specs.declared.state.AlatKey.{AlatKey}
 use Rattle.ia_meaning.specs.declared.state.AlatKey.TheVariants.{Static, Stacked}
 use Rattle.ia_meaning.specs.declared.state.AlatEntry.{AlatEntry}
-use Rattle.ia_meaning.specs.State.{data_base, Registers, State}
+use Rattle.ia_meaning.specs.State.{Registers, State}
 use Rattle.ia_meaning.specs.Names.{look}
 use Rattle.ia_meaning.specs.Moves.{predicate_word}
 use Rattle.ia_meaning.specs.Loads.{loaded}

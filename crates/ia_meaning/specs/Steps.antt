@@ -107,7 +107,7 @@ group_within zero p s = record { state = s; last = s.place; slots = 0; how = Non
 group_within (suc most) p s =
     let step = seq_step p s in group_by p s step step.how (group_within most p step.state)
 
--- One sequential group. A program's has at most 192 slots.
+-- One sequential group. A program's has at most 192 slots (`groups_end`).
 abbrev pub seq_group : Program → State → Group
 seq_group p s = group_within 192 p s
 
@@ -130,13 +130,13 @@ abbrev pub run_by : Group → GroupEvent → Option End → Run → Run
 run_by group event (Some e) rest = record { state = group.state; end = e; events = event ∷ []; frames = group.frames }
 run_by group event None rest = record rest { events = event ∷ rest.events; frames = group.frames ++ rest.frames }
 
--- So many groups, the first with this number, or fewer up to an end.
-abbrev pub run_from : ℕ → ℕ → Program → State → Run
-run_from number zero p s = record { state = s; end = end.Limit s.place; events = []; frames = [] }
-run_from number (suc n) p s =
-    let group = seq_group p s
-    in run_by group (event_of number s.place group) group.end (run_from (suc number) n p group.state)
+-- So many groups, the first with this number, or fewer up to an end. What a group leaves may depend on its number.
+abbrev pub run_from : (ℕ → State → Group) → ℕ → ℕ → State → Run
+run_from group number zero s = record { state = s; end = end.Limit s.place; events = []; frames = [] }
+run_from group number (suc n) s =
+    let g = group number s
+    in run_by g (event_of number s.place g) g.end (run_from group (suc number) n g.state)
 
 -- One sequential run of at most so many groups.
 abbrev pub seq_run : Program → ℕ → State → Run
-seq_run p n s = run_from 1 n p s
+seq_run p n s = run_from (λ number s. seq_group p s) 1 n s

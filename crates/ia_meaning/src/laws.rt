@@ -1,10 +1,13 @@
-//! Laws that tie the tests and functions of the meaning to the relations of programs and states, and the
-//! law that a run may start from the zero state. They do nothing.
+//! Laws that tie the tests and functions of the meaning to the relations of programs and states, the law
+//! that a run may start from the zero state, and the laws of the orders of writes and of addresses. They do
+//! nothing.
 
 ghost use Rattle.ia_meaning.specs.Frames.{FrameTest};
-ghost use Rattle.ia_meaning.specs.Landings.{EntryTest};
+ghost use Rattle.ia_meaning.specs.Landings.{EntryTest, EntryIsAtItsAddress};
+ghost use Rattle.ia_meaning.specs.Loads.{ByteIsAtItsAddress};
 ghost use Rattle.ia_meaning.specs.State.{ZeroIsStart};
 ghost use Rattle.ia_meaning.specs.Sequence.{NextPlace, StopTest};
+ghost use Rattle.ia_meaning.specs.WriteOrders.{PermutationsHaveCodes, CodesArePermutations};
 
 /// The test of entries says of each bundle whether it is one.
 pub fn entry_test()
@@ -29,4 +32,18 @@ pub fn next_place()
 /// The test of stops says of each place whether one follows it.
 pub fn stop_test()
     ensures { StopTest }
+{}
+
+/// Every permutation of a list of writes is its order under some code, and the order under a code is a
+/// permutation.
+pub fn law_codes()
+    ensures codes { PermutationsHaveCodes }
+    ensures permutations { CodesArePermutations }
+{}
+
+/// An indirect branch to the address of an entry lands on it, and a load from the address of a data byte
+/// gives that byte.
+pub fn addresses()
+    ensures entries { EntryIsAtItsAddress }
+    ensures bytes { ByteIsAtItsAddress }
 {}

@@ -17,7 +17,9 @@ mod state;
 mod turn;
 
 pub use form::{Form, Goal, Source, form_of, update_register};
-pub use laws::{entry_test, frame_test, next_place, stop_test, zero_is_start};
+pub use laws::{
+    addresses, entry_test, frame_test, law_codes, next_place, stop_test, zero_is_start,
+};
 pub use next::Next;
 pub use runs::{groups_end, progress_is_run, progress_text_is_run_text};
 pub use state::{AlatEntry, AlatKey, Cell, FrameShape, Rrbs, Rse};

@@ -5,9 +5,10 @@ use Rattle.std.proofs.lemmas.List.{append-nil, drop_all, take_all}
 use Rattle.std.proofs.lemmas.Bool.Decides.{nat_tests}
 use Rattle.ia_insn.specs.declared.ending.FaultKind.{FaultKind}
 use Rattle.ia_insn.specs.declared.ending.FaultKind.TheVariants.{Unaligned, BadAddress}
-use Rattle.ia_meaning.specs.State.{data_base}
+use Rattle.ia_insn.specs.Addresses.{data_base}
 use Rattle.ia_meaning.specs.Loads.{access_fault, loaded, stored, bytes_at, with_bytes}
-use Rattle.nat_alat.proofs.Spelling.{length-with_bytes, other_byte, read_back}
+use Rattle.ia_meaning.proofs.DataAccesses.{is_access, length-with_bytes}
+use Rattle.nat_alat.proofs.Spelling.{other_byte, read_back}
 
 -- the bytes of an access are data
 abbrev pub reaches : ℕ → ℕ → ℕ → Bool
@@ -31,7 +32,7 @@ pub beyond : (bytes : List ℕ) (address size : ℕ) → (address % size == 0) �
 beyond bytes address size e h = fault_by_tests bytes address size ∙ ap (λ b. by_tests b (reaches (length bytes) address size)) e ∙ ap (by_tests true) h
 
 pub in_reach : (bytes : List ℕ) (address size : ℕ) → (address % size == 0) ≡ true → reaches (length bytes) address size ≡ true
-    → (access_fault bytes address size ≡ None) × (address ≡ data_base + (address - 1048576)) × (address - 1048576 + size ≤ length bytes)
+    → (access_fault bytes address size ≡ None) × (address ≡ data_base + (address - data_base)) × (address - data_base + size ≤ length bytes)
 in_reach bytes address size e h =
     let in_data = inside (length bytes) address size h in
     (fault_by_tests bytes address size ∙ ap (λ b. by_tests b (reaches (length bytes) address size)) e ∙ ap (by_tests true) h, omega arith, omega arith)
@@ -64,22 +65,12 @@ stored_whole address at size x len bytes old shown new e is same count written =
     ∙ ap (λ l. with_bytes l at size x) (same ∙ is)
     ∙ stored_there address at size x bytes e
 
--- the bytes of an access without a fault are data
-known : (a w : Bool) → by_tests a w ≡ None → w ≡ true
-known false w e = cc
-known true false e = cc
-known true true e = refl
-
-no_fault : (bytes : List ℕ) (address size : ℕ) → access_fault bytes address size ≡ None → (data_base ≤ address) × (address + size ≤ data_base + length bytes)
-no_fault bytes address size h =
-    inside (length bytes) address size (known (address % size == 0) (reaches (length bytes) address size) (sym (fault_by_tests bytes address size) ∙ h))
-
 -- what is loaded is what was stored there
 pub stored_is_loaded : (bytes : List ℕ) (address size x : ℕ) → access_fault bytes address size ≡ None
     → loaded (stored bytes address size x) address size ≡ x % 2 ^ (8 * size)
 unfolding loaded stored
 stored_is_loaded bytes address size x h =
-    let in_data = no_fault bytes address size h in
+    let access = is_access bytes address size h in
     read_back size (address - data_base) x bytes (omega arith)
 
 -- and the other bytes stay
@@ -88,7 +79,7 @@ pub others_stay : (bytes : List ℕ) (address size x : ℕ) → access_fault byt
     × ((place : ℕ) → (data_base + place < address) ⊎ (address + size ≤ data_base + place) → get_or (stored bytes address size x) place 0 ≡ get_or bytes place 0)
 unfolding stored
 others_stay bytes address size x h =
-    let in_data = no_fault bytes address size h in (
+    let access = is_access bytes address size h in (
       length-with_bytes size (address - data_base) x bytes,
       λ place apart. other_byte size (address - data_base) x place bytes (elim apart [ inl l ↦ inl (omega arith) | inr r ↦ inr (omega arith) ]),
     )

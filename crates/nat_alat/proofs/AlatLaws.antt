@@ -10,7 +10,8 @@ use Rattle.ia_meaning.specs.declared.state.AlatKey.TheVariants.{Static, Stacked}
 use Rattle.ia_meaning.specs.declared.state.AlatEntry.{AlatEntry}
 use Rattle.ia_meaning.specs.Loads.{is_spot, is_apart, forgotten, entered, untouched, has_hit}
 use Rattle.nat_alat.specs.Laws.{EnteredIsHit, ForgottenIsGone, TouchedIsGone}
-use Rattle.nat_alat.proofs.Entries.{is_entry, hit_is_any, entry_is_any, untouched_is_filter, forgotten_is_filter}
+use Rattle.ia_meaning.proofs.AlatLists.{untouched_is_filter, forgotten_is_filter}
+use Rattle.nat_alat.proofs.Entries.{is_entry, hit_is_any, entry_is_any}
 
 number_itself : (n : ℕ) → (n == n) ≡ true
 number_itself n = grind (arith, nat_tests)

@@ -1,11 +1,11 @@
 -- The entries of the ALAT, by what they pass.
-use Rattle.std.proofs.Common.{◌≡◌, ℕ, ◌-◌, ◌≤◌, Bool, true, false, cond, List, [], ◌∷◌, ◌++◌, length, drop, filter, refl, arith}
-use Rattle.std.specs.Prelude.{not, ◌==◌, ◌&&◌}
+use Rattle.std.proofs.Common.{◌≡◌, ◌-◌, ◌≤◌, Bool, true, false, List, [], ◌∷◌, ◌++◌, length, drop, refl, arith}
+use Rattle.std.specs.Prelude.{◌==◌, ◌&&◌}
 use Rattle.std.proofs.lemmas.Bool.Decides.{nat_tests}
 use Rattle.std.specs.List.{list_any}
 use Rattle.ia_meaning.specs.declared.state.AlatKey.{AlatKey}
 use Rattle.ia_meaning.specs.declared.state.AlatEntry.{AlatEntry}
-use Rattle.ia_meaning.specs.Loads.{is_spot, is_apart, forgotten, entered, untouched, has_hit, has_entry}
+use Rattle.ia_meaning.specs.Loads.{is_spot, forgotten, entered, has_hit, has_entry}
 
 -- two entries are equal
 abbrev pub is_entry : AlatEntry → AlatEntry → Bool
@@ -20,20 +20,6 @@ pub entry_is_any : (es : List AlatEntry) (key : AlatKey) → has_entry es key �
 unfolding has_entry
 entry_is_any [] key = refl
 entry_is_any (e ∷ es) key = simp (entry_is_any es key)
-
-pub untouched_is_filter : (es : List AlatEntry) (address size : ℕ) → untouched es address size ≡ filter (λ e. is_apart e address size) es
-unfolding untouched
-untouched_is_filter [] address size = refl
-untouched_is_filter (e ∷ es) address size = simp (untouched_is_filter es address size)
-
-cond-not : {X : Type 0} (b : Bool) (x y : X) → cond b x y ≡ cond (not b) y x
-cond-not true x y = refl
-cond-not false x y = refl
-
-pub forgotten_is_filter : (es : List AlatEntry) (key : AlatKey) → forgotten es key ≡ filter (λ e. not (is_spot e.key key)) es
-unfolding forgotten
-forgotten_is_filter [] key = refl
-forgotten_is_filter (e ∷ es) key = simp (forgotten_is_filter es key) (cond-not (is_spot e.key key) _ _)
 
 -- With 32 left the oldest goes.
 pub entered_when_full : (left es : List AlatEntry) (e : AlatEntry) → left ≡ forgotten es e.key → (length left == 32) ≡ true → drop 1 left ++ e ∷ [] ≡ entered es e

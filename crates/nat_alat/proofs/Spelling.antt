@@ -71,11 +71,6 @@ pub written_8 : (size at x : ℕ) (bytes new : List ℕ) → size ≡ 8 → at +
     → put_mid at (length bytes - at) bytes new ≡ with_bytes bytes at size x
 written_8 size at x bytes new e h word is = rw e (written_there 8 at x x bytes new (omega arith) (sym (mod-eq_of_lt word)) is)
 
--- how many bytes there are
-pub length-with_bytes : (n at x : ℕ) (bytes : List ℕ) → length (with_bytes bytes at n x) ≡ length bytes
-length-with_bytes zero at x bytes = refl
-length-with_bytes (suc n) at x bytes = length-with_bytes n (suc at) (x / 256) (set bytes at (x % 256)) ∙ length-set bytes at (x % 256)
-
 -- a byte before or after those of the number
 pub other_byte : (n at x k : ℕ) (bytes : List ℕ) → (k < at) ⊎ (at + n ≤ k) → get_or (with_bytes bytes at n x) k 0 ≡ get_or bytes k 0
 other_byte zero at x k bytes h = refl

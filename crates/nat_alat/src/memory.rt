@@ -2,7 +2,7 @@
 
 ghost use Rattle.std.specs.Prelude.{◌≡◌, ◌==◌, ◌&&◌, ◌+◌, ◌%◌, ◌≤◌, length, nat_le, IfOk, IfErr, OnOk, OnErr, Some, None};
 ghost use Rattle.ia_insn.specs.Ranges.{IsAccessSize};
-ghost use Rattle.ia_meaning.specs.State.{data_base};
+ghost use Rattle.ia_insn.specs.Addresses.{data_base};
 ghost use Rattle.ia_meaning.specs.Arithmetic.{bit};
 ghost use Rattle.ia_meaning.specs.Loads.{access_fault, loaded, stored, unat_bit};
 ghost use Rattle.ia_meaning.specs.Steps.{with_bit};
@@ -11,12 +11,10 @@ ghost use Rattle.nat_alat.specs.Faults.{fault_of};
 use crate::bytes::{number_at, put_number};
 use crate::fault::MemFault;
 use crate::unat::{bit, unat_bit, with_bit};
+use ia_insn::DATA_BASE;
 use ia_meaning::Cell;
 use std::alloc::{AllocError, Global};
 use std::marker::Model;
-
-// The address of the first data byte.
-const DATA_BASE: u64 = 0x10_0000;
 
 /// Whether an address is a multiple of an access's size.
 fn is_aligned(address: u64, size: u8) -> bool

@@ -3,3 +3,9 @@ pub mod PairLemmas
 pub mod Literals
 pub mod OrAndcm
 mod Examples
+pub mod EdgeEnds
+pub mod RuleTruth
+pub mod TestTruth
+pub mod AfterWrites
+pub mod StepEdges
+pub mod StepTruth

@@ -3,3 +3,6 @@ pub mod Rules
 pub mod RuleLaws
 pub mod Unordered
 pub mod Rows
+pub mod Edges
+pub mod Truth
+pub mod Steps

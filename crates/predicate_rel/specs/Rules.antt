@@ -8,7 +8,7 @@ use Rattle.ia_insn.specs.declared.choices.BranchKind.TheVariants as branch
 use Rattle.ia_insn.specs.declared.insn.Insn.{Insn}
 use Rattle.ia_meaning.specs.declared.form.Form.{Form}
 use Rattle.ia_meaning.specs.declared.form.Form.TheVariants as form
-use Rattle.ia_meaning.specs.Actions.{action_of, form_of}
+use Rattle.ia_meaning.specs.Actions.{insn_form}
 use Rattle.ia_meaning.specs.Moves.{is_masked}
 use Rattle.predicate_rel.specs.declared.edge.Edge.{Edge}
 use Rattle.predicate_rel.specs.declared.edge.Edge.TheVariants.{Falls, Taken}
@@ -139,7 +139,7 @@ form_rule f edge g x y = one x y
 
 -- the rule of a pair
 unfoldable pub rule_of : Insn → Edge → ℕ → ℕ → PairRule
-rule_of insn edge x y = form_rule (form_of (action_of insn.op)) edge insn.qp x y
+rule_of insn edge x y = form_rule (insn_form insn) edge insn.qp x y
 
 -- the pairs after an instruction
 unfoldable pub pairs_after : Pairs → Insn → Edge → Pairs

@@ -11,7 +11,9 @@
 mod bits;
 mod edge;
 mod facts;
+mod laws;
 mod rows;
 
 pub use edge::Edge;
 pub use facts::Facts;
+pub use laws::law_facts;

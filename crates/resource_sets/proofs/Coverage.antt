@@ -43,7 +43,7 @@ use Rattle.resource_sets.specs.declared.access.Access.{Access}
 use Rattle.resource_sets.specs.Rows.{is_named}
 use Rattle.resource_sets.specs.Accesses.{test_rows, is_updated, own_rows, placed_rows, qp_rows, mask_rows, rotating_rows, counting_rows, rows_by_name, rows}
 use Rattle.resource_sets.proofs.Listing.{has_left, has_right, mask_row}
-use Rattle.resource_sets.proofs.Dependence.{holds_zero}
+use Rattle.ia_meaning.proofs.PredicatePlaces.{holds_zero}
 use Rattle.resource_sets.specs.AccessLaws.{location, spot_location, location_of, naming_frame, writes_registers, MayPut, HasRow, IsCovered, WritesAreAccesses, CellsAreInside, SpillsAreAccesses, PredicateAt, CellAt}
 use Rattle.resource_sets.proofs.Renaming.{spot_inside}
 
@@ -467,14 +467,14 @@ spills s insn v m x b e =
 
 -- a cell that is written lies in the frame
 pub cells_inside : CellsAreInside
-cells_inside qp f v w n covered frame at = by_resource covered.access.resource (covered.names ∙ ap Some at)
+cells_inside qp f v w n covered rotating at = by_resource covered.access.resource (covered.names ∙ ap Some at)
   where
     by_spot : (r : ℕ) (o : Option Spot) → spot (naming_frame f v.frame) r ≡ o → spot_location o ≡ Some (CellAt n)
         → ((naming_frame f v.frame).base ≤ n) × (n < (naming_frame f v.frame).base + (naming_frame f v.frame).sof)
     by_spot r None h e = absurd (cc)
     by_spot r (Some (Static k)) h e = absurd (cc)
     by_spot r (Some (Stacked k)) h e =
-        let same : k ≡ n = cc in spot_inside (naming_frame f v.frame) frame r n (h ∙ ap (λ k. Some (Stacked k)) same)
+        let same : k ≡ n = cc in spot_inside (naming_frame f v.frame) rotating r n (h ∙ ap (λ k. Some (Stacked k)) same)
 
     by_resource : (q : Resource) → location_of (naming_frame f v.frame) q ≡ Some (CellAt n)
         → ((naming_frame f v.frame).base ≤ n) × (n < (naming_frame f v.frame).base + (naming_frame f v.frame).sof)

@@ -21,23 +21,20 @@ use Rattle.ia_meaning.specs.declared.state.AlatEntry.{AlatEntry}
 use Rattle.ia_meaning.specs.State.{Registers, Memory}
 use Rattle.ia_meaning.specs.Writes.{Write}
 use Rattle.ia_meaning.specs.Names.{is_stacked, is_rotating, spot, look, predicate_place, holds, predicate_spot}
-use Rattle.ia_meaning.specs.Actions.{Action, Compute, Fetch, Test, ToPredicates, ToBranch, ToApplication, FromMemory, ToMemory, CheckNat, CheckAlat, ForgetAll, Forget, Allocate, Jump, JumpIndirect, Loop, Call, Return, ClearBases, Stop, Idle, action_of, form_of}
+use Rattle.ia_meaning.specs.Actions.{Action, Compute, Fetch, Test, ToPredicates, ToBranch, ToApplication, FromMemory, ToMemory, CheckNat, CheckAlat, ForgetAll, Forget, Allocate, Jump, JumpIndirect, Loop, Call, Return, ClearBases, Stop, Idle, action_of, form_of, insn_form}
 use Rattle.ia_meaning.specs.Loads.{access_fault, load_nat, load_tried, base_writes, update_register, from_memory}
 use Rattle.ia_meaning.specs.Loops.{turn_of, turned}
 use Rattle.ia_meaning.specs.Landings.{target_of}
 use Rattle.ia_meaning.specs.Effects.{Site, act, skip, guarded}
+use Rattle.ia_meaning.proofs.PredicatePlaces.{holds_zero}
 use Rattle.resource_sets.specs.declared.access.Resource.{Resource}
 use Rattle.resource_sets.specs.declared.access.Resource.TheVariants.{Gr, Pr}
 use Rattle.resource_sets.specs.declared.row.Row.{Row}
 use Rattle.resource_sets.specs.Rows.{is_named}
-use Rattle.resource_sets.specs.Accesses.{insn_form, rows_by_name, is_fill, is_framed, any_framed, other_name, test_rows, loop_rows, qp_rows, reads_plainly, reads_as_branch, own_rows}
+use Rattle.resource_sets.specs.Accesses.{rows_by_name, is_fill, is_framed, any_framed, other_name, test_rows, loop_rows, qp_rows, reads_plainly, reads_as_branch, own_rows}
 use Rattle.resource_sets.specs.AccessLaws.{AgreesAtEach, AgreesByPlace, DependsOnAccesses}
 
--- p0 is 1, and r0 is 0
-pub holds_zero : (v : Registers) → holds v 0 ≡ true
-unfolding holds
-holds_zero v = refl
-
+-- r0 is 0
 look_same : (v w : Registers) (r : ℕ) → (is_named r ≡ true → look v r ≡ look w r) → look v r ≡ look w r
 unfolding look
 look_same v w zero h = refl

@@ -3,5 +3,7 @@ pub mod Dependence
 pub mod Renaming
 pub mod Coverage
 pub mod Apart
+pub mod AllocWrites
+pub mod Locations
 pub mod Regularity
 pub mod Examples

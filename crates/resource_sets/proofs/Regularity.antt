@@ -1,5 +1,5 @@
 -- What kinds of accesses there are: each row of each form is one of few kinds.
-use Rattle.std.proofs.Common.{◌≡◌, ◌≢◌, None, ◌⊎◌, inl, inr, ℕ, zero, suc, ◌<◌, ◌≤◌, ◌+◌, Bool, true, false, ◌&&◌, List, [], ◌∷◌, ◌++◌, Contains, refl, sym, ◌∙◌, ap, if◌then◌else◌, arith, true≢false, eq-eqb}
+use Rattle.std.proofs.Common.{◌≡◌, ◌≢◌, Some, None, ◌⊎◌, inl, inr, ℕ, zero, suc, ◌<◌, ◌≤◌, ◌+◌, Bool, true, false, ◌&&◌, List, [], ◌∷◌, ◌++◌, Contains, refl, sym, ◌∙◌, ap, if◌then◌else◌, arith, true≢false, eq-eqb}
 use Rattle.std.proofs.lemmas.List.Elements.{Contains-append_right, Contains-append_cases}
 use Rattle.std.proofs.lemmas.Bool.{and_from, and_parts, or_left, or_right, cases_lt}
 use Rattle.std.proofs.lemmas.Bool.Decides.{nat_tests}
@@ -26,7 +26,7 @@ use Rattle.ia_meaning.specs.declared.form.Form.{Form}
 use Rattle.ia_meaning.specs.declared.form.Form.TheVariants as form
 use Rattle.ia_meaning.specs.State.{Registers}
 use Rattle.ia_meaning.specs.Names.{is_stacked, is_rotating, holds}
-use Rattle.ia_meaning.specs.Actions.{action_of, form_of}
+use Rattle.ia_meaning.specs.Actions.{action_of, form_of, is_branch, is_alloc, insn_form}
 use Rattle.ia_meaning.specs.Loads.{update_register}
 use Rattle.resource_sets.specs.declared.access.Resource.{Resource}
 use Rattle.resource_sets.specs.declared.access.Resource.TheVariants.{Gr, Pr, Br, Unat, Cfm}
@@ -34,11 +34,12 @@ use Rattle.resource_sets.specs.declared.access.Kind.{Kind}
 use Rattle.resource_sets.specs.declared.access.Kind.TheVariants.{Read, BranchRead, Write, AllocWrite, LoopWrite, OrWrite, AndWrite, Spill, Fill}
 use Rattle.resource_sets.specs.declared.access.Access.{Access}
 use Rattle.resource_sets.specs.declared.row.Row.{Row}
+use Rattle.resource_sets.specs.declared.clashes.Rule.TheVariants.{Raw, Waw}
 use Rattle.resource_sets.specs.Rows.{is_named, access, gr, pr, listed}
-use Rattle.resource_sets.specs.Accesses.{test_rows, is_updated, base_row, own_rows, other_name, application, call_rows, counting_rows, rotating_rows, loop_rows, place_rows, mask_rows, placed_rows, reads_plainly, qp_rows, is_framed, any_framed, frame_row, insn_form, rows_by_name, rows, reads_as_branch}
-use Rattle.resource_sets.specs.Clashes.{is_resource, clash_of, writes_guard, may_write_guard}
+use Rattle.resource_sets.specs.Accesses.{test_rows, is_updated, base_row, own_rows, other_name, application, call_rows, counting_rows, rotating_rows, loop_rows, place_rows, mask_rows, placed_rows, reads_plainly, qp_rows, is_framed, any_framed, frame_row, rows_by_name, rows, reads_as_branch}
+use Rattle.resource_sets.specs.Clashes.{is_resource, clash_of, clash, writes_guard, may_write_guard}
 use Rattle.resource_sets.specs.AccessLaws.{AgreesOn, AgreesAtEach, AgreesByPlace, HasRow, HasAccess}
-use Rattle.resource_sets.specs.Regularity.{IsLoop, IsChange, is_branch, NamedAsFound, AgreeByAccesses, is_allocate, frame_read, HasNamedAccess, IsTarget, IsName, IsPredicate, IsCountOrFrame, GoesBy, IsRegular, AccessesAreRegular, GuardsAreRead, IsPlaced, NamedAccessesAreAccesses, AccessesAreNamedOrPlaced, PredicatesAreRead, ListedAreRows, AccessesAreListed, GuardsAreWritten, IsInRange, AccessesAreInRange, IsExcepted, AccessesClash}
+use Rattle.resource_sets.specs.Regularity.{IsLoop, IsChange, NamedAsFound, AgreeByAccesses, frame_read, HasNamedAccess, IsTarget, IsName, IsPredicate, IsCountOrFrame, GoesBy, IsRegular, AccessesAreRegular, GuardsAreRead, IsPlaced, NamedAccessesAreAccesses, AccessesAreNamedOrPlaced, AccessesAreGuarded, AllocWritesAreOfAlloc, PredicatesAreRead, ListedAreRows, AccessesAreListed, GuardsAreWritten, IsInRange, AccessesAreInRange, GuardsAreInRange, IsExcepted, AccessesClash, ChangesClash}
 use Rattle.resource_sets.proofs.Listing.{has_left, has_right, mask_row}
 
 -- Rows of a list that is put together.
@@ -59,11 +60,11 @@ KindFact qp f BranchRead q g =
     (reads_plainly f ≡ false → (q ≡ Pr qp) ⊎ GoesBy f q)
     × (reads_plainly f ≡ true → HasRow qp (record { resource = q; kind = Read; guard = g }) (rows_by_name qp f))
 KindFact qp f Write q g = Unit {0}
-KindFact qp f AllocWrite q g = (is_allocate f ≡ true) × (q ≡ Cfm)
+KindFact qp f AllocWrite q g = (is_alloc f ≡ true) × (q ≡ Cfm)
 KindFact qp f LoopWrite q g = q ≡ Pr 63
 KindFact qp f OrWrite q g = IsPredicate q
 KindFact qp f AndWrite q g = IsPredicate q
-KindFact qp f Spill q g = (is_allocate f ≡ false) × (q ≡ Unat)
+KindFact qp f Spill q g = (is_alloc f ≡ false) × (q ≡ Unat)
 KindFact qp f Fill q g = q ≡ Unat
 
 record RowFact (qp : ℕ) (f : Form) (row : Row) : Type 0 where
@@ -304,6 +305,22 @@ named_or_placed insn a h = by_part (has_append insn.qp a (rows_by_name insn.qp f
     by_part (inl k) = inl k
     by_part (inr k) = inr (placed insn a f k)
 
+-- each guard is p0 or the qualifying predicate
+pub guarded : AccessesAreGuarded
+guarded insn a h = guard_of insn.qp a (rows insn.qp (insn_form insn)) h
+
+-- only an `alloc` writes as an `alloc` does
+pub alloc_writes : AllocWritesAreOfAlloc
+alloc_writes insn a h e = by_part (named_or_placed insn a h)
+  where
+    by_kind : (a.kind ≡ Read) ⊎ (a.kind ≡ Write) → ⊥
+    by_kind (inl k) = cc
+    by_kind (inr k) = cc
+
+    by_part : HasNamedAccess insn a ⊎ IsPlaced insn a → (is_alloc (insn_form insn) ≡ true) × (a.resource ≡ Cfm)
+    by_part (inl k) = (regular insn a k).alloc_write e
+    by_part (inr k) = absurd (by_kind k.kind)
+
 -- the mask with all bits has each place
 all_masked : (p : ℕ) → is_masked 0x1ffff p ≡ true
 all_masked p = elim (cases_lt p 16) [
@@ -435,6 +452,14 @@ in_range insn a listed h = by_part (named_or_placed insn a h)
     by_part (inl k) = name_in_range insn.qp (insn_form insn) a.resource (below insn.qp insn.op listed) (regular insn a k).name
     by_part (inr k) = rw k.resource (k.some, k.below)
 
+-- the qualifying predicate is p0 or in the range
+pub guards_in_range : GuardsAreInRange
+guards_in_range insn listed = by_number insn.qp (below insn.qp insn.op listed).guard
+  where
+    by_number : (p : ℕ) → p < 64 → (p ≡ 0) ⊎ IsInRange (Pr p)
+    by_number zero h = inl refl
+    by_number (suc p) h = inr (omega arith, h)
+
 -- Accesses that clash.
 same_resource : (q : Resource) → is_resource q q ≡ true
 same_resource (Gr n) = eq-eqb n n refl
@@ -442,21 +467,35 @@ same_resource (Pr n) = eq-eqb n n refl
 same_resource (Br n) = eq-eqb n n refl
 same_resource _ = refl
 
-kinds_clash : (first second : Kind) → IsChange first → (clash_of first second ≢ None) ⊎ IsExcepted first second
+kinds_clash : (first second : Kind) → IsChange first
+    → (clash_of first second ≡ Some Raw) ⊎ ((clash_of first second ≡ Some Waw) ⊎ IsExcepted first second)
 unfolding clash_of
-kinds_clash OrWrite OrWrite w = inr tt
-kinds_clash AndWrite AndWrite w = inr tt
-kinds_clash Spill Spill w = inr tt
-kinds_clash Spill Fill w = inr tt
-kinds_clash _ BranchRead w = inr tt
+kinds_clash OrWrite OrWrite w = inr (inr tt)
+kinds_clash AndWrite AndWrite w = inr (inr tt)
+kinds_clash Spill Spill w = inr (inr tt)
+kinds_clash Spill Fill w = inr (inr tt)
+kinds_clash _ BranchRead w = inr (inr tt)
 kinds_clash Read _ w = absurd w
 kinds_clash BranchRead _ w = absurd w
 kinds_clash AllocWrite _ w = absurd w
 kinds_clash Fill _ w = absurd w
-kinds_clash _ _ w = inl (λ e. cc)
+kinds_clash _ Read w = inl refl
+kinds_clash _ Fill w = inl refl
+kinds_clash _ _ w = inr (inl refl)
 
+-- by which rule a change clashes with a later access
+pub changes_clash : ChangesClash
+changes_clash a b same w = rw (← same) (rw (same_resource a.resource) (kinds_clash a.kind b.kind w))
+
+-- which accesses clash
 pub accesses_clash : AccessesClash
-accesses_clash a b same w = rw (← same) (rw (same_resource a.resource) (kinds_clash a.kind b.kind w))
+accesses_clash a b same w = by_rule (changes_clash a b same w)
+  where
+    by_rule : (clash a b ≡ Some Raw) ⊎ ((clash a b ≡ Some Waw) ⊎ IsExcepted a.kind b.kind)
+        → (clash a b ≢ None) ⊎ IsExcepted a.kind b.kind
+    by_rule (inl e) = inl (λ n. cc)
+    by_rule (inr (inl e)) = inl (λ n. cc)
+    by_rule (inr (inr e)) = inr e
 
 pub named_as_found : NamedAsFound
 named_as_found (form.Allocate r1 sof sol sor) shape n = absurd (true≢false n)

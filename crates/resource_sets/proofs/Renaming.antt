@@ -1,12 +1,13 @@
 -- Where names of registers stand in a frame: at different places, inside it.
-use Rattle.std.proofs.Common.{◌≡◌, ◌≢◌, ℕ, ◌+◌, ◌-◌, ◌<◌, ◌≤◌, ◌⊎◌, inl, inr, Bool, true, false, nat_lt, if◌then◌else◌, Some, None, refl, arith}
+use Rattle.std.proofs.Common.{◌≡◌, ◌≢◌, ℕ, ◌+◌, ◌-◌, ◌*◌, ◌<◌, ◌≤◌, ◌⊎◌, ⊎_elim, inl, inr, Bool, true, false, nat_lt, if◌then◌else◌, Some, None, refl, arith}
+use Rattle.std.proofs.lemmas.Bool.{cases_lt}
 use Rattle.std.proofs.lemmas.Bool.Decides.{nat_tests}
 use Rattle.ia_meaning.specs.declared.state.FrameShape.{FrameShape}
 use Rattle.ia_meaning.specs.declared.state.AlatKey.{AlatKey as Spot}
 use Rattle.ia_meaning.specs.declared.state.AlatKey.TheVariants.{Static, Stacked}
 use Rattle.ia_meaning.specs.State.{IsFrame}
 use Rattle.ia_meaning.specs.Names.{is_stacked, frame_place, spot}
-use Rattle.rotation.proofs.Places.{apart, within}
+use Rattle.rotation.proofs.Places.{apart, rotating_within}
 
 -- where a register stands: among r0 to r31, or in the frame
 record IsInFrame (f : FrameShape) (r : ℕ) (d : Spot) : Type 0 where
@@ -40,13 +41,20 @@ spots_apart f frame r q d e differ h i same = by_place (stands f r d h) (stands 
         let sums : f.base + frame_place f (r - 32) ≡ f.base + frame_place f (q - 32) = cc in
         apart f frame (r - 32) (q - 32) (omega arith) (omega arith) (λ k. differ (omega arith)) (omega arith)
 
+-- rotation keeps inside a frame what is there, since the part that rotates is
+place_inside : (f : FrameShape) (k : ℕ) → 8 * f.sor ≤ f.sof → k < f.sof → frame_place f k < f.sof
+unfolding frame_place
+place_inside f k rotating h =
+    ⊎_elim (λ low. let a = rotating_within f k low in omega arith) (λ high. grind (arith, nat_tests)) (cases_lt k (8 * f.sor))
+
 -- a register of the frame stands inside it
-pub spot_inside : (f : FrameShape) → IsFrame f → (r n : ℕ) → spot f r ≡ Some (Stacked n) → (f.base ≤ n) × (n < f.base + f.sof)
-spot_inside f frame r n h = by_place (stands f r (Stacked n) h)
+pub spot_inside : (f : FrameShape) → 8 * f.sor ≤ f.sof → (r n : ℕ) → spot f r ≡ Some (Stacked n)
+    → (f.base ≤ n) × (n < f.base + f.sof)
+spot_inside f rotating r n h = by_place (stands f r (Stacked n) h)
   where
     by_place : Stands f r (Stacked n) → (f.base ≤ n) × (n < f.base + f.sof)
     by_place (inl a) = absurd (cc)
     by_place (inr a) =
         let is : n ≡ f.base + frame_place f (r - 32) = let place = a.place in cc in
-        let below : frame_place f (r - 32) < f.sof = within f frame (r - 32) a.within in
+        let below : frame_place f (r - 32) < f.sof = place_inside f (r - 32) rotating a.within in
         (omega (arith, is), omega (arith, is, below))

@@ -1,18 +1,22 @@
 -- The laws of accesses: what the effect of an instruction depends on, and what it writes (volume 3, chapter 5, resource and
 -- dependency semantics).
-use Rattle.std.specs.Prelude.{◌≡◌, ◌≢◌, ◌⊎◌, ◌≤◌, ◌+◌, ℕ, ◌<◌, Bool, true, false, List, [], ◌∷◌, get_or, All, AllPairs, Option, Some, None}
+use Rattle.std.specs.Prelude.{◌≡◌, ◌≢◌, ◌⊎◌, ◌≤◌, ◌+◌, ◌*◌, ℕ, ◌<◌, Bool, true, false, List, [], ◌∷◌, get_or, All, AllPairs, Option, Some, None}
 use Rattle.ia_insn.specs.declared.insn.Insn.{Insn}
 use Rattle.ia_insn.specs.Listed.{IsListed}
 use Rattle.ia_meaning.specs.declared.form.Form.{Form}
 use Rattle.ia_meaning.specs.declared.form.Form.TheVariants as form
 use Rattle.ia_meaning.specs.declared.form.Source.TheVariants.{Predicates}
+use Rattle.ia_meaning.specs.declared.next.Next.TheVariants.{Falls}
+use Rattle.ia_meaning.specs.declared.state.Cell.{Cell}
 use Rattle.ia_meaning.specs.declared.state.FrameShape.{FrameShape}
 use Rattle.ia_meaning.specs.declared.state.AlatKey.{AlatKey as Spot}
 use Rattle.ia_meaning.specs.declared.state.AlatKey.TheVariants.{Static, Stacked}
 use Rattle.ia_meaning.specs.State.{Registers, Memory, IsFrame}
-use Rattle.ia_meaning.specs.Writes.{Write, SetStatic, SetCell, SetPredicate, SetBranch, SetUnat, SetPfs, SetLc, SetEc, SetFrame}
-use Rattle.ia_meaning.specs.Names.{spot, look, holds, predicate_place}
-use Rattle.ia_meaning.specs.Frames.{with_sizes}
+use Rattle.ia_meaning.specs.Writes.{Write, SetStatic, SetCell, SetPredicate, SetBranch, SetUnat, SetPfs, SetLc, SetEc, SetFrame, Resized}
+use Rattle.ia_meaning.specs.Names.{spot, look, holds, predicate_place, set_spot}
+use Rattle.ia_meaning.specs.Actions.{insn_form, is_alloc}
+use Rattle.ia_meaning.specs.Outcomes.{Outcome}
+use Rattle.ia_meaning.specs.Frames.{stack_limit, with_sizes}
 use Rattle.ia_meaning.specs.Effects.{Site, effect}
 use Rattle.resource_sets.specs.declared.access.Resource.{Resource}
 use Rattle.resource_sets.specs.declared.access.Resource.TheVariants.{Gr, Pr, Br, Unat, Pfs, Lc, Ec, Cfm}
@@ -21,7 +25,7 @@ use Rattle.resource_sets.specs.declared.access.Kind.TheVariants.{Read, BranchRea
 use Rattle.resource_sets.specs.declared.access.Access.{Access}
 use Rattle.resource_sets.specs.declared.row.Row.{Row}
 use Rattle.resource_sets.specs.Rows.{access}
-use Rattle.resource_sets.specs.Accesses.{insn_form, rows_by_name, rows}
+use Rattle.resource_sets.specs.Accesses.{rows_by_name, rows}
 
 -- What registers have in common at a resource.
 abbrev pub SameIn : Resource → Registers → Registers → Type 0
@@ -150,10 +154,11 @@ abbrev pub WritesAreAccesses : Type 0
 WritesAreAccesses = (site : Site) (insn : Insn) (v : Registers) (m : Memory) (x : ℕ) → v.frame.rrbs.pr < 48
     → All (IsCovered insn.qp (insn_form insn) v) (effect site insn v m x).writes
 
--- A cell that an instruction writes lies in the frame by which it names its targets.
+-- A cell that an instruction writes lies in the frame by which it names its targets. Of that frame no more is asked than that
+-- its rotating part fits, which holds of the frame of a state and of the one that a listed `alloc` writes.
 abbrev pub CellsAreInside : Type 0
-CellsAreInside = (qp : ℕ) (f : Form) (v : Registers) (w : Write) (n : ℕ) → IsCovered qp f v w → IsFrame (naming_frame f v.frame)
-    → location w ≡ CellAt n
+CellsAreInside = (qp : ℕ) (f : Form) (v : Registers) (w : Write) (n : ℕ) → IsCovered qp f v w
+    → 8 * (naming_frame f v.frame).sor ≤ (naming_frame f v.frame).sof → location w ≡ CellAt n
     → ((naming_frame f v.frame).base ≤ n) × (n < (naming_frame f v.frame).base + (naming_frame f v.frame).sof)
 
 -- A listed instruction writes nothing twice.
@@ -166,3 +171,28 @@ abbrev pub SpillsAreAccesses : Type 0
 SpillsAreAccesses = (site : Site) (insn : Insn) (v : Registers) (m : Memory) (x : ℕ) (bit : ℕ × Bool)
     → (effect site insn v m x).spills ≡ Some bit
     → HasAccess insn (record { resource = Unat; kind = Spill; guard = insn.qp }) × (holds v insn.qp ≡ true)
+
+-- The frame is written first, and is this one; after it comes at most one register, since r0 is never written. The slot falls
+-- through, and the frame ends within the stack.
+pub record ResizesFirst (new : FrameShape) (o : Outcome) : Type 0 where
+  pub target : Spot
+  pub cell : Cell
+  pub writes : o.writes ≡ SetFrame Resized new ∷ set_spot target cell []
+  pub falls : o.next ≡ Falls
+  pub limit : new.base + new.sof ≤ stack_limit
+
+-- What comes of an `alloc` of this frame: it spills nothing, and writes nothing or the frame first.
+pub record IsAllocated (new : FrameShape) (o : Outcome) : Type 0 where
+  pub spills : o.spills ≡ None
+  pub ways : (o.writes ≡ []) ⊎ ResizesFirst new o
+
+-- An `alloc` that writes at all writes its frame first.
+abbrev pub AllocWritesItsFrameFirst : Type 0
+AllocWritesItsFrameFirst = (site : Site) (insn : Insn) (v : Registers) (m : Memory) (x : ℕ) → is_alloc (insn_form insn) ≡ true
+    → IsAllocated (naming_frame (insn_form insn) v.frame) (effect site insn v m x)
+
+-- The frame that a listed `alloc` writes has the sizes and bases of a frame: the rotating part changes only where all rename
+-- bases are 0.
+abbrev pub AllocatedFramesAreFrames : Type 0
+AllocatedFramesAreFrames = (site : Site) (insn : Insn) (v : Registers) (m : Memory) (x : ℕ) → is_alloc (insn_form insn) ≡ true
+    → IsListed insn → IsFrame v.frame → ((effect site insn v m x).writes ≡ []) ⊎ IsFrame (naming_frame (insn_form insn) v.frame)

@@ -24,7 +24,7 @@ use Rattle.ia_meaning.specs.declared.form.Goal.TheVariants as goal
 use Rattle.ia_meaning.specs.declared.form.Form.{Form}
 use Rattle.ia_meaning.specs.declared.form.Form.TheVariants as form
 use Rattle.ia_meaning.specs.Names.{is_stacked, is_rotating}
-use Rattle.ia_meaning.specs.Actions.{action_of, form_of}
+use Rattle.ia_meaning.specs.Actions.{insn_form}
 use Rattle.ia_meaning.specs.Moves.{is_masked}
 use Rattle.ia_meaning.specs.Loads.{update_register}
 use Rattle.resource_sets.specs.declared.access.Resource.{Resource}
@@ -201,10 +201,6 @@ rows_by_name qp f = frame_row qp f ∷ (qp_rows qp f ++ own_rows f)
 -- All rows of an instruction: those by name, and those of predicates by place.
 unfoldable pub rows : ℕ → Form → List Row
 rows qp f = rows_by_name qp f ++ placed_rows f
-
--- the form of an instruction
-abbrev pub insn_form : Insn → Form
-insn_form insn = form_of (action_of insn.op)
 
 -- The accesses of an instruction.
 abbrev pub accesses : Insn → List Access

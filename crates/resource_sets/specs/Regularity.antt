@@ -1,5 +1,5 @@
 -- What kinds of accesses there are (volume 3, chapter 5, resource and dependency semantics).
-use Rattle.std.specs.Prelude.{◌≡◌, ◌≢◌, ◌⊎◌, ◌↔◌, ℕ, Bool, ◌<◌, ◌≤◌, true, false, List, Contains, None}
+use Rattle.std.specs.Prelude.{◌≡◌, ◌≢◌, ◌⊎◌, ◌↔◌, ℕ, ◌<◌, ◌≤◌, true, false, List, Contains, Some, None}
 use Rattle.ia_insn.specs.declared.insn.Insn.{Insn}
 use Rattle.ia_insn.specs.Listed.{IsListed}
 use Rattle.ia_meaning.specs.declared.form.Source.TheVariants.{Predicates}
@@ -7,18 +7,20 @@ use Rattle.ia_meaning.specs.declared.form.Goal.TheVariants.{Indirect}
 use Rattle.ia_meaning.specs.declared.form.Form.{Form}
 use Rattle.ia_meaning.specs.declared.form.Form.TheVariants as form
 use Rattle.ia_meaning.specs.declared.state.FrameShape.{FrameShape}
-use Rattle.ia_meaning.specs.State.{Registers}
+use Rattle.ia_meaning.specs.State.{Registers, IsFrame}
 use Rattle.ia_meaning.specs.Names.{is_rotating, holds}
+use Rattle.ia_meaning.specs.Actions.{insn_form, is_branch, is_alloc}
 use Rattle.resource_sets.specs.declared.access.Resource.{Resource}
 use Rattle.resource_sets.specs.declared.access.Resource.TheVariants.{Gr, Pr, Br, Unat, Pfs, Lc, Ec, Cfm}
 use Rattle.resource_sets.specs.declared.access.Kind.{Kind}
 use Rattle.resource_sets.specs.declared.access.Kind.TheVariants.{Read, BranchRead, Write, AllocWrite, LoopWrite, OrWrite, AndWrite, Spill, Fill}
 use Rattle.resource_sets.specs.declared.access.Access.{Access}
 use Rattle.resource_sets.specs.declared.row.Row.{Row}
+use Rattle.resource_sets.specs.declared.clashes.Rule.TheVariants.{Raw, Waw}
 use Rattle.resource_sets.specs.Rows.{is_named, listed}
-use Rattle.resource_sets.specs.Accesses.{insn_form, rows_by_name, is_framed, accesses}
+use Rattle.resource_sets.specs.Accesses.{rows_by_name, is_framed, accesses}
 use Rattle.resource_sets.specs.Clashes.{clash, may_write_guard}
-use Rattle.resource_sets.specs.AccessLaws.{AgreesOn, Agree, naming_frame, HasRow, HasAccess}
+use Rattle.resource_sets.specs.AccessLaws.{AgreesOn, Agree, Location, PredicateAt, location_of, naming_frame, HasRow, HasAccess}
 
 -- an access by name
 abbrev pub HasNamedAccess : Insn → Access → Type 0
@@ -58,19 +60,6 @@ GoesBy (form.Call b1 (Indirect b2)) q = q ≡ Br b2
 GoesBy (form.Return b2) q = (q ≡ Br b2) ⊎ (q ≡ Pfs)
 GoesBy f q = ⊥
 
--- a branch, which reads what it goes by as earlier slots of its group wrote it
-abbrev pub is_branch : Form → Bool
-is_branch (form.Jump disp) = true
-is_branch (form.JumpIndirect b2) = true
-is_branch (form.Loop kind disp) = true
-is_branch (form.Call b1 goal) = true
-is_branch (form.Return b2) = true
-is_branch f = false
-
-abbrev pub is_allocate : Form → Bool
-is_allocate (form.Allocate r1 sof sol sor) = true
-is_allocate f = false
-
 abbrev pub frame_read : Access
 frame_read = record { resource = Cfm; kind = Read; guard = 0 }
 
@@ -88,11 +77,11 @@ pub record IsRegular (insn : Insn) (a : Access) : Type 0 where
       → (a.resource ≡ Pr insn.qp) ⊎ GoesBy (insn_form insn) a.resource
   -- what other instructions read as branches do, they read as others do too
   pub reads_too : is_branch (insn_form insn) ≡ false → a.kind ≡ BranchRead → HasNamedAccess insn (record a { kind = Read })
-  pub alloc_write : a.kind ≡ AllocWrite → (is_allocate (insn_form insn) ≡ true) × (a.resource ≡ Cfm)
+  pub alloc_write : a.kind ≡ AllocWrite → (is_alloc (insn_form insn) ≡ true) × (a.resource ≡ Cfm)
   pub loop_write : a.kind ≡ LoopWrite → a.resource ≡ Pr 63
   pub or_write : a.kind ≡ OrWrite → IsPredicate a.resource
   pub and_write : a.kind ≡ AndWrite → IsPredicate a.resource
-  pub spill : a.kind ≡ Spill → (is_allocate (insn_form insn) ≡ false) × (a.resource ≡ Unat)
+  pub spill : a.kind ≡ Spill → (is_alloc (insn_form insn) ≡ false) × (a.resource ≡ Unat)
   pub fill : a.kind ≡ Fill → a.resource ≡ Unat
 
 abbrev pub AccessesAreRegular : Type 0
@@ -126,6 +115,15 @@ NamedAccessesAreAccesses = (insn : Insn) (a : Access) → HasNamedAccess insn a 
 
 abbrev pub AccessesAreNamedOrPlaced : Type 0
 AccessesAreNamedOrPlaced = (insn : Insn) (a : Access) → HasAccess insn a → HasNamedAccess insn a ⊎ IsPlaced insn a
+
+-- Each access is made under p0 or under the qualifying predicate.
+abbrev pub AccessesAreGuarded : Type 0
+AccessesAreGuarded = (insn : Insn) (a : Access) → HasAccess insn a → (a.guard ≡ 0) ⊎ (a.guard ≡ insn.qp)
+
+-- Only an `alloc` writes as an `alloc` does, and only the frame.
+abbrev pub AllocWritesAreOfAlloc : Type 0
+AllocWritesAreOfAlloc = (insn : Insn) (a : Access) → HasAccess insn a → a.kind ≡ AllocWrite
+    → (is_alloc (insn_form insn) ≡ true) × (a.resource ≡ Cfm)
 
 -- `mov r1=pr` reads each predicate
 abbrev pub PredicatesAreRead : Type 0
@@ -162,6 +160,19 @@ IsInRange q = Unit {0}
 abbrev pub AccessesAreInRange : Type 0
 AccessesAreInRange = (insn : Insn) (a : Access) → IsListed insn → HasAccess insn a → IsInRange a.resource
 
+-- The qualifying predicate of a listed instruction is p0 or in the range too.
+abbrev pub GuardsAreInRange : Type 0
+GuardsAreInRange = (insn : Insn) → IsListed insn → (insn.qp ≡ 0) ⊎ IsInRange (Pr insn.qp)
+
+-- No two resources stand at one location.
+abbrev pub LocationIsOneResource : Type 0
+LocationIsOneResource = (f : FrameShape) (q r : Resource) (t : Location) → IsFrame f → IsInRange q → IsInRange r
+    → location_of f q ≡ Some t → location_of f r ≡ Some t → q ≡ r
+
+-- What stands at a predicate's place is a predicate.
+abbrev pub PlacesAreOfPredicates : Type 0
+PlacesAreOfPredicates = (f : FrameShape) (q : Resource) (n : ℕ) → location_of f q ≡ Some (PredicateAt n) → (p : ℕ) × (q ≡ Pr p)
+
 -- An access of the second kind may share a group with an earlier one of the first, of one resource.
 abbrev pub IsExcepted : Kind → Kind → Type 0
 IsExcepted first BranchRead = Unit {0}
@@ -175,9 +186,14 @@ IsExcepted first second = ⊥
 abbrev pub AccessesClash : Type 0
 AccessesClash = (a b : Access) → a.resource ≡ b.resource → IsChange a.kind → (clash a b ≢ None) ⊎ IsExcepted a.kind b.kind
 
+-- Such a clash is one of a read after a write, or of two writes.
+abbrev pub ChangesClash : Type 0
+ChangesClash = (a b : Access) → a.resource ≡ b.resource → IsChange a.kind
+    → (clash a b ≡ Some Raw) ⊎ ((clash a b ≡ Some Waw) ⊎ IsExcepted a.kind b.kind)
+
 -- An instruction other than `alloc` names its targets by the frame that it finds.
 abbrev pub NamedAsFound : Type 0
-NamedAsFound = (f : Form) (shape : FrameShape) → is_allocate f ≡ false → naming_frame f shape ≡ shape
+NamedAsFound = (f : Form) (shape : FrameShape) → is_alloc f ≡ false → naming_frame f shape ≡ shape
 
 -- Registers agree on what an instruction accesses where they agree on each access by name whose guard is 1, and on the
 -- predicates by place where it reads each of them.

@@ -4,7 +4,8 @@ use Rattle.std.proofs.lemmas.Bool.{cases_lt}
 use Rattle.std.proofs.lemmas.Bool.Decides.{nat_tests}
 use Rattle.std.proofs.Math.Nat.{mod-eq-sub-mod, mod-eq_of_lt, mod-lt}
 use Rattle.ia_meaning.specs.declared.state.FrameShape.{FrameShape}
-use Rattle.ia_meaning.specs.Names.{frame_place, predicate_place}
+use Rattle.ia_meaning.specs.Names.{frame_place}
+use Rattle.ia_meaning.proofs.PredicatePlaces.{low_place, high_place}
 use Rattle.rotation.specs.Laws.{DifferentPlaces, DifferentRotatingPlaces, DifferentPredicatePlaces, PlacesWithin, RotatingPlacesWithin}
 
 -- a number below twice the other is cut once at most
@@ -44,26 +45,18 @@ apart f frame k j h i differ same = by_part f k
     (λ low'. let b = rotating_place f j low' in omega arith)
     (λ high'. let b = still_place f j high' in differ (omega arith)))
 
-low_predicate : (f : FrameShape) (p : ℕ) → p < 16 → predicate_place f p ≡ p
-unfolding predicate_place
-low_predicate f p h = grind (arith, nat_tests)
-
-high_predicate : (f : FrameShape) (p : ℕ) → 16 ≤ p → predicate_place f p ≡ 16 + (p - 16 + f.rrbs.pr) % 48
-unfolding predicate_place
-high_predicate f p h = grind (arith, nat_tests)
-
 by_number : {P : Type 0} (p : ℕ) → (p < 16 → P) → (16 ≤ p → P) → P
 by_number p low high = ⊎_elim low high (cases_lt p 16)
 
 pub predicates_apart : DifferentPredicatePlaces
 predicates_apart f frame p q h i differ same = by_number p
-    (λ low. let a = low_predicate f p low in by_number q
-    (λ low'. let b = low_predicate f q low' in differ (omega arith))
-    (λ high'. let b = high_predicate f q high' in omega arith))
-    (λ high. let a = high_predicate f p high in by_number q
-    (λ low'. let b = low_predicate f q low' in omega arith)
+    (λ low. let a = low_place f p low in by_number q
+    (λ low'. let b = low_place f q low' in differ (omega arith))
+    (λ high'. let b = high_place f q high' in omega arith))
+    (λ high. let a = high_place f p high in by_number q
+    (λ low'. let b = low_place f q low' in omega arith)
     (λ high'.
-    let b = high_predicate f q high' in
+    let b = high_place f q high' in
     let e : (p - 16 + f.rrbs.pr) % 48 ≡ (q - 16 + f.rrbs.pr) % 48 = omega arith in
     let base = frame.predicates in
     let same_number = cut_apart (p - 16) (q - 16) f.rrbs.pr 48 (omega arith) (omega arith) (inl base) e in

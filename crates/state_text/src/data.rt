@@ -5,10 +5,8 @@ ghost use Rattle.ia_meaning.specs.Loads.{bytes_at};
 ghost use Rattle.ia_meaning.specs.StateText.{word_text, word_line, data_lines};
 
 use crate::word::WordText;
+use ia_insn::DATA_BASE;
 use std::alloc::AllocError;
-
-/// The address of the first data byte.
-const DATA_BASE: u64 = 0x10_0000;
 
 /// The word that eight bytes spell, the lowest first.
 fn word_at(bytes: &[u8], at: usize) -> u64

@@ -7,6 +7,7 @@ use Rattle.group_checker.specs.Shown.{Report}
 use Rattle.group_checker.specs.Windows.{IsWindow}
 use Rattle.group_checker.specs.Progress.{HasReported, IsEarlier}
 use Rattle.group_checker.proofs.Windowing.{first_window}
+use Rattle.group_checker.proofs.RunOrders.{accepted_robust}
 use Rattle.group_checker.proofs.Reporting.{none_reported, bounded, next_reported, verdict_reported, number_small, next_place, number_next}
 use Rattle.group_checker.proofs.checker.check.Goals as goal
 
@@ -49,5 +50,10 @@ slots-preserved c =
       reports = next_reported p c.check_second.new.report j next _ (2 ^ 27 * place_number next) follows (omega (arith, c.slots.invariant.window.size, c.deref.ensures.len, ap (length {A = Entry}) c.deref.ensures.value)) c.in_ok-check_second.ensures;
     }
 
-pub returns-in_default : goal.returns-in_default
-returns-in_default c = rw c.verdict.ensures (verdict_reported c.args.program.now c.check_second.new.report c.slots.second _ (sym c.next.ensures ∙ c.in_default.is) c.in_ok-check_second.ensures)
+pub returns-in_default-clause-verdict : goal.returns-in_default-clause-verdict
+returns-in_default-clause-verdict c = rw c.verdict.ensures (verdict_reported c.args.program.now c.check_second.new.report c.slots.second _ (sym c.next.ensures ∙ c.in_default.is) c.in_ok-check_second.ensures)
+
+pub returns-in_default-clause-robust : goal.returns-in_default-clause-robust
+returns-in_default-clause-robust c =
+    let p = c.args.program.now in
+    accepted_robust p c.first_place-second.ensures.program c.verdict.result (rw c.verdict.ensures (verdict_reported p c.check_second.new.report c.slots.second _ (sym c.next.ensures ∙ c.in_default.is) c.in_ok-check_second.ensures))

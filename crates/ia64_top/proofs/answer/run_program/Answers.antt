@@ -1,12 +1,12 @@
-use Rattle.std.proofs.Common.{rules, ◌≡◌}
-use Rattle.ia_meaning.specs.State.{zero_state}
-use Rattle.ia_meaning.specs.Progress.{begun, groups_further}
-use Rattle.ia64_top.proofs.Running.{run_of_progress}
+use Rattle.std.proofs.Common.{◌≡◌, inr, ap, ◌∙◌}
+use Rattle.ia64_top.specs.Judgements.{verdict_status}
+use Rattle.ia64_top.specs.declared.status.Status.TheVariants.{Violated}
+use Rattle.ia64_top.proofs.Outputs.{if_ok}
+use Rattle.ia64_top.proofs.Judging.{judgement_of}
 use Rattle.ia64_top.proofs.answer.run_program.Goals as goal
 
 pub returns : goal.returns
 returns c =
-    let p = c.args.program.now in
-    let m = c.run-end.new.self.progress in
-    let came : m ≡ groups_further c.args.groups p (begun (zero_state p)) = search rules in
-    run_of_progress c.groups_end.ensures.begins c.progress_is_run.ensures.run c.args.groups p m c.run-end.result _ _ c.bundle_count.ensures.program came c.run-end.ensures.end c.in_ok-state_text.ensures c.end_status.ensures
+    let violated : verdict_status c.in_ok-verdict.verdict ≡ Violated = ap verdict_status c.in-Violations.is in
+    if_ok c.judge.result c.judge.ensures
+    (λ x a. inr (judgement_of c.args.program.now c.in_ok-verdict.verdict x.bytes.items x.status c.bundle_count.ensures.program c.in_ok-verdict.ensures.verdict a, a.1 ∙ violated))

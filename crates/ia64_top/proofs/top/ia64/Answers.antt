@@ -1,6 +1,8 @@
 use Rattle.std.proofs.Common.{◌≤◌, length, Err, sym, ap, arith}
 use Rattle.ia64_top.specs.Output.{input_limit}
-use Rattle.ia64_top.proofs.Answering.{too_long, answered, given_in_part, accepted_beyond, accepted_within, only_within, ended_beyond, ended_within, beyond, untouched, read_whole}
+use Rattle.ia64_top.proofs.Outputs.{either_gives_one}
+use Rattle.ia64_top.proofs.Ordering.{promised, run_in_each_order, promised_beyond, runs_beyond}
+use Rattle.ia64_top.proofs.Answering.{too_long, answered, given_in_part, accepted_beyond, accepted_within, judged_beyond, judged_within, only_within, ended_beyond, ended_within, beyond, untouched, read_whole, same_whole}
 use Rattle.ia64_top.proofs.Ranges.{in_range}
 use Rattle.ia64_top.proofs.top.ia64.Goals as goal
 
@@ -15,41 +17,50 @@ pub returns-in-Err-TooLong-clause-accepted : goal.returns-in-Err-TooLong-clause-
 returns-in-Err-TooLong-clause-accepted g c u =
     accepted_beyond c.image_size.ensures c.args.words.now (g.S.Source.left c.args.source.now) (beyond _ (g.S.Source.left c.args.source.now) (g.S.Source.left c.read_all.new.source) (ap Err c.in-Err-TooLong.field-0-is) c.in-Err-TooLong.ensures.too_long)
 
+pub returns-in-Err-TooLong-clause-judged : goal.returns-in-Err-TooLong-clause-judged
+returns-in-Err-TooLong-clause-judged g c u =
+    judged_beyond c.image_size.ensures c.args.words.now (g.S.Source.left c.args.source.now) (beyond _ (g.S.Source.left c.args.source.now) (g.S.Source.left c.read_all.new.source) (ap Err c.in-Err-TooLong.field-0-is) c.in-Err-TooLong.ensures.too_long)
+
 pub returns-in-Err-TooLong-clause-ended : goal.returns-in-Err-TooLong-clause-ended
 returns-in-Err-TooLong-clause-ended g c u =
     ended_beyond c.image_size.ensures c.args.words.now (g.S.Source.left c.args.source.now) (beyond _ (g.S.Source.left c.args.source.now) (g.S.Source.left c.read_all.new.source) (ap Err c.in-Err-TooLong.field-0-is) c.in-Err-TooLong.ensures.too_long)
 
 pub returns-in-Ok-write_all-clause-output : goal.returns-in-Ok-write_all-clause-output
 returns-in-Ok-write_all-clause-output g c u =
-    let told = rw c.deref.ensures.value at c.in-Ok-respond.ensures in
+    let whole = same_whole (g.S.Source.left c.args.source.now) c.deref.result.now c.in-Ok.input.items c.deref.ensures.value c.in-Ok.ensures.whole in
     let written = rw c.deref-2.ensures.value at c.in-Ok-write_all.ensures in
-    let within : length c.in-Ok.input.items ≤ input_limit = omega (arith, c.in-Ok.ensures.within, c.deref.ensures.len, ap length c.deref.ensures.value) in
-    answered c.args.words.now c.in-Some.command (g.S.Source.left c.args.source.now) (g.K.Sink.given c.args.sink.now) (g.K.Sink.given c.write_all.new.sink) c.in-Ok.input.items c.in-Ok-respond.answer.bytes.items c.in-Ok-respond.answer.status (sym c.in-Some.ensures) c.in-Ok.ensures.whole within told.output written.ok
+    let within : length c.deref.result.now ≤ input_limit = omega (arith, c.in-Ok.ensures.within, c.deref.ensures.len, ap length c.deref.ensures.value) in
+    answered c.args.words.now c.in-Some.command (g.S.Source.left c.args.source.now) (g.K.Sink.given c.args.sink.now) (g.K.Sink.given c.write_all.new.sink) c.deref.result.now c.in-Ok-respond.answer.bytes.items c.in-Ok-respond.answer.status (sym c.in-Some.ensures) whole within c.in-Ok-respond.ensures.output written.ok
 
 pub returns-in-Ok-write_all-clause-only : goal.returns-in-Ok-write_all-clause-only
 returns-in-Ok-write_all-clause-only g c u =
-    let told = rw c.deref.ensures.value at c.in-Ok-respond.ensures in
-    let within : length c.in-Ok.input.items ≤ input_limit = omega (arith, c.in-Ok.ensures.within, c.deref.ensures.len, ap length c.deref.ensures.value) in
-    only_within c.args.words.now c.in-Some.command (g.S.Source.left c.args.source.now) c.in-Ok.input.items c.in-Ok-respond.answer.status (sym c.in-Some.ensures) c.in-Ok.ensures.whole within told.only
+    let whole = same_whole (g.S.Source.left c.args.source.now) c.deref.result.now c.in-Ok.input.items c.deref.ensures.value c.in-Ok.ensures.whole in
+    let within : length c.deref.result.now ≤ input_limit = omega (arith, c.in-Ok.ensures.within, c.deref.ensures.len, ap length c.deref.ensures.value) in
+    only_within c.args.words.now c.in-Some.command (g.S.Source.left c.args.source.now) c.deref.result.now c.in-Ok-respond.answer.status (sym c.in-Some.ensures) whole within c.in-Ok-respond.ensures.only
 
 pub returns-in-Ok-write_all-clause-accepted : goal.returns-in-Ok-write_all-clause-accepted
 returns-in-Ok-write_all-clause-accepted g c u =
-    let told = rw c.deref.ensures.value at c.in-Ok-respond.ensures in
-    accepted_within c.args.words.now c.in-Some.command (g.S.Source.left c.args.source.now) c.in-Ok.input.items c.in-Ok-respond.answer.status (sym c.in-Some.ensures) c.in-Ok.ensures.whole told.accepted
+    let whole = same_whole (g.S.Source.left c.args.source.now) c.deref.result.now c.in-Ok.input.items c.deref.ensures.value c.in-Ok.ensures.whole in
+    accepted_within c.args.words.now c.in-Some.command (g.S.Source.left c.args.source.now) c.deref.result.now c.in-Ok-respond.answer.status (sym c.in-Some.ensures) whole c.in-Ok-respond.ensures.accepted
+
+pub returns-in-Ok-write_all-clause-judged : goal.returns-in-Ok-write_all-clause-judged
+returns-in-Ok-write_all-clause-judged g c u =
+    let whole = same_whole (g.S.Source.left c.args.source.now) c.deref.result.now c.in-Ok.input.items c.deref.ensures.value c.in-Ok.ensures.whole in
+    judged_within c.args.words.now c.in-Some.command (g.S.Source.left c.args.source.now) c.deref.result.now c.in-Ok-respond.answer.status (sym c.in-Some.ensures) whole c.in-Ok-respond.ensures.judged
 
 pub returns-in-Ok-write_all-clause-ended : goal.returns-in-Ok-write_all-clause-ended
 returns-in-Ok-write_all-clause-ended g c u =
-    let told = rw c.deref.ensures.value at c.in-Ok-respond.ensures in
-    ended_within c.args.words.now c.in-Some.command (g.S.Source.left c.args.source.now) c.in-Ok.input.items c.in-Ok-respond.answer.status (sym c.in-Some.ensures) c.in-Ok.ensures.whole told.ended
+    let whole = same_whole (g.S.Source.left c.args.source.now) c.deref.result.now c.in-Ok.input.items c.deref.ensures.value c.in-Ok.ensures.whole in
+    ended_within c.args.words.now c.in-Some.command (g.S.Source.left c.args.source.now) c.deref.result.now c.in-Ok-respond.answer.status (sym c.in-Some.ensures) whole c.in-Ok-respond.ensures.ended
 
 pub returns-clause-written_part : goal.returns-clause-written_part
 returns-clause-written_part g c u =
-    let told = rw c.deref.ensures.value at c.in-Ok-respond.ensures in
+    let whole = same_whole (g.S.Source.left c.args.source.now) c.deref.result.now c.in-Ok.input.items c.deref.ensures.value c.in-Ok.ensures.whole in
     let written = rw c.deref-2.ensures.value at c.in-Err.ensures in
-    let within : length c.in-Ok.input.items ≤ input_limit = omega (arith, c.in-Ok.ensures.within, c.deref.ensures.len, ap length c.deref.ensures.value) in (
+    let within : length c.deref.result.now ≤ input_limit = omega (arith, c.in-Ok.ensures.within, c.deref.ensures.len, ap length c.deref.ensures.value) in (
       c.in-Ok.ensures.end,
       c.in-Ok.ensures.quiet,
-      given_in_part c.args.words.now c.in-Some.command (g.S.Source.left c.args.source.now) (g.K.Sink.given c.args.sink.now) (g.K.Sink.given c.write_all.new.sink) c.in-Ok.input.items c.in-Ok-respond.answer.bytes.items c.in-Ok-respond.answer.status (sym c.in-Some.ensures) c.in-Ok.ensures.whole within told.output written.prefix,
+      given_in_part c.args.words.now c.in-Some.command (g.S.Source.left c.args.source.now) (g.K.Sink.given c.args.sink.now) (g.K.Sink.given c.write_all.new.sink) c.deref.result.now c.in-Ok-respond.answer.bytes.items c.in-Ok-respond.answer.status (sym c.in-Some.ensures) whole within c.in-Ok-respond.ensures.output written.prefix,
     )
 
 pub returns-in_default-clause-too_long : goal.returns-in_default-clause-too_long
@@ -57,5 +68,23 @@ returns-in_default-clause-too_long g c = untouched (g.S.Source.left c.args.sourc
 
 pub returns-in-Ok-write_all-clause-too_long : goal.returns-in-Ok-write_all-clause-too_long
 returns-in-Ok-write_all-clause-too_long g c =
-    let told = rw c.deref.ensures.value at c.in-Ok-respond.ensures in
-    read_whole _ c.in-Some.command (g.S.Source.left c.args.source.now) (g.S.Source.left c.read_all.new.source) c.in-Ok.input.items c.in-Ok-respond.answer.bytes.items c.in-Ok-respond.answer.status (λ e. cc) c.in-Ok.ensures.too_long told.output
+    read_whole _ c.in-Some.command (g.S.Source.left c.args.source.now) (g.S.Source.left c.read_all.new.source) c.deref.result.now c.in-Ok-respond.answer.bytes.items c.in-Ok-respond.answer.status (λ e. cc) c.in-Ok.ensures.too_long c.in-Ok-respond.ensures.output
+
+pub returns-in-Err-TooLong-clause-robust : goal.returns-in-Err-TooLong-clause-robust
+returns-in-Err-TooLong-clause-robust g c u = promised_beyond c.args.words.now (g.S.Source.left c.args.source.now)
+
+pub returns-in-Err-TooLong-clause-ordered : goal.returns-in-Err-TooLong-clause-ordered
+returns-in-Err-TooLong-clause-ordered g c u = runs_beyond c.args.words.now (g.S.Source.left c.args.source.now) _ _
+
+pub returns-in-Ok-write_all-clause-robust : goal.returns-in-Ok-write_all-clause-robust
+returns-in-Ok-write_all-clause-robust g c u =
+    let one = either_gives_one c.one_program.ensures c.one_text_program.ensures in
+    let whole = same_whole (g.S.Source.left c.args.source.now) c.deref.result.now c.in-Ok.input.items c.deref.ensures.value c.in-Ok.ensures.whole in
+    promised c.law_orders.ensures.run one c.args.words.now c.in-Some.command (g.S.Source.left c.args.source.now) c.deref.result.now c.in-Ok-respond.answer.bytes.items c.in-Ok-respond.answer.status (sym c.in-Some.ensures) whole c.in-Ok-respond.ensures.output
+
+pub returns-in-Ok-write_all-clause-ordered : goal.returns-in-Ok-write_all-clause-ordered
+returns-in-Ok-write_all-clause-ordered g c u =
+    let one = either_gives_one c.one_program.ensures c.one_text_program.ensures in
+    let whole = same_whole (g.S.Source.left c.args.source.now) c.deref.result.now c.in-Ok.input.items c.deref.ensures.value c.in-Ok.ensures.whole in
+    let written = rw c.deref-2.ensures.value at c.in-Ok-write_all.ensures in
+    run_in_each_order c.law_orders.ensures.run c.zero_is_start.ensures one c.args.words.now c.in-Some.command (g.S.Source.left c.args.source.now) (g.K.Sink.given c.args.sink.now) (g.K.Sink.given c.write_all.new.sink) c.deref.result.now c.in-Ok-respond.answer.bytes.items c.in-Ok-respond.answer.status (sym c.in-Some.ensures) whole c.in-Ok-respond.ensures.output written.ok

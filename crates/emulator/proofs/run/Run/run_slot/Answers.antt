@@ -4,14 +4,14 @@ use Rattle.ia_insn.specs.Bundles.{slot_insn}
 use Rattle.ia_meaning.specs.Sequence.{next_of}
 use Rattle.ia_meaning.specs.Progress.{stepped}
 use Rattle.emulator.specs.Progress.{state_of, progress_of, settled_step}
-use Rattle.emulator.proofs.Slots.{ranges_at}
+use Rattle.ia_insn.proofs.ListedSlots.{ranges_in}
 use Rattle.emulator.proofs.SlotSteps.{step_here}
 use Rattle.emulator.proofs.run.Run.run_slot.Goals as goal
 
 pub effect-outcome-requires-clause-ranges : goal.effect-outcome-requires-clause-ranges
 effect-outcome-requires-clause-ranges c =
     let is : slot_insn c.in-Some.bundle.now.slots c.args.self.now.place.slot ≡ Some c.in-Some-insn.insn.now = search rules in
-    ranges_at c.in-Some.bundle.now c.args.self.now.place.slot c.in-Some-insn.insn.now c.slots.ensures.fit is
+    ranges_in c.in-Some.bundle.now c.args.self.now.place.slot c.in-Some-insn.insn.now c.slots.ensures.fit is
 
 pub returns-clause-value : goal.returns-clause-value
 returns-clause-value c =

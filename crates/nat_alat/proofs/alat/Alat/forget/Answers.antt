@@ -2,7 +2,7 @@ use Rattle.std.proofs.Common.{sym, ◌∙◌, rules}
 use Rattle.std.specs.Prelude.{not}
 use Rattle.arrayvec.proofs.ArrayVecLemmas.{filter-from_retain}
 use Rattle.ia_meaning.specs.Loads.{is_spot}
-use Rattle.nat_alat.proofs.Entries.{forgotten_is_filter}
+use Rattle.ia_meaning.proofs.AlatLists.{forgotten_is_filter}
 use Rattle.nat_alat.proofs.alat.Alat.forget.Goals as goal
 
 pub returns : goal.returns

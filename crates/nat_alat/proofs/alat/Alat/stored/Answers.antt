@@ -1,7 +1,7 @@
 use Rattle.std.proofs.Common.{sym, ◌∙◌, rules}
 use Rattle.arrayvec.proofs.ArrayVecLemmas.{filter-from_retain}
 use Rattle.ia_meaning.specs.Loads.{is_apart}
-use Rattle.nat_alat.proofs.Entries.{untouched_is_filter}
+use Rattle.ia_meaning.proofs.AlatLists.{untouched_is_filter}
 use Rattle.nat_alat.proofs.alat.Alat.stored.Goals as goal
 
 pub returns : goal.returns

@@ -1,6 +1,6 @@
 use Rattle.std.proofs.Common.{◌≡◌, ◌+◌, length, ap, arith}
 use Rattle.reg_stack.specs.Stacks.{StackState}
-use Rattle.reg_stack.proofs.Resizing.{length-resized, words-resized}
+use Rattle.ia_meaning.proofs.Resizing.{length-resized, words-resized}
 use Rattle.reg_stack.proofs.stack.Stack.enter.Goals as goal
 
 pub invariant_of-self : goal.invariant_of-self

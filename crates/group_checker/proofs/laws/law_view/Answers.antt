@@ -1,0 +1,12 @@
+use Rattle.group_checker.proofs.Seeing.{view_plain, all_see_the_start}
+use Rattle.group_checker.proofs.Agreeing.{views_agree}
+use Rattle.group_checker.proofs.laws.law_view.Goals as goal
+
+pub returns-clause-others : goal.returns-clause-others
+returns-clause-others c insn now base e = view_plain insn now base e
+
+pub returns-clause-start : goal.returns-clause-start
+returns-clause-start c insn now base = all_see_the_start insn now base
+
+pub returns-clause-agree : goal.returns-clause-agree
+returns-clause-agree c = views_agree

@@ -1,0 +1,61 @@
+//! The laws of groups: the walk of a run, what slots see, and the order of writes. They do nothing.
+
+ghost use Rattle.group_checker.specs.Traces.{KnownOnRuns, StepsKnown, WalksGroup, RunIsTraced, RunsKeepState, RunsAreKnown, SolutionIsTrue};
+ghost use Rattle.group_checker.specs.Agreement.{ViewsAgree, OthersSeeTheStart, AllSeeTheStart};
+ghost use Rattle.group_checker.specs.OrderLaws.{OrdersLeaveTheSame, OrdersChangeFramesTheSame, GroupIsOrdered, NextGroupIsOrdered, FreeIsRobust};
+ghost use Rattle.group_checker.specs.OrderExamples.{TwoOrders, TwoMoves, FirstAlloc, LateAlloc, BranchPredicate, BranchRegister, ReturnState, ParallelCompares, MemoryOrder, SpillsAndFills, LaterWrites};
+
+/// Along each sequential run from a start state, the slots since the start, or since an indirect branch
+/// was last taken, are a walk to the state's place, and the predicates of no pair that is known on it are
+/// both 1. The group of the walk is that of the run.
+pub fn law_walk()
+    ensures known { KnownOnRuns }
+    ensures steps { StepsKnown }
+    ensures group { WalksGroup }
+    ensures run { RunIsTraced }
+    ensures state { RunsKeepState }
+    ensures known_of_run { RunsAreKnown }
+    ensures table { SolutionIsTrue }
+{}
+
+/// A slot that is no branch sees the registers of the group's start, and so does a branch, but for its qualifying
+/// predicate, the branch register that holds its target, and what a return reads of the previous function state.
+///
+/// In each group of a program without violations the writes so far, in every order, leave the state that the slots
+/// leave one by one, and the next slot does the same from its view and from that state.
+pub fn law_view()
+    ensures others { OthersSeeTheStart }
+    ensures start { AllSeeTheStart }
+    ensures agree { ViewsAgree }
+{}
+
+/// Writes that fit together leave the same in every order; those of each group of a program without violations do,
+/// and so does each run.
+pub fn law_orders()
+    ensures registers { OrdersLeaveTheSame }
+    ensures frames { OrdersChangeFramesTheSame }
+    ensures group { GroupIsOrdered }
+    ensures next { NextGroupIsOrdered }
+    ensures run { FreeIsRobust }
+{}
+
+/// Examples over the definitions alone. A group of two writes of r14, 1 and then 2, leaves 2 in program order and
+/// 1 in the other one, and the like of other registers.
+///
+/// For each exception a group that stands on it: what it leaves, and, but for parallel compares, what one of its
+/// slots would do that saw no more than the group's start. Why `alloc` has to be first: else two orders leave two
+/// values. And a program that isn't order independent, where only an order of its second group tells, from a state
+/// other than the zero state.
+pub fn law_two_orders()
+    ensures orders { TwoOrders }
+    ensures moves { TwoMoves }
+    ensures first_alloc { FirstAlloc }
+    ensures late_alloc { LateAlloc }
+    ensures branch_predicate { BranchPredicate }
+    ensures branch_register { BranchRegister }
+    ensures return_state { ReturnState }
+    ensures parallel_compares { ParallelCompares }
+    ensures memory_order { MemoryOrder }
+    ensures spills_and_fills { SpillsAndFills }
+    ensures later_writes { LaterWrites }
+{}

@@ -1,0 +1,7 @@
+pub mod Words
+pub mod Values
+pub mod ActionRanges
+pub mod FrameParts
+pub mod InRange
+pub mod Memories
+pub mod StateKept
