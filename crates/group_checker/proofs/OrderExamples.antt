@@ -87,7 +87,7 @@ with_p6_is_start = record {
 
 pub later_writes_differ : LaterWrites
 unfolding look spot holds predicate_place predicate_spot next_of insn_at is_stopped seq_step
-later_writes_differ = (λ robust. of (ap (λ (r : Run). static_of 14 r.state.registers) (robust 2 ([] ∷ (1 ∷ []) ∷ []) (with_p6 later_writes) with_p6_is_start)), refl, refl, refl)
+later_writes_differ = (λ robust. of (ap (λ (r : Run). static_of 14 r.state.registers) (robust 2 ([] ∷ (1 ∷ []) ∷ []) (with_p6 later_writes) with_p6_is_start)), refl, refl, refl, refl, refl)
   where
     of : cell 1 ≡ cell 2 → ⊥
     of e = let v : 1 ≡ 2 = ap (λ (c : Cell). c.value) e in omega (arith, v)

@@ -265,11 +265,13 @@ with_p6 p = record (zero_state p) {
   registers = record zero_registers { predicates = true ∷ replicate 5 false ++ true ∷ replicate 57 false };
 }
 
--- In program order, after one group, or from the zero state, nothing is seen of it: only another order of the second group,
--- from a state with p6, tells that it isn't order independent.
+-- From a state with p6, program order leaves 2, and another order of the second group 1, so it isn't order independent. From
+-- the zero state both leave 0.
 abbrev pub LaterWrites : Type 0
 LaterWrites =
     (¬ IsRobust later_writes)
     × (static_of 14 (seq_run later_writes 2 (with_p6 later_writes)).state.registers ≡ cell 2)
     × (static_of 14 (par_run later_writes 2 ([] ∷ []) (with_p6 later_writes)).state.registers ≡ cell 2)
     × (static_of 14 (par_run later_writes 2 ([] ∷ (1 ∷ []) ∷ []) (with_p6 later_writes)).state.registers ≡ cell 1)
+    × (static_of 14 (seq_run later_writes 2 (zero_state later_writes)).state.registers ≡ cell 0)
+    × (static_of 14 (par_run later_writes 2 ([] ∷ (1 ∷ []) ∷ []) (zero_state later_writes)).state.registers ≡ cell 0)

@@ -44,8 +44,8 @@ pub fn law_orders()
 ///
 /// For each exception a group that stands on it: what it leaves, and, but for parallel compares, what one of its
 /// slots would do that saw no more than the group's start. Why `alloc` has to be first: else two orders leave two
-/// values. And a program that isn't order independent, where only an order of its second group tells, from a state
-/// other than the zero state.
+/// values. And a program that isn't order independent: an order of its second group tells, from a state other than
+/// the zero state, from which the same order leaves the same.
 pub fn law_two_orders()
     ensures orders { TwoOrders }
     ensures moves { TwoMoves }
