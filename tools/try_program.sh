@@ -1,7 +1,6 @@
 #!/bin/bash
-# Runs the built program, and the wrapper on the README's examples, as a user would, and compares bytes
-# and statuses. Run it after `rt ci`, which builds the program. It prints a line for each try that
-# fails, and a count.
+# Runs the built program as a user would, and compares bytes and statuses. Run it after `rt ci`, which
+# builds the program. It prints a line for each try that fails, and a count.
 here=$(cd "$(dirname "$0")/.." && pwd)
 cd "$here" || exit 1
 program=$here/crates/ia64_cli/out/ia64_cli
@@ -58,10 +57,14 @@ printf 'line 1: char\n' > "$dir/char"
 try no_text 3 "$dir/char" "$dir/no_image" check
 
 # What the comment of an example says that `run` prints.
-for name in count counted_loop predicated call speculation; do
+for name in count counted_loop pipelined_loop predicated call speculation; do
   sed -n 's|^//   ||p' "examples/$name.s" > "$dir/$name"
   try "$name, as it says" 0 "$dir/$name" "examples/$name.s" run 100
 done
+
+sed -n 's|^//   ||p' examples/loop_edge.s > "$dir/loop_edge"
+try 'loop_edge, as it says' 1 "$dir/loop_edge" examples/loop_edge.s check
+try 'loop_edge, run, as it says' 1 "$dir/loop_edge" examples/loop_edge.s run 100
 
 # A text of tries/ says in its first line for how many groups it is run and with which status that ends. All are accepted.
 for text in tries/*.s; do
@@ -102,7 +105,7 @@ for word in 0 01 +5 10000001 5x; do try "run $word" 2 "$dir/nothing" examples/co
 try run_alone 2 "$dir/nothing" examples/count.s run
 
 # The examples that are right: accepted, as text and as image. Built, shown and built again they give one image.
-for name in count predicated counted_loop call speculation; do
+for name in count predicated counted_loop pipelined_loop call speculation; do
   try "$name" 0 "$dir/accepted" "examples/$name.s" check
   "$program" build < "examples/$name.s" > "$dir/image" && "$program" show < "$dir/image" > "$dir/shown"
   note $? "$name: not built or not shown"
@@ -215,38 +218,6 @@ refused 'bundle 64 slot 0: long run' wrap "$long"
 
 "$program" check < examples/three_nops.image > /dev/full 2> /dev/null
 note $(($? != 6)) "write_fault: another status than 6"
-
-# The wrapper, on the commands of the README. Its first call builds the program, as it does for a user.
-rm -f "$program"
-[ "$(./ia64 check < examples/three_nops.image 2> /dev/null)" = accepted ]
-note $? "README: check"
-./ia64 wrap < examples/three_nops.bundles 2> /dev/null | cmp -s - examples/three_nops.image
-note $? "README: wrap"
-./ia64 show < examples/three_nops.image 2> /dev/null | cmp -s - "$dir/text"
-note $? "README: show"
-./ia64 check < examples/read_after_write.image 2> /dev/null | cmp -s - "$dir/raw"
-note $? "README: a hazard"
-./ia64 build < examples/read_after_write.s 2> /dev/null | cmp -s - examples/read_after_write.image
-note $? "README: build"
-./ia64 list < examples/three_nops.image 2> /dev/null | cmp -s - "$dir/listing"
-note $? "README: list"
-./ia64 check < examples/read_after_write_mended.s 2> /dev/null | cmp -s - "$dir/accepted"
-note $? "README: a mended hazard"
-[ "$(./ia64 build < examples/call.s 2> /dev/null | ./ia64 list 2> /dev/null | grep -c '^[0-9]')" = 6 ]
-note $? "README: a text as a listing"
-./ia64 build < examples/call.s 2> /dev/null | ./ia64 show 2> /dev/null | grep -q 'br.call.sptk.few b0=L3 ;;'
-note $? "README: a text as its canonical text"
-./ia64 check < examples/read_after_write.s 2> /dev/null | cmp -s - "$dir/raw"
-note $? "README: a hazard in a text"
-./ia64 check < examples/call.s 2> /dev/null | cmp -s - "$dir/accepted"
-note $? "README: a program with register frames"
-./ia64 run 100 < examples/count.s 2> /dev/null | cmp -s - "$dir/count"
-note $? "README: a run"
-./ia64 run 100 < examples/call.s 2> /dev/null | cmp -s - "$dir/call"
-note $? "README: a run with register frames"
-./ia64 2> "$dir/err" < /dev/null
-[ $? = 2 ] && grep -q 'Call it as' "$dir/err"
-note $? "ia64 without words says how to call it"
 
 echo "try_program: $passed passed, $failed failed"
 [ "$failed" = 0 ]
