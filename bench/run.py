@@ -123,7 +123,7 @@ def measure_loop(name, folder):
 
 def main():
     if not PROGRAM.exists():
-        sys.exit(f"{PROGRAM} is not there: call ./ia64 once, which builds it")
+        sys.exit(f"{PROGRAM} is not there: call ./build, which proves and builds it")
     if not has_gnu():
         print("Without the GNU tools for ia64, which are not installed.")
     one, five, fifteen = os.getloadavg()

@@ -86,7 +86,6 @@ cat > "$dir/bin/rt" <<'END'
 #!/bin/bash
 crate=$(basename "$PWD")
 echo "begin $crate $*" >> "$CALLS"
-sleep 0.1
 if [ "$crate" = "$FAILS" ]; then echo "rt: $crate is not proved"; exit 1; fi
 case $1 in
   run) mkdir -p out && cp "$BUILT" out/ ;;
@@ -110,7 +109,7 @@ note $? 'a first answer leaves a file behind'
 
 # A crate that isn't proved: build names it, nothing that stands on it begins, and no program is made.
 : > "$CALLS"
-try 'a crate that fails' 1 "$dir/nothing" 'flow_facts is not proved: see .*/flow_facts.log' /dev/null env FAILS=flow_facts "$outline/build" --jobs 3
+try 'a crate that fails' 1 "$dir/nothing" 'flow_facts is not proved: see .*/flow_facts.log' /dev/null env FAILS=flow_facts "$outline/build"
 grep -q 'flow_facts is not proved' "$outline/out/build/flow_facts.log"
 note $? 'the log of a crate that fails'
 ! grep -Eq 'begin (group_checker|ia64_top|ia64_cli) ' "$CALLS" && [ ! -e "$outline/crates/ia64_cli/out/ia64_cli" ]
@@ -118,15 +117,13 @@ note $? 'a crate began that stands on one that failed'
 
 # All crates: each begins when those that it stands on have ended, and those that the program doesn't need never begin.
 : > "$CALLS"
-try 'build' 0 "$dir/nothing" 'the program is proved and built' /dev/null "$outline/build" --jobs 3
+try 'build' 0 "$dir/nothing" 'the program is proved and built' /dev/null "$outline/build"
 awk 'FILENAME == ARGV[1] { if (/^[a-z]/) { split($0, parts, ":"); below[parts[1]] = parts[2] } next }
   $1 == "end" { ended[$2] = 1 }
   $1 == "begin" { began[$2]++; n = split(below[$2], low, " "); for (i = 1; i <= n; i++) if (low[i] in below && !(low[i] in ended)) { print $2 " before " low[i]; bad = 1 } }
   END { exit bad || began["ia64_cli"] != 1 || began["first_fault"] != 1 || began["vectors"] }' crates.txt "$CALLS"
 note $? 'the order in which build proves'
 try 'a built program' 0 "$dir/accepted" '' examples/count.s "$outline/ia64" check
-awk '$1 == "begin" { open++; if (open > 3) bad = 1 } $1 == "end" { open-- } END { exit bad }' "$CALLS"
-note $? 'more than three crates at once'
 mkdir "$outline/crates/rotation/specs" "$outline/crates/rotation/proofs"
 for source in src/lib.rt specs/Lib.antt proofs/Lib.antt ../../crates.txt; do
   touch -d '1 minute' "$outline/crates/rotation/$source"

@@ -8,6 +8,7 @@ use Rattle.std.specs.Ordering.{nat_cmp}
 use Rattle.std.specs.Cmp.{nat_cmp_is}
 use Rattle.std.specs.declared.cmp.Ordering.TheVariants.{Less, Equal, Greater}
 use Rattle.std.proofs.lemmas.Bool.{cases_order, cases_eq, ne_eqb, ltb-false}
+use Rattle.ia_insn.specs.declared.limits.TheConstants.{ENTRY_LIMIT}
 use Rattle.ia_insn.specs.Programs.{AreEntries}
 use Rattle.asm_build.specs.declared.address.Address.{Address}
 use Rattle.asm_build.specs.declared.address.Address.TheVariants as address
@@ -36,7 +37,7 @@ inserted low count k (n ∷ ns) l c rise = elim (cases_order k n) [
 
 -- Entries that rise, and are no more than a program may have.
 abbrev pub AreGood : ℕ → List ℕ → Type 0
-AreGood count ns = RiseFrom 0 count ns × (length ns ≤ 1024)
+AreGood count ns = RiseFrom 0 count ns × (length ns ≤ ENTRY_LIMIT)
 
 declared_rise : (count n : ℕ) (entries : List ℕ) → n < count → RiseFrom 0 count entries → RiseFrom 0 count (declared entries n)
 declared_rise count n entries h rise = elim (cases_eq n 0) [
@@ -46,9 +47,9 @@ declared_rise count n entries h rise = elim (cases_eq n 0) [
 
 limited : (count line : ℕ) (ns : List ℕ) → RiseFrom 0 count ns → IfOk (within_limit line ns) (AreGood count)
 limited count line ns rise =
-    elim (nat_lt 1024 (length ns)) as (λ b. nat_lt 1024 (length ns) ≡ b → IfOk (if b then Err (error.Fault line Limit) else Ok ns) (AreGood count)) [
+    elim (nat_lt ENTRY_LIMIT (length ns)) as (λ b. nat_lt ENTRY_LIMIT (length ns) ≡ b → IfOk (if b then Err (error.Fault line Limit) else Ok ns) (AreGood count)) [
       | true ↦ λ e. tt
-      | false ↦ λ e. (rise, ltb-false 1024 (length ns) e)
+      | false ↦ λ e. (rise, ltb-false ENTRY_LIMIT (length ns) e)
     ] refl
 
 one_declared : (count line : ℕ) (o : Option Address) (entries : List ℕ) → IfSome o (IsInside count) → AreGood count entries

@@ -5,6 +5,7 @@ use Rattle.std.specs.List.{AllByRecursion}
 use Rattle.std.specs.BTreeSet.{insert_key}
 use Rattle.std.specs.Ordering.{nat_cmp}
 use Rattle.std.proofs.lemmas.Bool.{ne_eqb, eq-eqb, lt-ltb, le-ltb}
+use Rattle.ia_insn.specs.declared.limits.TheConstants.{ENTRY_LIMIT}
 use Rattle.ia_insn.specs.Programs.{IsEntryAt, AreEntries}
 use Rattle.asm_text.specs.SlotTexts.{label_text}
 use Rattle.asm_build.specs.declared.address.Address.TheVariants.{Bundle}
@@ -105,15 +106,15 @@ push_below : (xs : List ℕ) (n : ℕ) → AllByRecursion (λ m. m < n) xs → A
 push_below [] n h = (omega arith, tt)
 push_below (x ∷ xs) n h = (omega (arith, h.0), push_below xs n h.1)
 
-one_declared : (xs : List ℕ) (n line : ℕ) → AllByRecursion (λ m. m < n) xs → 1 ≤ n → length xs < 1024 → within_limit line (declared xs n) ≡ Ok (xs ++ n ∷ [])
+one_declared : (xs : List ℕ) (n line : ℕ) → AllByRecursion (λ m. m < n) xs → 1 ≤ n → length xs < ENTRY_LIMIT → within_limit line (declared xs n) ≡ Ok (xs ++ n ∷ [])
 one_declared xs n line h some few =
     let e : declared xs n ≡ xs ++ n ∷ [] = rw (ne_eqb n 0 (λ z. omega (arith, z, some))) (at_end xs n h) in
-    let room : nat_lt 1024 (length (xs ++ n ∷ [])) ≡ false = le-ltb 1024 _ (omega (arith, few, length-append xs (n ∷ []))) in
+    let room : nat_lt ENTRY_LIMIT (length (xs ++ n ∷ [])) ≡ false = le-ltb ENTRY_LIMIT _ (omega (arith, few, length-append xs (n ∷ []))) in
     rw (e, room) refl
 
 -- Entries that rise, each with a line whose name is its label, are declared in turn.
 pub declared_in_turn : (labels : Labels) (done rest : List ℕ) (lines : List EntryLine) → map (λ e. e.name) lines ≡ map label_text rest → ((k : ℕ) → k < length rest → label_of labels (label_text (slice_index rest k)) ≡ Some (Bundle (slice_index rest k)))
-    → (low : ℕ) → 1 ≤ low → AllByRecursion (λ m. m < low) done → Rise low rest → length done + length rest ≤ 1024 → all_declared labels done lines ≡ Ok (done ++ rest)
+    → (low : ℕ) → 1 ≤ low → AllByRecursion (λ m. m < low) done → Rise low rest → length done + length rest ≤ ENTRY_LIMIT → all_declared labels done lines ≡ Ok (done ++ rest)
 declared_in_turn labels done [] [] names found low some before rise few = ap (λ xs. Ok xs) (sym (append-nil done))
 declared_in_turn labels done (n ∷ rest) [] names found low some before rise few = cc
 declared_in_turn labels done [] (l ∷ lines) names found low some before rise few = cc

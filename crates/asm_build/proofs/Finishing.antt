@@ -6,6 +6,7 @@ use Rattle.std.specs.Option.{option_map}
 use Rattle.std.specs.Map.{values_of}
 use Rattle.std.proofs.lemmas.List.{length-append, length-replicate}
 use Rattle.first_fault.specs.Stages.{IsFirstFault}
+use Rattle.ia_insn.specs.declared.limits.TheConstants.{DATA_LIMIT}
 use Rattle.ia_insn.specs.declared.insn.Insn.{Insn}
 use Rattle.ia_insn.specs.declared.insn.Op.{Op}
 use Rattle.ia_insn.specs.declared.place.Place.{Place}
@@ -37,7 +38,7 @@ pub length_named : (labels : Labels) (n : ℕ) (bs : List BundleLines) → lengt
 length_named labels n [] = refl
 length_named labels n (b ∷ bs) = ap suc (length_named labels (n + 1) bs)
 
-padded_length : (k : ℕ) → k ≤ 1048576 → (k + (8 - k % 8) % 8 ≤ 1048576) × ((k + (8 - k % 8) % 8) % 8 ≡ 0)
+padded_length : (k : ℕ) → k ≤ DATA_LIMIT → (k + (8 - k % 8) % 8 ≤ DATA_LIMIT) × ((k + (8 - k % 8) % 8) % 8 ≡ 0)
 padded_length k h = (omega (arith, h), omega arith)
 
 -- names: none is without its label, and the entries are those that lines name

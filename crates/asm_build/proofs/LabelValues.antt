@@ -1,5 +1,5 @@
 -- What holds of the address of each label.
-use Rattle.std.proofs.Common.{◌≡◌, ℕ, Bool, true, false, cond, List, [], ◌∷◌, Some}
+use Rattle.std.proofs.Common.{◌≡◌, ℕ, Bool, true, false, cond, List, [], ◌∷◌, Some, arith}
 use Rattle.std.specs.Prelude.{IfSome}
 use Rattle.std.specs.List.{AllByRecursion}
 use Rattle.std.specs.Map.{lookup, values_of}
@@ -34,10 +34,10 @@ kept_among P (e ∷ es) name a all p =
     ]
 
 place_within : (section : Section) (s : State) → IsWithinLimits s → IsWithin (place_in section s)
-place_within section.Text s h = h.bundles
+place_within section.Text s h = omega (arith, h.bundles)
 place_within section.Data s h = h.bytes
 
--- what a label names that stands here is within a program
+-- what a label names that stands here is in reach
 pub here_within : (s : State) → IsWithinLimits s → IsWithin (here s)
 here_within s h = place_within s.section s h
 

@@ -8,6 +8,7 @@ use Rattle.std.specs.Ordering.{nat_cmp, is_eq}
 use Rattle.std.proofs.lemmas.Cmp.{nat_list_cmp_total, tied_itself}
 use Rattle.std.proofs.lemmas.Fmt.{decimal_injective}
 use Rattle.std.proofs.lemmas.Map.Lookups.{exact_bytes}
+use Rattle.ia_insn.specs.declared.limits.TheConstants.{BUNDLE_LIMIT}
 use Rattle.asm_text.specs.SlotTexts.{label_text}
 use Rattle.asm_build.specs.declared.address.Address.TheVariants.{Bundle}
 use Rattle.asm_build.specs.Addresses.{IsInside}
@@ -44,7 +45,7 @@ order : (m n : ℕ) → m < n + 1 → (m ≡ n) ⊎ (m < n)
 order m n h = grind arith
 
 -- the label of the n-th bundle
-pub one_label : (entries targets : List ℕ) (count n : ℕ) (labels : Labels) → n < count → count ≤ 4096 → HasLabels entries targets count n labels
+pub one_label : (entries targets : List ℕ) (count n : ℕ) (labels : Labels) → n < count → count ≤ BUNDLE_LIMIT → HasLabels entries targets count n labels
     → HasLabels entries targets count (n + 1) (insert_entry (slice_cmp nat_cmp) labels (label_text n) (Bundle n))
 one_label entries targets count n labels less few h = record {
   named = λ m before is. at m (order m n before) is;

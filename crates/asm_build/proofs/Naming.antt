@@ -1,5 +1,5 @@
 -- Bundles with the addresses of their names: they fit their templates, and their targets are bundles.
-use Rattle.std.proofs.Common.{ℕ, ◌≤◌, Bool, true, false, if◌then◌else◌, List, [], ◌∷◌, Option, Some, None}
+use Rattle.std.proofs.Common.{ℕ, ◌<◌, Bool, true, false, if◌then◌else◌, List, [], ◌∷◌, Option, Some, None}
 use Rattle.std.specs.Prelude.{IfSome, is_some, unwrap_or}
 use Rattle.std.specs.List.{AllByRecursion}
 use Rattle.std.specs.Map.{values_of}
@@ -14,7 +14,7 @@ use Rattle.ia_insn.specs.Targets.{displacement}
 use Rattle.asm_build.specs.declared.address.Address.{Address}
 use Rattle.asm_build.specs.declared.draft.BundleLines.{BundleLines}
 use Rattle.asm_build.specs.declared.draft.SlotName.{SlotName}
-use Rattle.asm_build.specs.Addresses.{IsWithin}
+use Rattle.asm_build.specs.Addresses.{IsWithin, reach}
 use Rattle.asm_build.specs.Names.{addressed_by, named, put_in, slots_named}
 use Rattle.asm_build.specs.Sources.{Labels, label_of}
 use Rattle.asm_build.proofs.Addressed.{fit_stays}
@@ -28,7 +28,7 @@ or_same : (i : Insn) (u : ExecutionUnit) (slot : ℕ) (o : Option Op) → Fits i
 or_same i u slot None f h = f
 or_same i u slot (Some y) f h = h
 
-fits_addressed : (i : Insn) (o : Option Address) (n : ℕ) (u : ExecutionUnit) (slot : ℕ) → IfSome o IsWithin → n ≤ 4096 → Fits i u slot
+fits_addressed : (i : Insn) (o : Option Address) (n : ℕ) (u : ExecutionUnit) (slot : ℕ) → IfSome o IsWithin → n < reach → Fits i u slot
     → IfSome (addressed_by o i.op n) (λ y. Fits (record { qp = i.qp; op = y }) u slot)
 fits_addressed i None n u slot h k f = tt
 fits_addressed i (Some a) n u slot h k f = fit_stays i a n u slot h k f
@@ -37,18 +37,18 @@ plain : (P : Op → Type 0) (branches : Bool) (x : Op) → P x → IfSome (if br
 plain P true x p = tt
 plain P false x p = p
 
-fits_target : (labels : Labels) (n : ℕ) (i : Insn) (target : Option (List ℕ)) (u : ExecutionUnit) (slot : ℕ) → AreFoundWithin labels → n ≤ 4096
+fits_target : (labels : Labels) (n : ℕ) (i : Insn) (target : Option (List ℕ)) (u : ExecutionUnit) (slot : ℕ) → AreFoundWithin labels → n < reach
     → Fits i u slot → IfSome (named labels n i.op target) (λ y. Fits (record { qp = i.qp; op = y }) u slot)
 fits_target labels n i None u slot within k f = plain _ (is_some (displacement i.op)) i.op f
 fits_target labels n i (Some name) u slot within k f = fits_addressed i (label_of labels name) n u slot (label_within IsWithin labels name within) k f
 
-fits_put_in : (labels : Labels) (n : ℕ) (i : Insn) (name : SlotName) (u : ExecutionUnit) (slot : ℕ) → AreFoundWithin labels → n ≤ 4096
+fits_put_in : (labels : Labels) (n : ℕ) (i : Insn) (name : SlotName) (u : ExecutionUnit) (slot : ℕ) → AreFoundWithin labels → n < reach
     → Fits i u slot → Fits (put_in labels n i name) u slot
 fits_put_in labels n i name u slot within k f =
     or_same i u slot (named labels n i.op name.target) f (fits_target labels n i name.target u slot within k f)
 
 -- the slots of a bundle fit its units as before
-pub fit_named : (labels : Labels) (n : ℕ) (units : List ExecutionUnit) (slots : Slots) (b : BundleLines) → AreFoundWithin labels → n ≤ 4096
+pub fit_named : (labels : Labels) (n : ℕ) (units : List ExecutionUnit) (slots : Slots) (b : BundleLines) → AreFoundWithin labels → n < reach
     → FitUnits units slots → FitUnits units (slots_named labels n slots b)
 fit_named labels n (u ∷ v ∷ w ∷ []) (Three i j k) b within few f = (
   fits_put_in labels n i b.first u 0 within few f.0,

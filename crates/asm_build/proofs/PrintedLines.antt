@@ -1,6 +1,7 @@
 -- What the printed lines other than slots say.
 use Rattle.std.proofs.Common.{◌≡◌, ◌∙◌, ℕ, ◌<◌, ◌≤◌, ◌^◌, true, List, [], ◌∷◌, ◌++◌, length, map, codes, Ok, refl, sym, ap, arith, length-append}
 use Rattle.std.specs.Fmt.{decimal}
+use Rattle.asm_words.specs.declared.limits.TheConstants.{LINE_LIMIT}
 use Rattle.asm_words.specs.declared.word.WordKind.TheVariants as kind
 use Rattle.asm_words.specs.Bytes.{has_only_plain}
 use Rattle.asm_words.proofs.Lexed.{lexed}
@@ -61,7 +62,7 @@ entry_says n l = record {
   };
 }
 
-says : (bytes : List ℕ) (value : Line) → length bytes ≤ 240 → reading_of bytes ≡ Ok value → IsListedLine value → Says bytes value
+says : (bytes : List ℕ) (value : Line) → length bytes ≤ LINE_LIMIT → reading_of bytes ≡ Ok value → IsListedLine value → Says bytes value
 says bytes value short reading listed = record { short = short; reads = record { reading = reading; listed = listed } }
 
 -- the beginning of a bundle

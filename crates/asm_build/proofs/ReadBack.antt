@@ -4,6 +4,7 @@ use Rattle.std.specs.Prelude.{slice_index}
 use Rattle.std.specs.List.{AllByRecursion}
 use Rattle.std.specs.Map.{values_of}
 use Rattle.std.proofs.lemmas.Bool.{eq-eqb}
+use Rattle.ia_insn.specs.declared.limits.TheConstants.{DATA_LIMIT}
 use Rattle.bstr.specs.Text.{without_terminator}
 use Rattle.bstr.proofs.lemmas.LineLemmas.{lines-nil}
 use Rattle.ia_insn.specs.Bundles.{Bundle}
@@ -43,7 +44,7 @@ record Finishes (bs : List BundleLines) (es : List EntryLine) (ls : Labels) (lin
   pub goes : Goes (outside bs es ls) line text (finished section bs es ls bytes) next
 
 -- the lines of the data
-data_finishes : (bs : List BundleLines) (es : List EntryLine) (ls : Labels) (line : ℕ) (bytes : List ℕ) → AreBytes bytes → length bytes % 8 ≡ 0 → length bytes ≤ 1048576 → Finishes bs es ls line (data_text bytes) bytes
+data_finishes : (bs : List BundleLines) (es : List EntryLine) (ls : Labels) (line : ℕ) (bytes : List ℕ) → AreBytes bytes → length bytes % 8 ≡ 0 → length bytes ≤ DATA_LIMIT → Finishes bs es ls line (data_text bytes) bytes
 data_finishes bs es ls line [] small eights room = record { section = section.Text; next = line; goes = stays (outside bs es ls) line }
 data_finishes bs es ls line (b ∷ bytes) small eights room =
     let back = words_back (b ∷ bytes) small eights in

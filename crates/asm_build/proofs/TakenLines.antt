@@ -2,6 +2,7 @@
 use Rattle.std.proofs.Common.{◌≡◌, ◌⊎◌, inl, inr, refl, ℕ, ◌+◌, ◌≤◌, List, ◌∷◌, length, Result, Ok, Err}
 use Rattle.std.specs.Prelude.{OnOk, IfErr}
 use Rattle.first_fault.specs.Stages.{ArePassed}
+use Rattle.asm_words.specs.declared.limits.TheConstants.{LINE_LIMIT}
 use Rattle.asm_text.specs.declared.line.Line.{Line}
 use Rattle.asm_text.specs.Lines.{LineOf}
 use Rattle.asm_build.specs.declared.reason.Reason.{Reason}
@@ -11,13 +12,13 @@ use Rattle.asm_build.specs.Sources.{State, after, value_stages, IsValueError}
 use Rattle.asm_build.specs.TextReading.{IsTaken, IsRefused, ComesTo}
 
 -- a line that is read and taken
-pub is_taken : (s t : State) (n : ℕ) (line : List ℕ) (value : Line) (r : Result (Unit {0}) TextError) → length line ≤ 240 → LineOf line value
+pub is_taken : (s t : State) (n : ℕ) (line : List ℕ) (value : Line) (r : Result (Unit {0}) TextError) → length line ≤ LINE_LIMIT → LineOf line value
     → OnOk r (ArePassed (value_stages s value) × (t ≡ after s n value)) → OnOk r ((v : Line) × IsTaken s line v × (t ≡ after s n v))
 is_taken s t n line value (Ok u) short reads h = (value, (record { short = short; reads = reads }, h.0), h.1)
 is_taken s t n line value (Err e) short reads h = tt
 
 -- one that is read and refused
-pub is_refused : (s : State) (n : ℕ) (line : List ℕ) (value : Line) (r : Result (Unit {0}) TextError) → length line ≤ 240 → LineOf line value
+pub is_refused : (s : State) (n : ℕ) (line : List ℕ) (value : Line) (r : Result (Unit {0}) TextError) → length line ≤ LINE_LIMIT → LineOf line value
     → IfErr r (IsValueError s n value) → IfErr r (λ e. (e ≡ error.Memory) ⊎ ((why : Reason) × (e ≡ error.Fault n why) × IsRefused s line why))
 is_refused s n line value (Ok u) short reads h = tt
 is_refused s n line value (Err e) short reads (inl memory) = inl memory

@@ -2,6 +2,8 @@
 use Rattle.std.proofs.Common.{ℕ, ◌+◌, ◌*◌, ◌<◌, ◌≤◌, ◌%◌, ◌^◌, Bool, true, false, ◌||◌, ◌==◌, List, [], ◌∷◌, ◌++◌, length, map, codes, sym, subst, arith, length-append}
 use Rattle.std.specs.Prelude.{if◌then◌else◌}
 use Rattle.std.specs.Fmt.{digits}
+use Rattle.asm_words.specs.declared.limits.TheConstants.{LINE_LIMIT}
+use Rattle.ia_insn.specs.declared.limits.TheConstants.{BUNDLE_LIMIT}
 use Rattle.ia_insn.specs.declared.choices.Unit.{Unit as ExecutionUnit}
 use Rattle.ia_insn.specs.declared.bundle.Slots.{Slots}
 use Rattle.ia_insn.specs.declared.bundle.Slots.TheVariants as slots
@@ -22,8 +24,8 @@ use Rattle.asm_build.proofs.WrittenTexts.{AreGood, good_of}
 both_short : (xs ys : List ℕ) (m n : ℕ) → length xs ≤ m → length ys ≤ n → length (xs ++ ys) ≤ m + n
 both_short xs ys m n a b = omega (arith, a, b, length-append xs ys)
 
-line_short : (text : List ℕ) → length text ≤ 240 → length (text_line text) ≤ 241
-line_short text h = both_short text (10 ∷ []) 240 1 h (omega arith)
+line_short : (text : List ℕ) → length text ≤ LINE_LIMIT → length (text_line text) ≤ LINE_LIMIT + 1
+line_short text h = both_short text (10 ∷ []) LINE_LIMIT 1 h (omega arith)
 
 if_short : (is : Bool) (text : List ℕ) (most : ℕ) → length text ≤ most → length (if is then text else []) ≤ most
 if_short true text most h = h
@@ -60,7 +62,7 @@ bundle_short say entries targets count n b low fit sound =
     (both_short (head_text b.template) body 241 725 (head_short b fit)
     (both_short (slots_text n b.template b.slots) (text_line (codes "}")) 723 2 (slots_short say count n b.template b.slots low sound) (omega arith))))
 
-bundles_short : SlotsSay → (entries targets : List ℕ) (count n : ℕ) (bs : List Bundle) → n + length bs ≤ 4096 → AreGood count n bs → length (bundles_text entries targets n bs) ≤ 1448 * length bs
+bundles_short : SlotsSay → (entries targets : List ℕ) (count n : ℕ) (bs : List Bundle) → n + length bs ≤ BUNDLE_LIMIT → AreGood count n bs → length (bundles_text entries targets n bs) ≤ 1448 * length bs
 bundles_short say entries targets count n [] few good = omega arith
 bundles_short say entries targets count n (b ∷ bs) few good =
     let here = bundle_short say entries targets count n b (omega (arith, few)) good.0.0 good.0.1 in

@@ -2,6 +2,7 @@
 use Rattle.std.proofs.Common.{◌≡◌, refl, ap, inl, inr, ℕ, ◌+◌, ◌*◌, ◌<◌, min, arith, length, List, Option, Some, None, true}
 use Rattle.std.specs.Prelude.{is_some}
 use Rattle.first_fault.specs.Stages.{IsFirstFault}
+use Rattle.ia_insn.specs.declared.limits.TheConstants.{DATA_LIMIT}
 use Rattle.asm_text.specs.declared.line.Line.TheVariants as line
 use Rattle.asm_build.specs.declared.reason.Reason.TheVariants.{Twice, Limit}
 use Rattle.asm_build.specs.declared.source.Section.TheVariants as section
@@ -18,8 +19,8 @@ twice_there s name stands again = inr (stands, inl (tt, refl, not_none (label_of
 
 -- the data of a line have no room
 pub data_full : (s : State) (size : ℕ) (values : List ℕ) (count most : ℕ) → IsIn section.Data s → count ≡ length values → most ≡ min size 8
-    → 1048576 < length s.bytes + count * most → IsFirstFault (value_stages s (line.Numbers size values)) Limit
+    → DATA_LIMIT < length s.bytes + count * most → IsFirstFault (value_stages s (line.Numbers size values)) Limit
 data_full s size values count most stands counted is more =
-    let over : 1048576 < length s.bytes + length values * min size 8 = rw (counted, is) at more in
+    let over : DATA_LIMIT < length s.bytes + length values * min size 8 = rw (counted, is) at more in
     let all : length (numbers_bytes (min size 8) values) ≡ length values * min size 8 = length_numbers (min size 8) values (omega arith) in
     inr (stands, inr (tt, inr (tt, inr (tt, inl (tt, refl, λ room. omega (arith, room, over, all, ap length (most_numbers size values)))))))

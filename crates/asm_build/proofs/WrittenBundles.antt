@@ -2,6 +2,7 @@
 use Rattle.std.proofs.Common.{◌≡◌, ◌≢◌, ◌∙◌, ℕ, ◌+◌, ◌<◌, ◌^◌, Bool, false, List, [], ◌∷◌, ◌++◌, length, map, codes, Option, Some, None, refl, sym, ap, subst}
 use Rattle.std.specs.Prelude.{IsSomeAnd, slice_index_or}
 use Rattle.std.specs.Option.{option_map}
+use Rattle.ia_insn.specs.declared.limits.TheConstants.{BUNDLE_LIMIT}
 use Rattle.ia_insn.specs.declared.choices.Unit.{Unit as ExecutionUnit}
 use Rattle.ia_insn.specs.declared.choices.Unit.TheVariants.{L, X}
 use Rattle.ia_insn.specs.declared.insn.Insn.{Insn}
@@ -77,7 +78,7 @@ slot_goes say bs es ls k n o i stop listed low room fits =
     line_goes (inside o bs es ls) k (slot_text i n stop) (printed_line i n stop) (say i n stop listed low) (refl, (tt, (room, (fits, (tt, tt)))))
 
 -- `{` and the template name
-head_goes : (bs : List BundleLines) (es : List EntryLine) (ls : Labels) (k : ℕ) (s : Shape) (template : ℕ) → units_of template ≡ units_named s → length bs < 4096
+head_goes : (bs : List BundleLines) (es : List EntryLine) (ls : Labels) (k : ℕ) (s : Shape) (template : ℕ) → units_of template ≡ units_named s → length bs < BUNDLE_LIMIT
     → Goes (outside bs es ls) k (head_text template) (inside (opened s lines.Zero) bs es ls) (k + 1)
 head_goes bs es ls k s template units room =
     subst (λ (us : List ExecutionUnit). Goes (outside bs es ls) k (text_line (codes "{ ." ++ map unit_letter us)) (inside (opened s lines.Zero) bs es ls) (k + 1)) (sym units)
@@ -199,7 +200,7 @@ pub record BundleGoes (bs : List BundleLines) (es : List EntryLine) (ls : Labels
   pub goes : Goes (outside bs es ls) k (head_text b.template ++ (slots_text n b.template b.slots ++ text_line (codes "}"))) (outside (bs ++ read ∷ []) es ls) next
   pub same : AreLinesOf n b read
 
-pub bundle_goes : SlotsSay → (bs : List BundleLines) (es : List EntryLine) (ls : Labels) (k n count : ℕ) (b : Bundle) → n < 2 ^ 32 → length bs < 4096 → IsBundle b → AreSound count n b.slots → BundleGoes bs es ls k n b
+pub bundle_goes : SlotsSay → (bs : List BundleLines) (es : List EntryLine) (ls : Labels) (k n count : ℕ) (b : Bundle) → n < 2 ^ 32 → length bs < BUNDLE_LIMIT → IsBundle b → AreSound count n b.slots → BundleGoes bs es ls k n b
 bundle_goes say bs es ls k n count b low room fit sound =
     let name = has_name b.template b.slots fit in
     let s = name.0 in

@@ -4,6 +4,7 @@ use Rattle.std.specs.Prelude.{if◌then◌else◌}
 use Rattle.std.specs.Int.{w64, to_le_bytes}
 use Rattle.std.proofs.lemmas.Bool.{eq-eqb, ne_eqb}
 use Rattle.std.proofs.lemmas.Grind.{flat_map-append}
+use Rattle.ia_insn.specs.declared.limits.TheConstants.{DATA_LIMIT}
 use Rattle.asm_text.specs.declared.line.Line.TheVariants as says
 use Rattle.asm_build.specs.declared.draft.BundleLines.{BundleLines}
 use Rattle.asm_build.specs.declared.source.EntryLine.{EntryLine}
@@ -88,7 +89,7 @@ pub record DataGoes (from : State) (bs : List BundleLines) (es : List EntryLine)
   pub goes : Goes from line text (in_data bs es ls bytes) next
 
 -- the lines of words
-words_go : (fuel : ℕ) (bs : List BundleLines) (es : List EntryLine) (ls : Labels) (bytes : List ℕ) (line k : ℕ) (ws : List ℕ) → length ws ≤ fuel → k % 8 ≡ 0 → AreWords ws → length bytes + length (numbers_bytes 8 ws) ≤ 1048576
+words_go : (fuel : ℕ) (bs : List BundleLines) (es : List EntryLine) (ls : Labels) (bytes : List ℕ) (line k : ℕ) (ws : List ℕ) → length ws ≤ fuel → k % 8 ≡ 0 → AreWords ws → length bytes + length (numbers_bytes 8 ws) ≤ DATA_LIMIT
     → DataGoes (in_data bs es ls bytes) bs es ls line (words_text k ws) (bytes ++ numbers_bytes 8 ws)
 words_go fuel bs es ls bytes line k [] short eights small room = record { next = line; goes = subst (λ all. Goes (in_data bs es ls bytes) line [] (in_data bs es ls all) line) (sym (append-nil bytes)) (stays (in_data bs es ls bytes) line) }
 words_go zero bs es ls bytes line k (w ∷ ws) short eights small room = absurd (omega (arith, short))
@@ -110,7 +111,7 @@ words_go (suc fuel) bs es ls bytes line k (w ∷ ws) short eights small room =
     }
 
 -- The lines of data that there are.
-pub data_goes : (bs : List BundleLines) (es : List EntryLine) (ls : Labels) (line : ℕ) (ws : List ℕ) → AreWords ws → length (numbers_bytes 8 ws) ≤ 1048576
+pub data_goes : (bs : List BundleLines) (es : List EntryLine) (ls : Labels) (line : ℕ) (ws : List ℕ) → AreWords ws → length (numbers_bytes 8 ws) ≤ DATA_LIMIT
     → DataGoes (outside bs es ls) bs es ls line (text_line (codes ".data") ++ words_text 0 ws) (numbers_bytes 8 ws)
 data_goes bs es ls line ws small room =
     let words = words_go (length ws) bs es ls [] (line + 1) 0 ws (omega arith) refl small (omega (arith, room)) in

@@ -4,6 +4,7 @@ use Rattle.std.specs.Prelude.{if◌then◌else◌, IfSome, slice_get}
 use Rattle.std.specs.BTreeMap.{insert_entry}
 use Rattle.std.specs.Cmp.Lexicographic.{slice_cmp}
 use Rattle.std.specs.Ordering.{nat_cmp}
+use Rattle.ia_insn.specs.declared.limits.TheConstants.{BUNDLE_LIMIT}
 use Rattle.ia_insn.specs.Bundles.{Bundle, IsBundle}
 use Rattle.ia_insn.specs.Programs.{Program, IsProgram}
 use Rattle.asm_text.specs.declared.line.Line.TheVariants as line
@@ -82,7 +83,7 @@ entry_lines_next : (is : Bool) (es : List EntryLine) (before after : List ℕ) (
 entry_lines_next true es before after k n h grown = names_both es (record { line = k; name = label_text n } ∷ []) ∙ ap (λ xs. xs ++ label_text n ∷ []) h ∙ sym (ap (map label_text) grown ∙ map_both before (n ∷ []))
 entry_lines_next false es before after k n h grown = h ∙ sym (ap (map label_text) (grown ∙ append-nil before))
 
-labels_next : (entries targets : List ℕ) (count n : ℕ) (is : Bool) (ls : Labels) → (is_among entries n || is_among targets n) ≡ is → n < count → count ≤ 4096 → HasLabels entries targets count n ls → HasLabels entries targets count (n + 1) (label_if is ls n n)
+labels_next : (entries targets : List ℕ) (count n : ℕ) (is : Bool) (ls : Labels) → (is_among entries n || is_among targets n) ≡ is → n < count → count ≤ BUNDLE_LIMIT → HasLabels entries targets count n ls → HasLabels entries targets count (n + 1) (label_if is ls n n)
 labels_next entries targets count n true ls e less few h = one_label entries targets count n ls less few h
 labels_next entries targets count n false ls e less few h = same_labels entries targets count n ls e h
 
@@ -96,7 +97,7 @@ pub record ReadsOn (entries targets : List ℕ) (count k : ℕ) (bs : List Bundl
   pub so_far : SoFar entries targets count n done bundles entry_lines labels
 
 -- one bundle more
-one_goes : SlotsSay → (entries targets : List ℕ) (count k n : ℕ) (done : List Bundle) (bs : List BundleLines) (es : List EntryLine) (ls : Labels) (b : Bundle) → Rise 1 entries → n < count → count ≤ 4096 → IsBundle b → AreSound count n b.slots
+one_goes : SlotsSay → (entries targets : List ℕ) (count k n : ℕ) (done : List Bundle) (bs : List BundleLines) (es : List EntryLine) (ls : Labels) (b : Bundle) → Rise 1 entries → n < count → count ≤ BUNDLE_LIMIT → IsBundle b → AreSound count n b.slots
     → SoFar entries targets count n done bs es ls → ReadsOn entries targets count k bs es ls (bundle_text entries targets n b) (n + 1) (done ++ b ∷ [])
 one_goes say entries targets count k n done bs es ls b rise less few fit sound h =
     let entry = is_among entries n in
@@ -150,7 +151,7 @@ pub good_of : (p : Program) → IsProgram p → AreGood (length p.bundles) 0 p.b
 good_of p h = good_from (length p.bundles) 0 p.bundles h.fit (λ i. subst (λ m. IfSome (slice_get p.bundles i) (λ b. AreSound (length p.bundles) m b.slots)) (zero_more i) (all_sound p h i))
 
 -- The lines of the bundles from the n-th on.
-pub all_go : SlotsSay → (entries targets : List ℕ) (count k n : ℕ) (done rest : List Bundle) (bs : List BundleLines) (es : List EntryLine) (ls : Labels) → Rise 1 entries → n + length rest ≡ count → count ≤ 4096 → AreGood count n rest
+pub all_go : SlotsSay → (entries targets : List ℕ) (count k n : ℕ) (done rest : List Bundle) (bs : List BundleLines) (es : List EntryLine) (ls : Labels) → Rise 1 entries → n + length rest ≡ count → count ≤ BUNDLE_LIMIT → AreGood count n rest
     → SoFar entries targets count n done bs es ls → ReadsOn entries targets count k bs es ls (bundles_text entries targets n rest) count (done ++ rest)
 all_go say entries targets count k n done [] bs es ls rise e few good h =
     let same : n ≡ count = omega (arith, e) in

@@ -1,5 +1,6 @@
 -- What a label names, and what its name means in an instruction.
-use Rattle.std.specs.Prelude.{ℕ, ◌<◌, ◌≤◌, pos, ◌-ℤ◌, Option, Some, None, ⊤}
+use Rattle.std.specs.Prelude.{ℕ, ◌^◌, ◌<◌, ◌≤◌, pos, ◌-ℤ◌, Option, Some, None, ⊤}
+use Rattle.ia_insn.specs.declared.limits.TheConstants.{DATA_LIMIT}
 use Rattle.ia_insn.specs.declared.insn.Op.{Op}
 use Rattle.ia_insn.specs.declared.insn.Op.TheVariants as op
 use Rattle.ia_insn.specs.Addresses.{bundle_address, data_address}
@@ -13,10 +14,14 @@ of_bundle n = Bundle n
 abbrev pub of_byte : ℕ → Address
 of_byte at = Byte at
 
--- an address that a program may have, or the end of its bundles or data
+-- how far a direct branch or check reaches, in bundles: its displacement has 21 bits with its sign
+abbrev pub reach : ℕ
+reach = 2 ^ 20
+
+-- a bundle that each other one reaches, or an address that data may have, or their end
 abbrev pub IsWithin : Address → Type 0
-IsWithin (Bundle n) = n ≤ 4096
-IsWithin (Byte at) = at ≤ 1048576
+IsWithin (Bundle n) = n < reach
+IsWithin (Byte at) = at ≤ DATA_LIMIT
 
 -- a bundle that has the label is one of so many
 abbrev pub IsInside : ℕ → Address → Type 0

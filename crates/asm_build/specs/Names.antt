@@ -3,6 +3,7 @@ use Rattle.std.specs.Prelude.{ℕ, ◌+◌, ◌-◌, ◌%◌, nat_lt, ◌==◌, 
 use Rattle.std.specs.Option.{option_map}
 use Rattle.std.specs.BTreeSet.{insert_key}
 use Rattle.std.specs.Ordering.{nat_cmp}
+use Rattle.ia_insn.specs.declared.limits.TheConstants.{ENTRY_LIMIT}
 use Rattle.ia_insn.specs.declared.insn.Insn.{Insn}
 use Rattle.ia_insn.specs.declared.insn.Op.{Op}
 use Rattle.ia_insn.specs.declared.place.Place.{Place}
@@ -86,7 +87,7 @@ abbrev pub declared : List ℕ → ℕ → List ℕ
 declared entries n = if n == 0 then entries else insert_key nat_cmp entries n
 
 abbrev pub within_limit : ℕ → List ℕ → Result (List ℕ) TextError
-within_limit line entries = if nat_lt 1024 (length entries) then Err (error.Fault line Limit) else Ok entries
+within_limit line entries = if nat_lt ENTRY_LIMIT (length entries) then Err (error.Fault line Limit) else Ok entries
 
 -- the entries with the one that a line names
 abbrev pub declared_by : Option ℕ → ℕ → List ℕ → Result (List ℕ) TextError

@@ -8,6 +8,7 @@ use Rattle.std.specs.BTreeMap.{insert_entry, is_at}
 use Rattle.std.specs.Cmp.Lexicographic.{slice_cmp}
 use Rattle.std.specs.Ordering.{nat_cmp}
 use Rattle.first_fault.specs.Stages.{Stage, unless, IsFirstFault}
+use Rattle.ia_insn.specs.declared.limits.TheConstants.{BUNDLE_LIMIT, DATA_LIMIT}
 use Rattle.asm_text.specs.declared.line.Line.{Line}
 use Rattle.asm_text.specs.declared.line.Line.TheVariants as line
 use Rattle.asm_build.specs.declared.address.Address.{Address}
@@ -133,9 +134,9 @@ FitsSlot s value = ⊤
 
 -- there is room for a bundle and for data
 abbrev pub HasRoom : State → Line → Type 0
-HasRoom s (line.Open shape) = length s.bundles < 4096
-HasRoom s (line.Numbers size values) = length s.bytes + length (numbers_bytes size values) ≤ 1048576
-HasRoom s (line.Skip count) = length s.bytes + count ≤ 1048576
+HasRoom s (line.Open shape) = length s.bundles < BUNDLE_LIMIT
+HasRoom s (line.Numbers size values) = length s.bytes + length (numbers_bytes size values) ≤ DATA_LIMIT
+HasRoom s (line.Skip count) = length s.bytes + count ≤ DATA_LIMIT
 HasRoom s value = ⊤
 
 -- What is looked for in what a line says, after the lines before it, in this order.
@@ -159,7 +160,7 @@ AreLabelsInside s = AllByRecursion (IsInside (length s.bundles)) (values_of s.la
 
 -- At most as many bundles as a program may have, with the open one, and as many data, and labels of these.
 pub record IsWithinLimits (s : State) : Type 0 where
-  pub current : IsSome s.current → length s.bundles < 4096
-  pub bundles : length s.bundles ≤ 4096
+  pub current : IsSome s.current → length s.bundles < BUNDLE_LIMIT
+  pub bundles : length s.bundles ≤ BUNDLE_LIMIT
   pub labels : AllByRecursion IsWithin (values_of s.labels)
-  pub bytes : length s.bytes ≤ 1048576
+  pub bytes : length s.bytes ≤ DATA_LIMIT

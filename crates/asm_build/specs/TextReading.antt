@@ -2,6 +2,7 @@
 use Rattle.std.specs.Prelude.{◌≡◌, ℕ, ◌+◌, ◌<◌, ◌≤◌, ◌⊎◌, List, [], ◌∷◌, map, length, Option, Some, None, Result, Ok, Err}
 use Rattle.bstr.specs.Text.{lines_of, without_terminator}
 use Rattle.first_fault.specs.Stages.{Stage, unless, first, IsFirstFault, ArePassed}
+use Rattle.asm_words.specs.declared.limits.TheConstants.{LINE_LIMIT}
 use Rattle.ia_insn.specs.declared.place.Place.{Place}
 use Rattle.ia_insn.specs.Places.{EachPlace, IsFirstBad}
 use Rattle.ia_insn.specs.Programs.{Program}
@@ -23,14 +24,14 @@ text_lines text = map without_terminator (lines_of text)
 
 -- A line by itself says this.
 pub record Says (line : List ℕ) (value : Line) : Type 0 where
-  pub short : length line ≤ 240
+  pub short : length line ≤ LINE_LIMIT
   pub reads : LineOf line value
 
 -- A line by itself says nothing, for this reason: it is too long, or its first fault.
 abbrev pub SaysNothing : List ℕ → Reason → Type 0
 SaysNothing line reason =
-    ((240 < length line) × (reason ≡ Limit))
-    ⊎ ((length line ≤ 240) × (e : LineFault) × FaultOf line e × (reason ≡ reason_of e))
+    ((LINE_LIMIT < length line) × (reason ≡ Limit))
+    ⊎ ((length line ≤ LINE_LIMIT) × (e : LineFault) × FaultOf line e × (reason ≡ reason_of e))
 
 -- A line is refused after what those before it say: by itself, or for what it says.
 abbrev pub IsRefused : State → List ℕ → Reason → Type 0

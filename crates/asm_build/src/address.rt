@@ -1,8 +1,8 @@
 //! What a label names.
 
-ghost use Rattle.std.specs.Prelude.{◌≡◌, ◌↔◌, ◌<◌, ◌≤◌, pos, ◌-ℤ◌, IsTrue};
+ghost use Rattle.std.specs.Prelude.{◌≡◌, ◌↔◌, ◌<◌, pos, ◌-ℤ◌, IsTrue};
 ghost use Rattle.asm_build.specs.declared.address.Address.TheVariants as address;
-ghost use Rattle.asm_build.specs.Addresses.{IsInside, IsWithin, addressed};
+ghost use Rattle.asm_build.specs.Addresses.{IsInside, IsWithin, addressed, reach};
 
 use ia_insn::{Op, bundle_address, data_address};
 
@@ -29,7 +29,7 @@ impl Address {
 
 /// How many bundles from the n-th the m-th is.
 fn distance(m: u32, n: u32) -> i32
-    requires { (m ≤ 4096) × (n ≤ 4096) }
+    requires { (m < reach) × (n < reach) }
     ensures { result ≡ (pos m -ℤ pos n) }
 {
     m as i32 - n as i32
@@ -38,7 +38,7 @@ fn distance(m: u32, n: u32) -> i32
 /// The operation in the n-th bundle with the address of its name put in: as the distance of a branch or
 /// check, which take a bundle alone, or as the number of a `movl`. None for any other.
 pub(crate) fn addressed(op: &Op, address: Address, n: u32) -> Option<Op>
-    requires here { n ≤ 4096 }
+    requires here { n < reach }
     requires there { IsWithin address }
     ensures { result ≡ addressed op.now address n }
 {
@@ -56,7 +56,7 @@ pub(crate) fn addressed(op: &Op, address: Address, n: u32) -> Option<Op>
 
 /// The operation in the n-th bundle with another bundle for its name.
 fn with_bundle(op: &Op, there: u32, n: u32) -> Option<Op>
-    requires { (there ≤ 4096) × (n ≤ 4096) }
+    requires { (there < reach) × (n < reach) }
     ensures { result ≡ addressed op.now (address.Bundle there) n }
 {
     let disp = distance(there, n);

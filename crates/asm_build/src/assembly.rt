@@ -22,13 +22,11 @@ use crate::names::{all_declared, bundles_named};
 use crate::reason::{Reason, TextError, fault, reason_of};
 use crate::source::Source;
 use asm_text::read_line;
+use asm_words::limits::LINE_LIMIT;
 use bstr::ByteSlice;
 use ia_insn::{BundleOf, Place, Program, ProgramFault};
 use std::alloc::{AllocError, Global};
 use std::collections::BTreeSet;
-
-/// The longest line, in bytes.
-const LINE_LIMIT: usize = 240;
 
 /// Takes the n-th line.
 fn take_line(source: &mut Source, n: u32, line: &[u8]) -> Result<(), TextError>

@@ -1,6 +1,7 @@
 //! The text of bundles.
 
 ghost use Rattle.std.specs.Prelude.{◌≡◌, ◌++◌, [], ◌<◌, ◌≤◌, length, codes, if◌then◌else◌, OnOk};
+ghost use Rattle.ia_insn.specs.declared.limits.TheConstants.{BUNDLE_LIMIT};
 ghost use Rattle.asm_text.specs.SlotTexts.{label_text, slot_text};
 ghost use Rattle.asm_build.specs.CanonicalText.{has_stop, line, unit_letter, head_text, slots_text};
 ghost use Rattle.asm_build.specs.Marks.{IsSound, AreSound, AreAllSound, marked_text, marked_texts};
@@ -167,7 +168,7 @@ pub(crate) fn push_bundles(
     entries: &[bool],
     targets: &[bool],
 ) -> Result<(), AllocError>
-    requires few { length bundles.now ≤ 4096 }
+    requires few { length bundles.now ≤ BUNDLE_LIMIT }
     requires sound { AreAllSound (length bundles.now) bundles.now }
     requires entries { length entries.now ≡ length bundles.now }
     requires targets { length targets.now ≡ length bundles.now }

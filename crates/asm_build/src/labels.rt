@@ -1,6 +1,7 @@
 //! Marks of the bundles that a list of numbers or the targets of instructions name.
 
 ghost use Rattle.std.specs.Prelude.{◌∷◌, [], ◌<◌, ◌≤◌, length, IfOk, IfSome};
+ghost use Rattle.ia_insn.specs.declared.limits.TheConstants.{BUNDLE_LIMIT};
 ghost use Rattle.ia_insn.specs.Programs.{AreEntries};
 ghost use Rattle.ia_insn.specs.Targets.{displacement, IsBundleAt};
 ghost use Rattle.asm_text.specs.SlotTexts.{target_of};
@@ -22,7 +23,7 @@ fn mark(marks: &mut Vec<bool>, number: u32)
 #[tactic(auto, using(crate::proofs::Marking::none_marked))]
 fn mark_target(marks: &mut Vec<bool>, n: u32, op: &Op)
     requires inside { IfSome (displacement op.now) (IsBundleAt (length marks.old.items) n) }
-    requires few { length marks.old.items ≤ 4096 }
+    requires few { length marks.old.items ≤ BUNDLE_LIMIT }
     ensures { Marked marks.old.items marks.new.items (listed_once (target_of n op.now)) }
 {
     if let Some(disp) = op.displacement() {
@@ -33,7 +34,7 @@ fn mark_target(marks: &mut Vec<bool>, n: u32, op: &Op)
 /// Marks the targets of a bundle's instructions.
 fn mark_targets(marks: &mut Vec<bool>, n: u32, slots: &Slots)
     requires sound { AreSound (length marks.old.items) n slots.now }
-    requires few { length marks.old.items ≤ 4096 }
+    requires few { length marks.old.items ≤ BUNDLE_LIMIT }
     ensures { Marked marks.old.items marks.new.items (bundle_targets n slots.now) }
 {
     match slots {
@@ -55,7 +56,7 @@ pub(crate) fn entry_marks(
     count: usize,
     entries: &[u32],
 ) -> Result<Vec<bool>, AllocError>
-    requires few { count ≤ 4096 }
+    requires few { count ≤ BUNDLE_LIMIT }
     requires entries { AreEntries count entries.now }
     ensures { IfOk result (λ marks. AreMarks count entries.now marks.items) }
 {
@@ -70,7 +71,7 @@ pub(crate) fn entry_marks(
 
 /// The marks of the targets of bundles.
 pub(crate) fn target_marks(alloc: Global, bundles: &[BundleOf]) -> Result<Vec<bool>, AllocError>
-    requires few { length bundles.now ≤ 4096 }
+    requires few { length bundles.now ≤ BUNDLE_LIMIT }
     requires sound { AreAllSound (length bundles.now) bundles.now }
     ensures { IfOk result (λ marks. AreMarks (length bundles.now) (targets_from 0 bundles.now) marks.items) }
 {

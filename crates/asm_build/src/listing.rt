@@ -1,6 +1,7 @@
 //! The listing of a program.
 
 ghost use Rattle.std.specs.Prelude.{◌≡◌, ◌++◌, ◌≤◌, length, map, IfOk, OnOk};
+ghost use Rattle.ia_insn.specs.declared.limits.TheConstants.{BUNDLE_LIMIT};
 ghost use Rattle.hex.specs.Hex.{encode_lower};
 ghost use Rattle.ia_insn.specs.Templates.{units_of};
 ghost use Rattle.asm_build.specs.CanonicalText.{unit_letter};
@@ -66,7 +67,7 @@ fn push_bundle(out: &mut Vec<u8>, count: usize, n: u32, bundle: &BundleOf) -> Re
 /// The lines of bundles.
 #[tactic(auto, using(crate::proofs::Listed::none_listed))]
 fn push_listed(out: &mut Vec<u8>, bundles: &[BundleOf]) -> Result<(), AllocError>
-    requires few { length bundles.now ≤ 4096 }
+    requires few { length bundles.now ≤ BUNDLE_LIMIT }
     requires sound { AreAllSound (length bundles.now) bundles.now }
     ensures { OnOk result (IsAppended out.old.items out.new.items (AreListed 0 bundles.now)) }
 {

@@ -3,9 +3,10 @@
 ghost use Rattle.std.specs.Prelude.{◌≡◌, ℕ, ◌<◌, ◌≤◌, ◌⊎◌, true, false, [], IfOk, IfErr, Some, None, Ok, Err, length, is_some, OnOk};
 ghost use Rattle.std.specs.List.{AllByRecursion};
 ghost use Rattle.std.specs.Map.{values_of};
+ghost use Rattle.ia_insn.specs.declared.limits.TheConstants.{BUNDLE_LIMIT};
 ghost use Rattle.asm_build.specs.declared.reason.Reason.TheVariants as reason;
 ghost use Rattle.asm_build.specs.declared.reason.TextError.TheVariants as error;
-ghost use Rattle.asm_build.specs.Addresses.{IsWithin};
+ghost use Rattle.asm_build.specs.Addresses.{IsWithin, reach};
 ghost use Rattle.asm_build.specs.Names.{named, put_in, slot_names, unnamed_among, unnamed_slot, unnamed_bundle, slots_named, bundle_named, bundles_named, bundle_at, declared, declared_by, all_declared};
 ghost use Rattle.asm_build.specs.Sources.{label_of};
 
@@ -14,12 +15,10 @@ use crate::draft::{BundleLines, SlotName};
 use crate::reason::{Reason, TextError, fault};
 use crate::source::EntryLine;
 use asm_words::Name;
+use ia_insn::limits::ENTRY_LIMIT;
 use ia_insn::{BundleOf, Insn, Op, Slots};
 use std::alloc::{AllocError, Global};
 use std::collections::{BTreeMap, BTreeSet};
-
-/// The most declared entries.
-const ENTRY_LIMIT: usize = 1024;
 
 /// Labels and what they name.
 type Labels = BTreeMap<Name, Address>;
@@ -27,7 +26,7 @@ type Labels = BTreeMap<Name, Address>;
 /// The operation in the n-th bundle with the address of its name put in, where a label that fits has it.
 #[tactic(auto, using(crate::proofs::LabelValues::found_among))]
 fn named(labels: &Labels, n: u32, op: &Op, target: &Option<Name>) -> Option<Op>
-    requires here { n ≤ 4096 }
+    requires here { n < reach }
     requires within { AllByRecursion IsWithin (values_of labels.now.entries) }
     ensures { result ≡ named labels.now.entries n op.now target.now }
 {
@@ -44,7 +43,7 @@ fn named(labels: &Labels, n: u32, op: &Op, target: &Option<Name>) -> Option<Op>
 
 /// The instruction with the address of its name, or the fault of its line.
 fn put_in(labels: &Labels, n: u32, insn: &Insn, name: &SlotName) -> Result<Insn, TextError>
-    requires here { n ≤ 4096 }
+    requires here { n < reach }
     requires within { AllByRecursion IsWithin (values_of labels.now.entries) }
     ensures ok { IfOk result (λ i. (i ≡ put_in labels.now.entries n insn.now name.now) × (is_some (named labels.now.entries n insn.now.op name.now.target) ≡ true)) }
     ensures err { IfErr result (λ e. (e ≡ error.Fault name.now.line reason.NoLabel) × (is_some (named labels.now.entries n insn.now.op name.now.target) ≡ false)) }
@@ -62,7 +61,7 @@ fn slots_named(
     slots: &Slots,
     lines: &BundleLines,
 ) -> Result<Slots, TextError>
-    requires here { n ≤ 4096 }
+    requires here { n < reach }
     requires within { AllByRecursion IsWithin (values_of labels.now.entries) }
     ensures ok { IfOk result (λ named. (named ≡ slots_named labels.now.entries n slots.now lines.now) × (unnamed_among labels.now.entries n (slot_names slots.now lines.now) ≡ None)) }
     ensures err { IfErr result (λ e. (line : ℕ) × (e ≡ error.Fault line reason.NoLabel) × (unnamed_among labels.now.entries n (slot_names slots.now lines.now) ≡ Some line)) }
@@ -82,7 +81,7 @@ fn slots_named(
 
 /// The n-th bundle with the addresses of its names, or the fault of its first slot without one.
 fn bundle_named(labels: &Labels, n: u32, lines: &BundleLines) -> Result<BundleOf, TextError>
-    requires here { n < 4096 }
+    requires here { n < reach }
     requires within { AllByRecursion IsWithin (values_of labels.now.entries) }
     ensures ok { IfOk result (λ b. (b ≡ bundle_named labels.now.entries n lines.now) × (unnamed_slot labels.now.entries n lines.now ≡ None)) }
     ensures err { IfErr result (λ e. (line : ℕ) × (e ≡ error.Fault line reason.NoLabel) × (unnamed_slot labels.now.entries n lines.now ≡ Some line)) }
@@ -97,7 +96,7 @@ pub(crate) fn bundles_named(
     labels: &Labels,
     lines: &[BundleLines],
 ) -> Result<Vec<BundleOf>, TextError>
-    requires few { length lines.now ≤ 4096 }
+    requires few { length lines.now ≤ BUNDLE_LIMIT }
     requires within { AllByRecursion IsWithin (values_of labels.now.entries) }
     ensures ok { IfOk result (λ bundles. (bundles.items ≡ bundles_named labels.now.entries 0 lines.now) × (unnamed_bundle labels.now.entries 0 lines.now ≡ None)) }
     ensures err { IfErr result (λ e. (e ≡ error.Memory) ⊎ ((line : ℕ) × (e ≡ error.Fault line reason.NoLabel) × (unnamed_bundle labels.now.entries 0 lines.now ≡ Some line))) }

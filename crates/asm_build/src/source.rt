@@ -13,15 +13,10 @@ use crate::draft::{BundleLines, Open};
 use crate::reason::{Reason, TextError, fault};
 use asm_text::{Draft, Line, Shape, Values};
 use asm_words::Name;
+use ia_insn::limits::{BUNDLE_LIMIT, DATA_LIMIT};
 use std::alloc::{AllocError, Global};
 use std::collections::BTreeMap;
 use std::marker::Model;
-
-/// The most bundles of a program.
-const BUNDLE_LIMIT: usize = 4096;
-
-/// The most bytes of data.
-const DATA_LIMIT: usize = 1_048_576;
 
 /// What is being written: bundles, or data.
 #[derive(Clone, Copy, PartialEq, Eq)]

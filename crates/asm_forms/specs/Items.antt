@@ -7,6 +7,7 @@ use Rattle.asm_forms.specs.declared.items.Item.TheVariants as i
 use Rattle.asm_forms.specs.declared.items.NumberField.{NumberField}
 use Rattle.asm_forms.specs.declared.items.NumberField.TheVariants.{Imm8, Less8, Imm9, Imm14, Imm22, Imm21, Imm62, Imm64, Count, Position, Length, Length16, One, ZeroOrMinusOne, Frame, Rotating, Tag, Mask, RotatingMask, Skip, Data1, Data2, Data4}
 use Rattle.ia_insn.specs.declared.registers.Ar.TheVariants as ar
+use Rattle.ia_insn.specs.declared.limits.TheConstants.{DATA_LIMIT}
 
 -- from -below to above
 abbrev pub within : Bool → ℕ → ℕ → ℕ → Bool
@@ -33,7 +34,7 @@ holds Rotating s m = within s m 0 96 && (m % 8 == 0)
 holds Tag s m = within s m 256 255
 holds Mask s m = within s m 65536 131071
 holds RotatingMask s m = within s m 8796093022208 8796093022207 && (m % 65536 == 0)
-holds Skip s m = within s m 0 1048576
+holds Skip s m = within s m 0 DATA_LIMIT
 holds Data1 s m = within s m 128 255
 holds Data2 s m = within s m 32768 65535
 holds Data4 s m = within s m 2147483648 4294967295

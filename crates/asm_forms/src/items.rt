@@ -5,6 +5,7 @@ ghost use Rattle.asm_forms.specs.Items.{accepts, holds, within, is_label, is_reg
 
 use asm_words::Token;
 use ia_insn::Ar;
+use ia_insn::limits::DATA_LIMIT;
 
 /// A field for a number.
 #[derive(Clone, Copy, Debug, PartialEq, Eq)]
@@ -47,7 +48,7 @@ pub enum NumberField {
     Mask,
     /// 44 bits, signed, in multiples of 65536.
     RotatingMask,
-    /// 0 to 1048576.
+    /// 0 to the limit of data.
     Skip,
     /// -128 to 255.
     Data1,
@@ -141,7 +142,7 @@ pub fn holds(field: NumberField, negative: bool, magnitude: u64) -> bool
             within(negative, magnitude, 8_796_093_022_208, 8_796_093_022_207)
                 && magnitude % 65_536 == 0
         }
-        NumberField::Skip => within(negative, magnitude, 0, 1_048_576),
+        NumberField::Skip => within(negative, magnitude, 0, DATA_LIMIT as u64),
         NumberField::Data1 => within(negative, magnitude, 128, 255),
         NumberField::Data2 => within(negative, magnitude, 32_768, 65_535),
         NumberField::Data4 => within(negative, magnitude, 2_147_483_648, 4_294_967_295),

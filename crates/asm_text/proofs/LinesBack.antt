@@ -1,5 +1,6 @@
 -- The canonical line of a listed instruction is read back.
 use Rattle.std.proofs.Common.{ℕ, ◌<◌, ◌≤◌, ◌^◌, Bool, length}
+use Rattle.asm_words.specs.declared.limits.TheConstants.{LINE_LIMIT}
 use Rattle.ia_insn.specs.declared.insn.Insn.{Insn}
 use Rattle.ia_insn.specs.Listed.{IsListed}
 use Rattle.ia_insn.proofs.OperandRanges.{ranges_of_listed}
@@ -30,7 +31,7 @@ line_back i bundle stop listed low =
     }
 
 -- and it is short enough to be read
-pub line_short : (i : Insn) (bundle : ℕ) (stop : Bool) → IsListed i → bundle < 2 ^ 32 → length (slot_text i bundle stop) ≤ 240
+pub line_short : (i : Insn) (bundle : ℕ) (stop : Bool) → IsListed i → bundle < 2 ^ 32 → length (slot_text i bundle stop) ≤ LINE_LIMIT
 line_short i bundle stop listed low =
     let ready = printed i listed in
     let ranges = ranges_of_listed i listed in

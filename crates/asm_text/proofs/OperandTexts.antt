@@ -6,6 +6,7 @@ use Rattle.std.specs.List.{AllByRecursion}
 use Rattle.std.specs.Fmt.{decimal}
 use Rattle.std.proofs.lemmas.Fmt.{length-decimal-le}
 use Rattle.std.proofs.lemmas.Bool.{le-leb}
+use Rattle.asm_words.specs.declared.limits.TheConstants.{NAME_LIMIT}
 use Rattle.ia_insn.specs.declared.registers.Ar.TheVariants as ar
 use Rattle.asm_words.specs.declared.tokens.Token.{Token}
 use Rattle.asm_words.specs.declared.tokens.Token.TheVariants as t
@@ -68,16 +69,16 @@ label_token (i ∷ is) [] = None
 label_token (i ∷ is) (x ∷ xs) = if is_label_item i then Some x else label_token is xs
 
 -- the label of a bundle is a name that no line is too short for
-pub label_is_short : (n : ℕ) → n < 2 ^ 34 → length (label_text n) ≤ 63
+pub label_is_short : (n : ℕ) → n < 2 ^ 34 → length (label_text n) ≤ NAME_LIMIT
 label_is_short n l = let s = length-decimal-le 11 n (lit< tt) (omega arith) (omega arith) in omega (arith, s)
 
 label_reads : (n : ℕ) → n < 2 ^ 34 → token_of kind.Name (label_text n) ≡ t.Name
-label_reads n l = let e : leb (length (label_text n)) 63 ≡ true = le-leb _ _ (label_is_short n l) in rw e refl
+label_reads n l = let e : leb (length (label_text n)) NAME_LIMIT ≡ true = le-leb _ _ (label_is_short n l) in rw e refl
 
 pub label_is_name : (n : ℕ) → n < 2 ^ 34 → name_of (label_text n) ≡ Some (label_text n)
 label_is_name n l =
     let b : leb 1 (length (label_text n)) ≡ true = le-leb _ _ (omega arith) in
-    let e : leb (length (label_text n)) 63 ≡ true = le-leb _ _ (label_is_short n l) in
+    let e : leb (length (label_text n)) NAME_LIMIT ≡ true = le-leb _ _ (label_is_short n l) in
     rw (b, e) refl
 
 -- a letter and a number are one word

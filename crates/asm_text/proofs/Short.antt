@@ -7,6 +7,7 @@ use Rattle.std.specs.Fmt.{decimal, digits, digit_glyph}
 use Rattle.std.proofs.lemmas.Fmt.{length-decimal-le}
 use Rattle.std.proofs.lemmas.Bool.{leb-true, leb-false}
 use Rattle.std.proofs.lemmas.List.{length-append}
+use Rattle.asm_words.specs.declared.limits.TheConstants.{LINE_LIMIT}
 use native.Mathlib.Nat.{pow-suc}
 use Rattle.ia_insn.specs.declared.insn.Insn.{Insn}
 use Rattle.ia_insn.specs.declared.insn.Op.{Op}
@@ -378,7 +379,7 @@ guard_is_short false qp h =
     omega (arith, d, both)
 
 -- the parts of a line, by their lengths
-parts_are_short : (pr m d s : List ℕ) → length pr ≤ 6 → length m ≤ 56 → length d ≤ 141 → length s ≤ 3 → length (codes "  " ++ pr ++ m ++ d ++ s) ≤ 240
+parts_are_short : (pr m d s : List ℕ) → length pr ≤ 6 → length m ≤ 56 → length d ≤ 141 → length s ≤ 3 → length (codes "  " ++ pr ++ m ++ d ++ s) ≤ LINE_LIMIT
 parts_are_short pr m d s hp hm hd hs =
     let a = length-append (pr ++ m ++ d) s in
     let b = length-append (pr ++ m) d in
@@ -392,7 +393,7 @@ small_target (Some n) h = h
 
 -- The canonical line of an instruction whose operands can be printed has at most 240 bytes.
 pub slot_line_is_short : (i : Insn) (bundle : ℕ) (stop : Bool) → AllByRecursion IsPrinted (tokens_of i.op) → length (row_of (form_of i.op)).1 ≡ length (tokens_of i.op) → i.qp < 64
-    → IfSome (target_of bundle i.op) (λ n. n < 2 ^ 34) → length (slot_text i bundle stop) ≤ 240
+    → IfSome (target_of bundle i.op) (λ n. n < 2 ^ 34) → length (slot_text i bundle stop) ≤ LINE_LIMIT
 slot_line_is_short i bundle stop printed same small near =
     let text = operands_text (or_zero (target_of bundle i.op)) (row_of (form_of i.op)).1 (tokens_of i.op) in
     let fits = operands_are_short (or_zero (target_of bundle i.op)) (row_of (form_of i.op)).1 (tokens_of i.op) (small_target (target_of bundle i.op) near) printed in

@@ -4,6 +4,7 @@ use Rattle.std.specs.Prelude.{◌≡◌, ◌⊎◌, ℕ, ◌+◌, ◌-◌, ◌^�
 use Rattle.std.specs.Option.{option_map}
 use Rattle.std.specs.List.{find, All}
 use Rattle.std.specs.Str.{bytes_eq}
+use Rattle.asm_words.specs.declared.limits.TheConstants.{NAME_LIMIT}
 use Rattle.asm_words.specs.declared.tokens.Token.{Token}
 use Rattle.asm_words.specs.declared.tokens.Token.TheVariants as t
 use Rattle.asm_words.specs.declared.word.WordKind.{WordKind}
@@ -67,7 +68,7 @@ tokens ws = map (λ w. token_of w.0 w.1) ws
 
 -- a name has 1 to 63 bytes
 abbrev pub name_of : List ℕ → Option (List ℕ)
-name_of text = if nat_le 1 (length text) && nat_le (length text) 63 then Some text else None
+name_of text = if nat_le 1 (length text) && nat_le (length text) NAME_LIMIT then Some text else None
 
 -- the name at the place of the label among these items
 abbrev pub label_name : List Item → List KindAndText → Option (List ℕ)

@@ -1,6 +1,7 @@
 //! Laws of lines, each the contract of a function that does nothing.
 
 ghost use Rattle.std.specs.Prelude.{◌≡◌, ◌↔◌, ℕ, ◌<◌, ◌≤◌, ◌^◌, Bool, false, List, length};
+ghost use Rattle.asm_words.specs.declared.limits.TheConstants.{LINE_LIMIT};
 ghost use Rattle.ia_insn.specs.declared.insn.Insn.{Insn};
 ghost use Rattle.ia_insn.specs.Listed.{IsListed};
 ghost use Rattle.asm_words.specs.declared.fault.LineFault.TheVariants as fault;
@@ -25,7 +26,7 @@ pub fn printed_slots_are_read_back()
     ensures back { (insn : Insn) (bundle : ℕ) (stop : Bool) → IsListed insn → bundle < 2 ^ 32
         → LineOf (slot_text insn bundle stop) (printed_line insn bundle stop) }
     ensures short { (insn : Insn) (bundle : ℕ) (stop : Bool) → IsListed insn → bundle < 2 ^ 32
-        → length (slot_text insn bundle stop) ≤ 240 }
+        → length (slot_text insn bundle stop) ≤ LINE_LIMIT }
 {}
 
 /// The law that lines with the same words say the same. It does nothing.

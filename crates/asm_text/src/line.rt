@@ -37,7 +37,7 @@ pub enum Line {
     },
     /// `.skip n`: n zero bytes.
     Skip {
-        /// How many, 0 to 1048576.
+        /// How many, 0 to the limit of data.
         count: u32,
     },
     /// `{` and a template name, which open a bundle.

@@ -1,6 +1,7 @@
 //! Reading a line: from its words to its value or its first fault.
 
 ghost use Rattle.std.specs.Prelude.{◌≡◌, ◌≤◌, ◌<◌, ◌+◌, ◌-◌, ◌*◌, ◌^◌, ◌↔◌, IsTrue, IfOk, IfErr, IfSome, length, take, drop, map, slice_get, slice_range, Some, true, false};
+ghost use Rattle.asm_words.specs.declared.limits.TheConstants.{LINE_LIMIT};
 ghost use Rattle.asm_forms.specs.LeadingWords.{forms_of};
 ghost use Rattle.asm_forms.specs.Naming.{mnemonic_of, named_in};
 ghost use Rattle.asm_words.specs.Tokens.{token_of};
@@ -17,14 +18,15 @@ use asm_forms::{
     AccessSize, Completer, Completers, Form, Item, LeadingWord, completers, leading_word, named,
     read_form, row,
 };
+use asm_words::limits::LINE_LIMIT;
 use asm_words::{LineFault, Name, Token, Word, WordKind, numbered_register, token, words};
 use ia_insn::{Insn, Pr, is_listed};
 
-type Tokens = ArrayVec<Token, 240>;
+type Tokens = ArrayVec<Token, LINE_LIMIT>;
 
 /// What the words may be read as.
 fn tokens(line: &[u8], words: &[Word]) -> Tokens
-    requires few { length words.now ≤ 240 }
+    requires few { length words.now ≤ LINE_LIMIT }
     requires parts { AreParts line.now words.now }
     ensures { result.items ≡ tokens (texts line.now words.now) }
 {
@@ -104,7 +106,7 @@ fn without_stop(tokens: &[Token]) -> &[Token]
 
 /// The qualifying predicate, p0 where no word stands before the leading one.
 fn predicate(line: &[u8], before: &[Word]) -> Result<Pr, LineFault>
-    requires few { length before.now ≤ 240 }
+    requires few { length before.now ≤ LINE_LIMIT }
     requires parts { AreParts line.now before.now }
     ensures { result ≡ predicate_of (tokens (texts line.now before.now)) }
 {
@@ -221,7 +223,7 @@ fn directive_value(
 
 /// A directive, by its forms.
 fn directive_of(forms: &[Form], line: &[u8], words: &[Word]) -> Result<Line, LineFault>
-    requires few { length words.now ≤ 240 }
+    requires few { length words.now ≤ LINE_LIMIT }
     requires parts { AreParts line.now words.now }
     ensures { result ≡ directive_of forms.now (texts line.now words.now) }
 {
@@ -238,7 +240,7 @@ fn slot_of(
     before: &[Word],
     after: &[Word],
 ) -> Result<Line, LineFault>
-    requires few { (length before.now ≤ 240) × (length after.now ≤ 240) }
+    requires few { (length before.now ≤ LINE_LIMIT) × (length after.now ≤ LINE_LIMIT) }
     requires parts { AreParts line.now before.now × AreParts line.now after.now }
     ensures { result ≡ slot_of forms.now rest.now (texts line.now before.now) (texts line.now after.now) }
 {
@@ -254,7 +256,7 @@ fn data_line(
     before: &[Word],
     after: &[Word],
 ) -> Result<Line, LineFault>
-    requires few { length after.now ≤ 240 }
+    requires few { length after.now ≤ LINE_LIMIT }
     requires parts { AreParts line.now after.now }
     ensures { result ≡ alone (texts line.now before.now) (data_of size (tokens (texts line.now after.now))) }
 {
@@ -274,7 +276,7 @@ fn directive_line(
     before: &[Word],
     after: &[Word],
 ) -> Result<Line, LineFault>
-    requires few { length after.now ≤ 240 }
+    requires few { length after.now ≤ LINE_LIMIT }
     requires parts { AreParts line.now after.now }
     ensures { result ≡ alone (texts line.now before.now) (directive_of forms.now (texts line.now after.now)) }
 {
@@ -292,7 +294,7 @@ fn among(
     before: &[Word],
     after: &[Word],
 ) -> Result<Line, LineFault>
-    requires few { (length before.now ≤ 240) × (length after.now ≤ 240) }
+    requires few { (length before.now ≤ LINE_LIMIT) × (length after.now ≤ LINE_LIMIT) }
     requires parts { AreParts line.now before.now × AreParts line.now after.now }
     ensures { result ≡ among forms.now rest.now (texts line.now before.now) (texts line.now after.now) }
 {
@@ -309,7 +311,7 @@ fn among(
 
 /// A line that a name leads.
 fn worded(name: &[u8], line: &[u8], before: &[Word], after: &[Word]) -> Result<Line, LineFault>
-    requires few { (length before.now ≤ 240) × (length after.now ≤ 240) }
+    requires few { (length before.now ≤ LINE_LIMIT) × (length after.now ≤ LINE_LIMIT) }
     requires parts { AreParts line.now before.now × AreParts line.now after.now }
     ensures { result ≡ worded (mnemonic_of name.now) (texts line.now before.now) (texts line.now after.now) }
 {
@@ -345,7 +347,7 @@ fn opened(line: &[u8], before: &[Word], after: &[Word]) -> Result<Line, LineFaul
 
 /// A line that this word leads.
 fn led_by(word: &Word, line: &[u8], before: &[Word], after: &[Word]) -> Result<Line, LineFault>
-    requires few { (length before.now ≤ 240) × (length after.now ≤ 240) }
+    requires few { (length before.now ≤ LINE_LIMIT) × (length after.now ≤ LINE_LIMIT) }
     requires parts { AreParts line.now before.now × AreParts line.now after.now }
     requires word { (word.now.start ≤ word.now.end) × (word.now.end ≤ length line.now) }
     ensures { result ≡ led_by (word.now.kind, slice_range line.now word.now.start word.now.end) (texts line.now before.now) (texts line.now after.now) }
@@ -381,7 +383,7 @@ fn from(words: &[Word], at: usize) -> &[Word]
 
 /// A line that is no label.
 fn led(line: &[u8], words: &[Word]) -> Result<Line, LineFault>
-    requires few { length words.now ≤ 240 }
+    requires few { length words.now ≤ LINE_LIMIT }
     requires parts { AreParts line.now words.now }
     ensures { result ≡ led (texts line.now words.now) }
 {
@@ -393,7 +395,7 @@ fn led(line: &[u8], words: &[Word]) -> Result<Line, LineFault>
 
 /// A line whose leading word stands at this place.
 fn led_at(line: &[u8], words: &[Word], lead: usize) -> Result<Line, LineFault>
-    requires few { length words.now ≤ 240 }
+    requires few { length words.now ≤ LINE_LIMIT }
     requires parts { AreParts line.now words.now }
     ensures { result ≡ led_at (texts line.now words.now) (Some lead) }
 {
@@ -443,7 +445,7 @@ fn is_colon(word: &Word, line: &[u8]) -> bool
 
 /// What the words of a line say.
 fn value_of(line: &[u8], words: &[Word]) -> Result<Line, LineFault>
-    requires few { length words.now ≤ 240 }
+    requires few { length words.now ≤ LINE_LIMIT }
     requires parts { AreParts line.now words.now }
     ensures { result ≡ value_of (texts line.now words.now) }
 {
@@ -462,7 +464,7 @@ fn value_of(line: &[u8], words: &[Word]) -> Result<Line, LineFault>
 
 /// What a line says, but for whether its instruction is listed.
 fn reading_of(line: &[u8]) -> Result<Line, LineFault>
-    requires { length line.now ≤ 240 }
+    requires { length line.now ≤ LINE_LIMIT }
     ensures { result ≡ reading_of line.now }
 {
     let words = words(line)?;
@@ -481,12 +483,12 @@ fn is_listed_line(value: &Line) -> bool
 
 /// What a line says, or its first fault in the order of [`LineFault`].
 ///
-/// The line is at most 240 bytes long, and has no line feed. A leading word names one or more forms. Its
+/// The line is at most [`LINE_LIMIT`] bytes long, and has no line feed. A leading word names one or more forms. Its
 /// operands are followed as far as any of them goes, and what those that got there want next decides: a
 /// register, a number, or anything else. Form comes too where all is read and the instruction is none of
 /// the profile. It takes no memory.
 pub fn read_line(line: &[u8]) -> Result<Line, LineFault>
-    requires { length line.now ≤ 240 }
+    requires { length line.now ≤ LINE_LIMIT }
     ensures ok { IfOk result (LineOf line.now) }
     ensures err { IfErr result (FaultOf line.now) }
 {

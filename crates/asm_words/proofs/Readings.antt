@@ -8,6 +8,7 @@ use Rattle.std.proofs.lemmas.Fmt.{digits_is_IsNumeral, decimal_is_IsNumeral, len
 use Rattle.std.proofs.lemmas.Bool.Decides.{nat_tests}
 use Rattle.std.proofs.lemmas.Bool.{eqb-true, le-leb}
 use Rattle.std.proofs.lemmas.Str.Parse.{digit_from_value}
+use Rattle.asm_words.specs.declared.limits.TheConstants.{NAME_LIMIT}
 use Rattle.asm_words.specs.declared.tokens.Token.{Token}
 use Rattle.asm_words.specs.declared.tokens.Token.TheVariants as t
 use Rattle.asm_words.specs.declared.word.WordKind.TheVariants as word
@@ -161,7 +162,7 @@ pub label_is_short : (n : ℕ) → n < 2 ^ 32 → length (76 ∷ decimal n) ≤ 
 label_is_short n l = let s = length-decimal-le 10 n (lit< tt) (omega arith) (omega arith) in omega (arith, s)
 
 pub label_reads : (n : ℕ) → n < 2 ^ 32 → token_of word.Name (76 ∷ decimal n) ≡ t.Name
-label_reads n l = let e : leb (length (76 ∷ decimal n)) 63 ≡ true = le-leb _ _ (label_is_short n l) in rw e refl
+label_reads n l = let e : leb (length (76 ∷ decimal n)) NAME_LIMIT ≡ true = le-leb _ _ (label_is_short n l) in rw e refl
 
 -- bytes of names are plain, and so are digits
 pub name_byte_is_plain : (c : ℕ) → is_name_byte c ≡ true → is_plain_byte c ≡ true

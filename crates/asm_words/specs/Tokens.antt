@@ -1,6 +1,7 @@
 -- What a word may be read as.
 use Rattle.std.specs.Prelude.{ℕ, nat_le, if◌then◌else◌, List, length, Option, Some, None, codes}
 use Rattle.std.specs.Str.{bytes_eq}
+use Rattle.asm_words.specs.declared.limits.TheConstants.{NAME_LIMIT}
 use Rattle.asm_words.specs.declared.tokens.Token.{Token}
 use Rattle.asm_words.specs.declared.tokens.Token.TheVariants as t
 use Rattle.asm_words.specs.declared.word.WordKind.{WordKind}
@@ -12,8 +13,8 @@ use Rattle.asm_words.specs.Registers.{register_of}
 -- a name that is no register, by its first byte and its length
 abbrev pub other_name : List ℕ → Token
 other_name name =
-    if begins_letter name then (if nat_le (length name) 63 then t.Name else t.LongName)
-    else (if nat_le (length name) 63 then t.Symbol else t.LongSymbol)
+    if begins_letter name then (if nat_le (length name) NAME_LIMIT then t.Name else t.LongName)
+    else (if nat_le (length name) NAME_LIMIT then t.Symbol else t.LongSymbol)
 
 abbrev or_other_name : Option Token → List ℕ → Token
 or_other_name (Some register) name = register

@@ -9,6 +9,7 @@
 
 mod bytes;
 mod fault;
+pub mod limits;
 mod line;
 mod name;
 mod numbers;

@@ -1,6 +1,7 @@
 //! The words of a line.
 
 ghost use Rattle.std.specs.Prelude.{◌≡◌, ◌≤◌, length, IfOk, IfErr, true, false, IsTrue, ◌<◌, ◌+◌};
+ghost use Rattle.asm_words.specs.declared.limits.TheConstants.{LINE_LIMIT};
 ghost use Rattle.asm_words.specs.Bytes.{has_only_plain};
 ghost use Rattle.asm_words.specs.Slices.{AreSlices, LeavesOutGaps};
 ghost use Rattle.asm_words.specs.Words.{name_run, kind_at, more_at, has_sharp, sharp_at, begins_comment, words_from};
@@ -9,14 +10,15 @@ use crate::bytes::{
     begins_digit, begins_with, has_only_plain, is_blank, is_digit_byte, is_name_byte,
 };
 use crate::fault::LineFault;
+use crate::limits::LINE_LIMIT;
 use crate::word::{Word, WordKind};
 use arrayvec::ArrayVec;
 
 /// The words of a line, in order; or Char where a byte is neither a tab nor one from 0x20 to 0x7e,
 /// in a comment too. The words are parts of the line, in order; what they leave out is spaces, tabs,
 /// a `#` directly after a name, and the comment from `//` to the end.
-pub fn words(line: &[u8]) -> Result<ArrayVec<Word, 240>, LineFault>
-    requires { length line.now ≤ 240 }
+pub fn words(line: &[u8]) -> Result<ArrayVec<Word, LINE_LIMIT>, LineFault>
+    requires { length line.now ≤ LINE_LIMIT }
     ensures ok { IfOk result (λ ws. (has_only_plain line.now ≡ true) × (ws.items ≡ words_from 0 0 line.now)) }
     ensures slices { IfOk result (λ ws. AreSlices line.now ws.items) }
     ensures left_out { IfOk result (λ ws. LeavesOutGaps line.now false 0 ws.items) }
@@ -28,8 +30,8 @@ pub fn words(line: &[u8]) -> Result<ArrayVec<Word, 240>, LineFault>
     Ok(cut(line))
 }
 
-fn cut(line: &[u8]) -> ArrayVec<Word, 240>
-    requires { length line.now ≤ 240 }
+fn cut(line: &[u8]) -> ArrayVec<Word, LINE_LIMIT>
+    requires { length line.now ≤ LINE_LIMIT }
     ensures { result.items ≡ words_from 0 0 line.now }
 {
     let mut words = ArrayVec::new();

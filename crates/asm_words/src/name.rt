@@ -2,7 +2,9 @@
 
 ghost use Rattle.std.specs.Prelude.{◌≡◌, ℕ, ◌≤◌, List, length};
 ghost use Rattle.std.specs.Option.{SomeIff};
+ghost use Rattle.asm_words.specs.declared.limits.TheConstants.{NAME_LIMIT};
 
+use crate::limits::NAME_LIMIT;
 use arrayvec::ArrayVec;
 use std::marker::Model;
 
@@ -10,7 +12,7 @@ use std::marker::Model;
 /// the list of its bytes.
 #[derive(Clone, Debug, PartialEq, Eq, PartialOrd, Ord, Drop)]
 pub struct Name {
-    bytes: ArrayVec<u8, 63>,
+    bytes: ArrayVec<u8, NAME_LIMIT>,
 }
 
 impl Model for Name {
@@ -18,7 +20,7 @@ impl Model for Name {
 
     ghost view = { λ n. n.bytes.items };
 
-    ghost invariant = { λ n. (1 ≤ length n.bytes.items) × (length n.bytes.items ≤ 63) };
+    ghost invariant = { λ n. (1 ≤ length n.bytes.items) × (length n.bytes.items ≤ NAME_LIMIT) };
 
     ghost inverse = { λ bytes. record { bytes = record { items = bytes } } };
 }
@@ -26,9 +28,9 @@ impl Model for Name {
 impl Name {
     /// The name with these bytes, and None exactly where they are not 1 to 63.
     pub fn of(bytes: &[u8]) -> Option<Self>
-        ensures { SomeIff result ((1 ≤ length bytes.now) × (length bytes.now ≤ 63)) bytes.now }
+        ensures { SomeIff result ((1 ≤ length bytes.now) × (length bytes.now ≤ NAME_LIMIT)) bytes.now }
     {
-        if bytes.is_empty() || bytes.len() > 63 {
+        if bytes.is_empty() || bytes.len() > NAME_LIMIT {
             return None;
         }
         let mut copy = ArrayVec::new();
@@ -41,7 +43,7 @@ impl Name {
     /// Its bytes, of which there are 1 to 63.
     pub fn bytes(&self) -> &[u8]
         ensures value { result.now ≡ self.now }
-        ensures within { (1 ≤ length self.now) × (length self.now ≤ 63) }
+        ensures within { (1 ≤ length self.now) × (length self.now ≤ NAME_LIMIT) }
     {
         self.bytes.as_slice()
     }

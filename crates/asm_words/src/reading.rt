@@ -5,6 +5,7 @@ ghost use Rattle.asm_words.specs.Bytes.{begins_letter};
 ghost use Rattle.asm_words.specs.Tokens.{name_token, other_name, mark_token, token_of};
 
 use crate::bytes::is_letter;
+use crate::limits::NAME_LIMIT;
 use crate::numbers::number_token;
 use crate::registers::register_of;
 use crate::tokens::Token;
@@ -35,12 +36,12 @@ fn other_name(name: &[u8]) -> Token
     ensures { result ≡ other_name name.now }
 {
     if begins_letter(name) {
-        if name.len() <= 63 {
+        if name.len() <= NAME_LIMIT {
             Token::Name
         } else {
             Token::LongName
         }
-    } else if name.len() <= 63 {
+    } else if name.len() <= NAME_LIMIT {
         Token::Symbol
     } else {
         Token::LongSymbol

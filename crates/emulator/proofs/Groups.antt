@@ -1,6 +1,7 @@
 -- A group to its end, one slot at a time.
 use Rattle.std.proofs.Common.{◌≡◌, ℕ, zero, suc, ◌+◌, ◌-◌, ◌<◌, ◌≤◌, Bool, true, false, refl, sym, ap, ◌∙◌, arith}
 use Rattle.std.specs.Prelude.{Option, Some, None, ◌==◌, if◌then◌else◌}
+use Rattle.ia_insn.specs.declared.limits.TheConstants.{RUN_LIMIT}
 use Rattle.ia_insn.specs.declared.ending.How.{How}
 use Rattle.ia_insn.specs.declared.ending.End.{End}
 use Rattle.ia_insn.specs.declared.ending.GroupEvent.{GroupEvent}
@@ -54,38 +55,38 @@ is_later p m n running is e on =
     }
 
 -- a whole group is one of at most 192 slots
-pub whole : (p : Program) (m : Progress) → group_further p m ≡ to_group_end 192 p m
+pub whole : (p : Program) (m : Progress) → group_further p m ≡ to_group_end RUN_LIMIT p m
 unfolding group_further
 whole p m = refl
 
-pub event_whole : (p : Program) (m : Progress) → event_further p m ≡ event_to_end 192 p m
+pub event_whole : (p : Program) (m : Progress) → event_further p m ≡ event_to_end RUN_LIMIT p m
 unfolding event_further
 event_whole p m = refl
 
-one_less : (k : ℕ) → k < 192 → 192 - k ≡ suc (192 - (k + 1))
+one_less : (k : ℕ) → k < RUN_LIMIT → RUN_LIMIT - k ≡ suc (RUN_LIMIT - (k + 1))
 one_less k h = omega (arith, h)
 
 -- The group after k slots: where it is over, the whole of it has come to here,
-pub comes_to : (p : Program) (start m n : Progress) (told : GroupEvent) (k : ℕ) → k < 192 → IsOver p m n told
-    → to_group_end (192 - k) p m ≡ to_group_end 192 p start → n ≡ group_further p start
+pub comes_to : (p : Program) (start m n : Progress) (told : GroupEvent) (k : ℕ) → k < RUN_LIMIT → IsOver p m n told
+    → to_group_end (RUN_LIMIT - k) p m ≡ to_group_end RUN_LIMIT p start → n ≡ group_further p start
 comes_to p start m n told k h over e =
-    sym (over.rest (192 - (k + 1))) ∙ sym (ap (λ most. to_group_end most p m) (one_less k h)) ∙ e ∙ sym (whole p start)
+    sym (over.rest (RUN_LIMIT - (k + 1))) ∙ sym (ap (λ most. to_group_end most p m) (one_less k h)) ∙ e ∙ sym (whole p start)
 
-pub told_of : (p : Program) (start m n : Progress) (told : GroupEvent) (k : ℕ) → k < 192 → IsOver p m n told
-    → event_to_end (192 - k) p m ≡ event_to_end 192 p start → told ≡ event_further p start
+pub told_of : (p : Program) (start m n : Progress) (told : GroupEvent) (k : ℕ) → k < RUN_LIMIT → IsOver p m n told
+    → event_to_end (RUN_LIMIT - k) p m ≡ event_to_end RUN_LIMIT p start → told ≡ event_further p start
 told_of p start m n told k h over e =
-    sym (over.event (192 - (k + 1))) ∙ sym (ap (λ most. event_to_end most p m) (one_less k h)) ∙ e ∙ sym (event_whole p start)
+    sym (over.event (RUN_LIMIT - (k + 1))) ∙ sym (ap (λ most. event_to_end most p m) (one_less k h)) ∙ e ∙ sym (event_whole p start)
 
 -- and else its rest is that after k + 1 slots.
-pub rest_of : (p : Program) (start m n : Progress) (k : ℕ) → k < 192 → IsLater p m n
-    → to_group_end (192 - k) p m ≡ to_group_end 192 p start → to_group_end (192 - (k + 1)) p n ≡ to_group_end 192 p start
+pub rest_of : (p : Program) (start m n : Progress) (k : ℕ) → k < RUN_LIMIT → IsLater p m n
+    → to_group_end (RUN_LIMIT - k) p m ≡ to_group_end RUN_LIMIT p start → to_group_end (RUN_LIMIT - (k + 1)) p n ≡ to_group_end RUN_LIMIT p start
 rest_of p start m n k h later e =
-    sym (later.rest (192 - (k + 1))) ∙ sym (ap (λ most. to_group_end most p m) (one_less k h)) ∙ e
+    sym (later.rest (RUN_LIMIT - (k + 1))) ∙ sym (ap (λ most. to_group_end most p m) (one_less k h)) ∙ e
 
-pub event_of_rest : (p : Program) (start m n : Progress) (k : ℕ) → k < 192 → IsLater p m n
-    → event_to_end (192 - k) p m ≡ event_to_end 192 p start → event_to_end (192 - (k + 1)) p n ≡ event_to_end 192 p start
+pub event_of_rest : (p : Program) (start m n : Progress) (k : ℕ) → k < RUN_LIMIT → IsLater p m n
+    → event_to_end (RUN_LIMIT - k) p m ≡ event_to_end RUN_LIMIT p start → event_to_end (RUN_LIMIT - (k + 1)) p n ≡ event_to_end RUN_LIMIT p start
 event_of_rest p start m n k h later e =
-    sym (later.event (192 - (k + 1))) ∙ sym (ap (λ most. event_to_end most p m) (one_less k h)) ∙ e
+    sym (later.event (RUN_LIMIT - (k + 1))) ∙ sym (ap (λ most. event_to_end most p m) (one_less k h)) ∙ e
 
 group_goes_on : (m : Progress) → 0 < m.slots → (opened m).groups ≡ m.groups
 group_goes_on m h =
@@ -116,15 +117,15 @@ same_groups (suc most) p m h = by_end m.end refl (same_groups most p (advanced p
 
 -- a group adds one to the groups begun, or none
 pub groups_rise : (p : Program) (m : Progress) → (group_further p m).groups ≤ m.groups + 1
-groups_rise p m = rw (whole p m) (by_end m.end refl (same_groups 191 p (advanced p m)))
+groups_rise p m = rw (whole p m) (by_end m.end refl (same_groups (RUN_LIMIT - 1) p (advanced p m)))
   where
-    by_end : (e : Option End) → m.end ≡ e → (0 < (advanced p m).slots → (to_group_end 191 p (advanced p m)).groups ≡ (advanced p m).groups) → (to_group_end (suc 191) p m).groups ≤ m.groups + 1
+    by_end : (e : Option End) → m.end ≡ e → (0 < (advanced p m).slots → (to_group_end (RUN_LIMIT - 1) p (advanced p m)).groups ≡ (advanced p m).groups) → (to_group_end (suc (RUN_LIMIT - 1)) p m).groups ≤ m.groups + 1
     by_end None running more =
-        let rest = rest_groups (advanced p m).slots (advanced p m) (to_group_end 191 p (advanced p m)) more in
+        let rest = rest_groups (advanced p m).slots (advanced p m) (to_group_end (RUN_LIMIT - 1) p (advanced p m)) more in
         let on = advanced_groups p m running in
         let begins = group_begins m in
         omega (arith, rest, on, begins)
     by_end (Some e) over more =
-        let rest = rest_groups (advanced p m).slots (advanced p m) (to_group_end 191 p (advanced p m)) more in
+        let rest = rest_groups (advanced p m).slots (advanced p m) (to_group_end (RUN_LIMIT - 1) p (advanced p m)) more in
         let same = ap (λ n. n.groups) (advanced_ended p m e over) in
         omega (arith, rest, same)

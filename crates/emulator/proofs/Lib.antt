@@ -1,5 +1,4 @@
 pub mod Named
-pub mod Actions
 pub mod ReservedZeros
 pub mod EntryTests
 pub mod NewFrames

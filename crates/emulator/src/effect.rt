@@ -1,8 +1,8 @@
 //! What a slot does, by the form of its instruction. Nothing is written here.
 
-ghost use Rattle.std.specs.Prelude.{◌≡◌, ◌<◌};
+ghost use Rattle.std.specs.Prelude.{◌≡◌, ◌<◌, ◌^◌};
 ghost use Rattle.ia_insn.specs.Ranges.{HasRanges};
-ghost use Rattle.ia_meaning.specs.Actions.{action_of, form_of};
+ghost use Rattle.ia_meaning.specs.FormRanges.{HasFormRanges};
 ghost use Rattle.ia_meaning.specs.Effects.{site, act, skip, effect};
 ghost use Rattle.machine_state.specs.Changes.{MayChange};
 ghost use Rattle.emulator.specs.Outcomes.{outcome_of};
@@ -13,21 +13,24 @@ use crate::loads::{check_alat, check_nat, forget, load, store};
 use crate::loops::turn;
 use crate::moves::{compute, fetch, skip_test, test, to_application, to_branch, to_predicates};
 use crate::outcome::Outcome;
-use ia_insn::{Insn, Op, Program};
+use ia_insn::{Insn, Program};
 use ia_meaning::{Form, form_of};
 use machine_state::{Change, MachineState};
 
 /// What an instruction does that is executed.
-#[tactic(auto, using(crate::proofs::Actions::rebuilt, ia_meaning::proofs::FormSizes::load_size, ia_meaning::proofs::FormSizes::store_size, ia_meaning::proofs::FormSizes::frame_sizes))]
-fn act(state: &MachineState, program: &Program, bundle: u32, op: &Op, form: Form) -> Outcome
-    requires place { bundle < 4096 }
-    requires ranges { HasRanges op.now }
-    requires form { form ≡ form_of (action_of op.now) }
-    ensures value { outcome_of state.now result ≡ act (site program.now bundle) (action_of op.now) state.now.registers state.now.memory state.now.registers.unat }
+fn act(state: &MachineState, program: &Program, bundle: u32, form: &Form) -> Outcome
+    requires place { bundle < 2 ^ 31 }
+    requires ranges { HasFormRanges form.now }
+    ensures value { outcome_of state.now result ≡ act (site program.now bundle) form.now state.now.registers state.now.memory state.now.registers.unat }
     ensures may { MayChange state.now result.change }
 {
-    match form {
-        Form::Compute { r1, r2, r3 } => compute(state, op, r1, r2, r3),
+    match *form {
+        Form::Compute {
+            r1,
+            r2,
+            r3,
+            function,
+        } => compute(state, r1, r2, r3, &function),
         Form::Fetch { r1, source } => fetch(state, bundle, r1, source),
         Form::Test {
             kind,
@@ -35,10 +38,11 @@ fn act(state: &MachineState, program: &Program, bundle: u32, op: &Op, form: Form
             p2,
             r2,
             r3,
-        } => test(state, op, kind, (p1, p2), (r2, r3)),
-        Form::ToPredicates { r2, mask } => to_predicates(state, op, r2, mask),
+            condition,
+        } => test(state, kind, (p1, p2), (r2, r3), &condition),
+        Form::ToPredicates { r2, mask, word } => to_predicates(state, r2, mask, &word),
         Form::ToBranch { b1, r2 } => to_branch(state, b1, r2),
-        Form::ToApplication { ar, r2 } => to_application(state, op, ar, r2),
+        Form::ToApplication { ar, r2, word } => to_application(state, ar, r2, &word),
         Form::FromMemory {
             size,
             kind,
@@ -70,14 +74,12 @@ fn act(state: &MachineState, program: &Program, bundle: u32, op: &Op, form: Form
 }
 
 /// What an instruction does whose qualifying predicate is 0: nothing but for `unc` tests and loop branches.
-#[tactic(auto, using(crate::proofs::Actions::rebuilt))]
-fn skip(state: &MachineState, program: &Program, bundle: u32, op: &Op, form: Form) -> Outcome
-    requires place { bundle < 4096 }
-    requires form { form ≡ form_of (action_of op.now) }
-    ensures value { outcome_of state.now result ≡ skip (site program.now bundle) (action_of op.now) state.now.registers state.now.memory }
+fn skip(state: &MachineState, program: &Program, bundle: u32, form: &Form) -> Outcome
+    requires { bundle < 2 ^ 31 }
+    ensures value { outcome_of state.now result ≡ skip (site program.now bundle) form.now state.now.registers state.now.memory }
     ensures may { MayChange state.now result.change }
 {
-    match form {
+    match *form {
         Form::Test { kind, p1, p2, .. } => skip_test(kind, p1, p2),
         Form::Loop { kind, disp } => turn(state, kind, false, target(bundle, disp)),
         _ => Outcome::falls(Change::Nothing),
@@ -85,16 +87,17 @@ fn skip(state: &MachineState, program: &Program, bundle: u32, op: &Op, form: For
 }
 
 /// What an instruction does (volume 3, chapter 2).
+#[tactic(auto, using(ia_meaning::proofs::FormRanges::form_ranges))]
 pub(crate) fn effect(state: &MachineState, program: &Program, bundle: u32, insn: &Insn) -> Outcome
-    requires place { bundle < 4096 }
+    requires place { bundle < 2 ^ 31 }
     requires ranges { HasRanges insn.now.op }
     ensures value { outcome_of state.now result ≡ effect (site program.now bundle) insn.now state.now.registers state.now.memory state.now.registers.unat }
     ensures may { MayChange state.now result.change }
 {
     let form = form_of(&insn.op);
     if state.holds(insn.qp) {
-        act(state, program, bundle, &insn.op, form)
+        act(state, program, bundle, &form)
     } else {
-        skip(state, program, bundle, &insn.op, form)
+        skip(state, program, bundle, &form)
     }
 }

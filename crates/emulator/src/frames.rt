@@ -1,7 +1,7 @@
 //! Frames: `alloc`, calls and returns (volume 1, chapter 4, register stack, and volume 3, chapter 2, `alloc`
 //! and `br`).
 
-ghost use Rattle.std.specs.Prelude.{◌≡◌, ◌<◌, ◌≤◌, ◌*◌, [], get_or};
+ghost use Rattle.std.specs.Prelude.{◌≡◌, ◌<◌, ◌≤◌, ◌*◌, [], get_or, ◌^◌};
 ghost use Rattle.ia_meaning.specs.Names.{spot};
 ghost use Rattle.ia_meaning.specs.Frames.{with_sizes, allocated, lands, returned, call_writes};
 ghost use Rattle.ia_meaning.specs.Landings.{landing};
@@ -70,7 +70,7 @@ pub(crate) fn call(
     b1: Br,
     goal: Goal,
 ) -> Outcome
-    requires { bundle < 4096 }
+    requires { bundle < 2 ^ 31 }
     ensures value { outcome_of state.now result ≡ called goal (site program.now bundle) (call_writes bundle b1 state.now.registers.frame state.now.registers.ec) state.now.registers state.now.memory }
     ensures may { MayChange state.now result.change }
 {

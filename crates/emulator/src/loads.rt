@@ -1,7 +1,7 @@
 //! Loads, stores and checks (volume 1, chapter 4, control and data speculation, and volume 3, chapter 2,
 //! `ld`, `st`, `chk` and `invala`).
 
-ghost use Rattle.std.specs.Prelude.{◌≡◌, ◌<◌, ◌||◌, ◌&&◌, not, if◌then◌else◌, List, [], Some, None, IfOk, IfErr};
+ghost use Rattle.std.specs.Prelude.{◌≡◌, ◌<◌, ◌||◌, ◌&&◌, not, if◌then◌else◌, List, [], Some, None, IfOk, IfErr, ◌^◌};
 ghost use Rattle.ia_insn.specs.Ranges.{IsLoadSize, IsStoreSize};
 ghost use Rattle.ia_meaning.specs.declared.state.AlatEntry.{AlatEntry};
 ghost use Rattle.ia_meaning.specs.Names.{spot, look};
@@ -247,7 +247,7 @@ pub(crate) fn store(
 
 /// `chk.s`: a branch where the register has NaT.
 pub(crate) fn check_nat(state: &MachineState, bundle: u32, r2: Gr, disp: i32) -> Outcome
-    requires { bundle < 4096 }
+    requires { bundle < 2 ^ 31 }
     ensures value { outcome_of state.now result ≡ check_nat (target_of bundle disp) (look state.now.registers r2) state.now.memory }
     ensures may { MayChange state.now result.change }
 {
@@ -266,7 +266,7 @@ pub(crate) fn check_alat(
     r1: Gr,
     disp: i32,
 ) -> Outcome
-    requires { bundle < 4096 }
+    requires { bundle < 2 ^ 31 }
     ensures value { outcome_of state.now result ≡ check_alat clear (target_of bundle disp) (spot state.now.registers.frame r1) state.now.memory }
     ensures may { MayChange state.now result.change }
 {

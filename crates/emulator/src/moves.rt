@@ -1,9 +1,9 @@
 //! Computations, tests and moves (volume 3, chapter 2: the A and I instructions and the moves).
 
-ghost use Rattle.std.specs.Prelude.{◌≡◌, ◌<◌};
-ghost use Rattle.ia_insn.specs.Ranges.{HasRanges};
+ghost use Rattle.std.specs.Prelude.{◌≡◌, ◌<◌, ◌^◌};
 ghost use Rattle.ia_meaning.specs.Names.{spot, look, predicate_spot};
-ghost use Rattle.ia_meaning.specs.Actions.{action_of, function_of, word_function_of, test_of};
+ghost use Rattle.ia_meaning.specs.Actions.{value_of, result_of, moved};
+ghost use Rattle.ia_meaning.specs.FormRanges.{IsFunction, IsCondition};
 ghost use Rattle.ia_meaning.specs.Moves.{has_reserved_zeros, computed, fetched, source_value, test_made, test_writes, test_skipped, to_predicates, to_branch, application_written, to_application};
 ghost use Rattle.machine_state.specs.Contents.{Contents};
 ghost use Rattle.machine_state.specs.Changes.{writes_of, MayChange};
@@ -11,23 +11,23 @@ ghost use Rattle.emulator.specs.Outcomes.{outcome_of, IsPlain};
 
 use crate::operands::operands;
 use crate::outcome::Outcome;
-use ia_insn::{Ar, Br, CmpKind, FaultKind, Gr, Op, Pr, bundle_address};
-use ia_meaning::{Cell, Source};
+use ia_insn::{Ar, Br, CmpKind, FaultKind, Gr, Pr, bundle_address};
+use ia_meaning::{Cell, Condition, Function, MovedWord, Source};
 use integer_ops::{computed, moved, tested};
 use machine_state::{Change, MachineState};
 
 /// A computation.
 #[tactic(auto, using(crate::proofs::Named::computed_missing))]
-pub(crate) fn compute(state: &MachineState, op: &Op, r1: Gr, r2: Gr, r3: Gr) -> Outcome
-    requires { HasRanges op.now }
-    ensures value { outcome_of state.now result ≡ computed (function_of (action_of op.now)) (spot state.now.registers.frame r1) (look state.now.registers r2) (look state.now.registers r3) state.now.memory }
+pub(crate) fn compute(state: &MachineState, r1: Gr, r2: Gr, r3: Gr, function: &Function) -> Outcome
+    requires { IsFunction function.now }
+    ensures value { outcome_of state.now result ≡ computed (value_of function.now) (spot state.now.registers.frame r1) (look state.now.registers r2) (look state.now.registers r3) state.now.memory }
     ensures may { MayChange state.now result.change }
 {
     let Some(found) = operands(state, r1, r2, r3) else {
         return Outcome::faults(FaultKind::OutOfFrame);
     };
     let cell = Cell {
-        value: computed(op, found.first.value, found.second.value),
+        value: computed(function, found.first.value, found.second.value),
         nat: found.first.nat || found.second.nat,
     };
     Outcome::falls(Change::General { r1, cell })
@@ -35,7 +35,7 @@ pub(crate) fn compute(state: &MachineState, op: &Op, r1: Gr, r2: Gr, r3: Gr) -> 
 
 /// What is copied in a bundle.
 fn source_value(state: &MachineState, bundle: u32, source: Source) -> u64
-    requires { bundle < 4096 }
+    requires { bundle < 2 ^ 31 }
     ensures { result ≡ source_value bundle state.now.registers source }
 {
     match source {
@@ -48,7 +48,7 @@ fn source_value(state: &MachineState, bundle: u32, source: Source) -> u64
 
 /// A copy into a general register.
 pub(crate) fn fetch(state: &MachineState, bundle: u32, r1: Gr, source: Source) -> Outcome
-    requires { bundle < 4096 }
+    requires { bundle < 2 ^ 31 }
     ensures value { outcome_of state.now result ≡ fetched (spot state.now.registers.frame r1) (source_value bundle state.now.registers source) state.now.memory }
     ensures may { MayChange state.now result.change }
 {
@@ -89,19 +89,19 @@ fn test_change(kind: CmpKind, p1: Pr, p2: Pr, is_one: Option<bool>) -> Change
 /// A test.
 pub(crate) fn test(
     state: &MachineState,
-    op: &Op,
     kind: CmpKind,
     targets: (Pr, Pr),
     sources: (Gr, Gr),
+    condition: &Condition,
 ) -> Outcome
-    requires { HasRanges op.now }
-    ensures value { outcome_of state.now result ≡ test_made kind (predicate_spot state.now.registers.frame targets.0) (predicate_spot state.now.registers.frame targets.1) (test_of (action_of op.now)) (look state.now.registers sources.0) (look state.now.registers sources.1) state.now.memory }
+    requires { IsCondition condition.now }
+    ensures value { outcome_of state.now result ≡ test_made kind (predicate_spot state.now.registers.frame targets.0) (predicate_spot state.now.registers.frame targets.1) (result_of condition.now) (look state.now.registers sources.0) (look state.now.registers sources.1) state.now.memory }
     ensures may { MayChange state.now result.change }
 {
     let (Some(a), Some(b)) = (state.general(sources.0), state.general(sources.1)) else {
         return Outcome::faults(FaultKind::OutOfFrame);
     };
-    Outcome::falls(test_change(kind, targets.0, targets.1, tested(op, a, b)))
+    Outcome::falls(test_change(kind, targets.0, targets.1, tested(condition, a, b)))
 }
 
 /// A test whose qualifying predicate is 0: `unc` clears both targets.
@@ -117,16 +117,16 @@ pub(crate) fn skip_test(kind: CmpKind, p1: Pr, p2: Pr) -> Outcome
 }
 
 /// A move to the predicates.
-pub(crate) fn to_predicates(state: &MachineState, op: &Op, r2: Gr, mask: u64) -> Outcome
-    ensures value { outcome_of state.now result ≡ to_predicates (word_function_of (action_of op.now)) mask (look state.now.registers r2) state.now.memory }
+pub(crate) fn to_predicates(state: &MachineState, r2: Gr, mask: u32, word: &MovedWord) -> Outcome
+    ensures value { outcome_of state.now result ≡ to_predicates (moved word.now) mask (look state.now.registers r2) state.now.memory }
     ensures may { MayChange state.now result.change }
 {
     match state.general(r2) {
         None => Outcome::faults(FaultKind::OutOfFrame),
         Some(a) if a.nat => Outcome::faults(FaultKind::NatConsumed),
         Some(a) => Outcome::falls(Change::PredicateWord {
-            mask,
-            word: moved(op, a.value),
+            mask: u64::from(mask),
+            word: moved(word, a.value),
         }),
     }
 }
@@ -165,13 +165,13 @@ fn application_written(ar: Ar, value: u64) -> Outcome
 }
 
 /// A move to an application register.
-pub(crate) fn to_application(state: &MachineState, op: &Op, ar: Ar, r2: Gr) -> Outcome
-    ensures value { outcome_of state.now result ≡ to_application ar (word_function_of (action_of op.now)) (look state.now.registers r2) state.now.memory }
+pub(crate) fn to_application(state: &MachineState, ar: Ar, r2: Gr, word: &MovedWord) -> Outcome
+    ensures value { outcome_of state.now result ≡ to_application ar (moved word.now) (look state.now.registers r2) state.now.memory }
     ensures may { MayChange state.now result.change }
 {
     match state.general(r2) {
         None => Outcome::faults(FaultKind::OutOfFrame),
         Some(a) if a.nat => Outcome::faults(FaultKind::NatConsumed),
-        Some(a) => application_written(ar, moved(op, a.value)),
+        Some(a) => application_written(ar, moved(word, a.value)),
     }
 }

@@ -1,6 +1,7 @@
 //! A run under way.
 
 ghost use Rattle.std.specs.Prelude.{◌≡◌, ◌<◌, ◌≤◌, ◌%◌, ◌+◌, ◌^◌, [], length, Some, None, IfSome, IfNone, IfOk, slice_get};
+ghost use Rattle.ia_insn.specs.declared.limits.TheConstants.{DATA_LIMIT, RUN_LIMIT};
 ghost use Rattle.ia_insn.specs.Places.{IsPlaceOf};
 ghost use Rattle.ia_insn.specs.declared.ending.How.TheVariants as how;
 ghost use Rattle.ia_meaning.specs.declared.next.Next.TheVariants.{Falls};
@@ -67,7 +68,7 @@ fn has_stop(program: &Program, bundle: &BundleOf, place: Place) -> bool
 
 /// The slots of a group after one more that falls through.
 fn slots_after(slots: u32, stopped: bool) -> u32
-    requires { slots < 192 }
+    requires { slots < RUN_LIMIT }
     ensures { result ≡ slots_after slots (how_falling stopped) }
 {
     if stopped { 0 } else { slots + 1 }
@@ -87,7 +88,7 @@ impl Run {
     ///
     /// Want of memory.
     pub fn begin(alloc: Global, bytes: &[u8]) -> Result<Run, AllocError>
-        requires most { length bytes.now ≤ 1_048_576 }
+        requires most { length bytes.now ≤ DATA_LIMIT }
         requires whole { length bytes.now % 8 ≡ 0 }
         ensures { IfOk result (λ run. progress_of run ≡ begun (record { registers = zero_registers; memory = record { bytes = bytes.now; alat = [] }; place = first_of 0 })) }
     {
@@ -156,7 +157,7 @@ impl Run {
     ) -> Option<How>
         requires may { MayChange self.old.state outcome.now.change }
         requires running { self.old.end ≡ None }
-        requires few { self.old.slots < 192 }
+        requires few { self.old.slots < RUN_LIMIT }
         requires next { next ≡ next_of program.now.bundles self.old.place }
         requires stop { stopped ≡ is_stopped program.now.bundles self.old.place }
         ensures value { progress_of self.new ≡ stepped (progress_of self.old) (settled_step program.now (state_of self.old) next (outcome_of self.old.state outcome.now)) }
@@ -187,7 +188,7 @@ impl Run {
     fn run_slot(&mut self, program: &Program) -> Option<How>
         requires running { self.old.end ≡ None }
         requires place { IsPlaceOf program.now.bundles self.old.place }
-        requires few { self.old.slots < 192 }
+        requires few { self.old.slots < RUN_LIMIT }
         ensures value { progress_of self.new ≡ stepped (progress_of self.old) (seq_step program.now (state_of self.old)) }
         ensures how { result ≡ (seq_step program.now (state_of self.old)).how }
         ensures goes_on { IfNone result (self.new.end ≡ None) }

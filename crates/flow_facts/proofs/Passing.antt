@@ -1,7 +1,8 @@
 -- What comes along an edge.
-use Rattle.std.proofs.Common.{◌≡◌, ◌≢◌, ℕ, ◌+◌, ◌≤◌, ◌⊎◌, Bool, true, false, cond, Option, None, Some, List, length, set, length-set, refl, sym, ap, ◌∙◌, subst, inl, inr}
+use Rattle.std.proofs.Common.{◌≡◌, ◌≢◌, ℕ, ◌+◌, ◌≤◌, ◌⊎◌, Bool, true, false, cond, Option, None, Some, List, length, set, length-set, refl, sym, ap, ◌∙◌, subst, arith, inl, inr}
 use Rattle.std.proofs.lemmas.Bool.{true≢false}
 use Rattle.std.proofs.lemmas.Option.{same_Some}
+use Rattle.std.proofs.lemmas.List.Sums.{sum_by-set}
 use Rattle.ia_insn.specs.declared.insn.Insn.{Insn}
 use Rattle.ia_insn.specs.declared.place.Place.{Place}
 use Rattle.ia_insn.specs.Places.{place_number, insn_at}
@@ -14,7 +15,7 @@ use Rattle.predicate_rel.specs.Rules.{pairs_after}
 use Rattle.predicate_rel.specs.RuleLaws.{WhyMissing, whatever, since, why_missing, pairs_after-within}
 use Rattle.predicate_rel.specs.Edges.{HasEdge, pairs_past, pairs_past_insn}
 use Rattle.flow_facts.specs.Walks.{Known, known_at, Walk, begins, goes_on, EndsAt, facts_on}
-use Rattle.flow_facts.specs.Tables.{weight, place_count, IsNumbered, AtMost, Shrinks, Joined, IsWitnessed, EdgeSettled, IsSettled, Passed, IsUnderWay, is_dirty}
+use Rattle.flow_facts.specs.Tables.{weight, place_count, IsNumbered, AtMost, Shrinks, Joined, IsWitnessed, EdgeSettled, IsSettled, Passed, IsUnderWay, is_dirty, dirty_count}
 use Rattle.flow_facts.proofs.Numbering.{is_numbered, cases_place, value_at-set_same, value_at-set_other}
 
 -- what is known past an instruction is what is known past its place
@@ -106,9 +107,13 @@ pub not_dirty_there : (d : List Bool) (k to : Place) → IsNumbered (length d) t
 not_dirty_there d k to l clean e =
     true≢false (sym (value_at-set_same false true d to l) ∙ ap (is_dirty (set d (place_number to) true)) (sym e) ∙ clean)
 
+-- with one place marked, at most one more is dirty
+dirty_count-set : (d : List Bool) (to : Place) → IsNumbered (length d) to → dirty_count (set d (place_number to) true) ≤ dirty_count d + 1
+dirty_count-set d to l = omega (arith, sum_by-set (λ (is : Bool). cond is 1 0) d (place_number to) true false l.below)
+
 -- the end of an edge was changed and marked
-pub passed_changed : (p : Program) (from : Place) (e : Edge) (to : Place) (t t' : List Known) (d : List Bool) (rows : Table) (r : Bool) → HasEdge p from e to → length d ≡ place_count p → IsWitnessed p t → known_at t from ≡ Some rows → Joined t t' to (pairs_past p from e (pairs_of rows)) → r ≡ true → weight t' + cond r 1 0 ≤ weight t → Passed p from e t d t' (set d (place_number to) true) r
-passed_changed p from e to t t' d rows r edge sized wit at joined is less = record {
+pub passed_changed : (p : Program) (from : Place) (e : Edge) (to : Place) (t t' : List Known) (d : List Bool) (rows : Table) → HasEdge p from e to → length d ≡ place_count p → IsWitnessed p t → known_at t from ≡ Some rows → Joined t t' to (pairs_past p from e (pairs_of rows)) → weight t' + 1 ≤ weight t → Passed p from e t d t' (set d (place_number to) true)
+passed_changed p from e to t t' d rows edge sized wit at joined less = record {
   witnessed = witnessed_pass p t t' from e to rows wit at edge joined;
   settled = λ clean to' edge'. record {
     settles = λ rows' at'.
@@ -124,8 +129,7 @@ passed_changed p from e to t t' d rows r edge sized wit at joined is less = reco
         let apart = not_dirty_there d k to short c in
         (sym (value_at-set_other false true d to k short.slot apart) ∙ c, joined.others k apart);
   };
-  lost = less;
-  quiet = λ n. absurd (true≢false (sym is ∙ n));
+  lost = omega (arith, dirty_count-set d to short, less);
 }
   where
     short : IsNumbered (length d) to
@@ -140,8 +144,8 @@ pub shrinks_twice : (a b c : List Known) → Shrinks a b → Shrinks b c → Shr
 shrinks_twice a b c f g = record { same_length = g.same_length ∙ f.same_length; keeps = λ k h m. g.keeps k h (f.keeps k h m) }
 
 -- the place is no longer dirty, and what was known there has come along both sorts of edges
-pub two_passes : (p : Program) (t t1 t2 : List Known) (d d1 d2 : List Bool) (from : Place) (a b : Bool) → IsUnderWay p t d → IsNumbered (place_count p) from → Passed p from Falls t (set d (place_number from) false) t1 d1 a → Passed p from Taken t1 d1 t2 d2 b → IsUnderWay p t2 d2
-two_passes p t t1 t2 d d1 d2 from a b u l f g = record {
+pub two_passes : (p : Program) (t t1 t2 : List Known) (d d1 d2 : List Bool) (from : Place) → IsUnderWay p t d → IsNumbered (place_count p) from → Passed p from Falls t (set d (place_number from) false) t1 d1 → Passed p from Taken t1 d1 t2 d2 → IsUnderWay p t2 d2
+two_passes p t t1 t2 d d1 d2 from u l f g = record {
   table_length = all.same_length ∙ u.table_length;
   dirty_length = g.progress.same_length ∙ f.progress.same_length ∙ length-set d (place_number from) false ∙ u.dirty_length;
   witnessed = g.witnessed;

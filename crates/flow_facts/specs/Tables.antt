@@ -1,5 +1,5 @@
 -- How a table of what is known at each place changes while it is made.
-use Rattle.std.specs.Prelude.{◌≡◌, ◌≢◌, ◌<◌, ◌≤◌, ℕ, zero, suc, ◌+◌, ◌*◌, Bool, false, if◌then◌else◌, None, Some, List, length, sum_by, ◌⊎◌}
+use Rattle.std.specs.Prelude.{◌≡◌, ◌≢◌, ◌<◌, ◌≤◌, ℕ, zero, suc, ◌+◌, ◌*◌, ◌/◌, Bool, true, false, if◌then◌else◌, None, Some, List, length, slice_index_or, sum_by, ◌⊎◌}
 use Rattle.ia_insn.specs.declared.place.Place.{Place}
 use Rattle.ia_insn.specs.Places.{place_number}
 use Rattle.ia_insn.specs.Programs.{Program, IsEntry}
@@ -79,6 +79,21 @@ pub record IsSettled (p : Program) (table : List Known) (from : Place) : Type 0 
 abbrev pub is_dirty : List Bool → Place → Bool
 is_dirty dirty place = value_at false dirty place
 
+-- how many places are still to be gone on from
+abbrev pub dirty_count : List Bool → ℕ
+dirty_count dirty = sum_by (λ (is : Bool). if is then 1 else 0) dirty
+
+-- How the dirty places are kept: none is below this number, and each is in a block of 64 places that is marked.
+pub record IsKept (dirty blocks : List Bool) (low : ℕ) : Type 0 where
+  pub long : length dirty ≤ 64 * length blocks
+  pub below : (n : ℕ) → n < low → slice_index_or dirty n false ≡ false
+  pub unmarked : (n : ℕ) → slice_index_or blocks (n / 64) false ≡ false → slice_index_or dirty n false ≡ false
+
+-- The place of this number is the lowest dirty one.
+pub record IsLowest (dirty : List Bool) (n : ℕ) : Type 0 where
+  pub is : slice_index_or dirty n false ≡ true
+  pub none_below : (k : ℕ) → k < n → slice_index_or dirty k false ≡ false
+
 -- No place knows more than before, and one whose facts change is dirty from then on.
 pub record Progress (table : List Known) (dirty : List Bool) (table' : List Known) (dirty' : List Bool) : Type 0 where
   pub shrinks : Shrinks table table'
@@ -94,13 +109,13 @@ pub record IsUnderWay (p : Program) (table : List Known) (dirty : List Bool) : T
   pub entries : (bundle : ℕ) → IsEntry p bundle → AtMost table (first_of bundle) no_pairs
   pub settled : (place : Place) → is_dirty dirty place ≡ false → IsSettled p table place
 
--- What was known at a place has come along its edges of this sort, and may have changed another place.
-pub record Passed (p : Program) (from : Place) (e : Edge) (table : List Known) (dirty : List Bool) (table' : List Known) (dirty' : List Bool) (changed : Bool) : Type 0 where
+-- What was known at a place has come along its edges of this sort. For each place that this made dirty the table has
+-- lost something.
+pub record Passed (p : Program) (from : Place) (e : Edge) (table : List Known) (dirty : List Bool) (table' : List Known) (dirty' : List Bool) : Type 0 where
   pub witnessed : IsWitnessed p table'
   pub settled : is_dirty dirty' from ≡ false → (to : Place) → HasEdge p from e to → EdgeSettled p table' from e to
   pub progress : Progress table dirty table' dirty'
-  pub lost : weight table' + (if changed then 1 else 0) ≤ weight table
-  pub quiet : changed ≡ false → dirty' ≡ dirty
+  pub lost : weight table' + dirty_count dirty' ≤ weight table + dirty_count dirty
 
 -- What is known past a place, on the way along an edge, by what is known at it.
 abbrev pub IsPast : Program → Place → Edge → Known → Pairs → Type 0

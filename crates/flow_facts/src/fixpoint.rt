@@ -1,13 +1,12 @@
 //! Facts run to a fixpoint over the places of a program.
 
-ghost use Rattle.std.specs.Prelude.{◌≡◌, ℕ, ◌+◌, ◌≤◌, List, false, if◌then◌else◌, length, None, IfOk, slice_set, IsTrue, ◌↔◌};
+ghost use Rattle.std.specs.Prelude.{◌≡◌, ◌+◌, ◌<◌, List, true, false, length, None, IfOk};
 ghost use Rattle.std.specs.Option.{option_copied};
-ghost use Rattle.std.specs.Bool.{OnFalse};
 ghost use Rattle.ia_insn.specs.declared.place.Place.{Place};
-ghost use Rattle.ia_insn.specs.Places.{place_number};
 ghost use Rattle.flow_facts.specs.Walks.{Known, known_at, IsSolution};
-ghost use Rattle.flow_facts.specs.Tables.{IsNumbered, Passed, weight, IsWitnessed, IsUnderWay, is_dirty, place_count};
+ghost use Rattle.flow_facts.specs.Tables.{IsNumbered, Passed, weight, dirty_count, IsWitnessed, IsUnderWay, is_dirty, place_count};
 
+use crate::dirty::DirtyPlaces;
 use crate::edges::edge_end;
 use crate::table::{join, known_past, number, place_at};
 use ia_insn::{Place, Program};
@@ -41,89 +40,78 @@ impl InFacts {
     }
 }
 
-/// Takes what is known at a place along its edge of this sort, if it has one. Answers whether that
-/// changes another place, which is then dirty.
+/// Takes what is known at a place along its edge of this sort, if it has one. If that changes the place
+/// at its end, that place is dirty from then on.
 fn pass(
     program: &Program,
     table: &mut Vec<Option<Facts>>,
-    dirty: &mut Vec<bool>,
+    dirty: &mut DirtyPlaces,
     from: Place,
     edge: Edge,
-) -> bool
+)
     requires table { length table.old.items ≡ place_count program.now }
-    requires dirty { length dirty.old.items ≡ place_count program.now }
+    requires dirty { length dirty.old ≡ place_count program.now }
     requires witnessed { IsWitnessed program.now table.old.items }
-    ensures { Passed program.now from edge table.old.items dirty.old.items table.new.items dirty.new.items result }
+    ensures { Passed program.now from edge table.old.items dirty.old table.new.items dirty.new }
 {
     let Some(to) = edge_end(program, from, edge) else {
-        return false;
+        return;
     };
     let Some(out) = known_past(program, table, from, edge) else {
-        return false;
+        return;
     };
-    let changed = join(table, to, out);
-    if changed {
-        dirty[number(to)] = true;
+    if join(table, to, out) {
+        dirty.insert(to);
     }
-    changed
 }
 
-/// Takes what is known at a place along all its edges, so that the place is no longer dirty.
-fn spread(
-    program: &Program,
-    table: &mut Vec<Option<Facts>>,
-    dirty: &mut Vec<bool>,
-    from: Place,
-) -> bool
+/// Takes what is known at a dirty place along all its edges. It is dirty no more, unless that changes the
+/// place itself.
+fn spread(program: &Program, table: &mut Vec<Option<Facts>>, dirty: &mut DirtyPlaces, from: Place)
     requires from { IsNumbered (place_count program.now) from }
-    requires under_way { IsUnderWay program.now table.old.items dirty.old.items }
-    ensures under_way { IsUnderWay program.now table.new.items dirty.new.items }
-    ensures lost { weight table.new.items + (if result then 1 else 0) ≤ weight table.old.items }
-    ensures quiet { OnFalse result (dirty.new.items ≡ slice_set dirty.old.items (place_number from) false) }
+    requires dirty { is_dirty dirty.old from ≡ true }
+    requires under_way { IsUnderWay program.now table.old.items dirty.old }
+    ensures under_way { IsUnderWay program.now table.new.items dirty.new }
+    ensures less { weight table.new.items + dirty_count dirty.new < weight table.old.items + dirty_count dirty.old }
 {
-    dirty[number(from)] = false;
-    let fell = pass(program, table, dirty, from, Edge::Falls);
-    let jumped = pass(program, table, dirty, from, Edge::Taken);
-    fell || jumped
+    dirty.remove(from);
+    pass(program, table, dirty, from, Edge::Falls);
+    pass(program, table, dirty, from, Edge::Taken);
 }
 
-/// Goes over the dirty places once, in order, and says whether any place has changed.
-fn sweep(program: &Program, table: &mut Vec<Option<Facts>>, dirty: &mut Vec<bool>) -> bool
-    requires { IsUnderWay program.now table.old.items dirty.old.items }
-    ensures under_way { IsUnderWay program.now table.new.items dirty.new.items }
-    ensures lost { weight table.new.items + (if result then 1 else 0) ≤ weight table.old.items }
-    ensures clean { OnFalse result ((place : Place) → is_dirty dirty.new.items place ≡ false) }
+/// Goes on from the lowest dirty place until none is left. This ends, since a place gets dirty only where
+/// the table loses something.
+fn settle(program: &Program, table: &mut Vec<Option<Facts>>, dirty: &mut DirtyPlaces)
+    requires { IsUnderWay program.now table.old.items dirty.old }
+    ensures under_way { IsUnderWay program.now table.new.items dirty.new }
+    ensures clean { (place : Place) → is_dirty dirty.new place ≡ false }
 {
-    let mut again = false;
-    for n in 0..3 * program.bundle_count() {
-        if dirty[n as usize] {
-            if spread(program, table, dirty, place_at(n)) {
-                again = true;
-            }
-        }
+    // This call tells that the program is one, so the numbers of its places are small.
+    let _count = program.bundle_count();
+    'settling: while let Some(n) = dirty.lowest() {
+        spread(program, table, dirty, place_at(n as u32));
     }
-    again
 }
 
 /// Begins with the entries, where nothing is known.
-fn enter(program: &Program, table: &mut Vec<Option<Facts>>, dirty: &mut Vec<bool>)
+fn enter(program: &Program, table: &mut Vec<Option<Facts>>, dirty: &mut DirtyPlaces)
     requires table { length table.old.items ≡ place_count program.now }
-    requires dirty { length dirty.old.items ≡ place_count program.now }
+    requires dirty { length dirty.old ≡ place_count program.now }
     requires unknown { (place : Place) → known_at table.old.items place ≡ None }
-    ensures { IsUnderWay program.now table.new.items dirty.new.items }
+    ensures { IsUnderWay program.now table.new.items dirty.new }
 {
     for bundle in 0..program.bundle_count() {
         if program.is_entry(bundle) {
             let place = Place { bundle, slot: 0 };
             let _changed = join(table, place, Facts::empty());
-            dirty[number(place)] = true;
+            dirty.insert(place);
         }
     }
 }
 
 /// What is known of predicates at each place of a program: exactly the meet over all walks that end
-/// there (volume 1, chapter 3, instruction sequencing and predication). It goes over the places until
-/// nothing changes any more.
+/// there (volume 1, chapter 3, instruction sequencing and predication). It goes on from the lowest place
+/// that has changed until none is left.
 ///
 /// # Errors
 ///
@@ -136,11 +124,8 @@ pub fn solve(alloc: Global, program: &Program) -> Result<InFacts, AllocError>
     'making: for _ in 0..count {
         table.push(None)?;
     }
-    let mut dirty = vec![in alloc; false; count]?;
+    let mut dirty = DirtyPlaces::none(alloc, count)?;
     enter(program, &mut table, &mut dirty);
-    let mut again = true;
-    while again {
-        again = sweep(program, &mut table, &mut dirty);
-    }
+    settle(program, &mut table, &mut dirty);
     Ok(InFacts { table })
 }

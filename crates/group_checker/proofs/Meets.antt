@@ -8,7 +8,7 @@ use Rattle.ia_insn.specs.Places.{insn_at}
 use Rattle.ia_insn.specs.Programs.{Program}
 use Rattle.ia_meaning.specs.declared.form.Form.{Form}
 use Rattle.ia_meaning.specs.declared.form.Form.TheVariants as form
-use Rattle.ia_meaning.specs.Actions.{action_of, form_of}
+use Rattle.ia_meaning.specs.Actions.{form_of}
 use Rattle.predicate_rel.specs.declared.edge.Edge.TheVariants.{Falls}
 use Rattle.predicate_rel.specs.Pairs.{Table, Pairs, pairs_of, in_range, truth, IsWithin}
 use Rattle.predicate_rel.specs.Rules.{PairRule, one, is_met, form_rule, rule_of, pairs_after}
@@ -58,8 +58,8 @@ past_insn p j insn f e = ap (λ (o : Option Insn). pairs_past_insn o Falls f) e
 
 -- an instruction that doesn't change what is known keeps each pair where control falls through
 kept_rule : (f : Form) (g x y : ℕ) → changes_facts f ≡ false → form_rule f Falls g x y ≡ one x y
-kept_rule (form.Test kind p1 p2 r2 r3) g x y e = absurd (true≢false e)
-kept_rule (form.ToPredicates r2 mask) g x y e = absurd (true≢false e)
+kept_rule (form.Test kind p1 p2 r2 r3 c) g x y e = absurd (true≢false e)
+kept_rule (form.ToPredicates r2 mask w) g x y e = absurd (true≢false e)
 kept_rule (form.Jump disp) g x y e = absurd (true≢false e)
 kept_rule (form.JumpIndirect b2) g x y e = absurd (true≢false e)
 kept_rule (form.Loop kind disp) g x y e = absurd (true≢false e)
@@ -75,7 +75,7 @@ twice true b = refl
 twice false b = refl
 
 -- so the facts stay
-pub facts_kept : (insn : Insn) (rows : Table) → changes_facts (form_of (action_of insn.op)) ≡ false → pairs_after (pairs_of rows) insn Falls ≡ pairs_of rows
+pub facts_kept : (insn : Insn) (rows : Table) → changes_facts (form_of insn.op) ≡ false → pairs_after (pairs_of rows) insn Falls ≡ pairs_of rows
 unfolding pairs_after rule_of pairs_of
 facts_kept insn rows e = fun_ext (λ x. fun_ext (λ y.
-    ap (λ (r : PairRule). in_range x y && is_met r (pairs_of rows)) (kept_rule (form_of (action_of insn.op)) insn.qp x y e) ∙ twice (in_range x y) (truth rows x y)))
+    ap (λ (r : PairRule). in_range x y && is_met r (pairs_of rows)) (kept_rule (form_of insn.op) insn.qp x y e) ∙ twice (in_range x y) (truth rows x y)))

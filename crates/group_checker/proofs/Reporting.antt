@@ -1,5 +1,5 @@
 -- The report counts and begins to show the one rising list of all violations.
-use Rattle.std.proofs.Common.{◌≡◌, ℕ, zero, suc, ◌+◌, ◌^◌, ◌<◌, ◌≤◌, ◌⊎◌, true, false, cond, eqb, eq-eqb, None, Some, List, [], ◌∷◌, ◌++◌, length, length-append, length-take, append_assoc, get_or, take, refl, sym, ap, ◌∙◌, subst, arith, inl, inr}
+use Rattle.std.proofs.Common.{◌≡◌, ℕ, zero, suc, ◌+◌, ◌<◌, ◌≤◌, ◌⊎◌, true, false, cond, eqb, eq-eqb, None, Some, List, [], ◌∷◌, ◌++◌, length, length-append, length-take, append_assoc, get_or, take, refl, sym, ap, ◌∙◌, subst, arith, inl, inr}
 use Rattle.std.specs.Prelude.{Contains}
 use Rattle.std.proofs.lemmas.Bool.{cases_eq, ne_eqb}
 use Rattle.std.proofs.lemmas.List.{take_all, take_more, take-append-le}
@@ -20,7 +20,7 @@ use Rattle.group_checker.specs.Violations.{Violates}
 use Rattle.group_checker.specs.Reports.{Shows, IsVerdict}
 use Rattle.group_checker.specs.Windows.{IsWindow, IsAt}
 use Rattle.group_checker.specs.Findings.{IsNthPair}
-use Rattle.group_checker.specs.Progress.{HasReported, IsEarlier, IsEarlierPair, IsUpTo}
+use Rattle.group_checker.specs.Progress.{HasReported, IsEarlier, IsEarlierPair, IsUpTo, pair_bound, place_bound}
 use Rattle.group_checker.proofs.Members.{not_in_none}
 use Rattle.group_checker.proofs.Falling.{before_trans, number_rises, place_cases, comes_from}
 use Rattle.group_checker.proofs.Rising.{rises_append}
@@ -91,7 +91,7 @@ pair_precedes p es j n v w win (inr h) k =
     (subst (λ (q : Place). IsBefore q w.first) has.is (subst (IsBefore has.entry.place) (sym k.pair.0) up))
 
 -- the violations of one more pair of slots
-pub pair_reported : (p : Program) (old new : Report) (es : List Entry) (j : Place) (n bound : ℕ) (found : List Violation) → IsWindow p es j → HasReported p old (IsEarlierPair es j n) bound → IsListOf (λ v. IsNthPair es n j v × Violates p v) found → length found ≤ 6402 → new.total ≡ old.total + length found → new.shown ≡ take 100 (old.shown ++ found) → HasReported p new (IsEarlierPair es j (n + 1)) (bound + 2 ^ 13)
+pub pair_reported : (p : Program) (old new : Report) (es : List Entry) (j : Place) (n bound : ℕ) (found : List Violation) → IsWindow p es j → HasReported p old (IsEarlierPair es j n) bound → IsListOf (λ v. IsNthPair es n j v × Violates p v) found → length found ≤ 6402 → new.total ≡ old.total + length found → new.shown ≡ take 100 (old.shown ++ found) → HasReported p new (IsEarlierPair es j (n + 1)) (bound + pair_bound)
 pair_reported p old new es j n bound found win r list few total shown = record {
   all = r.all ++ found;
   list = list_append (λ v. Violates p v × IsEarlierPair es j n v) (λ v. IsNthPair es n j v × Violates p v) (λ v. Violates p v × IsEarlierPair es j (n + 1) v) r.all found
@@ -146,8 +146,8 @@ second_is_place p v x =
     let from = comes_from p x.walk v.first x.there.walks x.inside in
     subst (IsPlaceOf p.bundles) x.there.ends from.edge.lands
 
--- the places of a program have numbers below 3 * 4,096
-pub number_small : (p : Program) (j : Place) → IsProgram p → IsPlaceOf p.bundles j → place_number j < 2 ^ 14
+-- the places of a program have small numbers
+pub number_small : (p : Program) (j : Place) → IsProgram p → IsPlaceOf p.bundles j → place_number j < place_bound
 number_small p j program is =
     let slot = slot_small p.bundles j is in
     let bundle = bundle_small p.bundles j is in

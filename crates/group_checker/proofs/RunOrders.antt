@@ -1,5 +1,6 @@
 -- A program without violations leaves the same in all orders, for any number of groups.
-use Rattle.std.proofs.Common.{◌≡◌, ℕ, zero, suc, List, Option, Some, None, refl, ◌∙◌, ap, subst}
+use Rattle.std.proofs.Common.{◌≡◌, ℕ, zero, suc, List, Option, Some, None, refl, ◌∙◌, ap, subst, ◌-◌}
+use Rattle.ia_insn.specs.declared.limits.TheConstants.{RUN_LIMIT}
 use Rattle.ia_insn.specs.declared.ending.End.{End}
 use Rattle.ia_insn.specs.declared.ending.How.{How}
 use Rattle.ia_insn.specs.Programs.{Program, IsProgram}
@@ -18,7 +19,7 @@ use Rattle.group_checker.specs.OrderLaws.{GroupIsOrdered, NextGroupIsOrdered, Fr
 use Rattle.group_checker.proofs.FirstSlots.{whole}
 
 pub group_ordered : GroupIsOrdered
-group_ordered p code s w program free known = whole p program free code 191 s w known
+group_ordered p code s w program free known = whole p program free code (RUN_LIMIT - 1) s w known
 
 -- and so is the next group of a run
 pub next_group_ordered : NextGroupIsOrdered
@@ -52,7 +53,7 @@ runs_ordered : (n number : ℕ) (p : Program) (codes : List (List ℕ)) (s : Sta
 runs_ordered zero number p codes s w program free known = refl
 runs_ordered (suc n) number p codes s w program free known =
     ap (λ (x : Group). run_by x (event_of number s.place x) x.end (run_from (Par p codes) (suc number) n x.state)) (group_ordered p (code_of codes number) s w program free known)
-    ∙ go (seq_group p s).end (group_reached 192 p s w program known) (λ x k. runs_ordered n (suc number) p codes (seq_group p s).state x program free k)
+    ∙ go (seq_group p s).end (group_reached RUN_LIMIT p s w program known) (λ x k. runs_ordered n (suc number) p codes (seq_group p s).state x program free k)
   where
     go : (e : Option End) → (e ≡ None → Reached p (seq_group p s).state)
         → ((x : Walk) → IsKnown p (seq_group p s).state x → run_from (Par p codes) (suc number) n (seq_group p s).state ≡ run_from (Seq p) (suc number) n (seq_group p s).state)

@@ -1,6 +1,7 @@
 -- The walk of a run, and what is known on it.
 use Rattle.std.proofs.Common.{◌≡◌, ℕ, zero, suc, ◌+◌, ◌⊎◌, inl, inr, Bool, true, false, if◌then◌else◌, List, [], Option, Some, None, refl, sym, ap, ◌∙◌, subst, arith}
 use Rattle.std.specs.Prelude.{IsSomeAnd, MatchOption}
+use Rattle.ia_insn.specs.declared.limits.TheConstants.{RUN_LIMIT}
 use Rattle.ia_insn.specs.declared.ending.End.{End}
 use Rattle.ia_insn.specs.declared.ending.How.{How}
 use Rattle.ia_insn.specs.declared.ending.How.TheVariants as how
@@ -14,7 +15,7 @@ use Rattle.ia_meaning.specs.declared.next.Next.{Next}
 use Rattle.ia_meaning.specs.declared.next.Next.TheVariants as next
 use Rattle.ia_meaning.specs.State.{Registers, State, IsState, IsStart}
 use Rattle.ia_meaning.specs.Outcomes.{Outcome}
-use Rattle.ia_meaning.specs.Actions.{action_of, form_of}
+use Rattle.ia_meaning.specs.Actions.{form_of}
 use Rattle.ia_meaning.specs.Sequence.{first_of, is_stopped}
 use Rattle.ia_meaning.specs.Steps.{Step, outcome_of, how_falling, step_by, step_of, seq_step, Group, group_by, group_within, seq_group, event_of, Run, run_by, run_from}
 use Rattle.ia_meaning.proofs.WholeRuns.{step_goes_on}
@@ -35,7 +36,7 @@ unfolding no_pairs
 nothing_apart r = record { apart = λ x y m h k. absurd (cc) }
 
 -- an indirect branch has no taken edge
-no_target : (o : Op) (bundle : ℕ) (to : Place) → is_indirect o ≡ true → target_at bundle (displacement_of (form_of (action_of o))) ≡ Some to → ⊥
+no_target : (o : Op) (bundle : ℕ) (to : Place) → is_indirect o ≡ true → target_at bundle (displacement_of (form_of o)) ≡ Some to → ⊥
 no_target (op.BrInd b2 wh many clr) bundle to h e = cc
 no_target (op.BrRet b2 wh many clr) bundle to h e = cc
 no_target (op.BrCallInd b1 b2 wh many clr) bundle to h e = cc
@@ -212,7 +213,7 @@ Seq p number s = seq_group p s
 -- the state of a run
 run_comes : (n number : ℕ) (p : Program) (t : Trace) → t.end ≡ None → (k : ℕ) × ((trace_further k p t).state ≡ (run_from (Seq p) number n t.state).state)
 run_comes zero number p t none = (0, refl)
-run_comes (suc n) number p t none = of (seq_group p t.state).end (group_comes 192 p t none) (λ t goes. run_comes n (suc number) p t goes)
+run_comes (suc n) number p t none = of (seq_group p t.state).end (group_comes RUN_LIMIT p t none) (λ t goes. run_comes n (suc number) p t goes)
   where
     of : (e : Option End) → ComesTo p t (seq_group p t.state).state e → ((t : Trace) → t.end ≡ None → (k : ℕ) × ((trace_further k p t).state ≡ (run_from (Seq p) (suc number) n t.state).state))
         → (k : ℕ) × ((trace_further k p t).state ≡ (run_by (seq_group p t.state) (event_of number t.state.place (seq_group p t.state)) e (run_from (Seq p) (suc number) n (seq_group p t.state).state)).state)

@@ -1,5 +1,6 @@
 -- What is reported while slots are gone over.
-use Rattle.std.specs.Prelude.{◌≡◌, ◌<◌, ◌≤◌, ℕ, ◌⊎◌, List, length}
+use Rattle.std.specs.Prelude.{◌≡◌, ◌<◌, ◌≤◌, ℕ, ◌*◌, ◌^◌, ◌⊎◌, List, length}
+use Rattle.ia_insn.specs.declared.limits.TheConstants.{BUNDLE_LIMIT}
 use Rattle.ia_insn.specs.declared.place.Place.{Place}
 use Rattle.ia_insn.specs.Places.{IsBefore}
 use Rattle.ia_insn.specs.Programs.{Program}
@@ -10,6 +11,18 @@ use Rattle.group_checker.specs.Order.{IsListOf}
 use Rattle.group_checker.specs.Reports.{Shows}
 use Rattle.group_checker.specs.Shown.{Report}
 use Rattle.group_checker.specs.Windows.{HasPlace}
+
+-- above the number of each place of a program: a bundle has three
+abbrev pub place_bound : ℕ
+place_bound = 3 * BUNDLE_LIMIT
+
+-- more violations than two slots have
+abbrev pub pair_bound : ℕ
+pair_bound = 2 ^ 13
+
+-- and more than one second slot has
+abbrev pub second_bound : ℕ
+second_bound = pair_bound * place_bound
 
 -- The violations that are done with are reported.
 pub record HasReported (p : Program) (r : Report) (IsDone : Violation → Type 0) (bound : ℕ) : Type 0 where

@@ -87,8 +87,8 @@ pub record HasAdvanced (p : Program) (j : Place) (mask : ℕ) (old new : List En
 
 -- where control falls through, an instruction of any other form leaves what is known of predicates as it is
 abbrev pub changes_facts : Form → Bool
-changes_facts (form.Test kind p1 p2 r2 r3) = true
-changes_facts (form.ToPredicates r2 mask) = true
+changes_facts (form.Test kind p1 p2 r2 r3 c) = true
+changes_facts (form.ToPredicates r2 mask w) = true
 changes_facts (form.Jump disp) = true
 changes_facts (form.JumpIndirect b2) = true
 changes_facts (form.Loop kind disp) = true

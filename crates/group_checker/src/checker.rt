@@ -1,6 +1,6 @@
 //! The check of a program.
 
-ghost use Rattle.std.specs.Prelude.{◌≡◌, ◌+◌, ◌*◌, ◌≤◌, ◌<◌, ◌^◌, length, IfOk, OnOk, Some, None};
+ghost use Rattle.std.specs.Prelude.{◌≡◌, ◌+◌, ◌*◌, ◌≤◌, ◌<◌, length, IfOk, OnOk, Some, None};
 ghost use Rattle.ia_insn.specs.Places.{IsPlaceOf, place_number};
 ghost use Rattle.ia_insn.specs.Programs.{IsProgram};
 ghost use Rattle.ia_meaning.specs.OrderIndependence.{IsRobust};
@@ -8,7 +8,7 @@ ghost use Rattle.ia_meaning.specs.Sequence.{first_of, next_of};
 ghost use Rattle.group_checker.specs.Excuses.{accesses_at};
 ghost use Rattle.group_checker.specs.Reports.{IsVerdict, OneVerdict};
 ghost use Rattle.group_checker.specs.Windows.{IsWindow};
-ghost use Rattle.group_checker.specs.Progress.{HasReported, IsEarlier, IsUpTo};
+ghost use Rattle.group_checker.specs.Progress.{HasReported, IsEarlier, IsUpTo, pair_bound, place_bound, second_bound};
 
 use crate::moves::move_on;
 use crate::pairs::{accesses_at, pair_violations};
@@ -52,12 +52,12 @@ fn check_second(
     seconds: &[Access],
     report: &mut Report,
 ) -> Result<(), AllocError>
-    requires place { place_number second < 2 ^ 14 }
+    requires place { place_number second < place_bound }
     requires few { length seconds.now ≤ 80 }
     requires seconds { seconds.now ≡ accesses_at program.now second }
     requires window { IsWindow program.now window.now second }
-    requires before { HasReported program.now report.old (IsEarlier second) (2 ^ 27 * place_number second) }
-    ensures { OnOk result (HasReported program.now report.new (IsUpTo second) (2 ^ 27 * place_number second + 2 ^ 13 * length window.now)) }
+    requires before { HasReported program.now report.old (IsEarlier second) (second_bound * place_number second) }
+    ensures { OnOk result (HasReported program.now report.new (IsUpTo second) (second_bound * place_number second + pair_bound * length window.now)) }
 {
     for n in 0..window.len() {
         let found = pair_violations(alloc, program, window, n, second, seconds)?;

@@ -5,7 +5,7 @@ ghost use Rattle.std.specs.Bool.{OnTrue, OnFalse};
 ghost use Rattle.ia_insn.specs.declared.place.Place.{Place};
 ghost use Rattle.ia_insn.specs.Programs.{Program};
 ghost use Rattle.ia_insn.specs.Places.{insn_at, IsPlaceOf};
-ghost use Rattle.ia_meaning.specs.Actions.{action_of, form_of};
+ghost use Rattle.ia_meaning.specs.Actions.{form_of};
 ghost use Rattle.ia_meaning.specs.Sequence.{next_of, is_stopped};
 ghost use Rattle.predicate_rel.specs.declared.edge.Edge.TheVariants.{Falls};
 ghost use Rattle.predicate_rel.specs.Edges.{HasEdge};
@@ -44,7 +44,7 @@ fn joins(program: &Program, place: Place) -> bool
 
 /// Whether an instruction may change what is known of predicates where control falls through.
 fn changes_facts(insn: &Insn) -> bool
-    ensures { result ≡ changes_facts (form_of (action_of insn.now.op)) }
+    ensures { result ≡ changes_facts (form_of insn.now.op) }
 {
     matches!(
         form_of(&insn.op),
@@ -62,7 +62,7 @@ fn changes_facts(insn: &Insn) -> bool
 
 /// Takes one entry past the instruction at a place, which may write the predicates of the mask.
 fn pass(entry: &mut Entry, insn: &Insn, changes: bool, mask: u64)
-    requires { changes ≡ changes_facts (form_of (action_of insn.now.op)) }
+    requires { changes ≡ changes_facts (form_of insn.now.op) }
     ensures { (p : Program) (j : Place) → insn_at p.bundles j ≡ Some insn.now → GoesOn p j mask entry.old entry.new }
 {
     entry.written |= mask;

@@ -4,6 +4,7 @@ use Rattle.std.specs.Prelude.{◌↔◌, IfSome}
 use Rattle.std.specs.Io.KnownBytes.{Appends}
 use Rattle.std.proofs.KnownBytes.{Appends-nil}
 use Rattle.std.proofs.lemmas.Bool.{lt-ltb, le-ltb}
+use Rattle.ia64_top.specs.declared.limits.TheConstants.{INPUT_LIMIT}
 use Rattle.io_seam.specs.Bytes.{LosesFirst}
 use Rattle.ia64_top.specs.declared.words.Command.{Command}
 use Rattle.ia64_top.specs.declared.words.Command.TheVariants as command
@@ -17,25 +18,25 @@ use Rattle.image_form.specs.Laws.{ImageSize}
 use Rattle.group_checker.specs.Reports.{IsFree}
 use Rattle.ia64_top.specs.Runs.{run_of, end_status}
 use Rattle.ia64_top.specs.Readings.{as_either, BeginsAsImage}
-use Rattle.ia64_top.specs.Output.{input_limit, IsCommandOutput, IsOutput, GivesOutput, GivesPart}
+use Rattle.ia64_top.specs.Output.{IsCommandOutput, IsOutput, GivesOutput, GivesPart}
 
 -- the output of a command for an input within the limit
-output_within : (words : List (List ℕ)) (command : Command) (input bytes : List ℕ) (status : Status) → command_of words ≡ Some command → length input ≤ input_limit → IsCommandOutput command input bytes status → IsOutput words input bytes status
-output_within words command input bytes status e within o = rw (e, le-ltb input_limit (length input) within) o
+output_within : (words : List (List ℕ)) (command : Command) (input bytes : List ℕ) (status : Status) → command_of words ≡ Some command → length input ≤ INPUT_LIMIT → IsCommandOutput command input bytes status → IsOutput words input bytes status
+output_within words command input bytes status e within o = rw (e, le-ltb INPUT_LIMIT (length input) within) o
 
 -- and for a longer one
-output_beyond : (words : List (List ℕ)) (command : Command) (input : List ℕ) → command_of words ≡ Some command → input_limit < length input → IsOutput words input [] TooLong
-output_beyond words command input e beyond = rw (e, lt-ltb input_limit (length input) beyond) (refl, refl)
+output_beyond : (words : List (List ℕ)) (command : Command) (input : List ℕ) → command_of words ≡ Some command → INPUT_LIMIT < length input → IsOutput words input [] TooLong
+output_beyond words command input e beyond = rw (e, lt-ltb INPUT_LIMIT (length input) beyond) (refl, refl)
 
-pub too_long : (words : List (List ℕ)) (command : Command) (left given : Option (List ℕ)) → command_of words ≡ Some command → IfSome left (λ l. input_limit < length l) → IfSome left (λ input. GivesOutput words input given given TooLong)
+pub too_long : (words : List (List ℕ)) (command : Command) (left given : Option (List ℕ)) → command_of words ≡ Some command → IfSome left (λ l. INPUT_LIMIT < length l) → IfSome left (λ input. GivesOutput words input given given TooLong)
 too_long words command None given e h = tt
 too_long words command (Some input) given e h = ([], output_beyond words command input e h, Appends-nil given)
 
-pub answered : (words : List (List ℕ)) (command : Command) (left given new : Option (List ℕ)) (input bytes : List ℕ) (status : Status) → command_of words ≡ Some command → IfSome left (λ l. input ≡ l) → length input ≤ input_limit → IsCommandOutput command input bytes status → Appends given new bytes → IfSome left (λ i. GivesOutput words i given new status)
+pub answered : (words : List (List ℕ)) (command : Command) (left given new : Option (List ℕ)) (input bytes : List ℕ) (status : Status) → command_of words ≡ Some command → IfSome left (λ l. input ≡ l) → length input ≤ INPUT_LIMIT → IsCommandOutput command input bytes status → Appends given new bytes → IfSome left (λ i. GivesOutput words i given new status)
 answered words command None given new input bytes status e whole within o appended = tt
 answered words command (Some l) given new input bytes status e whole within o appended = (bytes, subst (λ (i : List ℕ). IsOutput words i bytes status) whole (output_within words command input bytes status e within o), appended)
 
-pub given_in_part : (words : List (List ℕ)) (command : Command) (left given new : Option (List ℕ)) (input bytes : List ℕ) (status : Status) → command_of words ≡ Some command → IfSome left (λ l. input ≡ l) → length input ≤ input_limit → IsCommandOutput command input bytes status → ((count : ℕ) × (count < length bytes) × Appends given new (take count bytes)) → IfSome left (λ i. GivesPart words i given new)
+pub given_in_part : (words : List (List ℕ)) (command : Command) (left given new : Option (List ℕ)) (input bytes : List ℕ) (status : Status) → command_of words ≡ Some command → IfSome left (λ l. input ≡ l) → length input ≤ INPUT_LIMIT → IsCommandOutput command input bytes status → ((count : ℕ) × (count < length bytes) × Appends given new (take count bytes)) → IfSome left (λ i. GivesPart words i given new)
 given_in_part words command None given new input bytes status e whole within o part = tt
 given_in_part words command (Some l) given new input bytes status e whole within o part = (bytes, status, subst (λ (i : List ℕ). IsOutput words i bytes status) whole (output_within words command input bytes status e within o), part)
 
@@ -46,17 +47,17 @@ same_whole (Some l) slice input e whole = e ∙ whole
 
 -- What is said of the program that an input is read as: a text has to be within the limit, and an image is.
 abbrev OfProgram : (Program → Type 0) → List ℕ → Type 0
-OfProgram P input = (¬ BeginsAsImage input → length input ≤ input_limit) → (p : Program) → as_either.Gives input p → P p
+OfProgram P input = (¬ BeginsAsImage input → length input ≤ INPUT_LIMIT) → (p : Program) → as_either.Gives input p → P p
 
-short_image : ImageSize → (p : Program) (input : List ℕ) → Spells p input → length input ≤ input_limit
+short_image : ImageSize → (p : Program) (input : List ℕ) → Spells p input → length input ≤ INPUT_LIMIT
 short_image size p input s = let n = size p input s in let r = s.program.counts in omega (arith, n, r.bundles, r.entries, r.bytes)
 
-short_either : ImageSize → (p : Program) (input : List ℕ) → (¬ BeginsAsImage input → length input ≤ input_limit) → as_either.Gives input p → length input ≤ input_limit
+short_either : ImageSize → (p : Program) (input : List ℕ) → (¬ BeginsAsImage input → length input ≤ INPUT_LIMIT) → as_either.Gives input p → length input ≤ INPUT_LIMIT
 short_either size p input within (inl image) = short_image size p input image.1
 short_either size p input within (inr text) = within text.0
 
 -- a longer input is read as no program
-none_beyond : ImageSize → (P : Program → Type 0) (input : List ℕ) → input_limit < length input → OfProgram P input
+none_beyond : ImageSize → (P : Program → Type 0) (input : List ℕ) → INPUT_LIMIT < length input → OfProgram P input
 none_beyond size P input h within p g = absurd (omega (arith, h, short_either size p input within g))
 
 -- what is said of the input that was read whole
@@ -67,7 +68,7 @@ of_whole P l input whole h within p g = h p (subst (λ i. as_either.Gives i p) (
 abbrev AcceptsFree : List (List ℕ) → Status → List ℕ → Type 0
 AcceptsFree words status input = command_of words ≡ Some Check → OfProgram (λ p. (status ≡ Done) ↔ IsFree p) input
 
-pub accepted_beyond : ImageSize → (words : List (List ℕ)) (left : Option (List ℕ)) → IfSome left (λ l. input_limit < length l) → IfSome left (AcceptsFree words TooLong)
+pub accepted_beyond : ImageSize → (words : List (List ℕ)) (left : Option (List ℕ)) → IfSome left (λ l. INPUT_LIMIT < length l) → IfSome left (AcceptsFree words TooLong)
 accepted_beyond size words None h = tt
 accepted_beyond size words (Some input) h = λ e. none_beyond size (λ p. (TooLong ≡ Done) ↔ IsFree p) input h
 
@@ -82,7 +83,7 @@ abbrev JudgesProgram : List (List ℕ) → Status → List ℕ → Type 0
 JudgesProgram words status input =
     (command : Command) → command_of words ≡ Some command → Judges command → OfProgram (λ p. (status ≡ Violated) ↔ (¬ IsFree p)) input
 
-pub judged_beyond : ImageSize → (words : List (List ℕ)) (left : Option (List ℕ)) → IfSome left (λ l. input_limit < length l) → IfSome left (JudgesProgram words TooLong)
+pub judged_beyond : ImageSize → (words : List (List ℕ)) (left : Option (List ℕ)) → IfSome left (λ l. INPUT_LIMIT < length l) → IfSome left (JudgesProgram words TooLong)
 judged_beyond size words None h = tt
 judged_beyond size words (Some input) h = λ command e judges. none_beyond size (λ p. (TooLong ≡ Violated) ↔ (¬ IsFree p)) input h
 
@@ -94,10 +95,10 @@ judged_within words command (Some l) input status e whole h =
     (h (let same : Some other ≡ Some command = sym f ∙ e in let is : other ≡ command = cc in subst Judges is judges))
 
 -- no other status is stated for the words and the input than the command's
-output_back : (words : List (List ℕ)) (command : Command) (input bytes : List ℕ) (status : Status) → command_of words ≡ Some command → length input ≤ input_limit → IsOutput words input bytes status → IsCommandOutput command input bytes status
-output_back words command input bytes status e within o = rw (e, le-ltb input_limit (length input) within) at o
+output_back : (words : List (List ℕ)) (command : Command) (input bytes : List ℕ) (status : Status) → command_of words ≡ Some command → length input ≤ INPUT_LIMIT → IsOutput words input bytes status → IsCommandOutput command input bytes status
+output_back words command input bytes status e within o = rw (e, le-ltb INPUT_LIMIT (length input) within) at o
 
-pub only_within : (words : List (List ℕ)) (command : Command) (left : Option (List ℕ)) (input : List ℕ) (status : Status) → command_of words ≡ Some command → IfSome left (λ l. input ≡ l) → length input ≤ input_limit
+pub only_within : (words : List (List ℕ)) (command : Command) (left : Option (List ℕ)) (input : List ℕ) (status : Status) → command_of words ≡ Some command → IfSome left (λ l. input ≡ l) → length input ≤ INPUT_LIMIT
     → ((bytes : List ℕ) (other : Status) → IsCommandOutput command input bytes other → other ≡ status) → IfSome left (λ i. (bytes : List ℕ) (other : Status) → IsOutput words i bytes other → other ≡ status)
 only_within words command None input status e whole within only = tt
 only_within words command (Some l) input status e whole within only =
@@ -108,7 +109,7 @@ abbrev TellsEnd : List (List ℕ) → Status → List ℕ → Type 0
 TellsEnd words status input =
     (groups : ℕ) → command_of words ≡ Some (Run groups) → OfProgram (λ p. IsFree p → status ≡ end_status (run_of p groups).end) input
 
-pub ended_beyond : ImageSize → (words : List (List ℕ)) (left : Option (List ℕ)) → IfSome left (λ l. input_limit < length l) → IfSome left (TellsEnd words TooLong)
+pub ended_beyond : ImageSize → (words : List (List ℕ)) (left : Option (List ℕ)) → IfSome left (λ l. INPUT_LIMIT < length l) → IfSome left (TellsEnd words TooLong)
 ended_beyond size words None h = tt
 ended_beyond size words (Some input) h = λ groups e. none_beyond size (λ p. IsFree p → TooLong ≡ end_status (run_of p groups).end) input h
 
@@ -120,14 +121,14 @@ ended_within words command (Some l) input status e whole h =
     (h groups (let same : Some command ≡ Some (Run groups) = sym e ∙ f in cc))
 
 -- more bytes than the limit were there where more were taken
-pub beyond : (P : Type 0) (left new : Option (List ℕ)) → P → IfSome left (λ l. P ↔ LosesFirst (input_limit + 1) l new) → IfSome left (λ l. input_limit < length l)
+pub beyond : (P : Type 0) (left new : Option (List ℕ)) → P → IfSome left (λ l. P ↔ LosesFirst (INPUT_LIMIT + 1) l new) → IfSome left (λ l. INPUT_LIMIT < length l)
 beyond P None new p h = tt
 beyond P (Some l) new p h = let t = (h.0 p).0 in omega arith
 
 -- a source that is as it was lost no byte
-pub untouched : (left : Option (List ℕ)) → IfSome left (λ l. (Words ≡ TooLong) ↔ LosesFirst (input_limit + 1) l left)
+pub untouched : (left : Option (List ℕ)) → IfSome left (λ l. (Words ≡ TooLong) ↔ LosesFirst (INPUT_LIMIT + 1) l left)
 untouched None = tt
-untouched (Some l) = (λ e. cc, λ loses. let e : l ≡ drop (input_limit + 1) l = cc in absurd (omega (arith, loses.0, ap length e, length-drop (input_limit + 1) l)))
+untouched (Some l) = (λ e. cc, λ loses. let e : l ≡ drop (INPUT_LIMIT + 1) l = cc in absurd (omega (arith, loses.0, ap length e, length-drop (INPUT_LIMIT + 1) l)))
 
 -- what a command answers to an input within the limit is never that it is too long
 not_too_long : (command : Command) (input bytes : List ℕ) → IsCommandOutput command input bytes TooLong → ⊥
@@ -138,6 +139,6 @@ not_too_long command.Wrap input bytes o = o
 not_too_long Check input bytes o = o
 not_too_long (Run groups) input bytes o = o
 
-pub read_whole : (P : Type 0) (command : Command) (left new : Option (List ℕ)) (input bytes : List ℕ) (status : Status) → ¬ P → IfSome left (λ l. P ↔ LosesFirst (input_limit + 1) l new) → IsCommandOutput command input bytes status → IfSome left (λ l. (status ≡ TooLong) ↔ LosesFirst (input_limit + 1) l new)
+pub read_whole : (P : Type 0) (command : Command) (left new : Option (List ℕ)) (input bytes : List ℕ) (status : Status) → ¬ P → IfSome left (λ l. P ↔ LosesFirst (INPUT_LIMIT + 1) l new) → IsCommandOutput command input bytes status → IfSome left (λ l. (status ≡ TooLong) ↔ LosesFirst (INPUT_LIMIT + 1) l new)
 read_whole P command None new input bytes status whole loses o = tt
 read_whole P command (Some l) new input bytes status whole loses o = (λ e. absurd (not_too_long command input bytes (subst (IsCommandOutput command input bytes) e o)), λ gone. absurd (whole (loses.1 gone)))

@@ -9,14 +9,15 @@ use Rattle.std.proofs.lemmas.Slice.Eq.{bytes_eq-Decides}
 use Rattle.std.proofs.lemmas.Str.Parse.{IsNumeralModel, numerals_by_value, tells_digits, digit_at, parse_plain}
 use Rattle.std.proofs.lemmas.Str.{IsUtf8-from_ascii}
 use Rattle.std.proofs.lemmas.Fmt.{digits_value-decimal, digits_decimal, decimal-digits_value, decimal_digit, decimal_nonempty, first_decimal, parse-decimal, IsAscii-decimal}
-use Rattle.ia64_top.specs.GroupCounts.{group_limit, group_count, BeginsAsNumeral, OneNumeral}
+use Rattle.ia64_top.specs.declared.limits.TheConstants.{GROUP_LIMIT}
+use Rattle.ia64_top.specs.GroupCounts.{group_count, BeginsAsNumeral, OneNumeral}
 
 own : IsNumeralModel (AllDigits 10) (digits_value 10)
 own = numerals_by_value (AllDigits 10) tells_digits
 
 -- the word is the decimal text of the number, which is in range
 abbrev pub IsNumeralOf : List ℕ → ℕ → Type 0
-IsNumeralOf word n = (1 ≤ n) × (n ≤ group_limit) × (word ≡ decimal n)
+IsNumeralOf word n = (1 ≤ n) × (n ≤ GROUP_LIMIT) × (word ≡ decimal n)
 
 chosen : (a b c : Bool) (n : ℕ) → a ≡ true → b ≡ true → c ≡ true → (if a && b && c then Some n else None) ≡ Some n
 chosen a b c n ea eb ec = rw (ea, eb, ec) refl
@@ -32,14 +33,14 @@ pub count_of_numeral : (word : List ℕ) (n : ℕ) → IsNumeralOf word n → gr
 unfolding group_count
 count_of_numeral word n h =
     let v : digits_value 10 word ≡ n = ap (digits_value 10) h.2 ∙ digits_value-decimal own n (omega arith) in
-    rw v (chosen (nat_le 1 n) (nat_le n group_limit) (bytes_eq word (decimal n)) n (le-leb 1 n h.0) (le-leb n group_limit h.1) ((bytes_eq-Decides word (decimal n)).1 h.2))
+    rw v (chosen (nat_le 1 n) (nat_le n GROUP_LIMIT) (bytes_eq word (decimal n)) n (le-leb 1 n h.0) (le-leb n GROUP_LIMIT h.1) ((bytes_eq-Decides word (decimal n)).1 h.2))
 
 pub numeral_of_count : (word : List ℕ) (n : ℕ) → group_count word ≡ Some n → IsNumeralOf word n
 unfolding group_count
 numeral_of_count word n e =
     let m : ℕ = digits_value 10 word in
-    let all : (nat_le 1 m ≡ true) × (nat_le m group_limit ≡ true) × (bytes_eq word (decimal m) ≡ true) × (m ≡ n) = chosen_all (nat_le 1 m) (nat_le m group_limit) (bytes_eq word (decimal m)) m n e in
-    subst (IsNumeralOf word) all.3 (leb-true 1 m all.0, leb-true m group_limit all.1, (bytes_eq-Decides word (decimal m)).0 all.2)
+    let all : (nat_le 1 m ≡ true) × (nat_le m GROUP_LIMIT ≡ true) × (bytes_eq word (decimal m) ≡ true) × (m ≡ n) = chosen_all (nat_le 1 m) (nat_le m GROUP_LIMIT) (bytes_eq word (decimal m)) m n e in
+    subst (IsNumeralOf word) all.3 (leb-true 1 m all.0, leb-true m GROUP_LIMIT all.1, (bytes_eq-Decides word (decimal m)).0 all.2)
 
 pub one_numeral : OneNumeral
 one_numeral word n = (numeral_of_count word n, count_of_numeral word n)
@@ -73,7 +74,7 @@ numeral_parses word r n parsed h = parse-decimal 64 n word r (omega (arith, h.1)
 pub no_number : {E : Type 0} (word : List ℕ) (r : Result ℕ E) (e : E) → ParsesUnsigned 64 10 word r → r ≡ Err e → None ≡ group_count word
 no_number word r e parsed error = no_count word (λ n h. let read : r ≡ Ok n = numeral_parses word r n parsed h in cc)
 
-pub no_such_count : {E : Type 0} (word : List ℕ) (r : Result ℕ E) (m : ℕ) → ParsesUnsigned 64 10 word r → r ≡ Ok m → group_limit < m → None ≡ group_count word
+pub no_such_count : {E : Type 0} (word : List ℕ) (r : Result ℕ E) (m : ℕ) → ParsesUnsigned 64 10 word r → r ≡ Ok m → GROUP_LIMIT < m → None ≡ group_count word
 no_such_count word r m parsed read beyond =
     no_count word (λ n h. let other : r ≡ Ok n = numeral_parses word r n parsed h in let same : m ≡ n = cc in absurd (omega (arith, beyond, h.1)))
 
@@ -82,7 +83,7 @@ some_number : (word : List ℕ) (n : ℕ) → BeginsAsNumeral word → word ≡ 
 some_number word zero begins e = let zero_text : get_or word 0 0 ≡ 48 = ap (λ w. get_or w 0 0) (e ∙ decimal_digit 0 (omega arith)) in absurd (omega (arith, begins.1, zero_text))
 some_number word (suc n) begins e = omega arith
 
-pub counted : {E : Type 0} (word : List ℕ) (r : Result ℕ E) (n : ℕ) → BeginsAsNumeral word → ParsesUnsigned 64 10 word r → r ≡ Ok n → n ≤ group_limit → Some n ≡ group_count word
+pub counted : {E : Type 0} (word : List ℕ) (r : Result ℕ E) (n : ℕ) → BeginsAsNumeral word → ParsesUnsigned 64 10 word r → r ≡ Ok n → n ≤ GROUP_LIMIT → Some n ≡ group_count word
 counted word r n begins parsed read within =
     let plain : ((AllDigits 10 word × (0 < length word) × (digits_value 10 word < 2 ^ 64)) × (n ≡ digits_value 10 word)) = rw read at (parse_plain own 64 word r parsed (λ plus. omega (arith, begins.1))) in
     let back : decimal (digits_value 10 word) ≡ word = decimal-digits_value own word plain.0.0 begins.0 (λ z. absurd (omega (arith, begins.1))) plain.0.2 in

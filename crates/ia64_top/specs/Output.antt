@@ -1,6 +1,7 @@
 -- The stated output: what the words and the input give. Each command has a table of its own, a row for each status.
 use Rattle.std.specs.Prelude.{◌≡◌, ℕ, ◌<◌, ◌≤◌, nat_lt, List, [], length, take, Option, MatchOption, MatchBool}
 use Rattle.std.specs.Io.KnownBytes.{Appends}
+use Rattle.ia64_top.specs.declared.limits.TheConstants.{INPUT_LIMIT}
 use Rattle.ia64_top.specs.declared.words.Command.{Command}
 use Rattle.ia64_top.specs.declared.words.Command.TheVariants as command
 use Rattle.ia64_top.specs.declared.status.Status.{Status}
@@ -14,13 +15,9 @@ use Rattle.ia64_top.specs.Judgements.{IsJudgement}
 use Rattle.ia64_top.specs.Runs.{IsRunOf, IsRunOfEveryOrder}
 use Rattle.ia64_top.specs.Readings.{Reading, BeginsAsImage, as_image, as_bundles, as_text, as_either}
 
--- the longest input that is taken, in bytes
-abbrev pub input_limit : ℕ
-input_limit = 4194304
-
 -- An input that isn't too long. An image is never longer than the limit.
 abbrev pub IsWithinLimit : List ℕ → Type 0
-IsWithinLimit input = ¬ BeginsAsImage input → length input ≤ input_limit
+IsWithinLimit input = ¬ BeginsAsImage input → length input ≤ INPUT_LIMIT
 
 -- What a command writes and answers that makes something of the program that its input is read as: a row for
 -- each status, with where it comes.
@@ -75,7 +72,7 @@ IsCommandOutput (command.Run groups) input bytes status = IsRunAs groups as_eith
 -- The bytes that are written and the status that is answered, for these words and this input.
 abbrev pub IsOutput : List (List ℕ) → List ℕ → List ℕ → Status → Type 0
 IsOutput words input bytes status = MatchOption (command_of words) (IsSilent Words bytes status)
-    (λ command. MatchBool (nat_lt input_limit (length input)) (IsSilent TooLong bytes status)
+    (λ command. MatchBool (nat_lt INPUT_LIMIT (length input)) (IsSilent TooLong bytes status)
     (IsCommandOutput command input bytes status))
 
 -- The sink got the bytes of the output of this status.

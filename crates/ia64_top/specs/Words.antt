@@ -1,12 +1,13 @@
 -- The table of words: which list of words is which command.
 use Rattle.std.specs.Prelude.{ℕ, ◌≤◌, ⊤, List, [], ◌∷◌, Option, Some, None, if◌then◌else◌, codes, bytes_eq}
+use Rattle.ia64_top.specs.declared.limits.TheConstants.{GROUP_LIMIT}
 use Rattle.ia64_top.specs.declared.words.Command.{Command}
 use Rattle.ia64_top.specs.declared.words.Command.TheVariants.{Build, Show, List as Listing, Wrap, Check, Run}
-use Rattle.ia64_top.specs.GroupCounts.{group_count, group_limit}
+use Rattle.ia64_top.specs.GroupCounts.{group_count}
 
 -- A run has at least one group, and at most the limit.
 abbrev pub HasGroupsInRange : Command → Type 0
-HasGroupsInRange (Run groups) = (1 ≤ groups) × (groups ≤ group_limit)
+HasGroupsInRange (Run groups) = (1 ≤ groups) × (groups ≤ GROUP_LIMIT)
 HasGroupsInRange command = ⊤
 
 -- `check` and `run` judge a program, and `run` runs it only where it is accepted.

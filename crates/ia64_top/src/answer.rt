@@ -4,11 +4,11 @@ ghost use Rattle.std.specs.Prelude.{◌≡◌, ◌≢◌, ◌↔◌, ◌⊎◌, 
 ghost use Rattle.ia_insn.specs.Programs.{Program as Parts};
 ghost use Rattle.image_form.specs.Images.{Spells};
 ghost use Rattle.asm_build.specs.Listing.{IsListing};
-ghost use Rattle.ia64_top.specs.GroupCounts.{group_limit};
+ghost use Rattle.ia64_top.specs.declared.limits.TheConstants.{GROUP_LIMIT, INPUT_LIMIT};
 ghost use Rattle.ia64_top.specs.Words.{HasGroupsInRange, Judges};
 ghost use Rattle.group_checker.specs.Reports.{IsFree};
 ghost use Rattle.ia64_top.specs.Judgements.{IsJudgement, IsJudgedViolated, verdict_status};
-ghost use Rattle.ia64_top.specs.Output.{input_limit, IsCanonical, IsMadeOutput, IsCheckedAs, IsRunAs, IsCommandOutput};
+ghost use Rattle.ia64_top.specs.Output.{IsCanonical, IsMadeOutput, IsCheckedAs, IsRunAs, IsCommandOutput};
 ghost use Rattle.ia64_top.specs.Readings.{as_image, as_bundles, as_text, as_either, IsRefusal};
 ghost use Rattle.ia64_top.specs.Runs.{run_of, end_status, IsRunOf};
 ghost use Rattle.ia64_top.specs.Texts.{refusal_text, text_refusal_text, verdict_text};
@@ -64,7 +64,7 @@ fn refuse_text(alloc: Global, error: TextError) -> Result<Answer, AllocError>
 
 /// The answer of `build` to an input within the limit.
 fn build_input(alloc: Global, input: &[u8]) -> Result<Answer, AllocError>
-    requires { length input.now ≤ input_limit }
+    requires { length input.now ≤ INPUT_LIMIT }
     ensures output { IfOk result (λ answer. IsMadeOutput as_text Spells input.now answer.bytes.items answer.status) }
     ensures only { IfOk result (λ answer. (bytes : List ℕ) (status : Status) → IsMadeOutput as_text Spells input.now bytes status → status ≡ answer.status) }
 {
@@ -165,7 +165,7 @@ fn take_image(alloc: Global, input: &[u8]) -> Result<Result<Program, Answer>, Al
 
 /// The program of a text, or the answer to one with a fault.
 fn take_text(alloc: Global, input: &[u8]) -> Result<Result<Program, Answer>, AllocError>
-    requires { length input.now ≤ input_limit }
+    requires { length input.now ≤ INPUT_LIMIT }
     ensures { IfOk result (λ taken. MatchResult taken (as_text.Gives input.now) (λ answer. IsRefusal as_text input.now answer.bytes.items answer.status)) }
 {
     match assemble(alloc, input) {
@@ -177,7 +177,7 @@ fn take_text(alloc: Global, input: &[u8]) -> Result<Result<Program, Answer>, All
 /// The program of an image where the input begins as one, and else that of a text; or the answer to an
 /// input with a fault.
 fn take(alloc: Global, input: &[u8]) -> Result<Result<Program, Answer>, AllocError>
-    requires { length input.now ≤ input_limit }
+    requires { length input.now ≤ INPUT_LIMIT }
     ensures { IfOk result (λ taken. MatchResult taken (as_either.Gives input.now) (λ answer. IsRefusal as_either input.now answer.bytes.items answer.status)) }
 {
     if is_image(input) {
@@ -189,7 +189,7 @@ fn take(alloc: Global, input: &[u8]) -> Result<Result<Program, Answer>, AllocErr
 
 /// The answer of `check` to an image or a text.
 fn check_either(alloc: Global, input: &[u8]) -> Result<Answer, AllocError>
-    requires { length input.now ≤ input_limit }
+    requires { length input.now ≤ INPUT_LIMIT }
     ensures { IfOk result (λ answer. IsCheckedAs as_either input.now answer.bytes.items answer.status) }
 {
     match take(alloc, input)? {
@@ -200,7 +200,7 @@ fn check_either(alloc: Global, input: &[u8]) -> Result<Answer, AllocError>
 
 /// The answer of `check` to an input within the limit.
 fn check_input(alloc: Global, input: &[u8]) -> Result<Answer, AllocError>
-    requires { length input.now ≤ input_limit }
+    requires { length input.now ≤ INPUT_LIMIT }
     ensures output { IfOk result (λ answer. IsCheckedAs as_either input.now answer.bytes.items answer.status) }
     ensures only { IfOk result (λ answer. (bytes : List ℕ) (status : Status) → IsCheckedAs as_either input.now bytes status → status ≡ answer.status) }
     ensures accepted { IfOk result (λ answer. (p : Parts) → as_either.Gives input.now p → ((answer.status ≡ Status.Done) ↔ IsFree p)) }
@@ -227,7 +227,7 @@ fn end_status(end: &End) -> Status
 /// The answer of `run` to an accepted program.
 fn run_accepted(alloc: Global, groups: u64, program: &Program) -> Result<Answer, AllocError>
     requires some { 1 ≤ groups }
-    requires few { groups ≤ group_limit }
+    requires few { groups ≤ GROUP_LIMIT }
     requires free { IsFree program.now }
     ensures { IfOk result (λ answer. IsRunOf program.now groups answer.bytes.items answer.status) }
 {
@@ -245,7 +245,7 @@ fn run_accepted(alloc: Global, groups: u64, program: &Program) -> Result<Answer,
 /// The answer of `run` to a program: a program with violations isn't run, and gets the answer of `check`.
 fn run_program(alloc: Global, groups: u64, program: &Program) -> Result<Answer, AllocError>
     requires some { 1 ≤ groups }
-    requires few { groups ≤ group_limit }
+    requires few { groups ≤ GROUP_LIMIT }
     ensures { IfOk result (λ answer. IsRunOf program.now groups answer.bytes.items answer.status ⊎ IsJudgedViolated program.now answer.bytes.items answer.status) }
 {
     // This call tells that the program is one.
@@ -260,8 +260,8 @@ fn run_program(alloc: Global, groups: u64, program: &Program) -> Result<Answer, 
 /// The answer of `run` to an image or a text.
 fn run_either(alloc: Global, groups: u64, input: &[u8]) -> Result<Answer, AllocError>
     requires some { 1 ≤ groups }
-    requires few { groups ≤ group_limit }
-    requires within { length input.now ≤ input_limit }
+    requires few { groups ≤ GROUP_LIMIT }
+    requires within { length input.now ≤ INPUT_LIMIT }
     ensures { IfOk result (λ answer. IsRunAs groups as_either input.now answer.bytes.items answer.status) }
 {
     match take(alloc, input)? {
@@ -273,8 +273,8 @@ fn run_either(alloc: Global, groups: u64, input: &[u8]) -> Result<Answer, AllocE
 /// The answer of `run` to an input within the limit.
 fn run_input(alloc: Global, groups: u64, input: &[u8]) -> Result<Answer, AllocError>
     requires some { 1 ≤ groups }
-    requires few { groups ≤ group_limit }
-    requires within { length input.now ≤ input_limit }
+    requires few { groups ≤ GROUP_LIMIT }
+    requires within { length input.now ≤ INPUT_LIMIT }
     ensures output { IfOk result (λ answer. IsRunAs groups as_either input.now answer.bytes.items answer.status) }
     ensures only { IfOk result (λ answer. (bytes : List ℕ) (status : Status) → IsRunAs groups as_either input.now bytes status → status ≡ answer.status) }
     ensures judged { IfOk result (λ answer. (p : Parts) → as_either.Gives input.now p → ((answer.status ≡ Status.Violated) ↔ (¬ IsFree p))) }
@@ -290,7 +290,7 @@ fn run_input(alloc: Global, groups: u64, input: &[u8]) -> Result<Answer, AllocEr
 /// The answer of a command to an input within the limit.
 pub(crate) fn respond(alloc: Global, command: Command, input: &[u8]) -> Result<Answer, AllocError>
     requires command { HasGroupsInRange command }
-    requires within { length input.now ≤ input_limit }
+    requires within { length input.now ≤ INPUT_LIMIT }
     ensures output { IfOk result (λ answer. IsCommandOutput command input.now answer.bytes.items answer.status) }
     ensures only { IfOk result (λ answer. (bytes : List ℕ) (status : Status) → IsCommandOutput command input.now bytes status → status ≡ answer.status) }
     ensures accepted { IfOk result (λ answer. command ≡ Command.Check → (p : Parts) → as_either.Gives input.now p → ((answer.status ≡ Status.Done) ↔ IsFree p)) }

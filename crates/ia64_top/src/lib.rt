@@ -3,6 +3,7 @@
 
 mod answer;
 mod laws;
+pub mod limits;
 mod status;
 mod text;
 mod top;

@@ -4,6 +4,7 @@ ghost use Rattle.std.specs.Prelude.{◌≡◌, ◌≢◌, ◌≤◌, ◌+◌, �
 ghost use Rattle.std.specs.Io.KnownBytes.{IsAtEnd};
 ghost use Rattle.io_seam.specs.Faults.{Rose};
 ghost use Rattle.io_seam.specs.Bytes.{LosesFirst, LosesAtMost};
+ghost use Rattle.ia64_top.specs.declared.limits.TheConstants.{INPUT_LIMIT};
 ghost use Rattle.ia64_top.specs.Words.{command_of, Judges};
 ghost use Rattle.ia64_top.specs.Statuses.{IsAnswer, TellsAccepted};
 ghost use Rattle.ia_insn.specs.Programs.{Program};
@@ -11,9 +12,10 @@ ghost use Rattle.ia_meaning.specs.OrderIndependence.{IsRobust};
 ghost use Rattle.group_checker.specs.Reports.{IsFree};
 ghost use Rattle.ia64_top.specs.Runs.{run_of, end_status};
 ghost use Rattle.ia64_top.specs.Readings.{as_either};
-ghost use Rattle.ia64_top.specs.Output.{input_limit, IsWithinLimit, IsOutput, GivesOutput, GivesPart, GivesRunOfEveryOrder};
+ghost use Rattle.ia64_top.specs.Output.{IsWithinLimit, IsOutput, GivesOutput, GivesPart, GivesRunOfEveryOrder};
 
 use crate::answer::respond;
+use crate::limits::INPUT_LIMIT;
 use crate::status::Status;
 use crate::words::{Command, Words};
 use asm_build::one_text_program;
@@ -22,9 +24,6 @@ use ia_meaning::zero_is_start;
 use image_form::{image_size, one_program};
 use io_seam::{ReadError, Sink, Source, read_all, write_all};
 use std::alloc::Global;
-
-/// The longest input that is taken, in bytes.
-const INPUT_LIMIT: usize = 4_194_304;
 
 /// Does what the words say: reads the whole source, and writes the whole answer to the sink.
 pub fn ia64<S: Source, K: Sink>(
@@ -90,9 +89,9 @@ pub fn ia64<S: Source, K: Sink>(
     // Whatever the status: the bytes that are gone from the source are its first ones, at most one
     // more than the limit, and so many exactly where the input is too long.
     ensures taken { IfSome (S.left source.old) (λ input.
-        LosesAtMost (input_limit + 1) input (S.left source.new)) }
+        LosesAtMost (INPUT_LIMIT + 1) input (S.left source.new)) }
     ensures too_long { IfSome (S.left source.old) (λ input.
-        (result ≡ Status.TooLong) ↔ LosesFirst (input_limit + 1) input (S.left source.new)) }
+        (result ≡ Status.TooLong) ↔ LosesFirst (INPUT_LIMIT + 1) input (S.left source.new)) }
 
     // Neither count of faults falls, and bytes are told exactly where they were told before.
     ensures source_never_falls { S.faults source.old ≤ S.faults source.new }

@@ -4,6 +4,7 @@ ghost use Rattle.std.specs.Prelude.{◌≡◌, ◌↔◌, IsTrue, [], ◌∷◌,
 ghost use Rattle.ia64_top.specs.GroupCounts.{BeginsAsNumeral, group_count, OneNumeral};
 ghost use Rattle.ia64_top.specs.Words.{command_of};
 
+use crate::limits::GROUP_LIMIT;
 use std::alloc::{AllocError, Global};
 use std::marker::Model;
 
@@ -26,9 +27,6 @@ pub enum Command {
         groups: u64,
     },
 }
-
-/// The most groups that a run may be given.
-const GROUP_LIMIT: u64 = 10_000_000;
 
 /// A word is a number of groups exactly where it is the number's decimal text, and so it is at most one number.
 pub fn one_numeral()

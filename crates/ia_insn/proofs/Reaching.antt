@@ -1,6 +1,7 @@
 -- Going through the places of bundles in order.
 use Rattle.std.proofs.Common.{◌≡◌, ℕ, ◌+◌, ◌-◌, ◌*◌, ◌<◌, ◌≤◌, ◌⊎◌, inl, inr, List, [], ◌∷◌, length, Option, Some, None, refl, sym, subst, arith}
 use Rattle.std.specs.Prelude.{MatchOption, IfSome, slice_get}
+use Rattle.ia_insn.specs.declared.limits.TheConstants.{RUN_LIMIT}
 use Rattle.ia_insn.specs.declared.place.Place.{Place}
 use Rattle.ia_insn.specs.Bundles.{Bundle, IsBundle, AreBundles}
 use Rattle.ia_insn.specs.Places.{IsPlaceOf, IsBefore, IsNext, EachPlace, IsFirstBad}
@@ -111,10 +112,10 @@ abbrev pub HasRun : List Bundle → Option Place → ℕ → Type 0
 HasRun bundles None run = Unit {0}
 HasRun bundles (Some place) run = IsRunOf bundles place run
 
-pub within_run : (bundles : List Bundle) (place : Place) (run : ℕ) → IsRunOf bundles place run → run < 192 → IsWithinRun bundles place
+pub within_run : (bundles : List Bundle) (place : Place) (run : ℕ) → IsRunOf bundles place run → run < RUN_LIMIT → IsWithinRun bundles place
 within_run bundles place run r small = λ slots stand. let m = r.most slots stand in omega arith
 
-pub past_run : (bundles : List Bundle) (place : Place) (run : ℕ) → IsRunOf bundles place run → run ≡ 192 → ¬ IsWithinRun bundles place
+pub past_run : (bundles : List Bundle) (place : Place) (run : ℕ) → IsRunOf bundles place run → run ≡ RUN_LIMIT → ¬ IsWithinRun bundles place
 past_run bundles place run r is = λ within. let w = within r.slots r.stand in omega (arith, r.count)
 
 pub first_run : (bundles : List Bundle) → IsRunOf bundles (record { bundle = 0; slot = 0 }) 0

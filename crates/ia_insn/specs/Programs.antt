@@ -1,6 +1,7 @@
 -- Programs: bundles, declared entries and data, and what makes them a program.
 use Rattle.std.specs.Prelude.{◌≡◌, ℕ, zero, suc, ◌-◌, ◌%◌, ◌<◌, ◌≤◌, ◌⊎◌, List, [], ◌∷◌, length, slice_index, slice_get, Contains, IsSomeAnd, ⊤}
 use Rattle.first_fault.specs.Stages.{Stage, unless, first, IsFirstFault}
+use Rattle.ia_insn.specs.declared.limits.TheConstants.{BUNDLE_LIMIT, DATA_LIMIT, ENTRY_LIMIT}
 use Rattle.ia_insn.specs.declared.insn.Op.{Op}
 use Rattle.ia_insn.specs.declared.insn.Op.TheVariants.{BrCall, BrCallInd}
 use Rattle.ia_insn.specs.declared.place.Place.{Place}
@@ -22,9 +23,9 @@ pub record Program : Type 0 where
 -- 1 to 4,096 bundles, at most 1,024 declared entries, at most 1,048,576 data bytes, a multiple of 8
 pub record AreInRange (bundle_count entry_count byte_count : ℕ) : Type 0 where
   pub some : 1 ≤ bundle_count
-  pub bundles : bundle_count ≤ 4096
-  pub entries : entry_count ≤ 1024
-  pub bytes : byte_count ≤ 1048576
+  pub bundles : bundle_count ≤ BUNDLE_LIMIT
+  pub entries : entry_count ≤ ENTRY_LIMIT
+  pub bytes : byte_count ≤ DATA_LIMIT
   pub words : byte_count % 8 ≡ 0
 
 -- what the n-th entry is above: the one before it, and the first is above 0

@@ -1,5 +1,6 @@
 -- The runs of slots that bundles make (volume 1, chapter 3, instruction sequencing).
 use Rattle.std.specs.Prelude.{◌≡◌, ◌<◌, ◌⊎◌, List, [], ◌∷◌, length, IsSomeAnd, ⊤}
+use Rattle.ia_insn.specs.declared.limits.TheConstants.{RUN_LIMIT}
 use Rattle.ia_insn.specs.declared.insn.Op.{Op}
 use Rattle.ia_insn.specs.declared.insn.Op.TheVariants.{Br, BrCall, BrInd, BrRet, BrCallInd, Break}
 use Rattle.ia_insn.specs.declared.choices.BranchKind.TheVariants.{Cond}
@@ -30,4 +31,4 @@ StandBefore bundles (p ∷ ps) place =
 
 -- A run has at most 192 slots, so fewer stand before each of them.
 abbrev pub IsWithinRun : List Bundle → Place → Type 0
-IsWithinRun bundles place = (slots : List Place) → StandBefore bundles slots place → length slots < 192
+IsWithinRun bundles place = (slots : List Place) → StandBefore bundles slots place → length slots < RUN_LIMIT

@@ -1,18 +1,24 @@
 //! The counts and the entries of programs.
 
 ghost use Rattle.std.specs.Prelude.{◌<◌, ◌^◌, MatchOption, IsTrue, ◌↔◌, length, Contains};
+ghost use Rattle.ia_insn.specs.declared.limits.TheConstants.{BUNDLE_LIMIT, DATA_LIMIT, ENTRY_LIMIT};
 ghost use Rattle.ia_insn.specs.Programs.{AreInRange, AreEntries, IsFirstMisplaced, IsCall, HasCall, IsAfterCall};
 
 use crate::bundle::{BundleOf, Slots};
 use crate::insn::Op;
+use crate::limits::{BUNDLE_LIMIT, DATA_LIMIT, ENTRY_LIMIT};
 use crate::places::bundle_at;
 
-/// Whether there may be so many bundles, declared entries and bytes of data in a program: 1 to
-/// 4,096, at most 1,024, and at most 1,048,576, a multiple of 8.
+/// Whether there may be so many bundles, declared entries and bytes of data in a program: at least one
+/// bundle, each within its limit, and the bytes a multiple of 8.
 pub fn are_in_range(bundles: usize, entries: usize, bytes: usize) -> bool
     ensures { IsTrue result ↔ AreInRange bundles entries bytes }
 {
-    bundles >= 1 && bundles <= 4096 && entries <= 1024 && bytes <= 1_048_576 && bytes % 8 == 0
+    bundles >= 1
+        && bundles <= BUNDLE_LIMIT
+        && entries <= ENTRY_LIMIT
+        && bytes <= DATA_LIMIT
+        && bytes % 8 == 0
 }
 
 /// The number of the first entry that isn't above the one before it, or isn't a bundle from 1 on of

@@ -17,6 +17,7 @@ mod entries;
 pub mod fields;
 pub mod immediates;
 mod insn;
+pub mod limits;
 mod listed;
 mod listed_a;
 mod listed_b;

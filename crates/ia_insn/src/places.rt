@@ -2,6 +2,7 @@
 
 ghost use Rattle.std.specs.Prelude.{◌≡◌, ◌≤◌, IsTrue, ◌↔◌, length, slice_get, IfSome, MatchOption};
 ghost use Rattle.std.specs.Option.{option_copied};
+ghost use Rattle.ia_insn.specs.declared.limits.TheConstants.{BUNDLE_LIMIT};
 ghost use Rattle.ia_insn.specs.declared.place.Place.{Place};
 ghost use Rattle.ia_insn.specs.Bundles.{IsBundle};
 ghost use Rattle.ia_insn.specs.Places.{insn_at, IsPlaceOf, IsBefore, IsNext, IsStopped};
@@ -39,7 +40,7 @@ pub(crate) fn is_stopped(bundles: &[BundleOf], place: Place) -> bool
 
 /// The first place after this one.
 pub(crate) fn next(bundles: &[BundleOf], place: Place) -> Option<Place>
-    requires { length bundles.now ≤ 4096 }
+    requires { length bundles.now ≤ BUNDLE_LIMIT }
     ensures { MatchOption result ((q : Place) → IsPlaceOf bundles.now q → IsBefore place q → ⊥) (λ next. IsNext bundles.now place next) }
 {
     let Some(bundle) = bundle_at(bundles, place.bundle) else {

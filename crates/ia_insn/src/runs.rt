@@ -1,17 +1,16 @@
 //! The runs of slots that bundles make.
 
 ghost use Rattle.std.specs.Prelude.{◌≤◌, IsTrue, ◌↔◌, length, MatchOption};
+ghost use Rattle.ia_insn.specs.declared.limits.TheConstants.{BUNDLE_LIMIT};
 ghost use Rattle.ia_insn.specs.Places.{EachPlace, IsFirstBad};
 ghost use Rattle.ia_insn.specs.Runs.{IsLeaving, EndsRun, IsWithinRun};
 
 use crate::bundle::BundleOf;
 use crate::choices::BranchKind;
 use crate::insn::Op;
+use crate::limits::RUN_LIMIT;
 use crate::place::Place;
 use crate::places::{insn_at, is_stopped, next};
-
-/// How many slots a run has at most.
-const RUN_LIMIT: u32 = 192;
 
 /// Whether it is a branch that is taken wherever its qualifying predicate is 1, or a `break`.
 fn is_leaving(op: &Op) -> bool
@@ -44,7 +43,7 @@ fn ends_run(bundles: &[BundleOf], place: Place) -> bool
 /// The first slot that follows 192 of its run.
 pub(crate) fn long_run(bundles: &[BundleOf]) -> Option<Place>
     requires some { 1 ≤ length bundles.now }
-    requires most { length bundles.now ≤ 4096 }
+    requires most { length bundles.now ≤ BUNDLE_LIMIT }
     ensures { MatchOption result (EachPlace bundles.now (IsWithinRun bundles.now)) (λ place. IsFirstBad bundles.now (IsWithinRun bundles.now) place) }
 {
     let mut run = 0;

@@ -1,6 +1,7 @@
 //! The targets of direct branches and checks.
 
 ghost use Rattle.std.specs.Prelude.{◌≡◌, ◌≤◌, IsTrue, ◌↔◌, length, slice_get, IfSome, MatchOption};
+ghost use Rattle.ia_insn.specs.declared.limits.TheConstants.{BUNDLE_LIMIT};
 ghost use Rattle.ia_insn.specs.Bundles.{IsBundle, AreBundles};
 ghost use Rattle.ia_insn.specs.Places.{EachPlace, IsFirstBad};
 ghost use Rattle.ia_insn.specs.Targets.{displacement, IsBundleAt, IsTargetInside};
@@ -36,7 +37,7 @@ fn is_bundle_at(count: u32, n: u32, disp: i32) -> bool
 
 /// Whether the target of a place, if it has one, is one of the bundles.
 fn is_target_inside(bundles: &[BundleOf], place: Place) -> bool
-    requires { length bundles.now ≤ 4096 }
+    requires { length bundles.now ≤ BUNDLE_LIMIT }
     ensures inside { IsTrue result ↔ IsTargetInside bundles.now place }
     ensures fit { IfSome (slice_get bundles.now place.bundle) IsBundle }
 {
@@ -54,7 +55,7 @@ fn is_target_inside(bundles: &[BundleOf], place: Place) -> bool
 #[tactic(auto, using(crate::proofs::Reaching::first_outside, crate::proofs::Reaching::all_sound))]
 pub(crate) fn outside_target(bundles: &[BundleOf]) -> Option<Place>
     requires some { 1 ≤ length bundles.now }
-    requires most { length bundles.now ≤ 4096 }
+    requires most { length bundles.now ≤ BUNDLE_LIMIT }
     ensures { MatchOption result (EachPlace bundles.now (IsTargetInside bundles.now) × AreBundles bundles.now) (λ place. IsFirstBad bundles.now (IsTargetInside bundles.now) place) }
 {
     let mut reached = Some(Place::FIRST);

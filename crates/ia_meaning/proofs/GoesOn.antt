@@ -21,7 +21,9 @@ use Rattle.ia_meaning.specs.Writes.{Write}
 use Rattle.ia_meaning.specs.Outcomes.{Outcome}
 use Rattle.ia_meaning.specs.Frames.{lands, return_tried, return_fault, marked_frame}
 use Rattle.ia_meaning.specs.Landings.{target_of}
-use Rattle.ia_meaning.specs.Actions.{Action, Compute, Fetch, Test, ToPredicates, ToBranch, ToApplication, FromMemory, ToMemory, CheckNat, CheckAlat, ForgetAll, Forget, Allocate, Jump, JumpIndirect, Loop, Call, Return, ClearBases, Stop, Idle, action_of, branch_action}
+use Rattle.ia_meaning.specs.declared.form.Form.{Form}
+use Rattle.ia_meaning.specs.declared.form.Form.TheVariants.{Compute, Fetch, Test, ToPredicates, ToBranch, ToApplication, FromMemory, ToMemory, CheckNat, CheckAlat, ForgetAll, Forget, Allocate, Jump, JumpIndirect, Loop, Call, Return, ClearBases, Stop, Idle}
+use Rattle.ia_meaning.specs.Actions.{branch_form, form_of, moved}
 use Rattle.ia_meaning.specs.Effects.{Site, act, guarded, effect}
 use Rattle.ia_meaning.specs.Names.{holds}
 use Rattle.ia_meaning.specs.Steps.{settled}
@@ -48,14 +50,14 @@ application_on Good Pfs x m = λ _. tt
 application_on Good Lc x m = tt
 application_on Good Ec x m = tt
 
--- how many bundles from its own the target of a direct action is
-abbrev pub action_displacement : Action → Option ℤ
-action_displacement (CheckNat r2 disp) = Some disp
-action_displacement (CheckAlat clear r1 disp) = Some disp
-action_displacement (Jump disp) = Some disp
-action_displacement (Loop kind disp) = Some disp
-action_displacement (Call b1 (Direct disp)) = Some disp
-action_displacement action = None
+-- how many bundles from its own the target of a direct form is
+abbrev pub form_displacement : Form → Option ℤ
+form_displacement (CheckNat r2 disp) = Some disp
+form_displacement (CheckAlat clear r1 disp) = Some disp
+form_displacement (Jump disp) = Some disp
+form_displacement (Loop kind disp) = Some disp
+form_displacement (Call b1 (Direct disp)) = Some disp
+form_displacement form = None
 
 -- the target, where there is one, is a good bundle
 abbrev pub IsGoodTarget : (ℕ → Type 0) → ℕ → Option ℤ → Type 0
@@ -65,14 +67,14 @@ IsGoodTarget Good bundle target = IfSome target (λ disp. Good (target_of bundle
 abbrev pub AreGoodLandings : (ℕ → Type 0) → Site → Type 0
 AreGoodLandings Good s = (address : ℕ) → IfSome (s.entry address) Good
 
--- an effect goes on by falling, to the action's target, to a bundle that the site gives, or not at all
-act_on : (Good : ℕ → Type 0) (s : Site) (action : Action) (r : Registers) (m : Memory) (unat : ℕ) → AreGoodLandings Good s → IsGoodTarget Good s.bundle (action_displacement action) → ActCases (IsGoodWay Good) s action r m unat
+-- an effect goes on by falling, to the form's target, to a bundle that the site gives, or not at all
+act_on : (Good : ℕ → Type 0) (s : Site) (form : Form) (r : Registers) (m : Memory) (unat : ℕ) → AreGoodLandings Good s → IsGoodTarget Good s.bundle (form_displacement form) → ActCases (IsGoodWay Good) s form r m unat
 act_on Good s (Compute r1 r2 r3 f) r m unat landings target = (λ kind. tt, λ d a b _ _ _. tt)
 act_on Good s (Fetch r1 source) r m unat landings target = (λ kind. tt, λ d _. tt)
-act_on Good s (Test kind p1 p2 r2 r3 f) r m unat landings target = (λ kind. tt, λ a b _ _. tt)
-act_on Good s (ToPredicates r2 f mask) r m unat landings target = (λ kind. tt, λ a _ _. tt)
+act_on Good s (Test kind p1 p2 r2 r3 c) r m unat landings target = (λ kind. tt, λ a b _ _. tt)
+act_on Good s (ToPredicates r2 mask w) r m unat landings target = (λ kind. tt, λ a _ _. tt)
 act_on Good s (ToBranch b1 r2) r m unat landings target = (λ kind. tt, λ a _ _. tt)
-act_on Good s (ToApplication ar r2 f) r m unat landings target = (λ kind. tt, λ a _ _. application_on Good ar (f a.value) m)
+act_on Good s (ToApplication ar r2 w) r m unat landings target = (λ kind. tt, λ a _ _. application_on Good ar (moved w a.value) m)
 act_on Good s (FromMemory size kind r1 r3 u) r m unat landings target =
     (λ kind. tt, λ d e base more _ _ _ _. record { loads = λ _ _. tt; defers = λ _ es _. tt; hits = λ _ _ _ es _. tt })
 act_on Good s (ToMemory size kind r3 r2 u) r m unat landings target = (λ kind. tt, λ e base x _ _ _ _ _ _. tt)
@@ -92,25 +94,25 @@ act_on Good s (Stop unit imm) r m unat landings target = tt
 act_on Good s (Idle unit) r m unat landings target = tt
 
 -- so does one that is skipped
-skip_on : (Good : ℕ → Type 0) (s : Site) (action : Action) (r : Registers) (m : Memory) → IsGoodTarget Good s.bundle (action_displacement action) → SkipCases (IsGoodWay Good) s action r m
-skip_on Good s (Test kind p1 p2 r2 r3 f) r m target = (λ _. tt, λ _. tt)
+skip_on : (Good : ℕ → Type 0) (s : Site) (form : Form) (r : Registers) (m : Memory) → IsGoodTarget Good s.bundle (form_displacement form) → SkipCases (IsGoodWay Good) s form r m
+skip_on Good s (Test kind p1 p2 r2 r3 c) r m target = (λ _. tt, λ _. tt)
 skip_on Good s (Loop kind disp) r m target = (λ _. target, λ _. tt)
 skip_on Good s _ r m target = tt
 
-branch_displacement : (kind : BranchKind) (disp : ℤ) → action_displacement (branch_action kind disp) ≡ Some disp
+branch_displacement : (kind : BranchKind) (disp : ℤ) → form_displacement (branch_form kind disp) ≡ Some disp
 branch_displacement Cond disp = refl
 branch_displacement _ disp = refl
 
--- the target of an operation's action is that of the operation
-same_displacement : (o : Op) → action_displacement (action_of o) ≡ displacement o
+-- the target of an operation's form is that of the operation
+same_displacement : (o : Op) → form_displacement (form_of o) ≡ displacement o
 same_displacement (op.Br kind wh many clr disp) = branch_displacement kind disp
 same_displacement _ = refl
 
 -- An instruction falls, goes to its target or to a bundle that the site gives, or ends the run.
 pub effect_on : (Good : ℕ → Type 0) (s : Site) (insn : Insn) (r : Registers) (m : Memory) (unat : ℕ) → AreGoodLandings Good s → IsGoodTarget Good s.bundle (displacement insn.op) → IsGoodWay Good (effect s insn r m unat)
 effect_on Good s insn r m unat landings target =
-    let good : IsGoodTarget Good s.bundle (action_displacement (action_of insn.op)) = subst (IsGoodTarget Good s.bundle) (sym (same_displacement insn.op)) target in
-    guarded_cases (IsGoodWay Good) s insn.qp (action_of insn.op) r m unat (λ _. act_on Good s (action_of insn.op) r m unat landings good) (λ _. skip_on Good s (action_of insn.op) r m good)
+    let good : IsGoodTarget Good s.bundle (form_displacement (form_of insn.op)) = subst (IsGoodTarget Good s.bundle) (sym (same_displacement insn.op)) target in
+    guarded_cases (IsGoodWay Good) s insn.qp (form_of insn.op) r m unat (λ _. act_on Good s (form_of insn.op) r m unat landings good) (λ _. skip_on Good s (form_of insn.op) r m good)
 
 settled_as : (Good : ℕ → Type 0) (next : Option Place) (m : Memory) (way : Next) (o : Outcome) → IsGoodWay Good o → IsGoodWay Good (settled next m way o)
 settled_as Good None m Falls o h = tt
@@ -148,7 +150,7 @@ return_leaves (Some k) f ec to m e = cc
 return_leaves None f ec to m e = lands_leaves _ m to e
 
 -- a leaving operation that is executed doesn't fall through
-act_leaves : (s : Site) (o : Op) (r : Registers) (m : Memory) (unat : ℕ) → IsLeaving o → (act s (action_of o) r m unat).next ≡ Falls → ⊥
+act_leaves : (s : Site) (o : Op) (r : Registers) (m : Memory) (unat : ℕ) → IsLeaving o → (act s (form_of o) r m unat).next ≡ Falls → ⊥
 act_leaves s (op.Br Cond wh many clr disp) r m unat h e = cc
 act_leaves s (op.BrCall b1 wh many clr disp) r m unat h e = cc
 act_leaves s (op.BrInd b2 wh many clr) r m unat h e = lands_leaves _ m _ e
@@ -157,7 +159,7 @@ act_leaves s (op.BrCallInd b1 b2 wh many clr) r m unat h e = lands_leaves _ m _ 
 act_leaves s (op.Break unit imm) r m unat h e = cc
 act_leaves s _ r m unat h e = h
 
-guarded_leaves : (s : Site) (qp : ℕ) (o : Op) (r : Registers) (m : Memory) (unat : ℕ) → qp ≡ 0 → IsLeaving o → (guarded s qp (action_of o) r m unat).next ≡ Falls → ⊥
+guarded_leaves : (s : Site) (qp : ℕ) (o : Op) (r : Registers) (m : Memory) (unat : ℕ) → qp ≡ 0 → IsLeaving o → (guarded s qp (form_of o) r m unat).next ≡ Falls → ⊥
 unfolding holds
 guarded_leaves s zero o r m unat z h e = act_leaves s o r m unat h e
 guarded_leaves s (suc p) o r m unat z h e = absurd (omega arith)

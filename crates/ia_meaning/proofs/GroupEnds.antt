@@ -1,6 +1,7 @@
 -- Runs under way stay so, and their groups end.
 use Rattle.std.proofs.Common.{◌≡◌, ℕ, zero, suc, ◌+◌, ◌<◌, ◌≤◌, ◌⊎◌, inl, inr, Bool, true, false, [], ◌∷◌, Option, Some, None, refl, ap, ◌∙◌, arith, if◌then◌else◌}
 use Rattle.std.specs.Prelude.{◌==◌}
+use Rattle.ia_insn.specs.declared.limits.TheConstants.{RUN_LIMIT}
 use Rattle.ia_insn.specs.declared.ending.End.{End}
 use Rattle.ia_insn.specs.declared.ending.How.{How}
 use Rattle.ia_insn.specs.Places.{IsPlaceOf}
@@ -75,7 +76,7 @@ to_end_under_way (suc most) p m program u =
 -- one group further
 pub group_under_way : (p : Program) (m : Progress) → IsProgram p → IsUnderWay p m → IsUnderWay p (group_further p m)
 unfolding group_further
-group_under_way p m program u = to_end_under_way 192 p m program u
+group_under_way p m program u = to_end_under_way RUN_LIMIT p m program u
 
 -- so many groups further
 pub goes_on_under_way : (n : ℕ) (p : Program) (m : Progress) → IsProgram p → IsUnderWay p m → IsUnderWay p (groups_further n p m)
@@ -83,7 +84,7 @@ goes_on_under_way zero p m program u = u
 goes_on_under_way (suc n) p m program u = goes_on_under_way n p (group_further p m) program (group_under_way p m program u)
 
 -- the group under way has fewer than 192 slots so far
-pub has_few_slots : (p : Program) (m : Progress) → IsProgram p → IsUnderWay p m → m.slots < 192
+pub has_few_slots : (p : Program) (m : Progress) → IsProgram p → IsUnderWay p m → m.slots < RUN_LIMIT
 has_few_slots p m program u = let few = program.runs m.state.place u.place u.before u.stand in omega (arith, u.count)
 
 -- a step that leaves the group under way
@@ -114,7 +115,7 @@ rest_ends next rest h = of next.slots refl
     of (suc k) e = h k e
 
 -- with steps enough the group is over
-to_end_ends : (most : ℕ) (p : Program) (m : Progress) → IsProgram p → IsUnderWay p m → m.end ≡ None → 192 ≤ m.slots + most → (to_group_end most p m).slots ≡ 0
+to_end_ends : (most : ℕ) (p : Program) (m : Progress) → IsProgram p → IsUnderWay p m → m.end ≡ None → RUN_LIMIT ≤ m.slots + most → (to_group_end most p m).slots ≡ 0
 to_end_ends zero p m program u none enough = let few = has_few_slots p m program u in absurd (omega arith)
 to_end_ends (suc most) p m program u none enough =
     rest_ends (advanced p m) (to_group_end most p (advanced p m))
@@ -137,7 +138,7 @@ to_end_ended (suc most) p m e is =
 
 pub group_ended : (p : Program) (m : Progress) (e : End) → m.end ≡ Some e → group_further p m ≡ m
 unfolding group_further
-group_ended p m e is = to_end_ended 192 p m e is
+group_ended p m e is = to_end_ended RUN_LIMIT p m e is
 
 pub groups_ended : (n : ℕ) (p : Program) (m : Progress) (e : End) → m.end ≡ Some e → groups_further n p m ≡ m
 groups_ended zero p m e is = refl
@@ -145,7 +146,7 @@ groups_ended (suc n) p m e is = ap (groups_further n p) (group_ended p m e is) �
 
 pub group_comes_to_end : (p : Program) (m : Progress) → IsProgram p → IsUnderWay p m → m.end ≡ None → (group_further p m).slots ≡ 0
 unfolding group_further
-group_comes_to_end p m program u none = to_end_ends 192 p m program u none (omega arith)
+group_comes_to_end p m program u none = to_end_ends RUN_LIMIT p m program u none (omega arith)
 
 -- one group further no group is under way
 pub groups_end : (p : Program) (m : Progress) → IsProgram p → IsUnderWay p m → (m.end ≡ None) ⊎ (m.slots ≡ 0) → (group_further p m).slots ≡ 0

@@ -1,5 +1,6 @@
 -- The groups of a run under way as events.
-use Rattle.std.proofs.Common.{◌≡◌, ℕ, zero, suc, ◌+◌, Option, Some, None, refl, ap, ◌∙◌, subst, arith}
+use Rattle.std.proofs.Common.{◌≡◌, ℕ, zero, suc, ◌+◌, Option, Some, None, refl, ap, ◌∙◌, subst, arith, ◌-◌}
+use Rattle.ia_insn.specs.declared.limits.TheConstants.{RUN_LIMIT}
 use Rattle.ia_insn.specs.declared.place.Place.{Place}
 use Rattle.ia_insn.specs.declared.ending.How.{How}
 use Rattle.ia_insn.specs.declared.ending.GroupEvent.{GroupEvent}
@@ -58,4 +59,4 @@ event_between m group e =
 
 pub event_is_of_group : (p : Program) (m : Progress) → m.end ≡ None → m.slots ≡ 0 → event_further p m ≡ event_of (m.groups + 1) m.state.place (seq_group p m.state)
 unfolding event_further
-event_is_of_group p m none slots = next_event 191 p m none (comes_to_event 191 p) ∙ event_between m (seq_group p m.state) slots
+event_is_of_group p m none slots = next_event (RUN_LIMIT - 1) p m none (comes_to_event (RUN_LIMIT - 1) p) ∙ event_between m (seq_group p m.state) slots

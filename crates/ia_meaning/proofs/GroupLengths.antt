@@ -1,6 +1,7 @@
 -- A group that begins at a place of a program is over within its 192 slots.
 use Rattle.std.proofs.Common.{◌≡◌, ℕ, zero, suc, ◌+◌, ◌≤◌, Bool, true, false, ◌&&◌, List, [], ◌∷◌, length, Option, Some, None, refl, sym, subst, arith, if◌then◌else◌}
 use Rattle.std.specs.Prelude.{IsSome}
+use Rattle.ia_insn.specs.declared.limits.TheConstants.{RUN_LIMIT}
 use Rattle.ia_insn.specs.declared.insn.Insn.{Insn}
 use Rattle.ia_insn.specs.declared.place.Place.{Place}
 use Rattle.ia_insn.specs.declared.ending.How.{How}
@@ -25,7 +26,7 @@ pub record StandsAfter (p : Program) (before : List Place) (place : Place) : Typ
   pub stand : StandBefore p.bundles before place
 
 -- fewer than 192 slots stand before it
-no_more : (p : Program) (before : List Place) (place : Place) → IsProgram p → StandsAfter p before place → 192 ≤ length before + 0 → ⊥
+no_more : (p : Program) (before : List Place) (place : Place) → IsProgram p → StandsAfter p before place → RUN_LIMIT ≤ length before + 0 → ⊥
 no_more p before place program at enough = let few = program.runs place at.is before at.stand in omega arith
 
 falls_after : (p : Program) (before : List Place) (place : Place) → StandsAfter p before place → FallsOn p place → StandsAfter p (place ∷ before) (place_after place (next_of p.bundles place))
@@ -36,7 +37,7 @@ step_over : (p : Program) (s : State) (step : Step) (rest : Group) (h : Option H
 step_over p s step rest (Some how) over = refl
 step_over p s step rest None over = over refl
 
-group_over : (most : ℕ) (p : Program) (s : State) (before : List Place) → IsProgram p → StandsAfter p before s.place → 192 ≤ length before + most → IsSome (group_within most p s).how
+group_over : (most : ℕ) (p : Program) (s : State) (before : List Place) → IsProgram p → StandsAfter p before s.place → RUN_LIMIT ≤ length before + most → IsSome (group_within most p s).how
 group_over zero p s before program at enough = absurd (no_more p before s.place program at enough)
 group_over (suc most) p s before program at enough =
     step_over p s (seq_step p s) (group_within most p (seq_step p s).state) (seq_step p s).how
@@ -49,7 +50,7 @@ group_over (suc most) p s before program at enough =
 
 -- a sequential group is over
 pub seq_group_ends : (p : Program) (s : State) → IsProgram p → IsPlaceOf p.bundles s.place → IsSome (seq_group p s).how
-seq_group_ends p s program is = group_over 192 p s [] program (record { is = is; stand = tt }) (omega arith)
+seq_group_ends p s program is = group_over RUN_LIMIT p s [] program (record { is = is; stand = tt }) (omega arith)
 
 -- the group is over, or its rest is
 slot_over : (p : Program) (first : Bool) (g : Gathered) (o : Outcome) (way : Next) (rest : GatheredGroup) → (is_stopped p.bundles g.place ≡ false → way ≡ Falls → IsSome rest.how) → IsSome (gathered_by p first g o way rest).how
@@ -74,7 +75,7 @@ gathers_place : (first : Bool) (g : Gathered) (o : Outcome) (place : Place) → 
 gathers_place true g o place = refl
 gathers_place false g o place = refl
 
-gathered_over : (most : ℕ) (p : Program) (begins : Bool) (g : Gathered) (before : List Place) → IsProgram p → StandsAfter p before g.place → 192 ≤ length before + most → IsSome (gathered_within most p begins g).how
+gathered_over : (most : ℕ) (p : Program) (begins : Bool) (g : Gathered) (before : List Place) → IsProgram p → StandsAfter p before g.place → RUN_LIMIT ≤ length before + most → IsSome (gathered_within most p begins g).how
 gathered_over zero p begins g before program at enough = absurd (no_more p before g.place program at enough)
 gathered_over (suc most) p begins g before program at enough =
     let insn = insn_at p.bundles g.place in
@@ -91,4 +92,4 @@ gathered_over (suc most) p begins g before program at enough =
 -- a group all at once is over
 pub par_group_ends : (p : Program) (code : List ℕ) (s : State) → IsProgram p → IsPlaceOf p.bundles s.place → IsSome (par_group p code s).how
 par_group_ends p code s program is =
-    gathered_over 192 p true (gathered_from s) [] program (record { is = is; stand = tt }) (omega arith)
+    gathered_over RUN_LIMIT p true (gathered_from s) [] program (record { is = is; stand = tt }) (omega arith)

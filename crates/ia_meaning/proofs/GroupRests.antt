@@ -1,6 +1,7 @@
 -- The rest of a group after a step of it.
-use Rattle.std.proofs.Common.{◌≡◌, ℕ, zero, suc, ◌+◌, ◌≤◌, List, ◌++◌, Option, Some, None, refl, sym, ap, ◌∙◌, subst, arith}
+use Rattle.std.proofs.Common.{◌≡◌, ℕ, zero, suc, ◌+◌, ◌≤◌, List, ◌++◌, Option, Some, None, refl, sym, ap, ◌∙◌, subst, arith, ◌-◌}
 use Rattle.std.specs.Prelude.{◌≢◌}
+use Rattle.ia_insn.specs.declared.limits.TheConstants.{RUN_LIMIT}
 use Rattle.ia_insn.specs.declared.ending.How.{How}
 use Rattle.ia_insn.specs.declared.ending.GroupEvent.{GroupEvent}
 use Rattle.ia_insn.specs.Programs.{Program, IsProgram}
@@ -64,7 +65,7 @@ same_by : (most : ℕ) (p : Program) (m : Progress) → m.end ≡ None → ((seq
 same_by most p m none on (Some how) e = same_here most p m how none e
 same_by most p m none on None e = same_after most p m (on e)
 
-same_with_more : (most : ℕ) (p : Program) (m : Progress) → IsProgram p → IsUnderWay p m → m.end ≡ None → 192 ≤ m.slots + most → IsSameWithMore most p m
+same_with_more : (most : ℕ) (p : Program) (m : Progress) → IsProgram p → IsUnderWay p m → m.end ≡ None → RUN_LIMIT ≤ m.slots + most → IsSameWithMore most p m
 same_with_more zero p m program u none enough = let few = has_few_slots p m program u in absurd (omega arith)
 same_with_more (suc most) p m program u none enough =
     same_by most p m none
@@ -102,6 +103,6 @@ pub rest_of_group : (p : Program) (m : Progress) → IsProgram p → IsUnderWay 
 unfolding group_further event_further group_frames
 rest_of_group p m program u none more =
     let g = step_in_group p m none (how_within p m none more) in
-    let r = rest_after_step 191 p m none more in
-    let s = same_with_more 191 p (advanced p m) program (advances_under_way p m program u) g.end (omega (arith, g.slots)) in
+    let r = rest_after_step (RUN_LIMIT - 1) p m none more in
+    let s = same_with_more (RUN_LIMIT - 1) p (advanced p m) program (advances_under_way p m program u) g.end (omega (arith, g.slots)) in
     (s.group ∙ sym r.group, s.event ∙ sym r.event, ap (λ (rest : List (ℕ × ℕ)). (seq_step p m.state).frames ++ rest) s.frames ∙ sym r.frames)

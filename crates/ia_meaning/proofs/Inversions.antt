@@ -1,7 +1,8 @@
--- What can come of a slot, by the kinds of actions: from these lemmas the facts of outcomes follow. Each case tells where
+-- What can come of a slot, by the forms: from these lemmas the facts of outcomes follow. Each case tells where
 -- its values come from.
 use Rattle.std.proofs.Common.{◌≡◌, ◌≢◌, ℕ, ◌+◌, ◌-◌, ◌/◌, ◌%◌, ◌^◌, ◌≤◌, ◌⊎◌, inl, inr, Bool, true, false, not, ◌&&◌, ◌||◌, ◌==◌, nat_lt, List, [], ◌∷◌, get_or, Option, Some, None, refl, arith, if◌then◌else◌}
 use Rattle.std.proofs.lemmas.Bool.Decides.{nat_tests}
+use Rattle.ia_meaning.specs.declared.limits.TheConstants.{STACK_LIMIT}
 use Rattle.ia_insn.specs.declared.choices.CmpKind.{CmpKind}
 use Rattle.ia_insn.specs.declared.choices.CmpKind.TheVariants.{Unc}
 use Rattle.ia_insn.specs.declared.choices.LoadKind.{LoadKind}
@@ -21,10 +22,12 @@ use Rattle.ia_meaning.specs.State.{zero_cell, Registers, Memory}
 use Rattle.ia_meaning.specs.Writes.{Write, SetBranch, SetUnat, SetPfs, SetLc, SetEc, SetFrame, Resized, Renamed}
 use Rattle.ia_meaning.specs.Names.{spot, look, holds, predicate_spot, set_spot, set_predicate}
 use Rattle.ia_meaning.specs.Outcomes.{Outcome, falls, goes, breaks, faults}
-use Rattle.ia_meaning.specs.Actions.{Action, Compute, Fetch, Test, ToPredicates, ToBranch, ToApplication, FromMemory, ToMemory, CheckNat, CheckAlat, ForgetAll, Forget, Allocate, Jump, JumpIndirect, Loop, Call, Return, ClearBases, Stop, Idle}
+use Rattle.ia_meaning.specs.declared.form.Form.{Form}
+use Rattle.ia_meaning.specs.declared.form.Form.TheVariants.{Compute, Fetch, Test, ToPredicates, ToBranch, ToApplication, FromMemory, ToMemory, CheckNat, CheckAlat, ForgetAll, Forget, Allocate, Jump, JumpIndirect, Loop, Call, Return, ClearBases, Stop, Idle}
+use Rattle.ia_meaning.specs.Actions.{value_of, result_of, moved}
 use Rattle.ia_meaning.specs.Moves.{computed, fetched, source_value, test_writes, test_made, test_skipped, predicate_writes, to_predicates, to_branch, has_reserved_zeros, application_written, to_application}
 use Rattle.ia_meaning.specs.Loads.{access_fault, loaded, forgotten, has_hit, has_entry, update_register, base_writes, is_speculative, is_check, load_alat, load_nat, deferred, load_hit, load_failed, load_tried, load_checked, from_memory, takes_nat, store_made, store_tried, to_memory, check_nat, check_alat, forget}
-use Rattle.ia_meaning.specs.Frames.{stack_limit, with_sizes, has_zero_bases, allocated, cleared, call_writes, lands, marked_frame, return_fault, return_tried}
+use Rattle.ia_meaning.specs.Frames.{with_sizes, has_zero_bases, allocated, cleared, call_writes, lands, marked_frame, return_fault, return_tried}
 use Rattle.ia_meaning.specs.Loops.{turn_of, turn_writes, turned}
 use Rattle.ia_meaning.specs.declared.turn.Turn.{Turn}
 use Rattle.ia_meaning.specs.Landings.{target_of}
@@ -56,29 +59,29 @@ abbrev pub TurnCases : (Outcome → Type 0) → Turn → FrameShape → ℕ → 
 TurnCases Q t f bundle m =
     (t.taken ≡ true → Q (goes (turn_writes t f) m bundle)) × (t.taken ≡ false → Q (falls (turn_writes t f) m))
 
--- What can come of an action that is executed.
-abbrev pub ActCases : (Outcome → Type 0) → Site → Action → Registers → Memory → ℕ → Type 0
+-- What can come of a form that is executed.
+abbrev pub ActCases : (Outcome → Type 0) → Site → Form → Registers → Memory → ℕ → Type 0
 ActCases Q s (Compute r1 r2 r3 f) r m unat =
     Fails Q m
     × ((d : Spot) (a b : Cell) → spot r.frame r1 ≡ Some d → look r r2 ≡ Some a → look r r3 ≡ Some b
-    → Q (falls (set_spot d (record { value = f a.value b.value; nat = a.nat || b.nat }) []) m))
+    → Q (falls (set_spot d (record { value = value_of f a.value b.value; nat = a.nat || b.nat }) []) m))
 ActCases Q s (Fetch r1 source) r m unat =
     Fails Q m
     × ((d : Spot) → spot r.frame r1 ≡ Some d
     → Q (falls (set_spot d (record { value = source_value s.bundle r source; nat = false }) []) m))
-ActCases Q s (Test kind p1 p2 r2 r3 f) r m unat =
+ActCases Q s (Test kind p1 p2 r2 r3 c) r m unat =
     Fails Q m
     × ((a b : Cell) → look r r2 ≡ Some a → look r r3 ≡ Some b
-    → Q (falls (test_writes kind (predicate_spot r.frame p1) (predicate_spot r.frame p2) (f a b)) m))
-ActCases Q s (ToPredicates r2 f mask) r m unat =
+    → Q (falls (test_writes kind (predicate_spot r.frame p1) (predicate_spot r.frame p2) (result_of c a b)) m))
+ActCases Q s (ToPredicates r2 mask w) r m unat =
     Fails Q m
-    × ((a : Cell) → look r r2 ≡ Some a → a.nat ≡ false → Q (falls (predicate_writes mask (f a.value)) m))
+    × ((a : Cell) → look r r2 ≡ Some a → a.nat ≡ false → Q (falls (predicate_writes mask (moved w a.value)) m))
 ActCases Q s (ToBranch b1 r2) r m unat =
     Fails Q m
     × ((a : Cell) → look r r2 ≡ Some a → a.nat ≡ false → Q (falls (SetBranch b1 a.value ∷ []) m))
-ActCases Q s (ToApplication ar r2 f) r m unat =
+ActCases Q s (ToApplication ar r2 w) r m unat =
     Fails Q m
-    × ((a : Cell) → look r r2 ≡ Some a → a.nat ≡ false → ApplicationCases Q ar (f a.value) m)
+    × ((a : Cell) → look r r2 ≡ Some a → a.nat ≡ false → ApplicationCases Q ar (moved w a.value) m)
 ActCases Q s (FromMemory size kind r1 r3 u) r m unat =
     Fails Q m
     × ((d e : Spot) (base more : Cell) → spot r.frame r1 ≡ Some d → spot r.frame r3 ≡ Some e → look r r3 ≡ Some base → look r (update_register u) ≡ Some more
@@ -103,7 +106,7 @@ ActCases Q s (Forget r1) r m unat =
 ActCases Q s (Allocate r1 sof sol sor) r m unat =
     Fails Q m
     × ((d : Spot) → spot (with_sizes r.frame sof sol sor) r1 ≡ Some d
-    → (r.frame.sor ≡ sor) ⊎ (has_zero_bases r.frame ≡ true) → r.frame.base + sof ≤ stack_limit
+    → (r.frame.sor ≡ sor) ⊎ (has_zero_bases r.frame ≡ true) → r.frame.base + sof ≤ STACK_LIMIT
     → Q (falls (SetFrame Resized (with_sizes r.frame sof sol sor) ∷ set_spot d (record { value = r.pfs; nat = false }) []) m))
 ActCases Q s (Jump disp) r m unat = Q (goes [] m (target_of s.bundle disp))
 ActCases Q s (JumpIndirect b2) r m unat =
@@ -123,12 +126,12 @@ ActCases Q s (Stop unit imm) r m unat = Q (breaks imm m)
 ActCases Q s (Idle unit) r m unat = Q (falls [] m)
 
 -- What can come of one whose qualifying predicate is 0.
-abbrev pub SkipCases : (Outcome → Type 0) → Site → Action → Registers → Memory → Type 0
-SkipCases Q s (Test kind p1 p2 r2 r3 f) r m =
+abbrev pub SkipCases : (Outcome → Type 0) → Site → Form → Registers → Memory → Type 0
+SkipCases Q s (Test kind p1 p2 r2 r3 c) r m =
     (kind ≡ Unc → Q (falls (set_predicate (predicate_spot r.frame p1) false (set_predicate (predicate_spot r.frame p2) false [])) m))
     × (kind ≢ Unc → Q (falls [] m))
 SkipCases Q s (Loop kind disp) r m = TurnCases Q (turn_of kind false r.lc r.ec) r.frame (target_of s.bundle disp) m
-SkipCases Q s action r m = Q (falls [] m)
+SkipCases Q s form r m = Q (falls [] m)
 
 -- the sides of a choice
 either : (Q : Outcome → Type 0) (b : Bool) (x y : Outcome) → (b ≡ true → Q x) → (b ≡ false → Q y) → Q (if b then x else y)
@@ -259,14 +262,14 @@ same_or_zero a b true h = inr refl
 same_or_zero a b false h = inl (grind (arith, nat_tests))
 
 case_allocated : (Q : Outcome → Type 0) (old new : FrameShape) (o : Option Spot) (pfs : ℕ) (m : Memory) → Fails Q m
-    → ((d : Spot) → o ≡ Some d → (old.sor ≡ new.sor) ⊎ (has_zero_bases old ≡ true) → new.base + new.sof ≤ stack_limit → Q (falls (SetFrame Resized new ∷ set_spot d (record { value = pfs; nat = false }) []) m))
+    → ((d : Spot) → o ≡ Some d → (old.sor ≡ new.sor) ⊎ (has_zero_bases old ≡ true) → new.base + new.sof ≤ STACK_LIMIT → Q (falls (SetFrame Resized new ∷ set_spot d (record { value = pfs; nat = false }) []) m))
     → Q (allocated old new o pfs m)
 case_allocated Q old new (Some d) pfs m h k =
     either Q (not (old.sor == new.sor) && not (has_zero_bases old)) _ _ (λ _. h ReservedField)
-    (λ t. either Q (nat_lt stack_limit (new.base + new.sof)) _ _ (λ _. h StackLimit)
+    (λ t. either Q (nat_lt STACK_LIMIT (new.base + new.sof)) _ _ (λ _. h StackLimit)
     (λ l. k d refl (same_or_zero old.sor new.sor (has_zero_bases old) t) (not_above (new.base + new.sof) l)))
   where
-    not_above : (n : ℕ) → nat_lt stack_limit n ≡ false → n ≤ stack_limit
+    not_above : (n : ℕ) → nat_lt STACK_LIMIT n ≡ false → n ≤ STACK_LIMIT
     not_above n l = grind (arith, nat_tests)
 case_allocated Q old new None pfs m h k = h OutOfFrame
 
@@ -282,14 +285,14 @@ case_return Q None f ec o m h k = case_lands Q (SetFrame Resized f ∷ SetEc ec 
 case_turn : (Q : Outcome → Type 0) (t : Turn) (f : FrameShape) (bundle : ℕ) (m : Memory) → TurnCases Q t f bundle m → Q (turned t f bundle m)
 case_turn Q t f bundle m h = either Q t.taken _ _ h.0 h.1
 
--- what holds in each case of an action holds of its effect
-pub act_cases : (Q : Outcome → Type 0) (s : Site) (action : Action) (r : Registers) (m : Memory) (unat : ℕ) → ActCases Q s action r m unat → Q (act s action r m unat)
-act_cases Q s (Compute r1 r2 r3 f) r m unat h = case_computed Q f (spot r.frame r1) (look r r2) (look r r3) m h.0 h.1
+-- what holds in each case of a form holds of its effect
+pub act_cases : (Q : Outcome → Type 0) (s : Site) (form : Form) (r : Registers) (m : Memory) (unat : ℕ) → ActCases Q s form r m unat → Q (act s form r m unat)
+act_cases Q s (Compute r1 r2 r3 f) r m unat h = case_computed Q (value_of f) (spot r.frame r1) (look r r2) (look r r3) m h.0 h.1
 act_cases Q s (Fetch r1 source) r m unat h = case_fetched Q (spot r.frame r1) (source_value s.bundle r source) m h.0 h.1
-act_cases Q s (Test kind p1 p2 r2 r3 f) r m unat h = case_test Q kind (predicate_spot r.frame p1) (predicate_spot r.frame p2) f (look r r2) (look r r3) m h.0 h.1
-act_cases Q s (ToPredicates r2 f mask) r m unat h = case_predicates Q f mask (look r r2) m h.0 h.1
+act_cases Q s (Test kind p1 p2 r2 r3 c) r m unat h = case_test Q kind (predicate_spot r.frame p1) (predicate_spot r.frame p2) (result_of c) (look r r2) (look r r3) m h.0 h.1
+act_cases Q s (ToPredicates r2 mask w) r m unat h = case_predicates Q (moved w) mask (look r r2) m h.0 h.1
 act_cases Q s (ToBranch b1 r2) r m unat h = case_branch Q b1 (look r r2) m h.0 h.1
-act_cases Q s (ToApplication ar r2 f) r m unat h = case_application Q ar f (look r r2) m h.0 h.1
+act_cases Q s (ToApplication ar r2 w) r m unat h = case_application Q ar (moved w) (look r r2) m h.0 h.1
 act_cases Q s (FromMemory size kind r1 r3 u) r m unat h = case_load Q size kind u (spot r.frame r1) (spot r.frame r3) (look r r3) (look r (update_register u)) m unat h.0 h.1
 act_cases Q s (ToMemory size kind r3 r2 u) r m unat h = case_store Q size kind u (spot r.frame r3) (look r r3) (look r r2) m h.0 h.1
 act_cases Q s (CheckNat r2 disp) r m unat h = case_check_nat Q (target_of s.bundle disp) (look r r2) m h.0 h.1 h.2
@@ -316,13 +319,13 @@ case_skipped Q Unc p q m h k = h refl
 case_skipped Q _ p q m h k = k (λ e. absurd (cc))
 
 -- what holds in each case of one whose qualifying predicate is 0 holds of its effect
-pub skip_cases : (Q : Outcome → Type 0) (s : Site) (action : Action) (r : Registers) (m : Memory) → SkipCases Q s action r m → Q (skip s action r m)
-skip_cases Q s (Test kind p1 p2 r2 r3 f) r m h = case_skipped Q kind (predicate_spot r.frame p1) (predicate_spot r.frame p2) m h.0 h.1
+pub skip_cases : (Q : Outcome → Type 0) (s : Site) (form : Form) (r : Registers) (m : Memory) → SkipCases Q s form r m → Q (skip s form r m)
+skip_cases Q s (Test kind p1 p2 r2 r3 c) r m h = case_skipped Q kind (predicate_spot r.frame p1) (predicate_spot r.frame p2) m h.0 h.1
 skip_cases Q s (Loop kind disp) r m h = case_turn Q (turn_of kind false r.lc r.ec) r.frame (target_of s.bundle disp) m h
 skip_cases Q s _ r m h = h
 
 -- both together
-pub guarded_cases : (Q : Outcome → Type 0) (s : Site) (qp : ℕ) (action : Action) (r : Registers) (m : Memory) (unat : ℕ)
-    → (holds r qp ≡ true → ActCases Q s action r m unat) → (holds r qp ≡ false → SkipCases Q s action r m) → Q (guarded s qp action r m unat)
-guarded_cases Q s qp action r m unat h k =
-    either Q (holds r qp) _ _ (λ t. act_cases Q s action r m unat (h t)) (λ t. skip_cases Q s action r m (k t))
+pub guarded_cases : (Q : Outcome → Type 0) (s : Site) (qp : ℕ) (form : Form) (r : Registers) (m : Memory) (unat : ℕ)
+    → (holds r qp ≡ true → ActCases Q s form r m unat) → (holds r qp ≡ false → SkipCases Q s form r m) → Q (guarded s qp form r m unat)
+guarded_cases Q s qp form r m unat h k =
+    either Q (holds r qp) _ _ (λ t. act_cases Q s form r m unat (h t)) (λ t. skip_cases Q s form r m (k t))

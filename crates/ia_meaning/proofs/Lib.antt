@@ -1,5 +1,5 @@
 pub mod Sequences
-pub mod FormSizes
+pub mod FormRanges
 pub mod Inversions
 mod Examples
 pub mod GoesOn

@@ -11,7 +11,7 @@ use Rattle.ia_insn.specs.FormatsM.{IsLoadUpdate}
 use Rattle.ia_insn.proofs.OperandRanges.{ranges_of_listed}
 use Rattle.ia_meaning.specs.declared.form.Form.{Form}
 use Rattle.ia_meaning.specs.declared.form.Form.TheVariants as form
-use Rattle.ia_meaning.specs.Actions.{action_of, form_of}
+use Rattle.ia_meaning.specs.Actions.{form_of}
 
 -- the targets of a test are two
 abbrev pub AreTargets : ℕ → ℕ → Type 0
@@ -20,7 +20,7 @@ AreTargets p1 p2 = (p1 ≢ p2) × (p1 < 64) × (p2 < 64)
 -- The targets of a test are two, a load updates no register that it loads, and a counted loop branch has no qualifying
 -- predicate.
 abbrev pub HasNames : ℕ → Form → Type 0
-HasNames qp (form.Test kind p1 p2 r2 r3) = AreTargets p1 p2
+HasNames qp (form.Test kind p1 p2 r2 r3 c) = AreTargets p1 p2
 HasNames qp (form.FromMemory size kind r1 r3 u) = IsLoadUpdate r1 r3 u
 HasNames qp (form.Loop kind disp) = IsQualifier kind qp
 HasNames qp f = Unit {0}
@@ -34,7 +34,7 @@ branch_qualifier qp kind wh many clr disp (inr (inr (inr (inl l)))) = l.range.0
 branch_qualifier qp kind wh many clr disp (inr (inr (inr (inr (inl l))))) = absurd l.range
 branch_qualifier qp kind wh many clr disp (inr (inr (inr (inr (inr l))))) = absurd l.range
 
-pub has_names : (qp : ℕ) (o : Op) → IsListed (record { qp = qp; op = o }) → HasNames qp (form_of (action_of o))
+pub has_names : (qp : ℕ) (o : Op) → IsListed (record { qp = qp; op = o }) → HasNames qp (form_of o)
 has_names qp (op.Cmp four rel kind p1 p2 r2 r3) l = (grind arith, grind arith, grind arith)
 has_names qp (op.CmpZero four rel kind p1 p2 r3) l = (grind arith, grind arith, grind arith)
 has_names qp (op.CmpImm four rel kind p1 p2 imm r3) l = (grind arith, grind arith, grind arith)

@@ -2,10 +2,11 @@
 use Rattle.std.proofs.Common.{◌≡◌, ℕ, ◌+◌, ◌-◌, ◌≤◌, Bool, true, false, not, if◌then◌else◌, nat_lt, Some, None, refl, arith}
 use Rattle.std.specs.Prelude.{IsTrue}
 use Rattle.std.proofs.lemmas.Bool.Decides.{nat_tests}
+use Rattle.ia_meaning.specs.declared.limits.TheConstants.{STACK_LIMIT}
 use Rattle.ia_insn.specs.declared.ending.FaultKind.TheVariants.{BadFrame, Underflow, StackLimit}
 use Rattle.ia_meaning.specs.declared.state.FrameShape.{FrameShape}
 use Rattle.ia_meaning.specs.State.{IsFrame}
-use Rattle.ia_meaning.specs.Frames.{stack_limit, is_frame, marked_frame, return_fault}
+use Rattle.ia_meaning.specs.Frames.{is_frame, marked_frame, return_fault}
 use Rattle.ia_meaning.proofs.Starts.{frame_decides}
 
 -- what is known where a return to a frame below a base isn't refused
@@ -32,9 +33,9 @@ unrefused a b c limit base f e =
     let over : nat_lt limit (base - f.sol + f.sof) ≡ false = tests.2 in
     record { frame = (frame_decides f).0 tests.0; above = grind (arith, nat_tests, under); within = grind (arith, nat_tests, over) }
 
-pub may_return : (base : ℕ) (f : FrameShape) → return_fault base f ≡ None → MayReturn stack_limit base f
+pub may_return : (base : ℕ) (f : FrameShape) → return_fault base f ≡ None → MayReturn STACK_LIMIT base f
 unfolding return_fault
-may_return base f e = unrefused BadFrame Underflow StackLimit stack_limit base f e
+may_return base f e = unrefused BadFrame Underflow StackLimit STACK_LIMIT base f e
 
 -- the frame of a marker has the same sizes at each base
 pub moved_frame : (base to pfs : ℕ) → IsFrame (marked_frame base pfs) → IsFrame (marked_frame to pfs)

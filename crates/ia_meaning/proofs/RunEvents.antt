@@ -1,5 +1,6 @@
 -- The events and the frame changes of runs under way are those of whole runs.
 use Rattle.std.proofs.Common.{◌≡◌, ℕ, zero, suc, ◌+◌, List, [], ◌∷◌, ◌++◌, Option, Some, None, refl, ap, ◌∙◌, subst, append-nil, arith}
+use Rattle.ia_insn.specs.declared.limits.TheConstants.{RUN_LIMIT}
 use Rattle.ia_insn.specs.declared.ending.End.{End}
 use Rattle.ia_insn.specs.declared.ending.How.{How}
 use Rattle.ia_insn.specs.declared.ending.GroupEvent.{GroupEvent}
@@ -27,7 +28,7 @@ frames_to_end (suc most) p m none =
 -- between two groups they are those of the next group
 frames_are_of_group : (p : Program) (m : Progress) → m.end ≡ None → group_frames p m ≡ (seq_group p m.state).frames
 unfolding group_frames
-frames_are_of_group p m none = frames_to_end 192 p m none
+frames_are_of_group p m none = frames_to_end RUN_LIMIT p m none
 
 -- after an end there are none
 events_ended : (n : ℕ) (p : Program) (m : Progress) (e : End) → m.end ≡ Some e → events_further n p m ≡ []

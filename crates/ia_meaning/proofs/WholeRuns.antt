@@ -1,7 +1,8 @@
 -- Runs under way come to where whole runs leave off.
-use Rattle.std.proofs.Common.{◌≡◌, ℕ, zero, suc, ◌+◌, Bool, true, false, List, [], ◌∷◌, ◌++◌, length, Option, Some, None, refl, sym, ap, ◌∙◌, subst, add-one, arith, if◌then◌else◌}
+use Rattle.std.proofs.Common.{◌≡◌, ℕ, zero, suc, ◌+◌, Bool, true, false, List, [], ◌∷◌, ◌++◌, length, Option, Some, None, refl, sym, ap, ◌∙◌, subst, add-one, arith, if◌then◌else◌, ◌-◌}
 use Rattle.std.proofs.lemmas.Bool.Decides.{nat_tests}
 use Rattle.std.specs.Prelude.{◌==◌}
+use Rattle.ia_insn.specs.declared.limits.TheConstants.{RUN_LIMIT}
 use Rattle.ia_insn.specs.declared.insn.Insn.{Insn}
 use Rattle.ia_insn.specs.declared.ending.End.{End}
 use Rattle.ia_insn.specs.declared.ending.How.{How}
@@ -98,7 +99,7 @@ comes_to_end (suc most) p = λ m none k e.
 -- One group further is the group.
 pub group_is : (p : Program) (m : Progress) → m.end ≡ None → HasGroup (opened m) (group_further p m) (seq_group p m.state)
 unfolding group_further
-group_is p m none = next_comes_to_end 191 p m none (comes_to_end 191 p)
+group_is p m none = next_comes_to_end (RUN_LIMIT - 1) p m none (comes_to_end (RUN_LIMIT - 1) p)
 
 -- a run under way has come from between two groups to where a run leaves off
 pub record HasRest (m after : Progress) (run : Run) : Type 0 where

@@ -1,172 +1,139 @@
--- What each operation does: one row an operation, in the manual's order, which gives it an action. An action is one
--- of few kinds, and each kind has its effect once (Effects).
-use Rattle.std.specs.Prelude.{ℕ, ℤ, ◌^◌, Bool, true, false, not, if◌then◌else◌, Option, Some, None, count_ones}
-use Rattle.ia_insn.specs.declared.choices.Unit.{Unit as ExecutionUnit}
+-- What each operation does: one row an operation, in the manual's order, which gives it a form. A form is one of few kinds
+-- of action, each of which has its effect once (Effects), with its registers and with what it computes.
+use Rattle.std.specs.Prelude.{ℕ, ℤ, pos as positive, negsuc, ◌^◌, Bool, true, false, not, if◌then◌else◌, Option, Some, None, count_ones}
 use Rattle.ia_insn.specs.declared.choices.Unit.TheVariants.{M}
+use Rattle.ia_insn.specs.declared.choices.AluFn.{AluFn}
+use Rattle.ia_insn.specs.declared.choices.AluFn.TheVariants.{Add, Addp4}
 use Rattle.ia_insn.specs.declared.choices.CmpKind.{CmpKind}
 use Rattle.ia_insn.specs.declared.choices.CmpKind.TheVariants.{Normal, Unc}
-use Rattle.ia_insn.specs.declared.choices.LoadKind.{LoadKind}
-use Rattle.ia_insn.specs.declared.choices.StoreKind.{StoreKind}
 use Rattle.ia_insn.specs.declared.choices.BranchKind.{BranchKind}
 use Rattle.ia_insn.specs.declared.choices.BranchKind.TheVariants.{Cond}
-use Rattle.ia_insn.specs.declared.choices.Update.{Update}
-use Rattle.ia_insn.specs.declared.registers.Ar.{Ar}
 use Rattle.ia_insn.specs.declared.insn.Insn.{Insn}
 use Rattle.ia_insn.specs.declared.insn.Op.{Op}
 use Rattle.ia_insn.specs.declared.insn.Op.TheVariants as op
 use Rattle.ia_meaning.specs.declared.state.Cell.{Cell}
-use Rattle.ia_meaning.specs.declared.form.Source.{Source}
 use Rattle.ia_meaning.specs.declared.form.Source.TheVariants as source
-use Rattle.ia_meaning.specs.declared.form.Goal.{Goal}
 use Rattle.ia_meaning.specs.declared.form.Goal.TheVariants as goal
+use Rattle.ia_meaning.specs.declared.form.Function.{Function}
+use Rattle.ia_meaning.specs.declared.form.Function.TheVariants as function
+use Rattle.ia_meaning.specs.declared.form.Condition.{Condition}
+use Rattle.ia_meaning.specs.declared.form.Condition.TheVariants as condition
+use Rattle.ia_meaning.specs.declared.form.MovedWord.{MovedWord}
+use Rattle.ia_meaning.specs.declared.form.MovedWord.TheVariants as word
 use Rattle.ia_meaning.specs.declared.form.Form.{Form}
-use Rattle.ia_meaning.specs.declared.form.Form.TheVariants as form
-use Rattle.ia_meaning.specs.Arithmetic.{immediate, alu, shift_add, add_immediate, shift, shift_pair, extract, deposit, filling, extend, compared, bit, tested}
-
--- r0 stands for an operand that an action has and the operation lacks: it reads 0, and no write reaches it.
-pub data Action : Type 0 where
-  -- r1 becomes f of r2 and r3
-  Compute : (r1 r2 r3 : ℕ) (f : ℕ → ℕ → ℕ) → Action
-  -- r1 becomes a copy
-  Fetch : (r1 : ℕ) → Source → Action
-  -- p1 and p2 by the result of f of r2 and r3, which may be none
-  Test : CmpKind → (p1 p2 r2 r3 : ℕ) (f : Cell → Cell → Option Bool) → Action
-  -- the predicates under the mask by the bits of f of r2
-  ToPredicates : (r2 : ℕ) (f : ℕ → ℕ) (mask : ℕ) → Action
-  ToBranch : (b1 r2 : ℕ) → Action
-  -- the application register becomes f of r2
-  ToApplication : Ar → (r2 : ℕ) (f : ℕ → ℕ) → Action
-  FromMemory : (size : ℕ) → LoadKind → (r1 r3 : ℕ) → Update → Action
-  ToMemory : (size : ℕ) → StoreKind → (r3 r2 : ℕ) → Update → Action
-  CheckNat : (r2 : ℕ) (disp : ℤ) → Action
-  CheckAlat : (clear : Bool) (r1 : ℕ) (disp : ℤ) → Action
-  ForgetAll : Action
-  Forget : (r1 : ℕ) → Action
-  Allocate : (r1 sof sol sor : ℕ) → Action
-  Jump : (disp : ℤ) → Action
-  JumpIndirect : (b2 : ℕ) → Action
-  Loop : BranchKind → (disp : ℤ) → Action
-  Call : (b1 : ℕ) → Goal → Action
-  Return : (b2 : ℕ) → Action
-  ClearBases : (pred_only : Bool) → Action
-  Stop : ExecutionUnit → (imm : ℕ) → Action
-  Idle : ExecutionUnit → Action
+use Rattle.ia_meaning.specs.declared.form.Form.TheVariants.{Compute, Fetch, Test, ToPredicates, ToBranch, ToApplication, FromMemory, ToMemory, CheckNat, CheckAlat, ForgetAll, Forget, Allocate, Jump, JumpIndirect, Loop, Call, Return, ClearBases, Stop, Idle}
+use Rattle.ia_meaning.specs.Arithmetic.{immediate, alu, shift_add, shift, shift_pair, extract, deposit, extend, compared, bit, tested}
 
 abbrev pub test_kind : Bool → CmpKind
 test_kind unc = if unc then Unc else Normal
 
-abbrev pub branch_action : BranchKind → ℤ → Action
-branch_action Cond disp = Jump disp
-branch_action kind disp = Loop kind disp
+-- the addition of `adds` or, where p4 is set, of `addp4` with an immediate
+abbrev pub addition : Bool → AluFn
+addition p4 = if p4 then Addp4 else Add
 
-abbrev pub action_of : Op → Action
+-- the immediate of `dep` that is ones in each bit, or zeros
+abbrev pub filling : Bool → ℤ
+filling ones = if ones then negsuc 0 else positive 0
+
+abbrev pub branch_form : BranchKind → ℤ → Form
+branch_form Cond disp = Jump disp
+branch_form kind disp = Loop kind disp
+
+-- r0 stands for an operand that a form has and the operation lacks: it reads 0, and no write reaches it.
+abbrev pub form_of : Op → Form
 -- A
-action_of (op.Alu f r1 r2 r3) = Compute r1 r2 r3 (alu f)
-action_of (op.ShlAdd p4 r1 r2 count r3) = Compute r1 r2 r3 (shift_add p4 count)
-action_of (op.AluImm8 f r1 imm r3) = Compute r1 0 r3 (λ _ b. alu f (immediate imm) b)
-action_of (op.AddImm14 p4 r1 imm r3) = Compute r1 0 r3 (λ _ b. add_immediate p4 imm b)
-action_of (op.AddImm22 r1 imm r3) = Compute r1 0 r3 (λ _ b. add_immediate false imm b)
-action_of (op.Cmp four rel kind p1 p2 r2 r3) = Test kind p1 p2 r2 r3 (tested (compared four rel))
-action_of (op.CmpZero four rel kind p1 p2 r3) = Test kind p1 p2 0 r3 (tested (λ _ b. compared four rel 0 b))
-action_of (op.CmpImm four rel kind p1 p2 imm r3) = Test kind p1 p2 0 r3 (tested (λ _ b. compared four rel (immediate imm) b))
+form_of (op.Alu f r1 r2 r3) = Compute r1 r2 r3 (function.Alu f)
+form_of (op.ShlAdd p4 r1 r2 count r3) = Compute r1 r2 r3 (function.ShiftAdd p4 count)
+form_of (op.AluImm8 f r1 imm r3) = Compute r1 0 r3 (function.AluImmediate f imm)
+form_of (op.AddImm14 p4 r1 imm r3) = Compute r1 0 r3 (function.AluImmediate (addition p4) imm)
+form_of (op.AddImm22 r1 imm r3) = Compute r1 0 r3 (function.AluImmediate Add imm)
+form_of (op.Cmp four rel kind p1 p2 r2 r3) = Test kind p1 p2 r2 r3 (condition.Compare four rel)
+form_of (op.CmpZero four rel kind p1 p2 r3) = Test kind p1 p2 0 r3 (condition.Compare four rel)
+form_of (op.CmpImm four rel kind p1 p2 imm r3) = Test kind p1 p2 0 r3 (condition.CompareImmediate four rel imm)
 -- I
-action_of (op.ShiftVar f r1 value count) = Compute r1 value count (shift f)
-action_of (op.Popcnt r1 r3) = Compute r1 0 r3 (λ _ b. count_ones b)
-action_of (op.Shrp r1 r2 r3 count) = Compute r1 r2 r3 (shift_pair count)
-action_of (op.Extr signed r1 r3 pos len) = Compute r1 0 r3 (λ _ b. extract signed pos len b)
-action_of (op.DepZ r1 r2 pos len) = Compute r1 r2 0 (λ a _. deposit pos len a 0)
-action_of (op.DepZImm r1 imm pos len) = Compute r1 0 0 (λ _ _. deposit pos len (immediate imm) 0)
-action_of (op.DepImm r1 ones r3 pos len) = Compute r1 0 r3 (λ _ b. deposit pos len (filling ones) b)
-action_of (op.Dep r1 r2 r3 pos len) = Compute r1 r2 r3 (deposit pos len)
-action_of (op.Tbit unc p1 p2 r3 pos) = Test (test_kind unc) p1 p2 0 r3 (tested (λ _ b. not (bit b pos)))
-action_of (op.Tnat unc p1 p2 r3) = Test (test_kind unc) p1 p2 0 r3 (λ _ b. Some (not b.nat))
-action_of (op.ChkS unit r2 disp) = CheckNat r2 disp
-action_of (op.MovToBr b1 r2 ret imp wh tag) = ToBranch b1 r2
-action_of (op.MovFromBr r1 b2) = Fetch r1 (source.Branch b2)
-action_of (op.MovToPr r2 mask) = ToPredicates r2 (λ a. a) mask
-action_of (op.MovToPrRot imm) = ToPredicates 0 (λ _. immediate imm) (2 ^ 16)
-action_of (op.MovFromIp r1) = Fetch r1 source.Ip
-action_of (op.MovFromPr r1) = Fetch r1 source.Predicates
-action_of (op.MovToAr ar r2) = ToApplication ar r2 (λ a. a)
-action_of (op.MovToArImm ar imm) = ToApplication ar 0 (λ _. immediate imm)
-action_of (op.MovFromAr r1 ar) = Fetch r1 (source.Application ar)
-action_of (op.Ext signed size r1 r3) = Compute r1 0 r3 (λ _ b. extend signed size b)
+form_of (op.ShiftVar f r1 value count) = Compute r1 value count (function.Shift f)
+form_of (op.Popcnt r1 r3) = Compute r1 0 r3 function.Popcount
+form_of (op.Shrp r1 r2 r3 count) = Compute r1 r2 r3 (function.ShiftPair count)
+form_of (op.Extr signed r1 r3 pos len) = Compute r1 0 r3 (function.Extract signed pos len)
+form_of (op.DepZ r1 r2 pos len) = Compute r1 r2 0 (function.Deposit pos len)
+form_of (op.DepZImm r1 imm pos len) = Compute r1 0 0 (function.DepositImmediate pos len imm)
+form_of (op.DepImm r1 ones r3 pos len) = Compute r1 0 r3 (function.DepositImmediate pos len (filling ones))
+form_of (op.Dep r1 r2 r3 pos len) = Compute r1 r2 r3 (function.Deposit pos len)
+form_of (op.Tbit unc p1 p2 r3 pos) = Test (test_kind unc) p1 p2 0 r3 (condition.BitIsZero pos)
+form_of (op.Tnat unc p1 p2 r3) = Test (test_kind unc) p1 p2 0 r3 condition.NatIsZero
+form_of (op.ChkS unit r2 disp) = CheckNat r2 disp
+form_of (op.MovToBr b1 r2 ret imp wh tag) = ToBranch b1 r2
+form_of (op.MovFromBr r1 b2) = Fetch r1 (source.Branch b2)
+form_of (op.MovToPr r2 mask) = ToPredicates r2 mask word.Register
+form_of (op.MovToPrRot imm) = ToPredicates 0 (2 ^ 16) (word.Immediate imm)
+form_of (op.MovFromIp r1) = Fetch r1 source.Ip
+form_of (op.MovFromPr r1) = Fetch r1 source.Predicates
+form_of (op.MovToAr ar r2) = ToApplication ar r2 word.Register
+form_of (op.MovToArImm ar imm) = ToApplication ar 0 (word.Immediate imm)
+form_of (op.MovFromAr r1 ar) = Fetch r1 (source.Application ar)
+form_of (op.Ext signed size r1 r3) = Compute r1 0 r3 (function.Extend signed size)
 -- M
-action_of (op.Load size kind hint r1 r3 update) = FromMemory size kind r1 r3 update
-action_of (op.Store size kind hint r3 r2 update) = ToMemory size kind r3 r2 update
-action_of (op.ChkA clear r1 disp) = CheckAlat clear r1 disp
-action_of op.Invala = ForgetAll
-action_of op.Mf = Idle M
-action_of (op.InvalaE r1) = Forget r1
-action_of (op.Alloc r1 sof sol sor) = Allocate r1 sof sol sor
+form_of (op.Load size kind hint r1 r3 update) = FromMemory size kind r1 r3 update
+form_of (op.Store size kind hint r3 r2 update) = ToMemory size kind r3 r2 update
+form_of (op.ChkA clear r1 disp) = CheckAlat clear r1 disp
+form_of op.Invala = ForgetAll
+form_of op.Mf = Idle M
+form_of (op.InvalaE r1) = Forget r1
+form_of (op.Alloc r1 sof sol sor) = Allocate r1 sof sol sor
 -- B
-action_of (op.Br kind wh many clr disp) = branch_action kind disp
-action_of (op.BrCall b1 wh many clr disp) = Call b1 (goal.Direct disp)
-action_of (op.BrInd b2 wh many clr) = JumpIndirect b2
-action_of (op.BrRet b2 wh many clr) = Return b2
-action_of (op.BrCallInd b1 b2 wh many clr) = Call b1 (goal.Indirect b2)
-action_of (op.Clrrrb pred_only) = ClearBases pred_only
+form_of (op.Br kind wh many clr disp) = branch_form kind disp
+form_of (op.BrCall b1 wh many clr disp) = Call b1 (goal.Direct disp)
+form_of (op.BrInd b2 wh many clr) = JumpIndirect b2
+form_of (op.BrRet b2 wh many clr) = Return b2
+form_of (op.BrCallInd b1 b2 wh many clr) = Call b1 (goal.Indirect b2)
+form_of (op.Clrrrb pred_only) = ClearBases pred_only
 -- X and the common ones
-action_of (op.Movl r1 imm) = Compute r1 0 0 (λ _ _. imm)
-action_of (op.Break unit imm) = Stop unit imm
-action_of (op.Nop unit imm) = Idle unit
-action_of (op.Hint unit imm) = Idle unit
+form_of (op.Movl r1 imm) = Compute r1 0 0 (function.Immediate imm)
+form_of (op.Break unit imm) = Stop unit imm
+form_of (op.Nop unit imm) = Idle unit
+form_of (op.Hint unit imm) = Idle unit
 
--- the action without its function
-abbrev pub form_of : Action → Form
-form_of (Compute r1 r2 r3 f) = form.Compute r1 r2 r3
-form_of (Fetch r1 source) = form.Fetch r1 source
-form_of (Test kind p1 p2 r2 r3 f) = form.Test kind p1 p2 r2 r3
-form_of (ToPredicates r2 f mask) = form.ToPredicates r2 mask
-form_of (ToBranch b1 r2) = form.ToBranch b1 r2
-form_of (ToApplication ar r2 f) = form.ToApplication ar r2
-form_of (FromMemory size kind r1 r3 update) = form.FromMemory size kind r1 r3 update
-form_of (ToMemory size kind r3 r2 update) = form.ToMemory size kind r3 r2 update
-form_of (CheckNat r2 disp) = form.CheckNat r2 disp
-form_of (CheckAlat clear r1 disp) = form.CheckAlat clear r1 disp
-form_of ForgetAll = form.ForgetAll
-form_of (Forget r1) = form.Forget r1
-form_of (Allocate r1 sof sol sor) = form.Allocate r1 sof sol sor
-form_of (Jump disp) = form.Jump disp
-form_of (JumpIndirect b2) = form.JumpIndirect b2
-form_of (Loop kind disp) = form.Loop kind disp
-form_of (Call b1 goal) = form.Call b1 goal
-form_of (Return b2) = form.Return b2
-form_of (ClearBases pred_only) = form.ClearBases pred_only
-form_of (Stop unit imm) = form.Stop unit imm
-form_of (Idle unit) = form.Idle unit
+-- the value of a function of the values of r2 and r3
+abbrev pub value_of : Function → ℕ → ℕ → ℕ
+value_of (function.Alu f) a b = alu f a b
+value_of (function.ShiftAdd p4 count) a b = shift_add p4 count a b
+value_of (function.AluImmediate f imm) a b = alu f (immediate imm) b
+value_of (function.Shift f) a b = shift f a b
+value_of function.Popcount a b = count_ones b
+value_of (function.ShiftPair count) a b = shift_pair count a b
+value_of (function.Extract signed pos len) a b = extract signed pos len b
+value_of (function.Deposit pos len) a b = deposit pos len a b
+value_of (function.DepositImmediate pos len imm) a b = deposit pos len (immediate imm) b
+value_of (function.Extend signed size) a b = extend signed size b
+value_of (function.Immediate imm) a b = imm
 
--- the function of an action of two words, where it has one
-abbrev pub function_of : Action → ℕ → ℕ → ℕ
-function_of (Compute r1 r2 r3 f) = f
-function_of action = λ _ _. 0
+-- the result of a test of r2 and r3, which may be none
+abbrev pub result_of : Condition → Cell → Cell → Option Bool
+result_of (condition.Compare four rel) a b = tested (compared four rel) a b
+result_of (condition.CompareImmediate four rel imm) a b = tested (λ _ y. compared four rel (immediate imm) y) a b
+result_of (condition.BitIsZero pos) a b = tested (λ _ y. not (bit y pos)) a b
+result_of condition.NatIsZero a b = Some (not b.nat)
 
--- that of an action of one word
-abbrev pub word_function_of : Action → ℕ → ℕ
-word_function_of (ToPredicates r2 f mask) = f
-word_function_of (ToApplication ar r2 f) = f
-word_function_of action = λ _. 0
-
--- the test of an action
-abbrev pub test_of : Action → Cell → Cell → Option Bool
-test_of (Test kind p1 p2 r2 r3 f) = f
-test_of action = λ _ _. None
+-- the word that is moved, where r2 has this value
+abbrev pub moved : MovedWord → ℕ → ℕ
+moved word.Register a = a
+moved (word.Immediate imm) a = immediate imm
 
 -- the form of an instruction
 abbrev pub insn_form : Insn → Form
-insn_form insn = form_of (action_of insn.op)
+insn_form insn = form_of insn.op
 
 -- a branch, direct or indirect, loop branches, calls and returns among them
 abbrev pub is_branch : Form → Bool
-is_branch (form.Jump disp) = true
-is_branch (form.JumpIndirect b2) = true
-is_branch (form.Loop kind disp) = true
-is_branch (form.Call b1 goal) = true
-is_branch (form.Return b2) = true
+is_branch (Jump disp) = true
+is_branch (JumpIndirect b2) = true
+is_branch (Loop kind disp) = true
+is_branch (Call b1 goal) = true
+is_branch (Return b2) = true
 is_branch f = false
 
 abbrev pub is_alloc : Form → Bool
-is_alloc (form.Allocate r1 sof sol sor) = true
+is_alloc (Allocate r1 sof sol sor) = true
 is_alloc f = false
 
 -- a slot that is an `alloc`

@@ -41,10 +41,6 @@ alu alu_fn.Xor a b = bit_xor a b
 abbrev pub shift_add : Bool → ℕ → ℕ → ℕ → ℕ
 shift_add p4 count a b = if p4 then pointer (a * 2 ^ count + b) b else word (a * 2 ^ count + b)
 
--- `adds` and `addp4` with an immediate
-abbrev pub add_immediate : Bool → ℤ → ℕ → ℕ
-add_immediate p4 imm b = if p4 then pointer (immediate imm + b) b else word (immediate imm + b)
-
 -- Filled with zeros. A count above 63 gives 0.
 abbrev pub shift_right : ℕ → ℕ → ℕ
 shift_right a count = if nat_lt count 64 then a / 2 ^ count else 0
@@ -88,10 +84,6 @@ extract signed pos len a =
 abbrev pub deposit : ℕ → ℕ → ℕ → ℕ → ℕ
 deposit pos len x a =
     a % 2 ^ pos + 2 ^ pos * (x % 2 ^ cut pos len) + 2 ^ (pos + cut pos len) * (a / 2 ^ (pos + cut pos len))
-
--- ones in each bit, or zeros
-abbrev pub filling : Bool → ℕ
-filling ones = if ones then 2 ^ 64 - 1 else 0
 
 -- `sxt` and `zxt` from so many bytes
 abbrev pub extend : Bool → ℕ → ℕ → ℕ

@@ -1,6 +1,7 @@
 -- The effects of `alloc`, calls, returns and `clrrrb`, and the rotation of registers (volume 1, chapter 4, register
 -- stack and register rotation, and volume 3, chapter 2, `alloc`, `br` and `clrrrb`).
 use Rattle.std.specs.Prelude.{ℕ, ◌+◌, ◌-◌, ◌*◌, ◌/◌, ◌%◌, ◌^◌, Bool, false, not, ◌&&◌, ◌||◌, ◌==◌, if◌then◌else◌, List, [], ◌∷◌, Option, Some, None, nat_lt, IsTrue, ◌↔◌}
+use Rattle.ia_meaning.specs.declared.limits.TheConstants.{STACK_LIMIT}
 use Rattle.ia_insn.specs.declared.ending.FaultKind.{FaultKind}
 use Rattle.ia_insn.specs.declared.ending.FaultKind.TheVariants.{OutOfFrame, BadFrame, ReservedField, Underflow, StackLimit, BadLanding}
 use Rattle.ia_insn.specs.Addresses.{bundle_address}
@@ -10,10 +11,6 @@ use Rattle.ia_meaning.specs.State.{zero_bases, Memory, IsFrame}
 use Rattle.ia_meaning.specs.Writes.{Write, SetBranch, SetPfs, SetEc, SetFrame, Resized}
 use Rattle.ia_meaning.specs.Names.{set_spot}
 use Rattle.ia_meaning.specs.Outcomes.{Outcome, falls, goes, faults}
-
--- the most cells that there may be
-abbrev pub stack_limit : ℕ
-stack_limit = 65536
 
 abbrev pub with_sizes : FrameShape → ℕ → ℕ → ℕ → FrameShape
 with_sizes f sof sol sor = record f { sof = sof; sol = sol; sor = sor }
@@ -26,7 +23,7 @@ has_zero_bases f = (f.rrbs.gr == 0) && (f.rrbs.fr == 0) && (f.rrbs.pr == 0)
 abbrev pub allocated : FrameShape → FrameShape → Option Spot → ℕ → Memory → Outcome
 allocated old new (Some d) pfs m =
     if not (old.sor == new.sor) && not (has_zero_bases old) then faults ReservedField m
-    else if nat_lt stack_limit (new.base + new.sof) then faults StackLimit m
+    else if nat_lt STACK_LIMIT (new.base + new.sof) then faults StackLimit m
     else falls (SetFrame Resized new ∷ set_spot d (record { value = pfs; nat = false }) []) m
 allocated old new None pfs m = faults OutOfFrame m
 
@@ -93,7 +90,7 @@ unfoldable pub return_fault : ℕ → FrameShape → Option FaultKind
 return_fault base f =
     if not (is_frame f) then Some BadFrame
     else if nat_lt base f.sol then Some Underflow
-    else if nat_lt stack_limit (base - f.sol + f.sof) then Some StackLimit else None
+    else if nat_lt STACK_LIMIT (base - f.sol + f.sof) then Some StackLimit else None
 
 abbrev pub return_tried : Option FaultKind → FrameShape → ℕ → Option ℕ → Memory → Outcome
 return_tried (Some k) f ec to m = faults k m

@@ -3,6 +3,7 @@ pub mod Writes
 pub mod Names
 pub mod Arithmetic
 pub mod Actions
+pub mod FormRanges
 pub mod Outcomes
 pub mod Moves
 pub mod Loads

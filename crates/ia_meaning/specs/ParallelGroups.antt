@@ -2,6 +2,7 @@
 -- writes of registers come at the end, in some order (volume 1, chapter 3, instruction groups and instruction
 -- dependencies). A group is gathered first, and then its writes are made.
 use Rattle.std.specs.Prelude.{ℕ, zero, suc, ◌-◌, Bool, true, false, ◌&&◌, if◌then◌else◌, List, [], ◌∷◌, ◌++◌, get_or, Option, Some, None}
+use Rattle.ia_insn.specs.declared.limits.TheConstants.{RUN_LIMIT}
 use Rattle.ia_insn.specs.declared.insn.Insn.{Insn}
 use Rattle.ia_insn.specs.declared.place.Place.{Place}
 use Rattle.ia_insn.specs.declared.ending.End.{End}
@@ -125,7 +126,7 @@ gathered_within (suc most) p begins g =
 
 -- All slots of a group. A program's has at most 192 (`groups_end`).
 abbrev pub gathered : Program → State → GatheredGroup
-gathered p s = gathered_within 192 p true (gathered_from s)
+gathered p s = gathered_within RUN_LIMIT p true (gathered_from s)
 
 -- The group with its writes made as they stand in a list: UNAT is set, and then come the writes.
 abbrev pub made : GatheredGroup → List Write → Group

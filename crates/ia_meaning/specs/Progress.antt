@@ -1,5 +1,6 @@
 -- A run under way, which may stand between two slots of a group.
 use Rattle.std.specs.Prelude.{ℕ, zero, suc, ◌+◌, ◌==◌, if◌then◌else◌, Option, Some, None}
+use Rattle.ia_insn.specs.declared.limits.TheConstants.{RUN_LIMIT}
 use Rattle.ia_insn.specs.declared.place.Place.{Place}
 use Rattle.ia_insn.specs.declared.ending.End.{End}
 use Rattle.ia_insn.specs.declared.ending.End.TheVariants.{Limit}
@@ -60,7 +61,7 @@ to_group_end (suc most) p m = let next = advanced p m in rest_by next.slots next
 
 -- One group further, or the rest of the one under way. A program's has at most 192 slots.
 unfoldable pub group_further : Program → Progress → Progress
-group_further p m = to_group_end 192 p m
+group_further p m = to_group_end RUN_LIMIT p m
 
 -- So many groups further, or up to an end.
 abbrev pub groups_further : ℕ → Program → Progress → Progress

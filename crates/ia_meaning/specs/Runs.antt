@@ -1,5 +1,6 @@
 -- Runs under way and whole runs: their groups end, and both are the same (volume 1, chapter 3, instruction sequencing).
 use Rattle.std.specs.Prelude.{◌≡◌, ◌≢◌, ℕ, zero, suc, ◌+◌, ◌<◌, ◌⊎◌, List, [], ◌∷◌, ◌++◌, length, Option, Some, None, IsSome}
+use Rattle.ia_insn.specs.declared.limits.TheConstants.{RUN_LIMIT}
 use Rattle.ia_insn.specs.declared.place.Place.{Place}
 use Rattle.ia_insn.specs.declared.ending.End.{End}
 use Rattle.ia_insn.specs.declared.ending.How.{How}
@@ -53,7 +54,7 @@ GoesOnUnderWay =
 
 -- The group under way has fewer than 192 slots so far.
 abbrev pub HasFewSlots : Type 0
-HasFewSlots = (p : Program) (m : Progress) → IsProgram p → IsUnderWay p m → m.slots < 192
+HasFewSlots = (p : Program) (m : Progress) → IsProgram p → IsUnderWay p m → m.slots < RUN_LIMIT
 
 -- One group further, no group is under way.
 abbrev pub GroupsEnd : Type 0
@@ -88,7 +89,7 @@ event_to_end (suc most) p m =
 
 -- The group under way, or the next one, as an event.
 unfoldable pub event_further : Program → Progress → GroupEvent
-event_further p m = event_to_end 192 p m
+event_further p m = event_to_end RUN_LIMIT p m
 
 -- Between two groups it is the event of the next group.
 abbrev pub EventIsOfGroup : Type 0
@@ -109,7 +110,7 @@ frames_to_group_end (suc most) p m =
 
 -- The frame changes that the group under way, or the next one, still makes, in order.
 unfoldable pub group_frames : Program → Progress → List (ℕ × ℕ)
-group_frames p m = frames_to_group_end 192 p m
+group_frames p m = frames_to_group_end RUN_LIMIT p m
 
 -- After a step that doesn't end its group, the rest of the group comes to where the whole of it comes to, and is the same
 -- event. The frame changes of the step, and then those of the rest, are those of the whole.

@@ -1,5 +1,6 @@
 -- The state of the machine (volume 1, chapter 3, application register state, and chapter 4).
 use Rattle.std.specs.Prelude.{◌≡◌, ◌≢◌, ℕ, ◌+◌, ◌*◌, ◌/◌, ◌%◌, ◌<◌, ◌≤◌, ◌^◌, ◌⊎◌, Bool, true, false, List, [], ◌∷◌, length, replicate, get_or, AllPairs, All}
+use Rattle.ia_meaning.specs.declared.limits.TheConstants.{STACK_LIMIT}
 use Rattle.ia_insn.specs.declared.place.Place.{Place}
 use Rattle.ia_insn.specs.Places.{IsPlaceOf}
 use Rattle.ia_insn.specs.Programs.{Program, IsProgram, IsEntry, AreBytes}
@@ -87,7 +88,7 @@ pub record AreRegisters (r : Registers) : Type 0 where
   pub zero : get_or r.statics 0 zero_cell ≡ zero_cell
   pub frame : IsFrame r.frame
   pub cell_count : length r.cells ≡ r.frame.base + r.frame.sof
-  pub most : length r.cells ≤ 65536
+  pub most : length r.cells ≤ STACK_LIMIT
   pub cells : AreCells r.cells
   pub predicate_count : length r.predicates ≡ 64
   pub one : get_or r.predicates 0 false ≡ true

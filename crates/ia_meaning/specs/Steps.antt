@@ -1,5 +1,6 @@
 -- Running slot by slot: a step, a group and a run (volume 1, chapter 3, instruction sequencing).
 use Rattle.std.specs.Prelude.{ℕ, zero, suc, ◌+◌, ◌*◌, ◌/◌, ◌%◌, ◌^◌, Bool, if◌then◌else◌, List, [], ◌∷◌, ◌++◌, Option, Some, None}
+use Rattle.ia_insn.specs.declared.limits.TheConstants.{RUN_LIMIT}
 use Rattle.ia_insn.specs.declared.insn.Insn.{Insn}
 use Rattle.ia_insn.specs.declared.place.Place.{Place}
 use Rattle.ia_insn.specs.declared.ending.End.{End}
@@ -109,7 +110,7 @@ group_within (suc most) p s =
 
 -- One sequential group. A program's has at most 192 slots (`groups_end`).
 abbrev pub seq_group : Program → State → Group
-seq_group p s = group_within 192 p s
+seq_group p s = group_within RUN_LIMIT p s
 
 -- How a group ended, as an event. One without an ending, which no program has, counts as one that falls.
 abbrev pub how_of : Option How → How

@@ -1,10 +1,13 @@
-//! The forms of instructions, as far as their effects go.
+//! The forms of instructions: what each does.
 
 ghost use Rattle.std.specs.Prelude.{◌≡◌};
-ghost use Rattle.ia_meaning.specs.Actions.{test_kind, branch_action, action_of, form_of};
+ghost use Rattle.ia_meaning.specs.Actions.{test_kind, addition, filling, branch_form, form_of};
 ghost use Rattle.ia_meaning.specs.Loads.{update_register};
+ghost use Rattle.ia_meaning.specs.declared.form.Form.TheVariants.{Compute, Test};
 
-use ia_insn::{Ar, Br, BranchKind, CmpKind, Gr, LoadKind, Op, Pr, StoreKind, Unit, Update};
+use ia_insn::{
+    AluFn, Ar, Br, BranchKind, CmpKind, Gr, LoadKind, Op, Pr, Rel, ShiftFn, StoreKind, Unit, Update,
+};
 
 /// What a [`Form::Fetch`] copies into a general register.
 #[derive(Clone, Copy, Debug, PartialEq, Eq)]
@@ -28,6 +31,178 @@ pub enum Goal {
     Indirect(Br),
 }
 
+/// What a [`Form::Compute`] computes of the values of its first and second operand.
+#[derive(Clone, Copy, Debug, PartialEq, Eq)]
+pub enum Function {
+    /// An operation of the arithmetic and logic unit on both.
+    Alu(AluFn),
+    /// The first shifted left by `count`, 1 to 4, plus the second; a pointer of 32 bits where `p4` is set.
+    ShiftAdd { p4: bool, count: u8 },
+    /// An operation of the arithmetic and logic unit on an immediate and the second.
+    AluImmediate { f: AluFn, imm: i64 },
+    /// The first shifted by the second.
+    Shift(ShiftFn),
+    /// How many bits of the second are 1.
+    Popcount,
+    /// The first above the second, shifted right by `count`, 0 to 63.
+    ShiftPair { count: u8 },
+    /// The field of the second of `len` bits, 1 to 64, from `pos`, 0 to 63, on; where `signed` is set, with
+    /// its sign.
+    Extract { signed: bool, pos: u8, len: u8 },
+    /// The second with the low bits of the first in such a field.
+    Deposit { pos: u8, len: u8 },
+    /// The second with the low bits of an immediate in such a field.
+    DepositImmediate { pos: u8, len: u8, imm: i64 },
+    /// The low `size` bytes of the second, 1, 2 or 4; where `signed` is set, with their sign.
+    Extend { signed: bool, size: u8 },
+    /// An immediate.
+    Immediate(u64),
+}
+
+/// What a [`Form::Test`] tests of its first and second operand.
+#[derive(Clone, Copy, Debug, PartialEq, Eq)]
+pub enum Condition {
+    /// The relation of both or, where `four` is set, of their low four bytes.
+    Compare { four: bool, rel: Rel },
+    /// The same of an immediate and the second.
+    CompareImmediate { four: bool, rel: Rel, imm: i64 },
+    /// Whether bit `pos`, 0 to 63, of the second is 0.
+    BitIsZero { pos: u8 },
+    /// Whether the NaT bit of the second is 0.
+    NatIsZero,
+}
+
+/// What a [`Form::ToPredicates`] or a [`Form::ToApplication`] moves.
+#[derive(Clone, Copy, Debug, PartialEq, Eq)]
+pub enum MovedWord {
+    /// The value of the source.
+    Register,
+    /// An immediate.
+    Immediate(i64),
+}
+
+/// The form of an instruction: what it reads, what it computes, what it writes and how it goes on. r0 stands
+/// for an operand that the form has and the instruction lacks: it reads 0. A displacement `disp` is in
+/// bundles from the instruction's own. The small fields stand first, which keeps a form at 24 bytes.
+#[derive(Clone, Copy, Debug, PartialEq, Eq)]
+pub enum Form {
+    /// The function of `r2` and `r3` goes into `r1`.
+    Compute {
+        r1: Gr,
+        r2: Gr,
+        r3: Gr,
+        function: Function,
+    },
+    /// A copy goes into `r1`.
+    Fetch {
+        r1: Gr,
+        source: Source,
+    },
+    /// The condition on `r2` and `r3` goes into `p1` and `p2`, by the kind of the test.
+    Test {
+        kind: CmpKind,
+        p1: Pr,
+        p2: Pr,
+        r2: Gr,
+        r3: Gr,
+        condition: Condition,
+    },
+    /// A word goes into the predicates under `mask`: its bit n is for place n from 1 to 15, and bit 16 for
+    /// places 16 to 63.
+    ToPredicates {
+        r2: Gr,
+        mask: u32,
+        word: MovedWord,
+    },
+    /// `r2` goes into a branch register.
+    ToBranch {
+        b1: Br,
+        r2: Gr,
+    },
+    /// A word goes into an application register.
+    ToApplication {
+        ar: Ar,
+        r2: Gr,
+        word: MovedWord,
+    },
+    /// A load of `size` bytes into `r1` from the address in `r3`, the base, to which `update` is added.
+    FromMemory {
+        size: u8,
+        kind: LoadKind,
+        r1: Gr,
+        r3: Gr,
+        update: Update,
+    },
+    /// A store of `size` bytes of `r2` to the address in `r3`, the base, to which `update` is added.
+    ToMemory {
+        size: u8,
+        kind: StoreKind,
+        r3: Gr,
+        r2: Gr,
+        update: Update,
+    },
+    /// A branch where `r2` has NaT.
+    CheckNat {
+        r2: Gr,
+        disp: i32,
+    },
+    /// A branch where the ALAT has no entry of `r1`; where `clear` is set, one that is found is removed.
+    CheckAlat {
+        clear: bool,
+        r1: Gr,
+        disp: i32,
+    },
+    /// All entries leave the ALAT.
+    ForgetAll,
+    /// The entry of `r1` leaves the ALAT.
+    Forget {
+        r1: Gr,
+    },
+    /// A new frame of `sof` registers, `sol` of them locals and 8 * `sor` rotating, and the previous function
+    /// state into `r1`.
+    Allocate {
+        r1: Gr,
+        sof: u8,
+        sol: u8,
+        sor: u8,
+    },
+    /// A direct branch.
+    Jump {
+        disp: i32,
+    },
+    /// A branch to the address in `b2`.
+    JumpIndirect {
+        b2: Br,
+    },
+    /// A loop branch, whose kind isn't `Cond`.
+    Loop {
+        kind: BranchKind,
+        disp: i32,
+    },
+    /// A call, which leaves the address after it in `b1`.
+    Call {
+        b1: Br,
+        goal: Goal,
+    },
+    /// A return to the address in `b2`.
+    Return {
+        b2: Br,
+    },
+    /// The register rename bases become 0, or that of the predicates alone.
+    ClearBases {
+        pred_only: bool,
+    },
+    /// The run ends with the number `imm`.
+    Stop {
+        unit: Unit,
+        imm: u64,
+    },
+    /// Nothing. The unit of a fence is M.
+    Idle {
+        unit: Unit,
+    },
+}
+
 /// The register that a load adds to its base, r0 where it adds none.
 pub fn update_register(update: &Update) -> Gr
     ensures { result ≡ update_register update.now }
@@ -38,169 +213,6 @@ pub fn update_register(update: &Update) -> Gr
     }
 }
 
-/// The form of an instruction's effect: what it reads, what it writes and how it goes on, without the
-/// function that it computes. r0 stands for an operand that the form has and the instruction lacks: it
-/// reads 0.
-#[derive(Clone, Copy, Debug, PartialEq, Eq)]
-pub enum Form {
-    /// A function of `r2` and `r3` goes into `r1`.
-    Compute {
-        /// The target.
-        r1: Gr,
-        /// The first operand.
-        r2: Gr,
-        /// The second operand.
-        r3: Gr,
-    },
-    /// A copy goes into `r1`.
-    Fetch {
-        /// The target.
-        r1: Gr,
-        /// What is copied.
-        source: Source,
-    },
-    /// A test of `r2` and `r3` goes into `p1` and `p2`.
-    Test {
-        /// What is done with the result.
-        kind: CmpKind,
-        /// The first target.
-        p1: Pr,
-        /// The second target.
-        p2: Pr,
-        /// The first operand.
-        r2: Gr,
-        /// The second operand.
-        r3: Gr,
-    },
-    /// A word goes into the predicates under `mask`, by place.
-    ToPredicates {
-        /// The source.
-        r2: Gr,
-        /// Bit n for place n from 1 to 15, and bit 16 for places 16 to 63.
-        mask: u64,
-    },
-    /// `r2` goes into a branch register.
-    ToBranch {
-        /// The target.
-        b1: Br,
-        /// The source.
-        r2: Gr,
-    },
-    /// A word goes into an application register.
-    ToApplication {
-        /// The target.
-        ar: Ar,
-        /// The source.
-        r2: Gr,
-    },
-    /// A load into `r1` from the address in `r3`.
-    FromMemory {
-        /// How many bytes.
-        size: u8,
-        /// The load type.
-        kind: LoadKind,
-        /// The target.
-        r1: Gr,
-        /// The base.
-        r3: Gr,
-        /// What is added to the base.
-        update: Update,
-    },
-    /// A store of `r2` to the address in `r3`.
-    ToMemory {
-        /// How many bytes.
-        size: u8,
-        /// The store type.
-        kind: StoreKind,
-        /// The base.
-        r3: Gr,
-        /// The source.
-        r2: Gr,
-        /// What is added to the base.
-        update: Update,
-    },
-    /// A branch where `r2` has NaT.
-    CheckNat {
-        /// The register.
-        r2: Gr,
-        /// The target, in bundles from this one.
-        disp: i32,
-    },
-    /// A branch where the ALAT has no entry of `r1`.
-    CheckAlat {
-        /// Whether an entry that is found is removed.
-        clear: bool,
-        /// The register.
-        r1: Gr,
-        /// The target, in bundles from this one.
-        disp: i32,
-    },
-    /// All entries leave the ALAT.
-    ForgetAll,
-    /// The entry of `r1` leaves the ALAT.
-    Forget {
-        /// The register.
-        r1: Gr,
-    },
-    /// A new frame, and the previous function state into `r1`.
-    Allocate {
-        /// The target.
-        r1: Gr,
-        /// The size of the frame.
-        sof: u8,
-        /// The size of its locals.
-        sol: u8,
-        /// The size of its rotating part in eights.
-        sor: u8,
-    },
-    /// A direct branch.
-    Jump {
-        /// The target, in bundles from this one.
-        disp: i32,
-    },
-    /// An indirect branch.
-    JumpIndirect {
-        /// The register with the target.
-        b2: Br,
-    },
-    /// A loop branch.
-    Loop {
-        /// Its kind, which isn't `Cond`.
-        kind: BranchKind,
-        /// The target, in bundles from this one.
-        disp: i32,
-    },
-    /// A call.
-    Call {
-        /// The register for the address after it.
-        b1: Br,
-        /// Where it goes.
-        goal: Goal,
-    },
-    /// A return.
-    Return {
-        /// The register with the target.
-        b2: Br,
-    },
-    /// The register rename bases become 0.
-    ClearBases {
-        /// Whether that of the predicates alone does.
-        pred_only: bool,
-    },
-    /// The run ends.
-    Stop {
-        /// The unit.
-        unit: Unit,
-        /// The number.
-        imm: u64,
-    },
-    /// Nothing.
-    Idle {
-        /// The unit; that of a fence is M.
-        unit: Unit,
-    },
-}
-
 /// The kind of a test of a bit.
 fn test_kind(unc: bool) -> CmpKind
     ensures { result ≡ test_kind unc }
@@ -208,9 +220,23 @@ fn test_kind(unc: bool) -> CmpKind
     if unc { CmpKind::Unc } else { CmpKind::Normal }
 }
 
+/// The addition of an immediate, as a pointer of 32 bits or not.
+fn addition(p4: bool) -> AluFn
+    ensures { result ≡ addition p4 }
+{
+    if p4 { AluFn::Addp4 } else { AluFn::Add }
+}
+
+/// The immediate with ones in each bit, or zeros.
+fn filling(ones: bool) -> i64
+    ensures { result ≡ filling ones }
+{
+    if ones { -1 } else { 0 }
+}
+
 /// The form of a direct branch.
 fn branch_form(kind: BranchKind, disp: i32) -> Form
-    ensures { result ≡ form_of (branch_action kind disp) }
+    ensures { result ≡ branch_form kind disp }
 {
     match kind {
         BranchKind::Cond => Form::Jump { disp },
@@ -218,81 +244,135 @@ fn branch_form(kind: BranchKind, disp: i32) -> Form
     }
 }
 
-/// The form of an operation's effect.
+/// The form of a computation.
+fn compute(r1: Gr, r2: Gr, r3: Gr, function: Function) -> Form
+    ensures { result ≡ Compute r1 r2 r3 function }
+{
+    Form::Compute {
+        r1,
+        r2,
+        r3,
+        function,
+    }
+}
+
+/// The form of a test.
+fn test(kind: CmpKind, p1: Pr, p2: Pr, r2: Gr, r3: Gr, condition: Condition) -> Form
+    ensures { result ≡ Test kind p1 p2 r2 r3 condition }
+{
+    Form::Test {
+        kind,
+        p1,
+        p2,
+        r2,
+        r3,
+        condition,
+    }
+}
+
+/// The form of an operation.
 pub fn form_of(op: &Op) -> Form
-    ensures { result ≡ form_of (action_of op.now) }
+    ensures { result ≡ form_of op.now }
 {
     let r0 = Gr::of_field(0);
     match *op {
-        Op::Alu { r1, r2, r3, .. } | Op::ShlAdd { r1, r2, r3, .. } => Form::Compute { r1, r2, r3 },
-        Op::AluImm8 { r1, r3, .. } | Op::AddImm14 { r1, r3, .. } | Op::AddImm22 { r1, r3, .. } => {
-            Form::Compute { r1, r2: r0, r3 }
+        Op::Alu { f, r1, r2, r3 } => compute(r1, r2, r3, Function::Alu(f)),
+        Op::ShlAdd {
+            p4,
+            r1,
+            r2,
+            count,
+            r3,
+        } => compute(r1, r2, r3, Function::ShiftAdd { p4, count }),
+        Op::AluImm8 { f, r1, imm, r3 } => compute(r1, r0, r3, Function::AluImmediate { f, imm }),
+        Op::AddImm14 { p4, r1, imm, r3 } => {
+            let f = addition(p4);
+            compute(r1, r0, r3, Function::AluImmediate { f, imm })
+        }
+        Op::AddImm22 { r1, imm, r3 } => {
+            let f = AluFn::Add;
+            compute(r1, r0, r3, Function::AluImmediate { f, imm })
         }
         Op::Cmp {
+            four,
+            rel,
             kind,
             p1,
             p2,
             r2,
             r3,
-            ..
-        } => Form::Test {
-            kind,
-            p1,
-            p2,
-            r2,
-            r3,
-        },
+        } => test(kind, p1, p2, r2, r3, Condition::Compare { four, rel }),
         Op::CmpZero {
+            four,
+            rel,
             kind,
             p1,
             p2,
             r3,
-            ..
-        }
-        | Op::CmpImm {
+        } => test(kind, p1, p2, r0, r3, Condition::Compare { four, rel }),
+        Op::CmpImm {
+            four,
+            rel,
             kind,
             p1,
             p2,
+            imm,
             r3,
-            ..
-        } => Form::Test {
+        } => test(
             kind,
             p1,
             p2,
-            r2: r0,
+            r0,
             r3,
-        },
+            Condition::CompareImmediate { four, rel, imm },
+        ),
         Op::ShiftVar {
+            f,
             r1,
             value,
             count,
-            ..
-        } => Form::Compute {
+        } => compute(r1, value, count, Function::Shift(f)),
+        Op::Popcnt { r1, r3 } => compute(r1, r0, r3, Function::Popcount),
+        Op::Shrp { r1, r2, r3, count } => compute(r1, r2, r3, Function::ShiftPair { count }),
+        Op::Extr {
+            signed,
             r1,
-            r2: value,
-            r3: count,
-        },
-        Op::Shrp { r1, r2, r3, .. } | Op::Dep { r1, r2, r3, .. } => Form::Compute { r1, r2, r3 },
-        Op::Popcnt { r1, r3 }
-        | Op::Extr { r1, r3, .. }
-        | Op::DepImm { r1, r3, .. }
-        | Op::Ext { r1, r3, .. } => Form::Compute { r1, r2: r0, r3 },
-        Op::DepZ { r1, r2, .. } => Form::Compute { r1, r2, r3: r0 },
-        Op::DepZImm { r1, .. } | Op::Movl { r1, .. } => Form::Compute { r1, r2: r0, r3: r0 },
+            r3,
+            pos,
+            len,
+        } => compute(r1, r0, r3, Function::Extract { signed, pos, len }),
+        Op::DepZ { r1, r2, pos, len } => compute(r1, r2, r0, Function::Deposit { pos, len }),
+        Op::DepZImm { r1, imm, pos, len } => compute(
+            r1,
+            r0,
+            r0,
+            Function::DepositImmediate { pos, len, imm },
+        ),
+        Op::DepImm {
+            r1,
+            ones,
+            r3,
+            pos,
+            len,
+        } => {
+            let imm = filling(ones);
+            compute(r1, r0, r3, Function::DepositImmediate { pos, len, imm })
+        }
+        Op::Dep {
+            r1,
+            r2,
+            r3,
+            pos,
+            len,
+        } => compute(r1, r2, r3, Function::Deposit { pos, len }),
         Op::Tbit {
             unc,
             p1,
             p2,
             r3,
-            ..
-        }
-        | Op::Tnat { unc, p1, p2, r3 } => Form::Test {
-            kind: test_kind(unc),
-            p1,
-            p2,
-            r2: r0,
-            r3,
-        },
+            pos,
+        } => test(test_kind(unc), p1, p2, r0, r3, Condition::BitIsZero { pos }),
+        Op::Tnat { unc, p1, p2, r3 } => test(test_kind(unc), p1, p2, r0, r3, Condition::NatIsZero),
         Op::ChkS { r2, disp, .. } => Form::CheckNat { r2, disp },
         Op::MovToBr { b1, r2, .. } => Form::ToBranch { b1, r2 },
         Op::MovFromBr { r1, b2 } => Form::Fetch {
@@ -301,11 +381,13 @@ pub fn form_of(op: &Op) -> Form
         },
         Op::MovToPr { r2, mask } => Form::ToPredicates {
             r2,
-            mask: u64::from(mask),
+            mask,
+            word: MovedWord::Register,
         },
-        Op::MovToPrRot { .. } => Form::ToPredicates {
+        Op::MovToPrRot { imm } => Form::ToPredicates {
             r2: r0,
             mask: 1 << 16,
+            word: MovedWord::Immediate(imm),
         },
         Op::MovFromIp { r1 } => Form::Fetch {
             r1,
@@ -315,12 +397,26 @@ pub fn form_of(op: &Op) -> Form
             r1,
             source: Source::Predicates,
         },
-        Op::MovToAr { ar, r2 } => Form::ToApplication { ar, r2 },
-        Op::MovToArImm { ar, .. } => Form::ToApplication { ar, r2: r0 },
+        Op::MovToAr { ar, r2 } => Form::ToApplication {
+            ar,
+            r2,
+            word: MovedWord::Register,
+        },
+        Op::MovToArImm { ar, imm } => Form::ToApplication {
+            ar,
+            r2: r0,
+            word: MovedWord::Immediate(imm),
+        },
         Op::MovFromAr { r1, ar } => Form::Fetch {
             r1,
             source: Source::Application(ar),
         },
+        Op::Ext {
+            signed,
+            size,
+            r1,
+            r3,
+        } => compute(r1, r0, r3, Function::Extend { signed, size }),
         Op::Load {
             size,
             kind,
@@ -366,6 +462,7 @@ pub fn form_of(op: &Op) -> Form
             goal: Goal::Indirect(b2),
         },
         Op::Clrrrb { pred_only } => Form::ClearBases { pred_only },
+        Op::Movl { r1, imm } => compute(r1, r0, r0, Function::Immediate(imm)),
         Op::Break { unit, imm } => Form::Stop { unit, imm },
         Op::Nop { unit, .. } | Op::Hint { unit, .. } => Form::Idle { unit },
     }

@@ -2,21 +2,21 @@
 //! group and run, the resident range of the register stack and the printed state.
 //!
 //! The meaning stands in `specs/`, in whole numbers and lists; it speaks of no machine. Each operation
-//! is one row of a table that gives it an action, one of twenty-one kinds, and each kind of action has
-//! its effect once (Intel Itanium Architecture Software Developer's Manual, volume 1, chapters 3 and
-//! 4, and volume 3, chapter 2). The code here is what the layers above share: the parts of a state,
-//! the form of an instruction, how a slot goes on, the turn of a loop, and laws, which are functions
-//! that do nothing.
+//! is one row of a table that gives it a form, one of twenty-one, and each form has its effect once (Intel
+//! Itanium Architecture Software Developer's Manual, volume 1, chapters 3 and 4, and volume 3, chapter 2).
+//! The code here is what the layers above share: the parts of a state, the form of an instruction, how a
+//! slot goes on, the turn of a loop, and laws, which are functions that do nothing.
 #![tactic(auto)]
 
 mod form;
 mod laws;
+pub mod limits;
 mod next;
 mod runs;
 mod state;
 mod turn;
 
-pub use form::{Form, Goal, Source, form_of, update_register};
+pub use form::{Condition, Form, Function, Goal, MovedWord, Source, form_of, update_register};
 pub use laws::{
     addresses, entry_test, frame_test, law_codes, next_place, stop_test, zero_is_start,
 };

@@ -5,7 +5,7 @@ use Rattle.first_fault.proofs.Laws.{no_fault}
 use Rattle.ia_insn.specs.Programs.{Program, IsProgram, AreInRange, AreEntries}
 use Rattle.insn_codec.specs.Laws as codec
 use Rattle.image_form.specs.Images.{number_bytes, head_bytes, Spells, RawSpells}
-use Rattle.image_form.specs.Parts.{bundle_count, bundle_bytes, entries_of}
+use Rattle.image_form.specs.Parts.{bundle_count, bundle_bytes, entries_of, AreImageCounts}
 use Rattle.image_form.specs.Faults.{image_stages, raw_stages}
 use Rattle.image_form.specs.Laws.{OneProgram, OneImage, NoFaultWhereSpelled, OneRawProgram, NoFaultWhereRaw}
 use Rattle.image_form.proofs.Spelled.{spelled_length, same_bundles, same_bytes}
@@ -57,7 +57,8 @@ image_passed p bytes s =
 raw_passed : (p : Program) (bytes : List ℕ) → RawSpells p bytes → ArePassed (raw_stages bytes)
 raw_passed p bytes s =
     let n = spelled_length p.bundles bytes s.spelled in
-    let counts : AreInRange (length bytes / 16) 0 0 = record { some = omega (arith, s.program.counts.some); bundles = omega (arith, s.program.counts.bundles); entries = omega arith; bytes = omega arith; words = refl } in
+    let range : AreInRange (length bytes / 16) 0 0 = record { some = omega (arith, s.program.counts.some); bundles = omega (arith, s.program.counts.bundles); entries = omega arith; bytes = omega arith; words = refl } in
+    let counts : AreImageCounts (length bytes / 16) 0 0 = record { range = range; bundles = omega (arith, s.program.counts.bundles) } in
     let whole : length bytes % 16 ≡ 0 = omega arith in (
       counts,
       (

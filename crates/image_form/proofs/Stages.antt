@@ -9,7 +9,7 @@ use Rattle.ia_insn.specs.Bundles.{Bundle}
 use Rattle.ia_insn.specs.Places.{EachPlace, IsFirstBad}
 use Rattle.ia_insn.specs.Runs.{IsWithinRun}
 use Rattle.ia_insn.specs.Targets.{IsTargetInside}
-use Rattle.ia_insn.specs.Programs.{AreInRange, AreEntries}
+use Rattle.ia_insn.specs.Programs.{AreEntries}
 use Rattle.ia_insn.proofs.ProgramFaults.{one_first_bad, misplaced_sound}
 use Rattle.insn_codec.specs.declared.bundle.SlotFault.{SlotFault}
 use Rattle.insn_codec.specs.Spelling.{IsSpelled}
@@ -18,7 +18,7 @@ use Rattle.insn_codec.specs.Laws as codec
 use Rattle.image_form.specs.declared.fault.ImageFault.{ImageFault}
 use Rattle.image_form.specs.declared.fault.ImageFault.TheVariants.{Short, Magic, Counts, Length, Entry, Target, LongRun}
 use Rattle.image_form.specs.Images.{magic, AreSpelled}
-use Rattle.image_form.specs.Parts.{bundle_count, image_length, entries_of, bundle_bytes, AreCounts, HasHead}
+use Rattle.image_form.specs.Parts.{bundle_count, image_length, entries_of, bundle_bytes, AreCounts, HasHead, AreImageCounts}
 use Rattle.image_form.specs.Faults.{chunk, IsBundleBytes, entry_stage, spelling_stage, place_stage, bundle_stages, image_stages, HasImageFault, raw_stages}
 use Rattle.image_form.proofs.Spelled.{spelled_length, same_bundles, spelled_chunk}
 
@@ -66,7 +66,7 @@ image_sound bundle one none bytes = (
 
 pub raw_sound : codec.OneBundle → codec.OneFault → codec.NoFaultWhereSpelled → (bytes : List ℕ) → AreSound (raw_stages bytes)
 raw_sound bundle one none bytes = (
-  unless_sound (AreInRange (length bytes / 16) 0 0) Counts,
+  unless_sound (AreImageCounts (length bytes / 16) 0 0) Counts,
   (unless_sound (length bytes % 16 ≡ 0) Length, bundles_sound bundle one none bytes),
 )
 

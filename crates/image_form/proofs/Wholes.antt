@@ -4,9 +4,10 @@ use Rattle.std.specs.Prelude.{slice_index}
 use Rattle.std.proofs.Math.Seq.{take-add}
 use Rattle.std.proofs.lemmas.Nat.{from_le_bytes-to_le_bytes_4}
 use Rattle.std.proofs.lemmas.List.{take-append-drop, take_at, drop_at, take_all, drop-drop, length-take, length-drop}
+use Rattle.ia_insn.specs.declared.limits.TheConstants.{BUNDLE_LIMIT}
 use Rattle.ia_insn.specs.Programs.{Program, IsProgram, AreInRange, AreEntries, AreBytes}
 use Rattle.image_form.specs.Images.{magic, number_bytes, head_bytes, AreSpelled, Spells}
-use Rattle.image_form.specs.Parts.{number_at, numbers, bundle_count, entry_count, data_size, image_length, entry_bytes, after_entries, bundle_bytes, data_of, entries_of, HasHead}
+use Rattle.image_form.specs.Parts.{number_at, numbers, bundle_count, entry_count, data_size, image_length, entry_bytes, after_entries, bundle_bytes, data_of, entries_of, HasHead, AreImageCounts}
 use Rattle.image_form.specs.Laws.{ImageSize}
 use Rattle.image_form.proofs.NumberBytes.{bytes_take, bytes_drop, length-numbers, length-number_bytes, number_bytes-numbers, numbers-number_bytes, FitFour}
 use Rattle.image_form.proofs.Spelled.{spelled_length}
@@ -43,7 +44,7 @@ counts_of p bytes parts = record {
 
 -- where the head is right, so are the counts, and the entries where those of the bytes are
 pub counts_right : (p : Program) (bytes : List ℕ) → ArePartsOf p bytes → AreInRange (length p.bundles) (length p.entries) (length p.bytes)
-counts_right p bytes parts = let n = counts_of p bytes parts in rw (n.bundles, n.entries, n.size) parts.head.counts.range
+counts_right p bytes parts = let n = counts_of p bytes parts in rw (n.bundles, n.entries, n.size) parts.head.counts.size.range
 
 pub entries_right : (p : Program) (bytes : List ℕ) → ArePartsOf p bytes → AreEntries (bundle_count bytes) (entries_of bytes) → AreEntries (length p.bundles) p.entries
 entries_right p bytes parts are = let n = counts_of p bytes parts in rw (n.bundles, parts.entries) are
@@ -123,7 +124,7 @@ headed b e d after hb he hd = record {
   long = length-append (head_bytes b e d) after;
 }
 
-entries_fit : (count : ℕ) (entries : List ℕ) → count ≤ 4096 → AreEntries count entries → FitFour entries
+entries_fit : (count : ℕ) (entries : List ℕ) → count ≤ BUNDLE_LIMIT → AreEntries count entries → FitFour entries
 entries_fit count entries most are k less = let i = (are k less).inside in omega arith
 
 parts_of_whole : (p : Program) (bundles : List ℕ) → IsProgram p → AreSpelled p.bundles bundles → ArePartsOf p (head_bytes (length p.bundles) (length p.entries) (length p.bytes) ++ (number_bytes p.entries ++ (bundles ++ p.bytes)))
@@ -131,7 +132,7 @@ parts_of_whole p bundles program spelled = record {
   head = record {
     long = omega (arith, head.long);
     begins = head.begins;
-    counts = record { range = rw (head.bundles, head.entries, head.size) counts; last = head.last };
+    counts = record { size = rw (head.bundles, head.entries, head.size) (record { range = counts; bundles = omega (arith, counts.bundles) }); last = head.last };
     size = size;
   };
   entries = sym (ap (λ k. numbers k (entry_bytes image)) head.entries ∙ ap (numbers (length p.entries)) entry_part ∙ numbers-number_bytes p.entries (entries_fit (length p.bundles) p.entries counts.bundles program.entries));
@@ -177,8 +178,8 @@ image_size p bytes s =
     omega (arith, parts.head.size, n.bundles, n.entries, n.size)
 
 -- where there are neither entries nor data, the counts are right where that of the whole bundles is
-pub raw_counts : (p : Program) (bytes : List ℕ) → length bytes % 16 ≡ 0 → AreInRange (length bytes / 16) 0 0 → AreSpelled p.bundles bytes → p.entries ≡ [] → p.bytes ≡ [] → AreInRange (length p.bundles) (length p.entries) (length p.bytes)
+pub raw_counts : (p : Program) (bytes : List ℕ) → length bytes % 16 ≡ 0 → AreImageCounts (length bytes / 16) 0 0 → AreSpelled p.bundles bytes → p.entries ≡ [] → p.bytes ≡ [] → AreInRange (length p.bundles) (length p.entries) (length p.bytes)
 raw_counts p bytes whole counts spelled no_entries no_data =
     let n = spelled_length p.bundles bytes spelled in
     let same : length p.bundles ≡ length bytes / 16 = omega arith in
-    rw (no_entries, no_data, same) counts
+    rw (no_entries, no_data, same) counts.range

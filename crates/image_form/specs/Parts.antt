@@ -3,6 +3,7 @@ use Rattle.std.specs.Prelude.{◌≡◌, ℕ, zero, suc, ◌+◌, ◌*◌, ◌�
 use Rattle.std.specs.Int.{w32, from_le_bytes}
 use Rattle.ia_insn.specs.Programs.{AreInRange}
 use Rattle.image_form.specs.declared.head.Head.{Head}
+use Rattle.image_form.specs.declared.head.TheConstants.{IMAGE_BUNDLE_LIMIT}
 use Rattle.image_form.specs.Images.{magic}
 
 -- the number in the four bytes from `at` on, the lowest first
@@ -46,9 +47,15 @@ data_of bytes = drop (16 * bundle_count bytes) (after_entries bytes)
 abbrev pub entries_of : List ℕ → List ℕ
 entries_of bytes = numbers (entry_count bytes) (entry_bytes bytes)
 
+-- How many bundles, declared entries and bytes of data there may be in an image: as in a program, and no more bundles
+-- than an image of this version has.
+pub record AreImageCounts (bundle_count entry_count byte_count : ℕ) : Type 0 where
+  pub range : AreInRange bundle_count entry_count byte_count
+  pub bundles : bundle_count ≤ IMAGE_BUNDLE_LIMIT
+
 -- The numbers of the head are in range, and the last is zero.
 pub record AreCounts (bytes : List ℕ) : Type 0 where
-  pub range : AreInRange (bundle_count bytes) (entry_count bytes) (data_size bytes)
+  pub size : AreImageCounts (bundle_count bytes) (entry_count bytes) (data_size bytes)
   pub last : number_at bytes 20 ≡ 0
 
 -- The bytes have a head that is right: it is whole, begins as an image does, has numbers in range, and

@@ -1,9 +1,8 @@
 //! The heads of images.
 
 ghost use Rattle.std.specs.Prelude.{◌≡◌, ◌+◌, ◌*◌, ◌↔◌, take, IsTrue, IfOk, IfErr};
-ghost use Rattle.ia_insn.specs.Programs.{AreInRange};
 ghost use Rattle.image_form.specs.Images.{magic};
-ghost use Rattle.image_form.specs.Parts.{entry_bytes, bundle_bytes, data_of, IsHeadOf};
+ghost use Rattle.image_form.specs.Parts.{entry_bytes, bundle_bytes, data_of, AreImageCounts, IsHeadOf};
 ghost use Rattle.image_form.specs.Faults.{HasImageFault};
 
 use crate::fault::ImageFault;
@@ -13,6 +12,9 @@ use ia_insn::are_in_range;
 /// What an image begins with.
 pub const MAGIC: &[u8; 8] = b"IA64IMG1";
 
+/// How many bundles an image of this version has at most. No program has more.
+pub const IMAGE_BUNDLE_LIMIT: usize = 4096;
+
 /// How many bytes an image's head has.
 const HEAD_LEN: usize = 24;
 
@@ -21,6 +23,13 @@ pub fn is_image(bytes: &[u8]) -> bool
     ensures { IsTrue result ↔ (take 8 bytes.now ≡ magic) }
 {
     bytes.starts_with(MAGIC)
+}
+
+/// Whether there may be so many bundles, declared entries and bytes of data in an image.
+pub(crate) fn are_image_counts(bundles: usize, entries: usize, bytes: usize) -> bool
+    ensures { IsTrue result ↔ AreImageCounts bundles entries bytes }
+{
+    are_in_range(bundles, entries, bytes) && bundles <= IMAGE_BUNDLE_LIMIT
 }
 
 /// How many bundles, declared entries and bytes of data follow the head of an image.
@@ -52,9 +61,9 @@ impl Head {
 
     /// Whether there may be so many bundles, entries and bytes of data.
     fn is_in_range(&self) -> bool
-        ensures { IsTrue result ↔ AreInRange self.now.bundle_count self.now.entry_count self.now.data_size }
+        ensures { IsTrue result ↔ AreImageCounts self.now.bundle_count self.now.entry_count self.now.data_size }
     {
-        are_in_range(
+        are_image_counts(
             self.bundle_count as usize,
             self.entry_count as usize,
             self.data_size as usize,

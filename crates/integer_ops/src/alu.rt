@@ -2,7 +2,7 @@
 //! `or`, `xor`, `shladd` and `shladdp4`).
 
 ghost use Rattle.std.specs.Prelude.{◌≡◌, ◌+◌, ◌*◌, ◌^◌, ◌≤◌};
-ghost use Rattle.ia_meaning.specs.Arithmetic.{immediate, pointer, alu, shift_add, add_immediate};
+ghost use Rattle.ia_meaning.specs.Arithmetic.{immediate, pointer, alu, shift_add};
 
 use ia_insn::AluFn;
 
@@ -43,13 +43,5 @@ pub(crate) fn shift_add(p4: bool, count: u8, a: u64, b: u64) -> u64
     ensures { result ≡ shift_add p4 count a b }
 {
     let sum = (a << count).wrapping_add(b);
-    if p4 { pointer(sum, b) } else { sum }
-}
-
-/// A signed immediate plus `b`; where `p4` is set, the sum as a pointer of 32 bits.
-pub(crate) fn add_immediate(p4: bool, imm: i64, b: u64) -> u64
-    ensures { result ≡ add_immediate p4 imm b }
-{
-    let sum = immediate(imm).wrapping_add(b);
     if p4 { pointer(sum, b) } else { sum }
 }

@@ -2,7 +2,7 @@
 
 ghost use Rattle.std.specs.Prelude.{◌≡◌, ◌⊎◌, ◌+◌, ◌-◌, ◌*◌, ◌%◌, ◌<◌, ◌≤◌, ◌^◌};
 ghost use Rattle.ia_insn.specs.Ranges.{IsBitField};
-ghost use Rattle.ia_meaning.specs.Arithmetic.{extended, cut, extract, deposit, filling, extend, bit};
+ghost use Rattle.ia_meaning.specs.Arithmetic.{extended, cut, extract, deposit, extend, bit};
 
 use crate::shifts::shift_right_signed;
 
@@ -73,13 +73,6 @@ pub(crate) fn deposit(pos: u8, len: u8, x: u64, a: u64) -> u64
     let width = cut(pos, len);
     let others = !(low_ones(width) << pos);
     (a & others) | (low_bits(x, width) << pos)
-}
-
-/// Ones in each bit, or zeros.
-pub(crate) fn filling(ones: bool) -> u64
-    ensures { result ≡ filling ones }
-{
-    if ones { u64::MAX } else { 0 }
 }
 
 /// The low 1, 2 or 4 bytes of a word, filled with zeros or, where `signed` is set, with their sign.

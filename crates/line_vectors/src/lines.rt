@@ -1,14 +1,12 @@
 //! The rows of faults, and of lines that aren't slots.
 
 use asm_text::{Line, Shape, read_line};
+use asm_words::limits::LINE_LIMIT;
 use asm_words::{LineFault, Name};
-
-/// How many bytes a line has at most.
-const LONGEST: usize = 240;
 
 /// Whether the line has the fault of this name.
 pub fn has_fault(line: &str, fault: &str) -> bool {
-    if line.len() > LONGEST {
+    if line.len() > LINE_LIMIT {
         return false;
     }
     match read_line(line.as_bytes()) {
@@ -34,7 +32,7 @@ pub fn is_line(rest: &str) -> bool {
     let Some((what, line)) = rest.split_once('|') else {
         return false;
     };
-    if line.len() > LONGEST {
+    if line.len() > LINE_LIMIT {
         return false;
     }
     match read_line(line.as_bytes()) {

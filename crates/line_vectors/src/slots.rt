@@ -6,11 +6,9 @@ ghost use Rattle.hex.specs.Hex.{decode_sized};
 use crate::wanted::{Wanted, in_unit, wanted_in};
 use asm_text::{Draft, Line, read_line};
 use asm_words::Name;
+use asm_words::limits::LINE_LIMIT;
 use hex::FromHex;
 use insn_codec::decode_bundle;
-
-/// How many bytes a line has at most.
-const LONGEST: usize = 240;
 
 /// Whether a row of a slot is right: the digits of a bundle, and then the slot, with a `:` and the label
 /// that the text names if it names one, a space, and the text.
@@ -43,7 +41,7 @@ fn is_read_in(bytes: &[u8; 16], rest: &str) -> bool {
 
 /// Whether the text is read as this instruction with its stop, and names the label.
 fn is_read_as(text: &str, wanted: &Wanted, label: Option<&str>) -> bool {
-    if text.len() > LONGEST {
+    if text.len() > LINE_LIMIT {
         return false;
     }
     match read_line(text.as_bytes()) {

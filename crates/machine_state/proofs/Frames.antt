@@ -4,10 +4,11 @@ use Rattle.std.proofs.lemmas.Nat.{field_of}
 use Rattle.std.proofs.Math.Pow.{mod-mod-pow}
 use Rattle.std.specs.Option.{option_map}
 use Rattle.std.specs.Result.{result_err}
+use Rattle.ia_meaning.specs.declared.limits.TheConstants.{STACK_LIMIT}
 use Rattle.ia_meaning.specs.declared.state.FrameShape.{FrameShape}
 use Rattle.ia_meaning.specs.State.{Registers}
 use Rattle.ia_meaning.specs.Writes.{put, SetFrame, Renamed}
-use Rattle.ia_meaning.specs.Frames.{rotated, cleared, marked_frame, return_fault, stack_limit}
+use Rattle.ia_meaning.specs.Frames.{rotated, cleared, marked_frame, return_fault}
 use Rattle.reg_stack.specs.declared.StackFault.{StackFault}
 use Rattle.reg_stack.specs.Stacks.{kind_of, return_fault_within, returned_frame, ReturnFaultIsThat}
 use Rattle.reg_stack.proofs.Resizing.{resized-whole}
@@ -43,11 +44,11 @@ marked_low base pfs =
 pub returned_low : (base pfs : ℕ) → returned_frame base (pfs % 2 ^ 38) ≡ returned_frame base pfs
 returned_low base pfs = rw (marked_low base pfs) (marked_low _ pfs)
 
-pub return_fault_low : ReturnFaultIsThat → (limit base pfs : ℕ) → limit ≡ stack_limit → option_map kind_of (return_fault_within limit base (marked_frame base (pfs % 2 ^ 38))) ≡ return_fault base (marked_frame base pfs)
+pub return_fault_low : ReturnFaultIsThat → (limit base pfs : ℕ) → limit ≡ STACK_LIMIT → option_map kind_of (return_fault_within limit base (marked_frame base (pfs % 2 ^ 38))) ≡ return_fault base (marked_frame base pfs)
 return_fault_low same limit base pfs e = rw (e, marked_low base pfs) (same base (marked_frame base pfs))
 
 -- The answer of a return that has no fault is no error.
-pub not_refused : ReturnFaultIsThat → (limit base pfs : ℕ) (answer : Result (Unit {0}) StackFault) → limit ≡ stack_limit → return_fault base (marked_frame base pfs) ≡ None → result_err answer ≡ return_fault_within limit base (marked_frame base (pfs % 2 ^ 38)) → is_err answer ≡ false
+pub not_refused : ReturnFaultIsThat → (limit base pfs : ℕ) (answer : Result (Unit {0}) StackFault) → limit ≡ STACK_LIMIT → return_fault base (marked_frame base pfs) ≡ None → result_err answer ≡ return_fault_within limit base (marked_frame base (pfs % 2 ^ 38)) → is_err answer ≡ false
 not_refused same limit base pfs answer e free fault = let low = return_fault_low same limit base pfs e in grind arith
 
 -- What is told on success holds of an answer that is no error.

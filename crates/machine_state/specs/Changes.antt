@@ -1,5 +1,6 @@
 -- What a slot writes, as one change.
 use Rattle.std.specs.Prelude.{◌≡◌, ℕ, ◌*◌, ◌/◌, ◌%◌, ◌^◌, ◌<◌, ◌≤◌, Bool, false, if◌then◌else◌, List, [], ◌∷◌, Option, Some, None, IsTrue}
+use Rattle.ia_meaning.specs.declared.limits.TheConstants.{STACK_LIMIT}
 use Rattle.ia_insn.specs.declared.registers.Ar.{Ar}
 use Rattle.ia_insn.specs.declared.registers.Ar.TheVariants.{Unat, Pfs, Lc, Ec}
 use Rattle.ia_insn.specs.declared.choices.Update.{Update}
@@ -15,7 +16,7 @@ use Rattle.ia_meaning.specs.Names.{spot, look, set_spot, predicate_spot, set_pre
 use Rattle.ia_meaning.specs.Outcomes.{Outcome}
 use Rattle.ia_meaning.specs.Moves.{predicate_writes}
 use Rattle.ia_meaning.specs.Loads.{access_fault, stored, forgotten, entered, untouched, update_register, base_writes, unat_bit}
-use Rattle.ia_meaning.specs.Frames.{stack_limit, with_sizes, cleared, call_state, call_frame, marked_frame, return_fault}
+use Rattle.ia_meaning.specs.Frames.{with_sizes, cleared, call_state, call_frame, marked_frame, return_fault}
 use Rattle.ia_meaning.specs.Loops.{turn_of, turn_writes}
 use Rattle.reg_stack.specs.Stacks.{alloc_fault_within, returned_frame}
 use Rattle.machine_state.specs.declared.change.Change.{Change}
@@ -136,7 +137,7 @@ pub record MayAllocate (f : FrameShape) (sof sol sor : ℕ) : Type 0 where
   pub size : sof ≤ 96
   pub locals : sol ≤ sof
   pub rotating : 8 * sor ≤ sof
-  pub fault : alloc_fault_within stack_limit f (with_sizes f sof sol sor) ≡ None
+  pub fault : alloc_fault_within STACK_LIMIT f (with_sizes f sof sol sor) ≡ None
 
 -- The change has no fault, and what goes into PFS and EC fits there.
 abbrev pub MayChange : Contents → Change → Type 0

@@ -1,8 +1,8 @@
 -- What the machine holds.
 use Rattle.std.specs.Prelude.{List, [], ℕ}
+use Rattle.ia_meaning.specs.declared.limits.TheConstants.{STACK_LIMIT}
 use Rattle.ia_meaning.specs.declared.state.Rse.{Rse}
 use Rattle.ia_meaning.specs.State.{zero_registers, Registers, Memory}
-use Rattle.ia_meaning.specs.Frames.{stack_limit}
 use Rattle.ia_meaning.specs.ResidentRange.{zero_range, range_of}
 use Rattle.ia_meaning.specs.Outcomes.{Outcome}
 use Rattle.ia_meaning.specs.Steps.{registers_after}
@@ -21,7 +21,7 @@ zero_contents bytes = record { registers = zero_registers; memory = record { byt
 
 -- its register stack
 abbrev pub stack_of : Contents → StackState
-stack_of c = record { cells = c.registers.cells; frame = c.registers.frame; range = c.range; limit = stack_limit }
+stack_of c = record { cells = c.registers.cells; frame = c.registers.frame; range = c.range; limit = STACK_LIMIT }
 
 -- what an outcome leaves
 abbrev pub left_by : Outcome → Contents → Contents

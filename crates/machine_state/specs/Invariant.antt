@@ -1,7 +1,7 @@
 -- What is seen of the state of the machine, and what is true of it.
 use Rattle.std.specs.Prelude.{◌≡◌, ◌<◌, true, false, get_or}
+use Rattle.ia_meaning.specs.declared.limits.TheConstants.{STACK_LIMIT}
 use Rattle.ia_meaning.specs.State.{zero_cell, HasReservedZeros}
-use Rattle.ia_meaning.specs.Frames.{stack_limit}
 use Rattle.machine_state.specs.declared.state.MachineState.TheInside.{Inside}
 use Rattle.machine_state.specs.Contents.{Contents}
 
@@ -15,7 +15,7 @@ contents_of s = record {
 -- The stack has room for the most cells, r0 is 0 without NaT, p0 is 1, the reserved bits of PFS are zero, and EC has six
 -- bits.
 pub record IsKept (s : Inside) : Type 0 where
-  pub limit : s.stack.limit ≡ stack_limit
+  pub limit : s.stack.limit ≡ STACK_LIMIT
   pub zero : get_or s.statics 0 zero_cell ≡ zero_cell
   pub one : get_or s.predicates 0 false ≡ true
   pub reserved : HasReservedZeros s.pfs

@@ -2,6 +2,7 @@
 
 ghost use Rattle.std.specs.Prelude.{◌≡◌, ◌<◌, ◌≤◌, ◌%◌, ◌^◌, length, get_or, if◌then◌else◌, IfOk};
 ghost use Rattle.std.specs.Option.{option_map};
+ghost use Rattle.ia_insn.specs.declared.limits.TheConstants.{DATA_LIMIT};
 ghost use Rattle.ia_meaning.specs.Names.{spot, look, predicate_place, holds};
 ghost use Rattle.ia_meaning.specs.Moves.{predicate_word, application};
 ghost use Rattle.ia_meaning.specs.Frames.{marked_frame, return_fault};
@@ -11,14 +12,12 @@ ghost use Rattle.machine_state.specs.Changes.{held};
 
 use crate::previous_state::marker_of;
 use ia_insn::{Ar, Br, Gr, Pr};
+use ia_meaning::limits::STACK_LIMIT;
 use ia_meaning::{AlatKey, Cell};
 use nat_alat::{Alat, DataMem};
 use reg_stack::{Stack, StackFault};
 use std::alloc::{AllocError, Global};
 use std::marker::Model;
-
-/// The most stacked registers that there may be.
-const STACK_LIMIT: u32 = 65_536;
 
 /// The registers and the memory of the machine. Contracts see what they hold, and the resident range of
 /// the register stack.
@@ -86,7 +85,7 @@ impl MachineState {
     ///
     /// Want of memory.
     pub fn open(alloc: Global, bytes: &[u8]) -> Result<MachineState, AllocError>
-        requires most { length bytes.now ≤ 1_048_576 }
+        requires most { length bytes.now ≤ DATA_LIMIT }
         requires whole { length bytes.now % 8 ≡ 0 }
         ensures { IfOk result (λ s. s ≡ zero_contents bytes.now) }
     {

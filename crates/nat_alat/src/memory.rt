@@ -1,6 +1,7 @@
 //! Data memory.
 
 ghost use Rattle.std.specs.Prelude.{◌≡◌, ◌==◌, ◌&&◌, ◌+◌, ◌%◌, ◌≤◌, length, nat_le, IfOk, IfErr, OnOk, OnErr, Some, None};
+ghost use Rattle.ia_insn.specs.declared.limits.TheConstants.{DATA_LIMIT};
 ghost use Rattle.ia_insn.specs.Ranges.{IsAccessSize};
 ghost use Rattle.ia_insn.specs.Addresses.{data_base};
 ghost use Rattle.ia_meaning.specs.Arithmetic.{bit};
@@ -62,12 +63,13 @@ pub struct DataMem {
 
 impl Model for DataMem {
     ghost use Rattle.std.specs.Prelude.{◌≡◌, ◌%◌, ◌≤◌, List, ℕ, length};
+    ghost use Rattle.ia_insn.specs.declared.limits.TheConstants.{DATA_LIMIT};
 
     ghost Value = { List ℕ };
 
     ghost view = { λ m. m.bytes.items };
 
-    ghost invariant = { λ m. (length m.bytes.items ≤ 1_048_576) × (length m.bytes.items % 8 ≡ 0) };
+    ghost invariant = { λ m. (length m.bytes.items ≤ DATA_LIMIT) × (length m.bytes.items % 8 ≡ 0) };
 }
 
 impl DataMem {
@@ -77,7 +79,7 @@ impl DataMem {
     ///
     /// Want of memory.
     pub fn open(alloc: Global, bytes: &[u8]) -> Result<DataMem, AllocError>
-        requires most { length bytes.now ≤ 1_048_576 }
+        requires most { length bytes.now ≤ DATA_LIMIT }
         requires whole { length bytes.now % 8 ≡ 0 }
         ensures { IfOk result (λ m. m ≡ bytes.now) }
     {

@@ -5,74 +5,76 @@ use Rattle.ia_insn.specs.declared.choices.CmpKind.TheVariants as cmp
 use Rattle.ia_insn.specs.declared.choices.BranchKind.TheVariants as branch
 use Rattle.ia_insn.specs.declared.choices.Unit.TheVariants.{B}
 use Rattle.ia_meaning.specs.declared.form.Goal.TheVariants as goal
+use Rattle.ia_meaning.specs.declared.form.Condition.TheVariants.{NatIsZero}
+use Rattle.ia_meaning.specs.declared.form.MovedWord.TheVariants.{Register}
 use Rattle.ia_meaning.specs.declared.form.Form.TheVariants as form
 use Rattle.predicate_rel.specs.declared.edge.Edge.TheVariants.{Falls, Taken}
 use Rattle.predicate_rel.specs.Rules.{always, never, one, two, form_rule}
 
 -- a normal test of p6 and p7: a target and another predicate, in both orders; a target and p0, in both spellings; the two targets;
 -- two others
-normal : form_rule (form.Test cmp.Normal 6 7 0 0) Falls 8 6 9 ≡ two 6 9 8 9
+normal : form_rule (form.Test cmp.Normal 6 7 0 0 NatIsZero) Falls 8 6 9 ≡ two 6 9 8 9
 normal = refl
 
-normal_turned : form_rule (form.Test cmp.Normal 6 7 0 0) Falls 8 9 6 ≡ two 9 6 8 9
+normal_turned : form_rule (form.Test cmp.Normal 6 7 0 0 NatIsZero) Falls 8 9 6 ≡ two 9 6 8 9
 normal_turned = refl
 
-normal_zero : form_rule (form.Test cmp.Normal 6 7 0 0) Falls 8 6 0 ≡ two 6 0 8 0
+normal_zero : form_rule (form.Test cmp.Normal 6 7 0 0 NatIsZero) Falls 8 6 0 ≡ two 6 0 8 0
 normal_zero = refl
 
-normal_alone : form_rule (form.Test cmp.Normal 6 7 0 0) Falls 8 6 6 ≡ two 6 0 8 0
+normal_alone : form_rule (form.Test cmp.Normal 6 7 0 0 NatIsZero) Falls 8 6 6 ≡ two 6 0 8 0
 normal_alone = refl
 
-normal_both : form_rule (form.Test cmp.Normal 6 7 0 0) Falls 8 7 6 ≡ one 6 7
+normal_both : form_rule (form.Test cmp.Normal 6 7 0 0 NatIsZero) Falls 8 7 6 ≡ one 6 7
 normal_both = refl
 
-normal_under_p0 : form_rule (form.Test cmp.Normal 6 7 0 0) Falls 0 6 7 ≡ always
+normal_under_p0 : form_rule (form.Test cmp.Normal 6 7 0 0 NatIsZero) Falls 0 6 7 ≡ always
 normal_under_p0 = refl
 
-normal_others : form_rule (form.Test cmp.Normal 6 7 0 0) Falls 8 9 10 ≡ one 9 10
+normal_others : form_rule (form.Test cmp.Normal 6 7 0 0 NatIsZero) Falls 8 9 10 ≡ one 9 10
 normal_others = refl
 
 -- p0 as a target isn't written
-normal_one : form_rule (form.Test cmp.Normal 6 0 0 0) Falls 8 6 0 ≡ two 6 0 8 0
+normal_one : form_rule (form.Test cmp.Normal 6 0 0 0 NatIsZero) Falls 8 6 0 ≡ two 6 0 8 0
 normal_one = refl
 
 -- unc, or, and
-unc : form_rule (form.Test cmp.Unc 6 7 0 0) Falls 8 6 9 ≡ one 8 9
+unc : form_rule (form.Test cmp.Unc 6 7 0 0 NatIsZero) Falls 8 6 9 ≡ one 8 9
 unc = refl
 
-unc_alone : form_rule (form.Test cmp.Unc 6 7 0 0) Falls 8 6 6 ≡ one 8 0
+unc_alone : form_rule (form.Test cmp.Unc 6 7 0 0 NatIsZero) Falls 8 6 6 ≡ one 8 0
 unc_alone = refl
 
-unc_both : form_rule (form.Test cmp.Unc 6 7 0 0) Falls 8 6 7 ≡ always
+unc_both : form_rule (form.Test cmp.Unc 6 7 0 0 NatIsZero) Falls 8 6 7 ≡ always
 unc_both = refl
 
-or : form_rule (form.Test cmp.Or 6 7 0 0) Falls 8 6 9 ≡ two 6 9 8 9
+or : form_rule (form.Test cmp.Or 6 7 0 0 NatIsZero) Falls 8 6 9 ≡ two 6 9 8 9
 or = refl
 
-or_both : form_rule (form.Test cmp.Or 6 7 0 0) Falls 8 6 7 ≡ two 6 7 8 0
+or_both : form_rule (form.Test cmp.Or 6 7 0 0 NatIsZero) Falls 8 6 7 ≡ two 6 7 8 0
 or_both = refl
 
-and : form_rule (form.Test cmp.And 6 7 0 0) Falls 8 6 9 ≡ one 6 9
+and : form_rule (form.Test cmp.And 6 7 0 0 NatIsZero) Falls 8 6 9 ≡ one 6 9
 and = refl
 
 -- or.andcm: the first target, the second one, both
-or_andcm_first : form_rule (form.Test cmp.OrAndcm 6 7 0 0) Falls 8 6 9 ≡ two 6 9 8 9
+or_andcm_first : form_rule (form.Test cmp.OrAndcm 6 7 0 0 NatIsZero) Falls 8 6 9 ≡ two 6 9 8 9
 or_andcm_first = refl
 
-or_andcm_second : form_rule (form.Test cmp.OrAndcm 6 7 0 0) Falls 8 7 9 ≡ one 7 9
+or_andcm_second : form_rule (form.Test cmp.OrAndcm 6 7 0 0 NatIsZero) Falls 8 7 9 ≡ one 7 9
 or_andcm_second = refl
 
-or_andcm_both : form_rule (form.Test cmp.OrAndcm 6 7 0 0) Falls 8 6 7 ≡ one 6 7
+or_andcm_both : form_rule (form.Test cmp.OrAndcm 6 7 0 0 NatIsZero) Falls 8 6 7 ≡ one 6 7
 or_andcm_both = refl
 
 -- a move under the mask of p6 and p16 to p63
-move : form_rule (form.ToPredicates 5 65600) Falls 8 6 9 ≡ two 6 9 8 9
+move : form_rule (form.ToPredicates 5 65600 Register) Falls 8 6 9 ≡ two 6 9 8 9
 move = refl
 
-move_both : form_rule (form.ToPredicates 5 65600) Falls 8 6 20 ≡ two 6 20 8 0
+move_both : form_rule (form.ToPredicates 5 65600 Register) Falls 8 6 20 ≡ two 6 20 8 0
 move_both = refl
 
-move_others : form_rule (form.ToPredicates 5 65600) Falls 8 7 9 ≡ one 7 9
+move_others : form_rule (form.ToPredicates 5 65600 Register) Falls 8 7 9 ≡ one 7 9
 move_others = refl
 
 -- branches and `break`

@@ -18,7 +18,9 @@ use Rattle.ia_meaning.specs.declared.next.Next.TheVariants as next
 use Rattle.ia_meaning.specs.State.{Registers, Memory, State}
 use Rattle.ia_meaning.specs.Landings.{is_entry, landing}
 use Rattle.ia_meaning.specs.Outcomes.{Outcome}
-use Rattle.ia_meaning.specs.Actions.{Action, Loop, action_of, form_of}
+use Rattle.ia_meaning.specs.declared.form.Form.{Form}
+use Rattle.ia_meaning.specs.declared.form.Form.TheVariants.{Loop}
+use Rattle.ia_meaning.specs.Actions.{form_of}
 use Rattle.ia_meaning.specs.Effects.{Site, site, act, skip, effect}
 use Rattle.ia_meaning.specs.Sequence.{first_of, next_of, is_stopped}
 use Rattle.ia_meaning.specs.Steps.{Step, outcome_of, how_falling, place_after, step_by, step_of, seq_step}
@@ -37,7 +39,7 @@ abbrev closed : Site → Site
 closed s = record { bundle = s.bundle; entry = λ _. None }
 
 -- what isn't an indirect branch does the same there
-act_closed : (s : Site) (o : Op) (r : Registers) (m : Memory) (unat : ℕ) → is_indirect o ≡ false → act s (action_of o) r m unat ≡ act (closed s) (action_of o) r m unat
+act_closed : (s : Site) (o : Op) (r : Registers) (m : Memory) (unat : ℕ) → is_indirect o ≡ false → act s (form_of o) r m unat ≡ act (closed s) (form_of o) r m unat
 act_closed s (op.BrInd b2 wh many clr) r m unat n = absurd (cc)
 act_closed s (op.BrRet b2 wh many clr) r m unat n = absurd (cc)
 act_closed s (op.BrCallInd b1 b2 wh many clr) r m unat n = absurd (cc)
@@ -45,16 +47,16 @@ act_closed s (op.Br Cond wh many clr disp) r m unat n = refl
 act_closed s (op.Br kind wh many clr disp) r m unat n = refl
 act_closed s o r m unat n = refl
 
-skip_closed : (s : Site) (a : Action) (r : Registers) (m : Memory) → skip s a r m ≡ skip (closed s) a r m
+skip_closed : (s : Site) (form : Form) (r : Registers) (m : Memory) → skip s form r m ≡ skip (closed s) form r m
 skip_closed s (Loop kind disp) r m = refl
-skip_closed s a r m = refl
+skip_closed s form r m = refl
 
 effect_closed : (s : Site) (insn : Insn) (r : Registers) (m : Memory) (unat : ℕ) → is_indirect insn.op ≡ false → effect s insn r m unat ≡ effect (closed s) insn r m unat
-effect_closed s insn r m unat n = rw (act_closed s insn.op r m unat n, skip_closed s (action_of insn.op) r m) refl
+effect_closed s insn r m unat n = rw (act_closed s insn.op r m unat n, skip_closed s (form_of insn.op) r m) refl
 
 -- where an instruction in a bundle goes to: its target, or, where it is an indirect branch, an entry
 abbrev IsWayOf : Program → ℕ → Op → ℕ → Type 0
-IsWayOf p bundle o to = (target_at bundle (displacement_of (form_of (action_of o))) ≡ Some (first_of to)) ⊎ (IsIndirect o × IsEntry p to)
+IsWayOf p bundle o to = (target_at bundle (displacement_of (form_of o)) ≡ Some (first_of to)) ⊎ (IsIndirect o × IsEntry p to)
 
 -- an address on which a branch lands is that of an entry
 landing_entry : (p : Program) (address : ℕ) → IfSome (landing p address) (IsEntry p)
@@ -70,7 +72,7 @@ module _ (p : Program) (bundle : ℕ) (insn : Insn) (r : Registers) (m : Memory)
   to_target : IsGoodTarget (IsWayOf p bundle insn.op) bundle (displacement insn.op)
   to_target = of (displacement insn.op) (same_displacement insn.op)
     where
-      of : (d : Option ℤ) → displacement_of (form_of (action_of insn.op)) ≡ d → IsGoodTarget (IsWayOf p bundle insn.op) bundle d
+      of : (d : Option ℤ) → displacement_of (form_of insn.op) ≡ d → IsGoodTarget (IsWayOf p bundle insn.op) bundle d
       of None e = tt
       of (Some disp) e = inl (ap (target_at bundle) e)
 
@@ -90,7 +92,7 @@ module _ (p : Program) (bundle : ℕ) (insn : Insn) (r : Registers) (m : Memory)
           (effect_on (IsWayOf p bundle insn.op) (closed (site p bundle)) insn r m unat (λ address. tt) to_target)
 
 -- an instruction that falls through may do so
-leaving_op : (o : Op) → leaves (form_of (action_of o)) ≡ true → IsLeaving o
+leaving_op : (o : Op) → leaves (form_of o) ≡ true → IsLeaving o
 leaving_op (op.Br Cond wh many clr disp) h = tt
 leaving_op (op.Br kind wh many clr disp) h = absurd (cc)
 leaving_op (op.BrCall b1 wh many clr disp) h = tt
@@ -101,9 +103,9 @@ leaving_op (op.Break unit imm) h = tt
 leaving_op o h = absurd (cc)
 
 falling_may : (s : Site) (insn : Insn) (r : Registers) (m : Memory) (unat : ℕ) → (effect s insn r m unat).next ≡ next.Falls → may_fall insn ≡ true
-falling_may s insn r m unat e = by_tests (insn.qp == 0) (leaves (form_of (action_of insn.op))) refl refl
+falling_may s insn r m unat e = by_tests (insn.qp == 0) (leaves (form_of insn.op)) refl refl
   where
-    by_tests : (a b : Bool) → (insn.qp == 0) ≡ a → leaves (form_of (action_of insn.op)) ≡ b → not (a && b) ≡ true
+    by_tests : (a b : Bool) → (insn.qp == 0) ≡ a → leaves (form_of insn.op) ≡ b → not (a && b) ≡ true
     by_tests false b i j = refl
     by_tests true false i j = refl
     by_tests true true i j =

@@ -29,7 +29,10 @@ use Rattle.ia_meaning.specs.State.{zero_cell, Registers, Memory, State, IsFrame,
 use Rattle.ia_meaning.specs.Writes.{Write, SetPredicate, SetBranch, SetUnat, SetPfs, SetLc, SetEc, SetFrame, Resized, Renamed, apply}
 use Rattle.ia_meaning.specs.Names.{predicate_place, holds, predicate_spot, set_spot, set_predicate}
 use Rattle.ia_meaning.specs.Outcomes.{Outcome}
-use Rattle.ia_meaning.specs.Actions.{Action, Compute, Fetch, Test, ToPredicates, ToBranch, ToApplication, FromMemory, ToMemory, CheckNat, CheckAlat, ForgetAll, Forget, Allocate, Jump, JumpIndirect, Loop, Call, Return, ClearBases, Stop, Idle, action_of, form_of}
+use Rattle.ia_meaning.specs.declared.form.MovedWord.{MovedWord}
+use Rattle.ia_meaning.specs.declared.form.Form.{Form}
+use Rattle.ia_meaning.specs.declared.form.Form.TheVariants.{Compute, Fetch, Test, ToPredicates, ToBranch, ToApplication, FromMemory, ToMemory, CheckNat, CheckAlat, ForgetAll, Forget, Allocate, Jump, JumpIndirect, Loop, Call, Return, ClearBases, Stop, Idle}
+use Rattle.ia_meaning.specs.Actions.{form_of, result_of, moved}
 use Rattle.ia_meaning.specs.Moves.{test_writes}
 use Rattle.ia_meaning.specs.Loads.{base_writes}
 use Rattle.ia_meaning.specs.Frames.{with_sizes, call_writes, rotated, cleared}
@@ -57,15 +60,15 @@ use Rattle.predicate_rel.proofs.AfterWrites.{same_holds, IsPlain, apply_plain, s
 use Rattle.predicate_rel.proofs.StepEdges.{edge_falling}
 
 -- What a way of going on leaves is true: along a fall, and along a taken branch that has a target.
-abbrev KeepsOn : Pairs → Action → ℕ → Registers → Next → Type 0
-KeepsOn f a g now next.Falls = IsRuleApart (form_rule (form_of a) Falls g) f now
-KeepsOn f a g now (next.Goes to) = IsSome (displacement_of (form_of a)) → IsRuleApart (form_rule (form_of a) Taken g) f now
-KeepsOn f a g now (next.Breaks imm) = ⊤
-KeepsOn f a g now (next.Faults kind) = ⊤
+abbrev KeepsOn : Pairs → Form → ℕ → Registers → Next → Type 0
+KeepsOn f form g now next.Falls = IsRuleApart (form_rule form Falls g) f now
+KeepsOn f form g now (next.Goes to) = IsSome (displacement_of form) → IsRuleApart (form_rule form Taken g) f now
+KeepsOn f form g now (next.Breaks imm) = ⊤
+KeepsOn f form g now (next.Faults kind) = ⊤
 
 -- so is what an outcome leaves
-abbrev Keeps : Pairs → Action → ℕ → Registers → Outcome → Type 0
-Keeps f a g r o = KeepsOn f a g (registers_after o r) o.next
+abbrev Keeps : Pairs → Form → ℕ → Registers → Outcome → Type 0
+Keeps f form g r o = KeepsOn f form g (registers_after o r) o.next
 
 -- writes of general registers touch no predicate
 spot_plain : (pr : ℕ) (d : Spot) (c : Cell) (ws : List Write) → Each (IsPlain pr) ws → Each (IsPlain pr) (set_spot d c ws)
@@ -190,21 +193,21 @@ module _ (f : Pairs) (g : ℕ) (r : Registers) (frame : IsFrame r.frame) (long :
   loop_keeps false is branch.Cexit disp bundle m q = absurd (off_some r g is q)
   loop_keeps false is branch.Ctop disp bundle m q = absurd (off_some r g is q)
 
-  application_keeps : (x : Ar) (r2 : ℕ) (h : ℕ → ℕ) (v : ℕ) (m : Memory) → ApplicationCases (Keeps f (ToApplication x r2 h) g r) x v m
-  application_keeps ar.Unat r2 h v m = plain (SetUnat v ∷ []) (tt, tt)
-  application_keeps ar.Pfs r2 h v m = λ z. plain (SetPfs v ∷ []) (tt, tt)
-  application_keeps ar.Lc r2 h v m = plain (SetLc v ∷ []) (tt, tt)
-  application_keeps ar.Ec r2 h v m = plain (SetEc (v % 64) ∷ []) (tt, tt)
+  application_keeps : (x : Ar) (r2 : ℕ) (w : MovedWord) (v : ℕ) (m : Memory) → ApplicationCases (Keeps f (ToApplication x r2 w) g r) x v m
+  application_keeps ar.Unat r2 w v m = plain (SetUnat v ∷ []) (tt, tt)
+  application_keeps ar.Pfs r2 w v m = λ z. plain (SetPfs v ∷ []) (tt, tt)
+  application_keeps ar.Lc r2 w v m = plain (SetLc v ∷ []) (tt, tt)
+  application_keeps ar.Ec r2 w v m = plain (SetEc (v % 64) ∷ []) (tt, tt)
 
-  -- Of an action that is executed.
-  act_keeps : (s : Site) (x : Action) (m : Memory) (unat : ℕ) → HasNames g (form_of x) → holds r g ≡ true → ActCases (Keeps f x g r) s x r m unat
+  -- Of a form that is executed.
+  act_keeps : (s : Site) (form : Form) (m : Memory) (unat : ℕ) → HasNames g form → holds r g ≡ true → ActCases (Keeps f form g r) s form r m unat
   act_keeps s (Compute r1 r2 r3 h) m unat n on = (λ k. tt, λ d b c _ _ _. plain _ (spot_plain _ d _ [] tt))
   act_keeps s (Fetch r1 source) m unat n on = (λ k. tt, λ d _. plain _ (spot_plain _ d _ [] tt))
-  act_keeps s (Test kind p1 p2 r2 r3 h) m unat n on = (λ k. tt, λ b c _ _. test_on p1 p2 n.0 n.1 n.2 kind (h b c) on)
-  act_keeps s (ToPredicates r2 h mask) m unat n on =
-      (λ k. tt, λ b _ _. raised_written (is_moved mask) g f r _ refl on (λ x i e k. sym (moved_other mask (h b.value) r x e) ∙ k) a)
+  act_keeps s (Test kind p1 p2 r2 r3 h) m unat n on = (λ k. tt, λ b c _ _. test_on p1 p2 n.0 n.1 n.2 kind (result_of h b c) on)
+  act_keeps s (ToPredicates r2 mask w) m unat n on =
+      (λ k. tt, λ b _ _. raised_written (is_moved mask) g f r _ refl on (λ x i e k. sym (moved_other mask (moved w b.value) r x e) ∙ k) a)
   act_keeps s (ToBranch b1 r2) m unat n on = (λ k. tt, λ b _ _. plain (SetBranch b1 b.value ∷ []) (tt, tt))
-  act_keeps s (ToApplication x r2 h) m unat n on = (λ k. tt, λ c _ _. application_keeps x r2 h (h c.value) m)
+  act_keeps s (ToApplication x r2 w) m unat n on = (λ k. tt, λ c _ _. application_keeps x r2 w (moved w c.value) m)
   act_keeps s (FromMemory size kind r1 r3 u) m unat n on = (
     λ k. tt,
     λ d e base more _ _ _ _. record {
@@ -230,9 +233,9 @@ module _ (f : Pairs) (g : ℕ) (r : Registers) (frame : IsFrame r.frame) (long :
   act_keeps s (Idle unit) m unat n on = still
 
   -- Of one that isn't.
-  skip_keeps : (s : Site) (x : Action) (m : Memory) → HasNames g (form_of x) → holds r g ≡ false → SkipCases (Keeps f x g r) s x r m
+  skip_keeps : (s : Site) (form : Form) (m : Memory) → HasNames g form → holds r g ≡ false → SkipCases (Keeps f form g r) s form r m
   skip_keeps s (Test kind p1 p2 r2 r3 h) m n off = (λ e. test_cleared p1 p2 n.0 n.1 n.2 kind e, λ e. test_off kind p1 p2 g f r off e a)
-  skip_keeps s (ToPredicates r2 h mask) m n off = raised_same (is_moved mask) g f r refl a
+  skip_keeps s (ToPredicates r2 mask w) m n off = raised_same (is_moved mask) g f r refl a
   skip_keeps s (Jump disp) m n off = fallen off
   skip_keeps s (JumpIndirect b2) m n off = fallen off
   skip_keeps s (Loop kind disp) m n off = loop_keeps false off kind disp (target_of s.bundle disp) m n
@@ -240,14 +243,14 @@ module _ (f : Pairs) (g : ℕ) (r : Registers) (frame : IsFrame r.frame) (long :
   skip_keeps s (Return b2) m n off = fallen off
   skip_keeps s (ClearBases pred_only) m n off = static [] tt
   skip_keeps s (Stop unit imm) m n off = fallen off
-  skip_keeps s x m n off = still
+  skip_keeps s form m n off = still
 
 -- the rules of all pairs, as the set that they leave
-rules_apart : (f : Pairs) (insn : Insn) (e : Edge) (now : Registers) → IsRuleApart (form_rule (form_of (action_of insn.op)) e insn.qp) f now → AreNeverBothOne (pairs_after f insn e) now
+rules_apart : (f : Pairs) (insn : Insn) (e : Edge) (now : Registers) → IsRuleApart (form_rule (form_of insn.op) e insn.qp) f now → AreNeverBothOne (pairs_after f insn e) now
 unfolding pairs_after rule_of
 rules_apart f insn e now h = record {
   apart = λ x y m i j.
-      let both = and_parts (in_range x y) (is_met (form_rule (form_of (action_of insn.op)) e insn.qp x y) f) m in
+      let both = and_parts (in_range x y) (is_met (form_rule (form_of insn.op) e insn.qp x y) f) m in
       let small = in_range_parts x y both.0 in
       h.apart x y small.0 small.1 both.1 i j;
 }
@@ -260,16 +263,16 @@ module _ (p : Program) (s : State) (f : Pairs) (insn : Insn) (program : IsProgra
   abbrev Here : Outcome
   Here = effect (site p s.place.bundle) insn s.registers s.memory s.registers.unat
 
-  here_keeps : Keeps f (action_of insn.op) insn.qp s.registers Here
+  here_keeps : Keeps f (form_of insn.op) insn.qp s.registers Here
   here_keeps =
       let n = has_names insn.qp insn.op (listed_at p s.place insn program here) in
       let frame = is.registers.frame in
       let long = is.registers.predicate_count in
-      guarded_cases (Keeps f (action_of insn.op) insn.qp s.registers) (site p s.place.bundle) insn.qp (action_of insn.op) s.registers s.memory s.registers.unat
-      (act_keeps f insn.qp s.registers frame long a (site p s.place.bundle) (action_of insn.op) s.memory s.registers.unat n)
-      (skip_keeps f insn.qp s.registers frame long a (site p s.place.bundle) (action_of insn.op) s.memory n)
+      guarded_cases (Keeps f (form_of insn.op) insn.qp s.registers) (site p s.place.bundle) insn.qp (form_of insn.op) s.registers s.memory s.registers.unat
+      (act_keeps f insn.qp s.registers frame long a (site p s.place.bundle) (form_of insn.op) s.memory s.registers.unat n)
+      (skip_keeps f insn.qp s.registers frame long a (site p s.place.bundle) (form_of insn.op) s.memory n)
 
-  settled_keeps : (to : Option Place) (way : Next) (o : Outcome) → o.next ≡ way → Keeps f (action_of insn.op) insn.qp s.registers o → Keeps f (action_of insn.op) insn.qp s.registers (settled to s.memory way o)
+  settled_keeps : (to : Option Place) (way : Next) (o : Outcome) → o.next ≡ way → Keeps f (form_of insn.op) insn.qp s.registers o → Keeps f (form_of insn.op) insn.qp s.registers (settled to s.memory way o)
   settled_keeps None next.Falls o e h = tt
   settled_keeps None (next.Goes bundle) o e h = h
   settled_keeps None (next.Breaks imm) o e h = h
@@ -277,8 +280,8 @@ module _ (p : Program) (s : State) (f : Pairs) (insn : Insn) (program : IsProgra
   settled_keeps (Some to) way o e h = h
 
   -- a taken edge has a target
-  has_target : (to : Place) → edge_of p.bundles s.place (Some insn) Taken ≡ Some to → IsSome (displacement_of (form_of (action_of insn.op)))
-  has_target to leads = of (displacement_of (form_of (action_of insn.op))) leads
+  has_target : (to : Place) → edge_of p.bundles s.place (Some insn) Taken ≡ Some to → IsSome (displacement_of (form_of insn.op))
+  has_target to leads = of (displacement_of (form_of insn.op)) leads
     where
       of : (o : Option ℤ) → target_at s.place.bundle o ≡ Some to → IsSome o
       of None e = absurd (cc)
@@ -293,7 +296,7 @@ module _ (p : Program) (s : State) (f : Pairs) (insn : Insn) (program : IsProgra
   unfolding pairs_past
   past_here e now h = subst (λ (o : Option Insn). AreNeverBothOne (pairs_past_insn o e f) now) (sym here) h
 
-  stepping : (o : Outcome) (way : Next) → KeepsOn f (action_of insn.op) insn.qp (registers_after o s.registers) way → (step_by p s o way).end ≡ None → KeepsAlong p s f (step_by p s o way)
+  stepping : (o : Outcome) (way : Next) → KeepsOn f (form_of insn.op) insn.qp (registers_after o s.registers) way → (step_by p s o way).end ≡ None → KeepsAlong p s f (step_by p s o way)
   stepping o next.Falls h goes = λ edge. subst (λ (e : Edge). AreNeverBothOne (pairs_past p s.place e f) (registers_after o s.registers)) (sym (edge_falling (is_stopped p.bundles s.place))) (past_here Falls (registers_after o s.registers) (rules_apart f insn Falls (registers_after o s.registers) h))
   stepping o (next.Goes bundle) h goes = λ edge. past_here Taken (registers_after o s.registers) (rules_apart f insn Taken (registers_after o s.registers) (h (has_target (first_of bundle) (edge_leads Taken (first_of bundle) edge))))
   stepping o (next.Breaks imm) h goes = absurd (cc)

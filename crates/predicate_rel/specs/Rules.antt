@@ -125,8 +125,8 @@ loop_rule kind edge x y = one x y
 -- The rule by the form of the effect. A call that is taken and `clrrrb` rename p16 to p63. All other forms, and taken branches,
 -- leave the set as it is.
 abbrev pub form_rule : Form → Edge → (g x y : ℕ) → PairRule
-form_rule (form.Test kind p1 p2 r2 r3) edge g x y = test_rule kind p1 p2 g x y
-form_rule (form.ToPredicates r2 mask) edge g x y = move_rule mask g x y
+form_rule (form.Test kind p1 p2 r2 r3 c) edge g x y = test_rule kind p1 p2 g x y
+form_rule (form.ToPredicates r2 mask w) edge g x y = move_rule mask g x y
 form_rule (form.Jump disp) Falls g x y = falls_rule g x y
 form_rule (form.Call b1 goal) Falls g x y = falls_rule g x y
 form_rule (form.JumpIndirect b2) Falls g x y = falls_rule g x y

@@ -10,7 +10,7 @@ use Rattle.ia_insn.specs.declared.choices.BranchKind.TheVariants as branch
 use Rattle.ia_insn.specs.declared.insn.Insn.{Insn}
 use Rattle.ia_meaning.specs.declared.form.Form.{Form}
 use Rattle.ia_meaning.specs.declared.form.Form.TheVariants as form
-use Rattle.ia_meaning.specs.Actions.{action_of, form_of}
+use Rattle.ia_meaning.specs.Actions.{form_of}
 use Rattle.predicate_rel.specs.declared.edge.Edge.{Edge}
 use Rattle.predicate_rel.specs.declared.edge.Edge.TheVariants.{Falls, Taken}
 use Rattle.predicate_rel.specs.declared.rows.Kept.{Kept}
@@ -160,8 +160,8 @@ loop_keeps branch.Wexit Taken f un = static_keeps f un
 loop_keeps kind edge f un = one_keeps f un
 
 form_keeps : (a : Form) (edge : Edge) (g : ℕ) (f : Pairs) → IsUnordered f → KeepsOrder (form_rule a edge g) f
-form_keeps (form.Test kind p1 p2 r2 r3) edge g f un = test_keeps kind p1 p2 g f un
-form_keeps (form.ToPredicates r2 mask) edge g f un = raised_keeps (is_moved mask) g f refl un
+form_keeps (form.Test kind p1 p2 r2 r3 c) edge g f un = test_keeps kind p1 p2 g f un
+form_keeps (form.ToPredicates r2 mask w) edge g f un = raised_keeps (is_moved mask) g f refl un
 form_keeps (form.Jump disp) Falls g f un = falls_keeps g f un
 form_keeps (form.Call b1 goal) Falls g f un = falls_keeps g f un
 form_keeps (form.JumpIndirect b2) Falls g f un = falls_keeps g f un
@@ -175,7 +175,7 @@ form_keeps a edge g f un = one_keeps f un
 -- the law
 pub pairs_after-unordered : (f : Pairs) (i : Insn) (e : Edge) → IsUnordered f → IsUnordered (pairs_after f i e)
 unfolding pairs_after rule_of in_range
-pairs_after-unordered f i e un = let k = form_keeps (form_of (action_of i.op)) e i.qp f un in record {
+pairs_after-unordered f i e un = let k = form_keeps (form_of i.op) e i.qp f un in record {
   swaps = λ x y. ap (λ (b : Bool). b && is_met (rule_of i e x y) f) (and_comm (nat_lt x 64) (nat_lt y 64)) ∙ ap (λ (b : Bool). (nat_lt y 64 && nat_lt x 64) && b) (k.swaps x y);
   alone = λ x. ap (λ (b : Bool). (nat_lt x 64 && nat_lt x 64) && b) (k.alone x) ∙ ap (λ (b : Bool). b && is_met (rule_of i e x 0) f) (twice (nat_lt x 64));
 }

@@ -208,7 +208,7 @@ impl Facts {
     {
         match (*form, edge) {
             (Form::Test { kind, p1, p2, .. }, _) => self.test_row(kind, p1, p2, g, x),
-            (Form::ToPredicates { mask, .. }, _) => self.raised_row(moved(mask), g, x),
+            (Form::ToPredicates { mask, .. }, _) => self.raised_row(moved(u64::from(mask)), g, x),
             (
                 Form::Jump { .. }
                 | Form::Call { .. }

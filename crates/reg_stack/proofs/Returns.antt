@@ -1,9 +1,10 @@
 -- The fault of a return.
 use Rattle.std.proofs.Common.{◌≡◌, ℕ, ◌+◌, ◌-◌, Bool, true, false, not, if◌then◌else◌, nat_lt, Some, None, refl}
 use Rattle.std.specs.Option.{option_map}
+use Rattle.ia_meaning.specs.declared.limits.TheConstants.{STACK_LIMIT}
 use Rattle.ia_insn.specs.declared.ending.FaultKind.TheVariants as kind
 use Rattle.ia_meaning.specs.declared.state.FrameShape.{FrameShape}
-use Rattle.ia_meaning.specs.Frames.{is_frame, marked_frame, return_fault, stack_limit}
+use Rattle.ia_meaning.specs.Frames.{is_frame, marked_frame, return_fault}
 use Rattle.ia_meaning.proofs.ReturnFrames.{MayReturn, unrefused}
 use Rattle.reg_stack.specs.declared.StackFault.TheVariants.{BadFrame, Underflow, StackLimit}
 use Rattle.reg_stack.specs.Stacks.{kind_of, return_fault_within, returned_frame, ReturnFaultIsThat}
@@ -16,7 +17,7 @@ by_tests false false false = refl
 
 pub return_fault_is : ReturnFaultIsThat
 unfolding return_fault_within return_fault
-return_fault_is base f = by_tests (not (is_frame f)) (nat_lt base f.sol) (nat_lt stack_limit (base - f.sol + f.sof))
+return_fault_is base f = by_tests (not (is_frame f)) (nat_lt base f.sol) (nat_lt STACK_LIMIT (base - f.sol + f.sof))
 
 pub may_return : (limit base : ℕ) (f : FrameShape) → return_fault_within limit base f ≡ None → MayReturn limit base f
 unfolding return_fault_within

@@ -1,6 +1,7 @@
 -- What the register stack holds, and what its calls answer and leave (volume 1, chapter 4, register stack).
 use Rattle.std.specs.Prelude.{◌≡◌, ℕ, ◌+◌, ◌-◌, ◌≤◌, false, not, ◌&&◌, ◌==◌, if◌then◌else◌, List, [], ◌∷◌, length, get_or, set, Option, Some, None, Result, Ok, Err, nat_lt}
 use Rattle.std.specs.Option.{option_map}
+use Rattle.ia_meaning.specs.declared.limits.TheConstants.{STACK_LIMIT}
 use Rattle.ia_insn.specs.declared.ending.FaultKind.{FaultKind}
 use Rattle.ia_insn.specs.declared.ending.FaultKind.TheVariants as kind
 use Rattle.ia_meaning.specs.declared.state.Cell.{Cell}
@@ -12,7 +13,7 @@ use Rattle.ia_meaning.specs.State.{zero_cell, zero_frame, Memory, AreCells, IsFr
 use Rattle.ia_meaning.specs.Writes.{SetFrame, Resized, resized}
 use Rattle.ia_meaning.specs.Names.{set_spot}
 use Rattle.ia_meaning.specs.Outcomes.{Outcome, falls, faults}
-use Rattle.ia_meaning.specs.Frames.{allocated, has_zero_bases, is_frame, marked_frame, return_fault, stack_limit}
+use Rattle.ia_meaning.specs.Frames.{allocated, has_zero_bases, is_frame, marked_frame, return_fault}
 use Rattle.ia_meaning.specs.ResidentRange.{zero_range, range_after}
 use Rattle.reg_stack.specs.declared.StackFault.{StackFault}
 use Rattle.reg_stack.specs.declared.StackFault.TheVariants.{OutOfFrame, BadFrame, Underflow, StackLimit, ReservedField}
@@ -34,7 +35,7 @@ pub record IsStack (s : StackState) : Type 0 where
   pub count : length s.cells ≡ s.frame.base + s.frame.sof
   pub within : s.frame.base + s.frame.sof ≤ s.limit
   pub least : 96 ≤ s.limit
-  pub most : s.limit ≤ 65536
+  pub most : s.limit ≤ STACK_LIMIT
   pub cells : AreCells s.cells
 
 -- the cell at the place of a stacked register, which never is that of a static one
@@ -90,8 +91,8 @@ alloc_tried None new d pfs m = falls (SetFrame Resized new ∷ set_spot d (recor
 
 -- In a stack of the most cells that there may be, the faults of `alloc` are those of the meaning of programs.
 abbrev pub AllocFaultIsThat : Type 0
-AllocFaultIsThat = (old new : FrameShape) (d : Spot) (pfs : ℕ) (m : Memory) → alloc_tried (alloc_fault_within stack_limit old new) new d pfs m ≡ allocated old new (Some d) pfs m
+AllocFaultIsThat = (old new : FrameShape) (d : Spot) (pfs : ℕ) (m : Memory) → alloc_tried (alloc_fault_within STACK_LIMIT old new) new d pfs m ≡ allocated old new (Some d) pfs m
 
 -- So are those of a return.
 abbrev pub ReturnFaultIsThat : Type 0
-ReturnFaultIsThat = (base : ℕ) (f : FrameShape) → option_map kind_of (return_fault_within stack_limit base f) ≡ return_fault base f
+ReturnFaultIsThat = (base : ℕ) (f : FrameShape) → option_map kind_of (return_fault_within STACK_LIMIT base f) ≡ return_fault base f

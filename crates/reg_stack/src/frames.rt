@@ -3,6 +3,7 @@
 ghost use Rattle.std.specs.Prelude.{◌≡◌, ◌+◌, ◌*◌, ◌<◌, ◌≤◌, ◌⊎◌, ◌==◌, ◌&&◌, not, false, IfOk, Some, None, MatchOption};
 ghost use Rattle.ia_meaning.specs.declared.state.AlatKey.TheVariants.{Stacked};
 ghost use Rattle.std.specs.Result.{result_err};
+ghost use Rattle.ia_meaning.specs.declared.limits.TheConstants.{STACK_LIMIT};
 ghost use Rattle.ia_meaning.specs.State.{zero_bases, zero_frame, IsFrame};
 ghost use Rattle.ia_meaning.specs.Names.{spot};
 ghost use Rattle.ia_meaning.specs.Frames.{has_zero_bases, with_sizes, rotated, cleared, call_frame};
@@ -16,7 +17,7 @@ use ia_meaning::{FrameShape, Rrbs};
 #[tactic(auto, unfolding(ia_meaning::specs::Names::spot))]
 pub(crate) fn cell_of(frame: &FrameShape, r: Gr) -> Option<u32>
     requires frame { IsFrame frame.now }
-    requires within { frame.now.base + frame.now.sof ≤ 65536 }
+    requires within { frame.now.base + frame.now.sof ≤ STACK_LIMIT }
     requires stacked { 32 ≤ r }
     ensures { MatchOption result (spot frame.now r ≡ None) (λ n. (spot frame.now r ≡ Some (Stacked n)) × (n < frame.now.base + frame.now.sof)) }
 {
@@ -81,7 +82,7 @@ pub(crate) fn allocated(
     sor: u8,
 ) -> Result<FrameShape, StackFault>
     requires frame { IsFrame frame.now }
-    requires within { frame.now.base + frame.now.sof ≤ 65536 }
+    requires within { frame.now.base + frame.now.sof ≤ STACK_LIMIT }
     requires size { sof ≤ 96 }
     requires locals { sol ≤ sof }
     requires rotating { 8 * sor ≤ sof }
@@ -106,7 +107,7 @@ pub(crate) fn allocated(
 /// The frame of a call: the caller's without its locals.
 pub(crate) fn called(frame: &FrameShape) -> FrameShape
     requires frame { IsFrame frame.now }
-    requires within { frame.now.base + frame.now.sof ≤ 65536 }
+    requires within { frame.now.base + frame.now.sof ≤ STACK_LIMIT }
     ensures value { result ≡ call_frame frame.now }
     ensures frame { IsFrame result }
 {

@@ -2,6 +2,7 @@
 
 ghost use Rattle.std.specs.Prelude.{◌≡◌, ◌+◌, ◌-◌, ◌^◌, ◌<◌, ◌≤◌, ◌↔◌, IsTrue, IfOk};
 ghost use Rattle.std.specs.Result.{result_err};
+ghost use Rattle.ia_meaning.specs.declared.limits.TheConstants.{STACK_LIMIT};
 ghost use Rattle.ia_meaning.specs.State.{IsFrame};
 ghost use Rattle.ia_meaning.specs.Frames.{marked_frame, is_frame};
 ghost use Rattle.reg_stack.specs.Stacks.{return_fault_within, returned_frame};
@@ -45,7 +46,7 @@ fn is_frame(frame: &FrameShape) -> bool
 /// Why a return to this frame below `base` is refused, in a stack of at most `limit` cells.
 #[tactic(auto, unfolding(crate::specs::Stacks::return_fault_within))]
 fn return_fault(limit: u32, base: u32, frame: &FrameShape) -> Option<StackFault>
-    requires { base ≤ 65536 }
+    requires { base ≤ STACK_LIMIT }
     ensures { result ≡ return_fault_within limit base frame.now }
 {
     let (sof, sol) = (u32::from(frame.sof), u32::from(frame.sol));
@@ -62,7 +63,7 @@ fn return_fault(limit: u32, base: u32, frame: &FrameShape) -> Option<StackFault>
 
 /// The frame that a return enters, from a frame at `base` in a stack of at most `limit` cells.
 pub(crate) fn returned(limit: u32, base: u32, pfs: u64) -> Result<FrameShape, StackFault>
-    requires { base ≤ 65536 }
+    requires { base ≤ STACK_LIMIT }
     ensures fault { result_err result ≡ return_fault_within limit base (marked_frame base pfs) }
     ensures frame { IfOk result (λ f. (f ≡ returned_frame base pfs) × IsFrame f × (f.base + f.sof ≤ limit)) }
 {

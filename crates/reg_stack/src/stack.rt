@@ -3,6 +3,7 @@
 ghost use Rattle.std.specs.Prelude.{◌≡◌, ◌+◌, ◌*◌, ◌<◌, ◌≤◌, ◌^◌, Some, None, MatchOption, IfOk, OnOk, OnErr, IsOk, IsTrue, ◌↔◌, vec_capacity};
 ghost use Rattle.ia_meaning.specs.declared.state.AlatKey.TheVariants.{Stacked};
 ghost use Rattle.std.specs.Result.{result_err};
+ghost use Rattle.ia_meaning.specs.declared.limits.TheConstants.{STACK_LIMIT};
 ghost use Rattle.ia_meaning.specs.State.{IsFrame};
 ghost use Rattle.ia_meaning.specs.Names.{spot};
 ghost use Rattle.ia_meaning.specs.Frames.{with_sizes, rotated, cleared, call_frame, marked_frame};
@@ -47,7 +48,7 @@ impl Stack {
     /// Want of memory.
     pub fn open(alloc: Global, limit: u32) -> Result<Stack, AllocError>
         requires least { 96 ≤ limit }
-        requires most { limit ≤ 65536 }
+        requires most { limit ≤ STACK_LIMIT }
         ensures { IfOk result (λ s. s ≡ empty_stack limit) }
     {
         let cells = Vec::with_capacity(alloc, limit as usize)?;

@@ -1,64 +1,40 @@
 -- A listed instruction writes nothing twice.
-use Rattle.std.proofs.Common.{◌≡◌, ◌≢◌, ℕ, zero, suc, ◌<◌, Bool, true, false, List, [], ◌∷◌, Option, Some, None, arith}
+use Rattle.std.proofs.Common.{◌≡◌, ◌≢◌, ℕ, zero, suc, Bool, true, false, List, [], ◌∷◌, Option, Some, None, arith}
 use Rattle.std.specs.List.{AllPairs, AllByRecursion as Each}
 use Rattle.std.proofs.lemmas.List.Elements.{All-from_recursion}
 use Rattle.std.proofs.lemmas.List.Kept.{AllPairs-cons}
-use Rattle.ia_insn.specs.declared.insn.Op.{Op}
-use Rattle.ia_insn.specs.declared.insn.Op.TheVariants as op
 use Rattle.ia_insn.specs.declared.choices.CmpKind.{CmpKind}
 use Rattle.ia_insn.specs.declared.choices.CmpKind.TheVariants.{Normal, Unc, And, Or, OrAndcm}
-use Rattle.ia_insn.specs.declared.choices.BranchKind.TheVariants.{Cond}
 use Rattle.ia_insn.specs.declared.choices.Update.{Update}
 use Rattle.ia_insn.specs.declared.choices.Update.TheVariants as update
 use Rattle.ia_insn.specs.declared.registers.Ar.{Ar}
 use Rattle.ia_insn.specs.declared.registers.Ar.TheVariants as ar
 use Rattle.ia_insn.specs.FormatsM.{IsLoadUpdate}
-use Rattle.ia_insn.specs.Listed.{IsListed}
-use Rattle.ia_insn.proofs.OperandRanges.{ranges_of_listed}
 use Rattle.ia_meaning.specs.declared.state.Cell.{Cell}
 use Rattle.ia_meaning.specs.declared.state.FrameShape.{FrameShape}
 use Rattle.ia_meaning.specs.declared.state.AlatKey.{AlatKey as Spot}
 use Rattle.ia_meaning.specs.declared.state.AlatKey.TheVariants.{Static, Stacked}
 use Rattle.ia_meaning.specs.declared.turn.Turn.{Turn}
 use Rattle.ia_meaning.specs.declared.form.Form.{Form}
-use Rattle.ia_meaning.specs.declared.form.Form.TheVariants as form
 use Rattle.ia_meaning.specs.declared.form.Goal.TheVariants.{Direct, Indirect}
 use Rattle.ia_meaning.specs.State.{zero_cell, Registers, Memory, IsFrame}
 use Rattle.ia_meaning.specs.Writes.{Write, SetPredicate, SetLc, SetEc, SetFrame, Resized, Renamed}
 use Rattle.ia_meaning.specs.Names.{spot, predicate_spot, predicate_place, set_spot, set_predicate}
 use Rattle.ia_meaning.specs.Arithmetic.{bit}
 use Rattle.ia_meaning.specs.Outcomes.{Outcome}
-use Rattle.ia_meaning.specs.Actions.{Action, Compute, Fetch, Test, ToPredicates, ToBranch, ToApplication, FromMemory, ToMemory, CheckNat, CheckAlat, ForgetAll, Forget, Allocate, Jump, JumpIndirect, Loop, Call, Return, ClearBases, Stop, Idle, action_of, form_of}
+use Rattle.ia_meaning.specs.declared.form.Form.TheVariants.{Compute, Fetch, Test, ToPredicates, ToBranch, ToApplication, FromMemory, ToMemory, CheckNat, CheckAlat, ForgetAll, Forget, Allocate, Jump, JumpIndirect, Loop, Call, Return, ClearBases, Stop, Idle}
+use Rattle.ia_meaning.specs.Actions.{form_of, result_of, moved}
 use Rattle.ia_meaning.specs.Moves.{test_writes, is_masked, masked_writes, predicate_writes}
 use Rattle.ia_meaning.specs.Loads.{base_writes}
 use Rattle.ia_meaning.specs.Frames.{with_sizes, call_writes, rotated}
 use Rattle.ia_meaning.specs.Loops.{turn_of, written, turn_writes}
 use Rattle.ia_meaning.specs.Effects.{Site}
+use Rattle.ia_meaning.proofs.ListedNames.{AreTargets, HasNames, has_names}
 use Rattle.ia_meaning.proofs.Inversions.{ApplicationCases, ActCases, SkipCases, guarded_cases}
 use Rattle.rotation.proofs.Places.{predicates_apart}
 use Rattle.resource_sets.specs.AccessLaws.{location, WritesAreApart}
 use Rattle.resource_sets.proofs.Coverage.{may_write, each_masked, each_written, each_rotation, either_way}
 use Rattle.resource_sets.proofs.Renaming.{spots_apart}
-
--- What the list of instructions keeps out: equal targets of a test, and a load that updates its target.
-abbrev TestTargets : ℕ → ℕ → Type 0
-TestTargets p q = (p ≢ q) × (p < 64) × (q < 64)
-
-abbrev TargetsDiffer : Form → Type 0
-TargetsDiffer (form.Test kind p1 p2 r2 r3) = TestTargets p1 p2
-TargetsDiffer (form.FromMemory size kind r1 r3 u) = IsLoadUpdate r1 r3 u
-TargetsDiffer f = Unit {0}
-
-targets_of_op : (qp : ℕ) (o : Op) → IsListed (record { qp = qp; op = o }) → TargetsDiffer (form_of (action_of o))
-targets_of_op qp (op.Cmp four rel kind p1 p2 r2 r3) l = (grind arith, grind arith, grind arith)
-targets_of_op qp (op.CmpZero four rel kind p1 p2 r3) l = (grind arith, grind arith, grind arith)
-targets_of_op qp (op.CmpImm four rel kind p1 p2 imm r3) l = (grind arith, grind arith, grind arith)
-targets_of_op qp (op.Tbit unc p1 p2 r3 pos) l = (grind arith, grind arith, grind arith)
-targets_of_op qp (op.Tnat unc p1 p2 r3) l = (grind arith, grind arith, grind arith)
-targets_of_op qp (op.Load size kind hint r1 r3 u) l = (ranges_of_listed (record { qp = qp; op = op.Load size kind hint r1 r3 u }) l).4
-targets_of_op qp (op.Br Cond wh many clr disp) l = tt
-targets_of_op qp (op.Br kind wh many clr disp) l = tt
-targets_of_op qp o l = tt
 
 -- No two writes of a list go to one location.
 abbrev Differ : Write → Write → Type 0
@@ -105,7 +81,7 @@ load_apart f frame r1 r3 (update.Imm imm) d e c base more l h i = two_spots d e 
 
 -- Writes of predicates.
 module _ (f : FrameShape) (frame : IsFrame f) where
-  two_predicates : (p q : ℕ) (b c : Bool) → TestTargets p q
+  two_predicates : (p q : ℕ) (b c : Bool) → AreTargets p q
       → AreApart (set_predicate (predicate_spot f p) b (set_predicate (predicate_spot f q) c []))
   unfolding predicate_spot
   two_predicates zero zero b c h = tt
@@ -113,7 +89,7 @@ module _ (f : FrameShape) (frame : IsFrame f) where
   two_predicates (suc p) zero b c h = (tt, tt)
   two_predicates (suc p) (suc q) b c h = ((λ same. predicates_apart f frame (suc p) (suc q) h.1 h.2 h.0 (cc), tt), (tt, tt))
 
-  test_apart : (kind : CmpKind) (p q : ℕ) (x : Option Bool) → TestTargets p q
+  test_apart : (kind : CmpKind) (p q : ℕ) (x : Option Bool) → AreTargets p q
       → AreApart (test_writes kind (predicate_spot f p) (predicate_spot f q) x)
   test_apart Normal p q (Some b) h = two_predicates p q _ _ h
   test_apart Normal p q None h = two_predicates p q _ _ h
@@ -156,7 +132,7 @@ turn_apart t f =
 call_apart : (bundle b1 : ℕ) (f : FrameShape) (ec : ℕ) → AreApart (call_writes bundle b1 f ec)
 call_apart bundle b1 f ec = ((λ same. cc, (λ same. cc, tt)), ((λ same. cc, tt), (tt, tt)))
 
--- Each kind of action.
+-- Each form.
 abbrev WritesApart : Outcome → Type 0
 WritesApart o = AreApart o.writes
 
@@ -166,15 +142,15 @@ application_apart ar.Pfs x m = λ _. (tt, tt)
 application_apart ar.Lc x m = (tt, tt)
 application_apart ar.Ec x m = (tt, tt)
 
-act_apart : (s : Site) (a : Action) (v : Registers) (m : Memory) (x : ℕ) → IsFrame v.frame → TargetsDiffer (form_of a)
-    → ActCases WritesApart s a v m x
-act_apart s (Compute r1 r2 r3 f) v m x frame l = (λ _. tt, λ d a b _ _ _. one_spot d _)
-act_apart s (Fetch r1 source) v m x frame l = (λ _. tt, λ d _. one_spot d _)
-act_apart s (Test kind p1 p2 r2 r3 f) v m x frame l = (λ _. tt, λ a b _ _. test_apart v.frame frame kind p1 p2 (f a b) l)
-act_apart s (ToPredicates r2 f mask) v m x frame l = (λ _. tt, λ a _ _. places_apart mask (f a.value))
-act_apart s (ToBranch b1 r2) v m x frame l = (λ _. tt, λ a _ _. (tt, tt))
-act_apart s (ToApplication a r2 f) v m x frame l = (λ _. tt, λ c _ _. application_apart a (f c.value) m)
-act_apart s (FromMemory size kind r1 r3 u) v m x frame l = (
+act_apart : (s : Site) (qp : ℕ) (form : Form) (v : Registers) (m : Memory) (x : ℕ) → IsFrame v.frame → HasNames qp form
+    → ActCases WritesApart s form v m x
+act_apart s qp (Compute r1 r2 r3 f) v m x frame l = (λ _. tt, λ d a b _ _ _. one_spot d _)
+act_apart s qp (Fetch r1 source) v m x frame l = (λ _. tt, λ d _. one_spot d _)
+act_apart s qp (Test kind p1 p2 r2 r3 c) v m x frame l = (λ _. tt, λ a b _ _. test_apart v.frame frame kind p1 p2 (result_of c a b) l)
+act_apart s qp (ToPredicates r2 mask w) v m x frame l = (λ _. tt, λ a _ _. places_apart mask (moved w a.value))
+act_apart s qp (ToBranch b1 r2) v m x frame l = (λ _. tt, λ a _ _. (tt, tt))
+act_apart s qp (ToApplication a r2 w) v m x frame l = (λ _. tt, λ c _ _. application_apart a (moved w c.value) m)
+act_apart s qp (FromMemory size kind r1 r3 u) v m x frame l = (
   λ _. tt,
   λ d e y z h i _ _. record {
     loads = λ _ _. load_apart v.frame frame r1 r3 u d e _ y z l h i;
@@ -182,32 +158,32 @@ act_apart s (FromMemory size kind r1 r3 u) v m x frame l = (
     hits = λ _ _ _ es _. base_apart u e y z;
   },
 )
-act_apart s (ToMemory size kind r3 r2 u) v m x frame l = (λ _. tt, λ e y z _ _ _ _ _ _. base_apart u e y zero_cell)
-act_apart s (CheckNat r2 disp) v m x frame l = (λ _. tt, λ a _ _. tt, λ a _ _. tt)
-act_apart s (CheckAlat clear r1 disp) v m x frame l = (λ _. tt, λ d _ _. tt, λ d _ _ es _. tt)
-act_apart s ForgetAll v m x frame l = tt
-act_apart s (Forget r1) v m x frame l = (λ _. tt, λ d _. tt)
-act_apart s (Allocate r1 sof sol sor) v m x frame l = (λ _. tt, λ d _ _ _. frame_and_spot (with_sizes v.frame sof sol sor) d _)
-act_apart s (Jump disp) v m x frame l = tt
-act_apart s (JumpIndirect b2) v m x frame l = (λ _. tt, λ to _. tt)
-act_apart s (Loop kind disp) v m x frame l = either_way (turn_apart (turn_of kind true v.lc v.ec) v.frame)
-act_apart s (Call b1 (Direct disp)) v m x frame l = call_apart s.bundle b1 v.frame v.ec
-act_apart s (Call b1 (Indirect b2)) v m x frame l = (λ _. tt, λ to _. call_apart s.bundle b1 v.frame v.ec)
-act_apart s (Return b2) v m x frame l = (λ _. tt, λ to _ _. ((λ same. cc, tt), (tt, tt)))
-act_apart s (ClearBases pred_only) v m x frame l = (tt, tt)
-act_apart s (Stop unit imm) v m x frame l = tt
-act_apart s (Idle unit) v m x frame l = tt
+act_apart s qp (ToMemory size kind r3 r2 u) v m x frame l = (λ _. tt, λ e y z _ _ _ _ _ _. base_apart u e y zero_cell)
+act_apart s qp (CheckNat r2 disp) v m x frame l = (λ _. tt, λ a _ _. tt, λ a _ _. tt)
+act_apart s qp (CheckAlat clear r1 disp) v m x frame l = (λ _. tt, λ d _ _. tt, λ d _ _ es _. tt)
+act_apart s qp ForgetAll v m x frame l = tt
+act_apart s qp (Forget r1) v m x frame l = (λ _. tt, λ d _. tt)
+act_apart s qp (Allocate r1 sof sol sor) v m x frame l = (λ _. tt, λ d _ _ _. frame_and_spot (with_sizes v.frame sof sol sor) d _)
+act_apart s qp (Jump disp) v m x frame l = tt
+act_apart s qp (JumpIndirect b2) v m x frame l = (λ _. tt, λ to _. tt)
+act_apart s qp (Loop kind disp) v m x frame l = either_way (turn_apart (turn_of kind true v.lc v.ec) v.frame)
+act_apart s qp (Call b1 (Direct disp)) v m x frame l = call_apart s.bundle b1 v.frame v.ec
+act_apart s qp (Call b1 (Indirect b2)) v m x frame l = (λ _. tt, λ to _. call_apart s.bundle b1 v.frame v.ec)
+act_apart s qp (Return b2) v m x frame l = (λ _. tt, λ to _ _. ((λ same. cc, tt), (tt, tt)))
+act_apart s qp (ClearBases pred_only) v m x frame l = (tt, tt)
+act_apart s qp (Stop unit imm) v m x frame l = tt
+act_apart s qp (Idle unit) v m x frame l = tt
 
-skip_apart : (s : Site) (a : Action) (v : Registers) (m : Memory) → IsFrame v.frame → TargetsDiffer (form_of a)
-    → SkipCases WritesApart s a v m
-skip_apart s (Test kind p1 p2 r2 r3 f) v m frame l = (λ _. two_predicates v.frame frame p1 p2 false false l, λ _. tt)
-skip_apart s (Loop kind disp) v m frame l = either_way (turn_apart (turn_of kind false v.lc v.ec) v.frame)
-skip_apart s a v m frame l = tt
+skip_apart : (s : Site) (qp : ℕ) (form : Form) (v : Registers) (m : Memory) → IsFrame v.frame → HasNames qp form
+    → SkipCases WritesApart s form v m
+skip_apart s qp (Test kind p1 p2 r2 r3 c) v m frame l = (λ _. two_predicates v.frame frame p1 p2 false false l, λ _. tt)
+skip_apart s qp (Loop kind disp) v m frame l = either_way (turn_apart (turn_of kind false v.lc v.ec) v.frame)
+skip_apart s qp form v m frame l = tt
 
 -- no two writes of a listed instruction go to one location
 pub apart : WritesAreApart
 apart s insn v m x listed frame =
-    let a : Action = action_of insn.op in
-    let l : TargetsDiffer (form_of a) = targets_of_op insn.qp insn.op listed in
+    let form : Form = form_of insn.op in
+    let l : HasNames insn.qp form = has_names insn.qp insn.op listed in
     apart_pairs _
-    (guarded_cases WritesApart s insn.qp a v m x (λ _. act_apart s a v m x frame l) (λ _. skip_apart s a v m frame l))
+    (guarded_cases WritesApart s insn.qp form v m x (λ _. act_apart s insn.qp form v m x frame l) (λ _. skip_apart s insn.qp form v m frame l))

@@ -19,8 +19,9 @@ use Rattle.ia_meaning.specs.declared.state.FrameShape.{FrameShape}
 use Rattle.ia_meaning.specs.declared.state.AlatKey.{AlatKey as Spot}
 use Rattle.ia_meaning.specs.declared.state.AlatKey.TheVariants.{Static, Stacked}
 use Rattle.ia_meaning.specs.declared.turn.Turn.{Turn}
+use Rattle.ia_meaning.specs.declared.form.Condition.{Condition}
+use Rattle.ia_meaning.specs.declared.form.MovedWord.{MovedWord}
 use Rattle.ia_meaning.specs.declared.form.Form.{Form}
-use Rattle.ia_meaning.specs.declared.form.Form.TheVariants as form
 use Rattle.ia_meaning.specs.declared.form.Goal.{Goal}
 use Rattle.ia_meaning.specs.declared.form.Goal.TheVariants.{Direct, Indirect}
 use Rattle.ia_meaning.specs.State.{zero_cell, Registers, Memory}
@@ -28,7 +29,8 @@ use Rattle.ia_meaning.specs.Writes.{Write, SetPredicate, SetUnat, SetPfs, SetLc,
 use Rattle.ia_meaning.specs.Names.{spot, holds, predicate_spot, predicate_place, set_spot, set_predicate}
 use Rattle.ia_meaning.specs.Arithmetic.{bit}
 use Rattle.ia_meaning.specs.Outcomes.{Outcome}
-use Rattle.ia_meaning.specs.Actions.{Action, Compute, Fetch, Test, ToPredicates, ToBranch, ToApplication, FromMemory, ToMemory, CheckNat, CheckAlat, ForgetAll, Forget, Allocate, Jump, JumpIndirect, Loop, Call, Return, ClearBases, Stop, Idle, action_of, form_of}
+use Rattle.ia_meaning.specs.declared.form.Form.TheVariants.{Compute, Fetch, Test, ToPredicates, ToBranch, ToApplication, FromMemory, ToMemory, CheckNat, CheckAlat, ForgetAll, Forget, Allocate, Jump, JumpIndirect, Loop, Call, Return, ClearBases, Stop, Idle}
+use Rattle.ia_meaning.specs.Actions.{form_of, result_of, moved}
 use Rattle.ia_meaning.specs.Moves.{test_writes, is_masked, masked_writes, predicate_writes}
 use Rattle.ia_meaning.specs.Loads.{base_writes}
 use Rattle.ia_meaning.specs.Frames.{with_sizes, call_writes, rotated}
@@ -172,9 +174,9 @@ module _ (P : Write → Type 0) (f : FrameShape) where
   each_test OrAndcm p q (Some true) h i = each_target OrWrite AndWrite p q _ _ h i refl refl
   each_test kind p q x h i = tt
 
-module _ (qp : ℕ) (kind : CmpKind) (p1 p2 r2 r3 : ℕ) (v : Registers) (g : holds v (test_guard kind qp) ≡ true) where
+module _ (qp : ℕ) (kind : CmpKind) (p1 p2 r2 r3 : ℕ) (c : Condition) (v : Registers) (g : holds v (test_guard kind qp) ≡ true) where
   abbrev test_form : Form
-  test_form = form.Test kind p1 p2 r2 r3
+  test_form = Test kind p1 p2 r2 r3 c
 
   target_covered : (p : ℕ) (k : Kind) → (is_named p ≡ true → TargetRow qp kind p1 p2 p k) → writes_registers k ≡ true
       → PredicateWrites (IsCovered qp test_form v) v.frame k p
@@ -217,9 +219,9 @@ high_name f k h i b = let high : 16 ≤ 16 + (k + 32 - f.rrbs.pr) % 48 = omega a
 masks_high : (mask k p : ℕ) → 16 ≤ k → 16 ≤ p → is_masked mask k ≡ true → is_masked mask p ≡ true
 masks_high mask k p h i e = grind (arith, nat_tests)
 
-module _ (qp r2 mask : ℕ) (v : Registers) (base : v.frame.rrbs.pr < 48) (g : holds v qp ≡ true) where
+module _ (qp r2 mask : ℕ) (w : MovedWord) (v : Registers) (base : v.frame.rrbs.pr < 48) (g : holds v qp ≡ true) where
   abbrev mask_form : Form
-  mask_form = form.ToPredicates r2 mask
+  mask_form = ToPredicates r2 mask w
 
   named_place_covered : (p k : ℕ) (b : Bool) → predicate_place v.frame p ≡ k
       → HasRow qp (under qp (Pr p) Writes) (mask_rows mask Writes)
@@ -259,7 +261,7 @@ no_count o x e h = absurd (cc)
 
 module _ (qp : ℕ) (kind : BranchKind) (disp : ℤ) (v : Registers) where
   abbrev loop_form : Form
-  loop_form = form.Loop kind disp
+  loop_form = Loop kind disp
 
   -- an access of a loop branch is under p0
   loop_write_covered : (q : Resource) (k : Kind) (w : Write) → HasRow qp (under 0 q k) (own_rows loop_form)
@@ -286,7 +288,7 @@ module _ (qp : ℕ) (kind : BranchKind) (disp : ℤ) (v : Registers) where
   while_covered top held ec row = rotating_covered (while_turn top held ec) row (λ x e. no_count _ x (while_lc top held ec) e)
 
 loop_covered : (qp : ℕ) (kind : BranchKind) (disp : ℤ) (v : Registers) (held : Bool) (lc ec : ℕ)
-    → Each (IsCovered qp (form.Loop kind disp) v) (turn_writes (turn_of kind held lc ec) v.frame)
+    → Each (IsCovered qp (Loop kind disp) v) (turn_writes (turn_of kind held lc ec) v.frame)
 loop_covered qp branch.Cond disp v held lc ec = tt
 loop_covered qp branch.Wexit disp v held lc ec = while_covered qp branch.Wexit disp v false held ec (λ a h. h)
 loop_covered qp branch.Wtop disp v held lc ec = while_covered qp branch.Wtop disp v true held ec (λ a h. h)
@@ -302,49 +304,49 @@ loop_covered qp branch.Ctop disp v held lc ec =
     (λ a h. has_right qp a counting_rows rotating_rows h)
     (λ x _. count_covered qp branch.Ctop disp v (inr (inl (refl, refl))) x)
 
--- Each kind of action.
+-- Each form.
 abbrev EachCovered : ℕ → Form → Registers → Outcome → Type 0
 EachCovered qp f v o = Each (IsCovered qp f v) o.writes
 
 pub either_way : {A B P : Type 0} → P → (A → P) × (B → P)
 either_way h = (λ _. h, λ _. h)
 
-application_covered : (qp : ℕ) (a : Ar) (r2 x : ℕ) (v : Registers) (m : Memory) → holds v qp ≡ true
-    → ApplicationCases (EachCovered qp (form.ToApplication a r2) v) a x m
-application_covered qp ar.Unat r2 x v m g = (own_covered qp _ v Unat (SetUnat x) g (inr (inl (refl, refl))) refl, tt)
-application_covered qp ar.Pfs r2 x v m g = λ _. (own_covered qp _ v Pfs (SetPfs x) g (inr (inl (refl, refl))) refl, tt)
-application_covered qp ar.Lc r2 x v m g = (own_covered qp _ v Lc (SetLc x) g (inr (inl (refl, refl))) refl, tt)
-application_covered qp ar.Ec r2 x v m g = (own_covered qp _ v Ec (SetEc (x % 64)) g (inr (inl (refl, refl))) refl, tt)
+application_covered : (qp : ℕ) (a : Ar) (r2 x : ℕ) (w : MovedWord) (v : Registers) (m : Memory) → holds v qp ≡ true
+    → ApplicationCases (EachCovered qp (ToApplication a r2 w) v) a x m
+application_covered qp ar.Unat r2 x w v m g = (own_covered qp _ v Unat (SetUnat x) g (inr (inl (refl, refl))) refl, tt)
+application_covered qp ar.Pfs r2 x w v m g = λ _. (own_covered qp _ v Pfs (SetPfs x) g (inr (inl (refl, refl))) refl, tt)
+application_covered qp ar.Lc r2 x w v m g = (own_covered qp _ v Lc (SetLc x) g (inr (inl (refl, refl))) refl, tt)
+application_covered qp ar.Ec r2 x w v m g = (own_covered qp _ v Ec (SetEc (x % 64)) g (inr (inl (refl, refl))) refl, tt)
 
 call_covered : (qp bundle b1 : ℕ) (goal : Goal) (v : Registers) → holds v qp ≡ true
-    → Each (IsCovered qp (form.Call b1 goal) v) (call_writes bundle b1 v.frame v.ec)
+    → Each (IsCovered qp (Call b1 goal) v) (call_writes bundle b1 v.frame v.ec)
 call_covered qp bundle b1 goal v g = (
-  own_covered qp (form.Call b1 goal) v (Br b1) _ g (inr (inr (inr (inr (inl (refl, refl)))))) refl,
+  own_covered qp (Call b1 goal) v (Br b1) _ g (inr (inr (inr (inr (inl (refl, refl)))))) refl,
   (
-    own_covered qp (form.Call b1 goal) v Pfs _ g (inr (inr (inl (refl, refl)))) refl,
-    (own_covered qp (form.Call b1 goal) v Cfm _ g (inr (inl (refl, refl))) refl, tt),
+    own_covered qp (Call b1 goal) v Pfs _ g (inr (inr (inl (refl, refl)))) refl,
+    (own_covered qp (Call b1 goal) v Cfm _ g (inr (inl (refl, refl))) refl, tt),
   ),
 )
 
-act_covered : (s : Site) (qp : ℕ) (a : Action) (v : Registers) (m : Memory) (x : ℕ) → v.frame.rrbs.pr < 48 → holds v qp ≡ true
-    → ActCases (EachCovered qp (form_of a) v) s a v m x
+act_covered : (s : Site) (qp : ℕ) (form : Form) (v : Registers) (m : Memory) (x : ℕ) → v.frame.rrbs.pr < 48 → holds v qp ≡ true
+    → ActCases (EachCovered qp form v) s form v m x
 act_covered s qp (Compute r1 r2 r3 f) v m x base g =
-    let named : WritesOf (IsCovered qp (form.Compute r1 r2 r3) v) v.frame r1 =
+    let named : WritesOf (IsCovered qp (Compute r1 r2 r3 f) v) v.frame r1 =
     λ w n. own_covered qp _ v (Gr r1) w g (inr (inr (inl (n, refl)))) in
     (λ _. tt, λ d a b e _ _. each_spot _ v.frame r1 d _ [] e named tt)
 act_covered s qp (Fetch r1 source) v m x base g =
-    let named : WritesOf (IsCovered qp (form.Fetch r1 source) v) v.frame r1 =
+    let named : WritesOf (IsCovered qp (Fetch r1 source) v) v.frame r1 =
     λ w n. own_covered qp _ v (Gr r1) w g (inl (n, refl)) in
     (λ _. tt, λ d e. each_spot _ v.frame r1 d _ [] e named tt)
-act_covered s qp (Test kind p1 p2 r2 r3 f) v m x base g =
-    (λ _. tt, λ a b _ _. test_covered qp kind p1 p2 r2 r3 v (test_holds v kind qp g) (f a b))
-act_covered s qp (ToPredicates r2 f mask) v m x base g =
-    (λ _. tt, λ a _ _. each_place _ mask (f a.value) (place_covered qp r2 mask v base g))
+act_covered s qp (Test kind p1 p2 r2 r3 c) v m x base g =
+    (λ _. tt, λ a b _ _. test_covered qp kind p1 p2 r2 r3 c v (test_holds v kind qp g) (result_of c a b))
+act_covered s qp (ToPredicates r2 mask w) v m x base g =
+    (λ _. tt, λ a _ _. each_place _ mask (moved w a.value) (place_covered qp r2 mask w v base g))
 act_covered s qp (ToBranch b1 r2) v m x base g =
-    (λ _. tt, λ a _ _. (own_covered qp (form.ToBranch b1 r2) v (Br b1) _ g (inr (inl (refl, refl))) refl, tt))
-act_covered s qp (ToApplication a r2 f) v m x base g = (λ _. tt, λ c _ _. application_covered qp a r2 (f c.value) v m g)
+    (λ _. tt, λ a _ _. (own_covered qp (ToBranch b1 r2) v (Br b1) _ g (inr (inl (refl, refl))) refl, tt))
+act_covered s qp (ToApplication a r2 w) v m x base g = (λ _. tt, λ c _ _. application_covered qp a r2 (moved w c.value) w v m g)
 act_covered s qp (FromMemory size kind r1 r3 u) v m x base g =
-    let form : Form = form.FromMemory size kind r1 r3 u in
+    let form : Form = FromMemory size kind r1 r3 u in
     let named : WritesOf (IsCovered qp form v) v.frame r1 =
     λ w n. own_covered qp form v (Gr r1) w g (inr (inr (inl (n, refl)))) in
     let updated : is_updated u ≡ true → WritesOf (IsCovered qp form v) v.frame r3 =
@@ -359,7 +361,7 @@ act_covered s qp (FromMemory size kind r1 r3 u) v m x base g =
           },
     )
 act_covered s qp (ToMemory size kind r3 r2 u) v m x base g =
-    let form : Form = form.ToMemory size kind r3 r2 u in
+    let form : Form = ToMemory size kind r3 r2 u in
     let updated : is_updated u ≡ true → WritesOf (IsCovered qp form v) v.frame r3 =
     λ t w n. own_covered qp form v (Gr r3) w g (inr (inr (inl (both _ _ t n, refl)))) in
     (λ _. tt, λ e y z at_e _ _ _ _ _. each_base _ v.frame r3 u e y zero_cell at_e updated)
@@ -368,7 +370,7 @@ act_covered s qp (CheckAlat clear r1 disp) v m x base g = (λ _. tt, λ d _ _. t
 act_covered s qp ForgetAll v m x base g = tt
 act_covered s qp (Forget r1) v m x base g = (λ _. tt, λ d _. tt)
 act_covered s qp (Allocate r1 sof sol sor) v m x base g =
-    let form : Form = form.Allocate r1 sof sol sor in (
+    let form : Form = Allocate r1 sof sol sor in (
       λ _. tt,
       λ d at_d _ _. (
         row_covered qp form v (under qp Cfm AllocWrite) _ (in_own qp form _ (inr (inr (inr (inl (refl, refl)))))) refl g refl tt,
@@ -383,28 +385,28 @@ act_covered s qp (Call b1 (Indirect b2)) v m x base g = (λ _. tt, λ to _. call
 act_covered s qp (Return b2) v m x base g = (
   λ _. tt,
   λ to _ _. (
-    own_covered qp (form.Return b2) v Cfm _ g (inr (inr (inl (refl, refl)))) refl,
-    (own_covered qp (form.Return b2) v Ec _ g (inr (inr (inr (inl (refl, refl))))) refl, tt),
+    own_covered qp (Return b2) v Cfm _ g (inr (inr (inl (refl, refl)))) refl,
+    (own_covered qp (Return b2) v Ec _ g (inr (inr (inr (inl (refl, refl))))) refl, tt),
   ),
 )
 act_covered s qp (ClearBases pred_only) v m x base g =
-    (own_covered qp (form.ClearBases pred_only) v Cfm _ g (inl (refl, refl)) refl, tt)
+    (own_covered qp (ClearBases pred_only) v Cfm _ g (inl (refl, refl)) refl, tt)
 act_covered s qp (Stop unit imm) v m x base g = tt
 act_covered s qp (Idle unit) v m x base g = tt
 
-skip_covered : (s : Site) (qp : ℕ) (a : Action) (v : Registers) (m : Memory) → SkipCases (EachCovered qp (form_of a) v) s a v m
-skip_covered s qp (Test Unc p1 p2 r2 r3 f) v m = (λ _. test_covered qp Unc p1 p2 r2 r3 v (holds_zero v) None, λ _. tt)
-skip_covered s qp (Test kind p1 p2 r2 r3 f) v m = (λ e. absurd (cc), λ _. tt)
+skip_covered : (s : Site) (qp : ℕ) (form : Form) (v : Registers) (m : Memory) → SkipCases (EachCovered qp form v) s form v m
+skip_covered s qp (Test Unc p1 p2 r2 r3 c) v m = (λ _. test_covered qp Unc p1 p2 r2 r3 c v (holds_zero v) None, λ _. tt)
+skip_covered s qp (Test kind p1 p2 r2 r3 c) v m = (λ e. absurd (cc), λ _. tt)
 skip_covered s qp (Loop kind disp) v m = either_way (loop_covered qp kind disp v false v.lc v.ec)
-skip_covered s qp a v m = tt
+skip_covered s qp form v m = tt
 
 -- each write of an instruction is covered by an access
 pub covered : WritesAreAccesses
 covered s insn v m x base =
-    let a : Action = action_of insn.op in
+    let form : Form = form_of insn.op in
     All-from_recursion _ _
-    (guarded_cases (EachCovered insn.qp (form_of a) v) s insn.qp a v m x (act_covered s insn.qp a v m x base)
-    (λ _. skip_covered s insn.qp a v m))
+    (guarded_cases (EachCovered insn.qp form v) s insn.qp form v m x (act_covered s insn.qp form v m x base)
+    (λ _. skip_covered s insn.qp form v m))
 
 -- Spills alone write a bit of UNAT.
 abbrev Spills : ℕ → Form → Registers → Outcome → Type 0
@@ -419,15 +421,15 @@ application_spills qp f ar.Pfs x v m = λ _. no_spill
 application_spills qp f ar.Lc x v m = no_spill
 application_spills qp f ar.Ec x v m = no_spill
 
-act_spills : (s : Site) (qp : ℕ) (a : Action) (v : Registers) (m : Memory) (x : ℕ) → holds v qp ≡ true
-    → ActCases (Spills qp (form_of a) v) s a v m x
+act_spills : (s : Site) (qp : ℕ) (form : Form) (v : Registers) (m : Memory) (x : ℕ) → holds v qp ≡ true
+    → ActCases (Spills qp form v) s form v m x
 act_spills s qp (Compute r1 r2 r3 f) v m x g = (λ _. no_spill, λ d a b _ _ _. no_spill)
 act_spills s qp (Fetch r1 source) v m x g = (λ _. no_spill, λ d _. no_spill)
-act_spills s qp (Test kind p1 p2 r2 r3 f) v m x g = (λ _. no_spill, λ a b _ _. no_spill)
-act_spills s qp (ToPredicates r2 f mask) v m x g = (λ _. no_spill, λ a _ _. no_spill)
+act_spills s qp (Test kind p1 p2 r2 r3 c) v m x g = (λ _. no_spill, λ a b _ _. no_spill)
+act_spills s qp (ToPredicates r2 mask w) v m x g = (λ _. no_spill, λ a _ _. no_spill)
 act_spills s qp (ToBranch b1 r2) v m x g = (λ _. no_spill, λ a _ _. no_spill)
-act_spills s qp (ToApplication a r2 f) v m x g =
-    (λ _. no_spill, λ c _ _. application_spills qp (form.ToApplication a r2) a (f c.value) v m)
+act_spills s qp (ToApplication a r2 w) v m x g =
+    (λ _. no_spill, λ c _ _. application_spills qp (ToApplication a r2 w) a (moved w c.value) v m)
 act_spills s qp (FromMemory size kind r1 r3 u) v m x g = (
   λ _. no_spill,
   λ d e y z _ _ _ _.
@@ -435,7 +437,7 @@ act_spills s qp (FromMemory size kind r1 r3 u) v m x g = (
 )
 act_spills s qp (ToMemory size store.Spill r3 r2 u) v m x g = (
   λ _. no_spill,
-  λ e y z _ _ _ _ _ _ b _. (in_own qp (form.ToMemory size store.Spill r3 r2 u) _ (inr (inr (inr (inl (refl, refl))))), g),
+  λ e y z _ _ _ _ _ _ b _. (in_own qp (ToMemory size store.Spill r3 r2 u) _ (inr (inr (inr (inl (refl, refl))))), g),
 )
 act_spills s qp (ToMemory size kind r3 r2 u) v m x g = (λ _. no_spill, λ e y z _ _ _ _ _ _. no_spill)
 act_spills s qp (CheckNat r2 disp) v m x g = (λ _. no_spill, λ a _ _. no_spill, λ a _ _. no_spill)
@@ -453,17 +455,17 @@ act_spills s qp (ClearBases pred_only) v m x g = no_spill
 act_spills s qp (Stop unit imm) v m x g = no_spill
 act_spills s qp (Idle unit) v m x g = no_spill
 
-skip_spills : (s : Site) (qp : ℕ) (a : Action) (v : Registers) (m : Memory) → SkipCases (Spills qp (form_of a) v) s a v m
-skip_spills s qp (Test kind p1 p2 r2 r3 f) v m = either_way no_spill
+skip_spills : (s : Site) (qp : ℕ) (form : Form) (v : Registers) (m : Memory) → SkipCases (Spills qp form v) s form v m
+skip_spills s qp (Test kind p1 p2 r2 r3 c) v m = either_way no_spill
 skip_spills s qp (Loop kind disp) v m = either_way no_spill
-skip_spills s qp a v m = no_spill
+skip_spills s qp form v m = no_spill
 
 -- a spill that is executed accesses UNAT so
 pub spills : SpillsAreAccesses
 spills s insn v m x b e =
-    let a : Action = action_of insn.op in
-    guarded_cases (Spills insn.qp (form_of a) v) s insn.qp a v m x (act_spills s insn.qp a v m x)
-    (λ _. skip_spills s insn.qp a v m) b e
+    let form : Form = form_of insn.op in
+    guarded_cases (Spills insn.qp form v) s insn.qp form v m x (act_spills s insn.qp form v m x)
+    (λ _. skip_spills s insn.qp form v m) b e
 
 -- a cell that is written lies in the frame
 pub cells_inside : CellsAreInside

@@ -13,7 +13,6 @@ use Rattle.ia_insn.specs.declared.ending.FaultKind.{FaultKind}
 use Rattle.ia_meaning.specs.declared.form.Source.TheVariants.{Branch, Application, Predicates, Ip}
 use Rattle.ia_meaning.specs.declared.form.Goal.TheVariants.{Direct, Indirect}
 use Rattle.ia_meaning.specs.declared.form.Form.{Form}
-use Rattle.ia_meaning.specs.declared.form.Form.TheVariants as form
 use Rattle.ia_meaning.specs.declared.state.Cell.{Cell}
 use Rattle.ia_meaning.specs.declared.state.FrameShape.{FrameShape}
 use Rattle.ia_meaning.specs.declared.state.AlatKey.{AlatKey as Spot}
@@ -21,7 +20,8 @@ use Rattle.ia_meaning.specs.declared.state.AlatEntry.{AlatEntry}
 use Rattle.ia_meaning.specs.State.{Registers, Memory}
 use Rattle.ia_meaning.specs.Writes.{Write}
 use Rattle.ia_meaning.specs.Names.{is_stacked, is_rotating, spot, look, predicate_place, holds, predicate_spot}
-use Rattle.ia_meaning.specs.Actions.{Action, Compute, Fetch, Test, ToPredicates, ToBranch, ToApplication, FromMemory, ToMemory, CheckNat, CheckAlat, ForgetAll, Forget, Allocate, Jump, JumpIndirect, Loop, Call, Return, ClearBases, Stop, Idle, action_of, form_of, insn_form}
+use Rattle.ia_meaning.specs.declared.form.Form.TheVariants.{Compute, Fetch, Test, ToPredicates, ToBranch, ToApplication, FromMemory, ToMemory, CheckNat, CheckAlat, ForgetAll, Forget, Allocate, Jump, JumpIndirect, Loop, Call, Return, ClearBases, Stop, Idle}
+use Rattle.ia_meaning.specs.Actions.{insn_form}
 use Rattle.ia_meaning.specs.Loads.{access_fault, load_nat, load_tried, base_writes, update_register, from_memory}
 use Rattle.ia_meaning.specs.Loops.{turn_of, turned}
 use Rattle.ia_meaning.specs.Landings.{target_of}
@@ -97,11 +97,11 @@ record Parts (qp : ℕ) (f : Form) (v w : Registers) (x y : ℕ) : Type 0 where
 
 -- the qualifying predicate is read in one way or the other
 pub read_so : (f : Form) → (reads_plainly f ≡ true) ⊎ (reads_as_branch f ≡ true)
-read_so (form.Jump disp) = inr refl
-read_so (form.JumpIndirect b2) = inr refl
-read_so (form.Loop kind disp) = inr refl
-read_so (form.Call b1 goal) = inr refl
-read_so (form.Return b2) = inr refl
+read_so (Jump disp) = inr refl
+read_so (JumpIndirect b2) = inr refl
+read_so (Loop kind disp) = inr refl
+read_so (Call b1 goal) = inr refl
+read_so (Return b2) = inr refl
 read_so f = inl refl
 
 guard_same : (qp : ℕ) (f : Form) (v w : Registers) (x y : ℕ) → AgreesAtEach qp v w x y (qp_rows qp f) → holds v qp ≡ holds w qp
@@ -180,9 +180,9 @@ loop_same Ctop b qp bundle v w m x y h =
     let f : v.frame ≡ w.frame = h.1.1.1.1.0 refl (holds_zero v) in
     cc
 
--- an action that is executed
-act_same : (s : Site) (qp : ℕ) (a : Action) (v w : Registers) (m : Memory) (x y : ℕ) → holds v qp ≡ true
-    → Parts qp (form_of a) v w x y → act s a v m x ≡ act s a w m y
+-- a form that is executed
+act_same : (s : Site) (qp : ℕ) (form : Form) (v w : Registers) (m : Memory) (x y : ℕ) → holds v qp ≡ true
+    → Parts qp form v w x y → act s form v m x ≡ act s form w m y
 act_same s qp (Compute r1 r2 r3 f) v w m x y g h =
     let a : look v r2 ≡ look w r2 = look_same v w r2 (λ n. h.reads.0 n g) in
     let b : look v r3 ≡ look w r3 = look_same v w r3 (λ n. h.reads.1.0 n g) in
@@ -195,14 +195,14 @@ act_same s qp (Fetch r1 (Application ar.Lc)) v w m x y g h = let a : v.lc ≡ w.
 act_same s qp (Fetch r1 (Application ar.Ec)) v w m x y g h = let a : v.ec ≡ w.ec = h.reads.1.0 refl g in cc
 act_same s qp (Fetch r1 Predicates) v w m x y g h = let a : v.predicates ≡ w.predicates = h.placed g in cc
 act_same s qp (Fetch r1 Ip) v w m x y g h = cc
-act_same s qp (Test kind p1 p2 r2 r3 f) v w m x y g h =
+act_same s qp (Test kind p1 p2 r2 r3 c) v w m x y g h =
     let a : look v r2 ≡ look w r2 = look_same v w r2 (λ n. h.reads.0 n g) in
     let b : look v r3 ≡ look w r3 = look_same v w r3 (λ n. h.reads.1.0 n g) in
     let t = test_names kind p1 p2 v.frame w.frame h.names.1.1 in
     cc
-act_same s qp (ToPredicates r2 f mask) v w m x y g h = let a : look v r2 ≡ look w r2 = look_same v w r2 (λ n. h.reads.0 n g) in cc
+act_same s qp (ToPredicates r2 mask _) v w m x y g h = let a : look v r2 ≡ look w r2 = look_same v w r2 (λ n. h.reads.0 n g) in cc
 act_same s qp (ToBranch b1 r2) v w m x y g h = let a : look v r2 ≡ look w r2 = look_same v w r2 (λ n. h.reads.0 n g) in cc
-act_same s qp (ToApplication a r2 f) v w m x y g h = let a : look v r2 ≡ look w r2 = look_same v w r2 (λ n. h.reads.0 n g) in cc
+act_same s qp (ToApplication a r2 _) v w m x y g h = let a : look v r2 ≡ look w r2 = look_same v w r2 (λ n. h.reads.0 n g) in cc
 act_same s qp (FromMemory size kind r1 r3 u) v w m x y g h =
     let a : look v r3 ≡ look w r3 = look_same v w r3 (λ n. h.reads.0 n g) in
     let b : look v (update_register u) ≡ look w (update_register u) = look_same v w (update_register u) (λ n. h.reads.1.0 n g) in
@@ -244,23 +244,23 @@ act_same s qp (Stop unit imm) v w m x y g h = refl
 act_same s qp (Idle unit) v w m x y g h = refl
 
 -- one whose qualifying predicate is 0
-skip_same : (s : Site) (qp : ℕ) (a : Action) (v w : Registers) (m : Memory) (x y : ℕ) → Parts qp (form_of a) v w x y
-    → skip s a v m ≡ skip s a w m
-skip_same s qp (Test kind p1 p2 r2 r3 f) v w m x y h =
+skip_same : (s : Site) (qp : ℕ) (form : Form) (v w : Registers) (m : Memory) (x y : ℕ) → Parts qp form v w x y
+    → skip s form v m ≡ skip s form w m
+skip_same s qp (Test kind p1 p2 r2 r3 c) v w m x y h =
     let t = test_names kind p1 p2 v.frame w.frame h.names.1.1 in
     cc
 skip_same s qp (Loop kind disp) v w m x y h = loop_same kind false qp (target_of s.bundle disp) v w m x y h.reads
 skip_same s qp _ v w m x y h = refl
 
-guarded_same : (s : Site) (qp : ℕ) (a : Action) (v w : Registers) (m : Memory) (x y : ℕ) → Parts qp (form_of a) v w x y
-    → guarded s qp a v m x ≡ guarded s qp a w m y
-guarded_same s qp a v w m x y h = go (holds v qp) refl
+guarded_same : (s : Site) (qp : ℕ) (form : Form) (v w : Registers) (m : Memory) (x y : ℕ) → Parts qp form v w x y
+    → guarded s qp form v m x ≡ guarded s qp form w m y
+guarded_same s qp form v w m x y h = go (holds v qp) refl
   where
-    go : (b : Bool) → holds v qp ≡ b → guarded s qp a v m x ≡ guarded s qp a w m y
-    go true e = rw (e, sym h.guard ∙ e) (act_same s qp a v w m x y e h)
-    go false e = rw (e, sym h.guard ∙ e) (skip_same s qp a v w m x y h)
+    go : (b : Bool) → holds v qp ≡ b → guarded s qp form v m x ≡ guarded s qp form w m y
+    go true e = rw (e, sym h.guard ∙ e) (act_same s qp form v w m x y e h)
+    go false e = rw (e, sym h.guard ∙ e) (skip_same s qp form v w m x y h)
 
 -- what an instruction does is the same from registers that agree on its accesses
 pub depends : DependsOnAccesses
 depends s insn v w m x y h =
-    guarded_same s insn.qp (action_of insn.op) v w m x y (parts insn.qp (insn_form insn) v w x y h.named h.placed)
+    guarded_same s insn.qp (insn_form insn) v w m x y (parts insn.qp (insn_form insn) v w x y h.named h.placed)

@@ -22,11 +22,12 @@ use Rattle.ia_insn.specs.Listed.{IsListed}
 use Rattle.ia_meaning.specs.declared.form.Source.TheVariants as source
 use Rattle.ia_meaning.specs.declared.form.Goal.{Goal}
 use Rattle.ia_meaning.specs.declared.form.Goal.TheVariants as goal
+use Rattle.ia_meaning.specs.declared.form.Condition.{Condition}
 use Rattle.ia_meaning.specs.declared.form.Form.{Form}
 use Rattle.ia_meaning.specs.declared.form.Form.TheVariants as form
 use Rattle.ia_meaning.specs.State.{Registers}
 use Rattle.ia_meaning.specs.Names.{is_stacked, is_rotating, holds}
-use Rattle.ia_meaning.specs.Actions.{action_of, form_of, is_branch, is_alloc, insn_form}
+use Rattle.ia_meaning.specs.Actions.{form_of, is_branch, is_alloc, insn_form}
 use Rattle.ia_meaning.specs.Loads.{update_register}
 use Rattle.resource_sets.specs.declared.access.Resource.{Resource}
 use Rattle.resource_sets.specs.declared.access.Resource.TheVariants.{Gr, Pr, Br, Unat, Cfm}
@@ -103,9 +104,9 @@ target_row : {qp : ℕ} {f : Form} (guarded : Bool) (p : ℕ) (kind : Kind) → 
     → KindFact qp f kind (Pr p) (if guarded then qp else 0) → RowFact qp f (pr guarded p kind)
 target_row guarded p kind h k = record { fact = λ t. ((some_of p t, inr (inl h)), k) }
 
-targets : (qp : ℕ) (kind : CmpKind) (p1 p2 r2 r3 : ℕ) → RowFacts qp (form.Test kind p1 p2 r2 r3) (test_rows kind p1 p2)
-targets qp cmp.Normal p1 p2 r2 r3 = (target_row _ p1 _ (inl refl) tt, (target_row _ p2 _ (inr refl) tt, tt))
-targets qp _ p1 p2 r2 r3 = (target_row _ p1 _ (inl refl) tt, (target_row _ p2 _ (inr refl) tt, tt))
+targets : (qp : ℕ) (kind : CmpKind) (p1 p2 r2 r3 : ℕ) (c : Condition) → RowFacts qp (form.Test kind p1 p2 r2 r3 c) (test_rows kind p1 p2)
+targets qp cmp.Normal p1 p2 r2 r3 c = (target_row _ p1 _ (inl refl) tt, (target_row _ p2 _ (inr refl) tt, tt))
+targets qp _ p1 p2 r2 r3 c = (target_row _ p1 _ (inl refl) tt, (target_row _ p2 _ (inr refl) tt, tt))
 
 -- Of the others.
 row_of : {qp : ℕ} {f : Form} {row : Row} → IsName qp f row.resource
@@ -162,15 +163,15 @@ calls qp b1 (goal.Indirect b2) = (
 )
 
 own_facts : (qp : ℕ) (f : Form) → RowFacts qp f (own_rows f)
-own_facts qp (form.Compute r1 r2 r3) = (reads r2 refl, (reads r3 refl, (writes r1, tt)))
+own_facts qp (form.Compute r1 r2 r3 f) = (reads r2 refl, (reads r3 refl, (writes r1, tt)))
 own_facts qp (form.Fetch r1 (source.Branch b)) = (writes r1, (row_of tt (λ e. absurd (cc)), tt))
 own_facts qp (form.Fetch r1 (source.Application a)) =
     (writes r1, (row_of (application_named qp (form.Fetch r1 (source.Application a)) a) (λ e. absurd (cc)), tt))
 own_facts qp (form.Fetch r1 source) = (writes r1, tt)
-own_facts qp (form.Test kind p1 p2 r2 r3) = (reads r2 refl, (reads r3 refl, targets qp kind p1 p2 r2 r3))
-own_facts qp (form.ToPredicates r2 mask) = (reads r2 refl, tt)
+own_facts qp (form.Test kind p1 p2 r2 r3 c) = (reads r2 refl, (reads r3 refl, targets qp kind p1 p2 r2 r3 c))
+own_facts qp (form.ToPredicates r2 mask w) = (reads r2 refl, tt)
 own_facts qp (form.ToBranch b1 r2) = (reads r2 refl, (row_of tt tt, tt))
-own_facts qp (form.ToApplication a r2) = (reads r2 refl, (row_of (application_named qp (form.ToApplication a r2) a) tt, tt))
+own_facts qp (form.ToApplication a r2 w) = (reads r2 refl, (row_of (application_named qp (form.ToApplication a r2 w) a) tt, tt))
 own_facts qp (form.FromMemory size kind r1 r3 u) =
     (reads r3 refl, (reads (update_register u) refl, (writes r1, (updates u r3, (row_of tt refl, tt)))))
 own_facts qp (form.ToMemory size kind r3 r2 u) =
@@ -290,7 +291,7 @@ placed : (insn : Insn) (a : Access) (f : Form) → HasRow insn.qp a (placed_rows
 unfolding mask_rows
 placed insn a (form.Fetch r1 source.Predicates) h = places insn a 63 1 0x1ffff Read (inl refl) (omega arith) (omega arith) h
 placed insn a (form.Fetch r1 source) h = absurd h
-placed insn a (form.ToPredicates r2 mask) h = places insn a 63 1 mask Write (inr refl) (omega arith) (omega arith) h
+placed insn a (form.ToPredicates r2 mask w) h = places insn a 63 1 mask Write (inr refl) (omega arith) (omega arith) h
 placed insn a _ h = absurd h
 
 pub named_or_placed : AccessesAreNamedOrPlaced
@@ -423,7 +424,7 @@ record AreBelow (qp : ℕ) (f : Form) : Type 0 where
   guard : qp < 64
   targets : (p : ℕ) → IsTarget f p → p < 64
 
-below : (qp : ℕ) (op : Op) → IsListed (record { qp = qp; op = op }) → AreBelow qp (form_of (action_of op))
+below : (qp : ℕ) (op : Op) → IsListed (record { qp = qp; op = op }) → AreBelow qp (form_of op)
 below qp (ops.ChkS M r2 disp) l = record { guard = grind arith; targets = λ p t. grind arith }
 below qp (ops.MovToAr ar.Unat r2) l = record { guard = grind arith; targets = λ p t. grind arith }
 below qp (ops.MovToArImm ar.Unat imm) l = record { guard = grind arith; targets = λ p t. grind arith }

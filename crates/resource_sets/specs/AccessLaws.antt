@@ -1,6 +1,7 @@
 -- The laws of accesses: what the effect of an instruction depends on, and what it writes (volume 3, chapter 5, resource and
 -- dependency semantics).
 use Rattle.std.specs.Prelude.{◌≡◌, ◌≢◌, ◌⊎◌, ◌≤◌, ◌+◌, ◌*◌, ℕ, ◌<◌, Bool, true, false, List, [], ◌∷◌, get_or, All, AllPairs, Option, Some, None}
+use Rattle.ia_meaning.specs.declared.limits.TheConstants.{STACK_LIMIT}
 use Rattle.ia_insn.specs.declared.insn.Insn.{Insn}
 use Rattle.ia_insn.specs.Listed.{IsListed}
 use Rattle.ia_meaning.specs.declared.form.Form.{Form}
@@ -16,7 +17,7 @@ use Rattle.ia_meaning.specs.Writes.{Write, SetStatic, SetCell, SetPredicate, Set
 use Rattle.ia_meaning.specs.Names.{spot, look, holds, predicate_place, set_spot}
 use Rattle.ia_meaning.specs.Actions.{insn_form, is_alloc}
 use Rattle.ia_meaning.specs.Outcomes.{Outcome}
-use Rattle.ia_meaning.specs.Frames.{stack_limit, with_sizes}
+use Rattle.ia_meaning.specs.Frames.{with_sizes}
 use Rattle.ia_meaning.specs.Effects.{Site, effect}
 use Rattle.resource_sets.specs.declared.access.Resource.{Resource}
 use Rattle.resource_sets.specs.declared.access.Resource.TheVariants.{Gr, Pr, Br, Unat, Pfs, Lc, Ec, Cfm}
@@ -179,7 +180,7 @@ pub record ResizesFirst (new : FrameShape) (o : Outcome) : Type 0 where
   pub cell : Cell
   pub writes : o.writes ≡ SetFrame Resized new ∷ set_spot target cell []
   pub falls : o.next ≡ Falls
-  pub limit : new.base + new.sof ≤ stack_limit
+  pub limit : new.base + new.sof ≤ STACK_LIMIT
 
 -- What comes of an `alloc` of this frame: it spills nothing, and writes nothing or the frame first.
 pub record IsAllocated (new : FrameShape) (o : Outcome) : Type 0 where

@@ -1,4 +1,4 @@
--- What an instruction reads and writes (volume 3, chapter 5, resource and dependency semantics): of each form of effect
+-- What an instruction reads and writes (volume 3, chapter 5, resource and dependency semantics): of each form
 -- rows that are there or not.
 use Rattle.std.specs.Prelude.{ℕ, zero, suc, Bool, true, false, not, ◌||◌, ◌&&◌, List, [], ◌∷◌, ◌++◌}
 use Rattle.std.specs.List.{list_any}
@@ -120,12 +120,12 @@ loop_rows branch.Cond = []
 -- The rows of an instruction, but for those of its qualifying predicate, of the frame of its names, and of predicates by
 -- place.
 abbrev pub own_rows : Form → List Row
-own_rows (form.Compute r1 r2 r3) = gr r2 Read ∷ gr r3 Read ∷ gr r1 Write ∷ []
+own_rows (form.Compute r1 r2 r3 f) = gr r2 Read ∷ gr r3 Read ∷ gr r1 Write ∷ []
 own_rows (form.Fetch r1 source) = gr r1 Write ∷ source_rows source
-own_rows (form.Test kind p1 p2 r2 r3) = gr r2 Read ∷ gr r3 Read ∷ test_rows kind p1 p2
-own_rows (form.ToPredicates r2 mask) = gr r2 Read ∷ []
+own_rows (form.Test kind p1 p2 r2 r3 c) = gr r2 Read ∷ gr r3 Read ∷ test_rows kind p1 p2
+own_rows (form.ToPredicates r2 mask w) = gr r2 Read ∷ []
 own_rows (form.ToBranch b1 r2) = gr r2 Read ∷ always true (Br b1) Write ∷ []
-own_rows (form.ToApplication a r2) = gr r2 Read ∷ always true (application a) Write ∷ []
+own_rows (form.ToApplication a r2 w) = gr r2 Read ∷ always true (application a) Write ∷ []
 own_rows (form.FromMemory size kind r1 r3 u) =
     gr r3 Read ∷ gr (update_register u) Read ∷ gr r1 Write ∷ base_row u r3 ∷ unat_row (is_fill kind) Fill ∷ []
 own_rows (form.ToMemory size kind r3 r2 u) =
@@ -149,7 +149,7 @@ own_rows (form.Idle unit) = []
 -- The rows of predicates by place. All of them are read: the mask has all bits.
 abbrev pub placed_rows : Form → List Row
 placed_rows (form.Fetch r1 source.Predicates) = mask_rows 0x1ffff Read
-placed_rows (form.ToPredicates r2 mask) = mask_rows mask Write
+placed_rows (form.ToPredicates r2 mask w) = mask_rows mask Write
 placed_rows form = []
 
 -- how the qualifying predicate is read

@@ -28,7 +28,7 @@ HasNamedAccess insn a = HasRow insn.qp a (rows_by_name insn.qp (insn_form insn))
 
 -- a predicate that a test names
 abbrev pub IsTarget : Form → ℕ → Type 0
-IsTarget (form.Test kind p1 p2 r2 r3) p = (p ≡ p1) ⊎ (p ≡ p2)
+IsTarget (form.Test kind p1 p2 r2 r3 c) p = (p ≡ p1) ⊎ (p ≡ p2)
 IsTarget f p = ⊥
 
 -- a loop branch

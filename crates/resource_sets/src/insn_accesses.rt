@@ -2,7 +2,7 @@
 
 ghost use Rattle.std.specs.Prelude.{◌≡◌, ◌+◌, ◌-◌, ◌≤◌, ◌<◌, ◌++◌, ◌∷◌, true, length};
 ghost use Rattle.arrayvec.specs.ArrayVec.{array_vec_len};
-ghost use Rattle.ia_meaning.specs.Actions.{action_of, form_of};
+ghost use Rattle.ia_meaning.specs.Actions.{form_of};
 ghost use Rattle.ia_meaning.specs.Moves.{is_masked};
 ghost use Rattle.ia_meaning.specs.Names.{is_stacked, is_rotating};
 ghost use Rattle.resource_sets.specs.Rows.{gr, always, listed};
@@ -161,7 +161,7 @@ fn own_rows(form: &Form) -> Rows
 {
     let own = |resource, kind| always(true, resource, kind);
     match *form {
-        Form::Compute { r1, r2, r3 } => list(&[
+        Form::Compute { r1, r2, r3, .. } => list(&[
             gr(r2, Kind::Read),
             gr(r3, Kind::Read),
             gr(r1, Kind::Write),
@@ -173,6 +173,7 @@ fn own_rows(form: &Form) -> Rows
             p2,
             r2,
             r3,
+            ..
         } => {
             let targets = test_rows(kind, p1, p2);
             list(&[
@@ -184,7 +185,7 @@ fn own_rows(form: &Form) -> Rows
         }
         Form::ToPredicates { r2, .. } | Form::CheckNat { r2, .. } => list(&[gr(r2, Kind::Read)]),
         Form::ToBranch { b1, r2 } => list(&[gr(r2, Kind::Read), br(b1, Kind::Write)]),
-        Form::ToApplication { ar, r2 } => list(&[
+        Form::ToApplication { ar, r2, .. } => list(&[
             gr(r2, Kind::Read),
             own(application(ar), Kind::Write),
         ]),
@@ -330,7 +331,7 @@ fn push_placed(out: &mut ArrayVec<Access, 80>, qp: Pr, form: &Form)
             source: Source::Predicates,
             ..
         } => push_mask(out, qp, 0x1ffff, Kind::Read),
-        Form::ToPredicates { mask, .. } => push_mask(out, qp, mask, Kind::Write),
+        Form::ToPredicates { mask, .. } => push_mask(out, qp, u64::from(mask), Kind::Write),
         _ => {}
     }
 }

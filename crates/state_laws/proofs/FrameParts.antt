@@ -4,12 +4,13 @@ use Rattle.std.proofs.lemmas.Bool.Decides.{nat_tests}
 use Rattle.std.proofs.lemmas.Nat.{mod_below}
 use Rattle.ia_meaning.specs.declared.state.FrameShape.{FrameShape}
 use Rattle.ia_meaning.specs.State.{IsWord, HasReservedZeros, IsFrame}
-use Rattle.ia_meaning.specs.Frames.{stack_limit, with_sizes, has_zero_bases, rotated, cleared, frame_marker, marked_frame, call_state, call_frame, return_fault}
+use Rattle.ia_meaning.specs.declared.limits.TheConstants.{STACK_LIMIT}
+use Rattle.ia_meaning.specs.Frames.{with_sizes, has_zero_bases, rotated, cleared, frame_marker, marked_frame, call_state, call_frame, return_fault}
 use Rattle.ia_meaning.proofs.ReturnFrames.{may_return, moved_frame}
 
 -- a frame whose cells are no more than there may be
 abbrev pub IsFrameWithin : FrameShape → Type 0
-IsFrameWithin f = IsFrame f × (f.base + f.sof ≤ stack_limit)
+IsFrameWithin f = IsFrame f × (f.base + f.sof ≤ STACK_LIMIT)
 
 zero_general : (f : FrameShape) → has_zero_bases f ≡ true → f.rrbs.gr ≡ 0
 unfolding has_zero_bases

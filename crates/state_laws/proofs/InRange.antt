@@ -3,6 +3,7 @@ use Rattle.std.proofs.Common.{◌≡◌, ◌≢◌, ℕ, zero, suc, ◌+◌, ◌
 use Rattle.std.specs.Prelude.{IfSome}
 use Rattle.std.specs.List.{AllByRecursion as Each}
 use Rattle.std.proofs.lemmas.List.Elements.{All-set}
+use Rattle.ia_meaning.specs.declared.limits.TheConstants.{STACK_LIMIT}
 use Rattle.ia_meaning.specs.declared.state.Cell.{Cell}
 use Rattle.ia_meaning.specs.declared.state.FrameShape.{FrameShape}
 use Rattle.ia_meaning.specs.declared.state.AlatKey.{AlatKey as Spot}
@@ -38,7 +39,7 @@ put_keeps (SetStatic (suc n) c) r fits h =
 put_keeps (SetCell n c) r fits h =
     let same : length (set r.cells n c) ≡ length r.cells = length-set r.cells n c in
     let count : length (set r.cells n c) ≡ r.frame.base + r.frame.sof = same ∙ h.cell_count in
-    let most : length (set r.cells n c) ≤ 65536 = omega (arith, h.most) in
+    let most : length (set r.cells n c) ≤ STACK_LIMIT = omega (arith, h.most) in
     let words : AreCells (set r.cells n c) = All-set (λ c. IsWord c.value) r.cells n c fits h.cells in
     assumption (count, most, words, h)
 put_keeps (SetPredicate n b) r fits h =
@@ -55,7 +56,7 @@ put_keeps (SetLc v) r fits h = assumption (fits, h)
 put_keeps (SetEc v) r fits h = assumption (fits, h)
 put_keeps (SetFrame cause f) r fits h =
     let count : length (resized (f.base + f.sof) r.cells) ≡ f.base + f.sof = length-resized (f.base + f.sof) r.cells in
-    let most : length (resized (f.base + f.sof) r.cells) ≤ 65536 = omega (arith, fits.1) in
+    let most : length (resized (f.base + f.sof) r.cells) ≤ STACK_LIMIT = omega (arith, fits.1) in
     let words : AreCells (resized (f.base + f.sof) r.cells) = words-resized (f.base + f.sof) r.cells h.cells in
     assumption (count, most, words, fits, h)
 

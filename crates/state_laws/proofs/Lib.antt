@@ -1,6 +1,6 @@
 pub mod Words
 pub mod Values
-pub mod ActionRanges
+pub mod FormWords
 pub mod FrameParts
 pub mod InRange
 pub mod Memories

@@ -38,7 +38,9 @@ use Rattle.ia_meaning.specs.Writes.{Write, SetPredicate, SetFrame, Renamed}
 use Rattle.ia_meaning.specs.Names.{spot, predicate_spot}
 use Rattle.ia_meaning.specs.Arithmetic.{immediate, bit}
 use Rattle.ia_meaning.specs.Outcomes.{Outcome, falls, goes, faults}
-use Rattle.ia_meaning.specs.Actions.{Action, Compute, Fetch, Test, ToPredicates, ToBranch, ToApplication, FromMemory, ToMemory, CheckNat, CheckAlat, ForgetAll, Forget, Allocate, Jump, JumpIndirect, Loop, Call, Return, ClearBases, Stop, Idle, action_of}
+use Rattle.ia_meaning.specs.declared.form.Form.{Form}
+use Rattle.ia_meaning.specs.declared.form.Form.TheVariants.{Compute, Fetch, Test, ToPredicates, ToBranch, ToApplication, FromMemory, ToMemory, CheckNat, CheckAlat, ForgetAll, Forget, Allocate, Jump, JumpIndirect, Loop, Call, Return, ClearBases, Stop, Idle}
+use Rattle.ia_meaning.specs.Actions.{form_of, result_of, moved}
 use Rattle.ia_meaning.specs.Moves.{test_writes, is_masked, masked_writes, predicate_writes, has_reserved_zeros}
 use Rattle.ia_meaning.specs.Loads.{base_writes, store_spills, load_alat}
 use Rattle.ia_meaning.specs.Frames.{call_writes, rotated}
@@ -58,7 +60,7 @@ use Rattle.state_laws.proofs.Values.{look_word, spot_key, source_word}
 use Rattle.state_laws.proofs.InRange.{IsInRange, apply_keeps, spilled_keeps, spot_in_range, predicate_in_range}
 use Rattle.state_laws.proofs.Memories.{AreEntries, forgotten_entries, load_entries, entries_of, with_entries, stored_memory}
 use Rattle.state_laws.proofs.FrameParts.{IsFrameWithin, sized_frame, rotated_within, cleared_within, called_within, returned_within, call_state_in_range}
-use Rattle.state_laws.proofs.ActionRanges.{HasActionRanges, action_ranges}
+use Rattle.state_laws.proofs.FormWords.{HasFormWords, form_words}
 
 -- an outcome that keeps a state
 record IsOutcomeInRange (p : Program) (o : Outcome) : Type 0 where
@@ -140,7 +142,7 @@ reserved_zeros : (x : ℕ) → has_reserved_zeros x ≡ true → HasReservedZero
 unfolding has_reserved_zeros
 reserved_zeros x h = search rules
 
-module _ (p : Program) (s : Site) (r : Registers) (m : Memory) (unat : ℕ) (below : s.bundle < 4096) (h : AreRegisters r) (mem : IsMemory p m) where
+module _ (p : Program) (s : Site) (r : Registers) (m : Memory) (unat : ℕ) (below : s.bundle < 2 ^ 31) (h : AreRegisters r) (mem : IsMemory p m) where
   -- outcomes that leave the memory, or change its entries
   fell : (ws : List Write) → Each IsInRange ws → IsOutcomeInRange p (falls ws m)
   fell ws w = record { writes = w; memory = mem; spills = tt }
@@ -191,13 +193,13 @@ module _ (p : Program) (s : Site) (r : Registers) (m : Memory) (unat : ℕ) (bel
   turned_in_range : (kind : BranchKind) (qp : Bool) → Each IsInRange (turn_writes (turn_of kind qp r.lc r.ec) r.frame)
   turned_in_range kind qp = turn_in_range (turn_of kind qp r.lc r.ec) r.frame (turn_counts kind qp r.lc r.ec h.lc h.ec) frame
 
-  act_in_range : (a : Action) → HasActionRanges a → ActCases (IsOutcomeInRange p) s a r m unat
+  act_in_range : (form : Form) → HasFormWords form → ActCases (IsOutcomeInRange p) s form r m unat
   act_in_range (Compute r1 r2 r3 f) l = (failed, λ d a b i j k. fell _ (spot_in_range d _ [] (l a.value b.value (look_word r h r2 a j) (look_word r h r3 b k)) tt))
   act_in_range (Fetch r1 source) l = (failed, λ d i. fell _ (spot_in_range d _ [] (source_word s.bundle r source below h) tt))
-  act_in_range (Test kind p1 p2 r2 r3 f) l = (failed, λ a b i j. fell _ (test_in_range r.frame kind p1 p2 (f a b)))
-  act_in_range (ToPredicates r2 f mask) l = (failed, λ a i n. fell _ (moved_in_range mask (f a.value)))
+  act_in_range (Test kind p1 p2 r2 r3 c) l = (failed, λ a b i j. fell _ (test_in_range r.frame kind p1 p2 (result_of c a b)))
+  act_in_range (ToPredicates r2 mask w) l = (failed, λ a i n. fell _ (moved_in_range mask (moved w a.value)))
   act_in_range (ToBranch b1 r2) l = (failed, λ a i n. fell _ (look_word r h r2 a i, tt))
-  act_in_range (ToApplication a r2 f) l = (failed, λ c i n. application_in_range a (f c.value) (l c.value (look_word r h r2 c i)))
+  act_in_range (ToApplication a r2 w) l = (failed, λ c i n. application_in_range a (moved w c.value) (l c.value (look_word r h r2 c i)))
   act_in_range (FromMemory size kind r1 r3 u) l = (failed, λ d e base more i j k n. load_in_range size kind r1 u d e base more l.0 l.1 i)
   act_in_range (ToMemory size kind r3 r2 u) l =
       (failed, λ e base x i j k n t a. record { writes = base_in_range u e base zero_cell; memory = stored_memory p m base.value size x.value mem; spills = spills_in_range kind base.value x })
@@ -217,15 +219,15 @@ module _ (p : Program) (s : Site) (r : Registers) (m : Memory) (unat : ℕ) (bel
   act_in_range (Stop unit imm) l = record { writes = tt; memory = mem; spills = tt }
   act_in_range (Idle unit) l = fell [] tt
 
-  skip_in_range : (a : Action) → SkipCases (IsOutcomeInRange p) s a r m
-  skip_in_range (Test kind p1 p2 r2 r3 f) = (λ e. fell _ (predicate_in_range r.frame p1 _ _ (predicate_in_range r.frame p2 _ [] tt)), λ e. fell [] tt)
+  skip_in_range : (form : Form) → SkipCases (IsOutcomeInRange p) s form r m
+  skip_in_range (Test kind p1 p2 r2 r3 c) = (λ e. fell _ (predicate_in_range r.frame p1 _ _ (predicate_in_range r.frame p2 _ [] tt)), λ e. fell [] tt)
   skip_in_range (Loop kind disp) = (λ t. went _ _ (turned_in_range kind false), λ t. fell _ (turned_in_range kind false))
-  skip_in_range a = fell [] tt
+  skip_in_range form = fell [] tt
 
   effect_in_range : (insn : Insn) → IsListed insn → IsOutcomeInRange p (effect s insn r m unat)
   effect_in_range insn listed =
-      guarded_cases (IsOutcomeInRange p) s insn.qp (action_of insn.op) r m unat
-      (λ _. act_in_range (action_of insn.op) (action_ranges insn.op (ranges_of_listed insn listed))) (λ _. skip_in_range (action_of insn.op))
+      guarded_cases (IsOutcomeInRange p) s insn.qp (form_of insn.op) r m unat
+      (λ _. act_in_range (form_of insn.op) (form_words insn.op (ranges_of_listed insn listed))) (λ _. skip_in_range (form_of insn.op))
 
   settled_in_range : (next : Option Place) (way : Next) (o : Outcome) → IsOutcomeInRange p o → IsOutcomeInRange p (settled next m way o)
   settled_in_range None Falls o f = record { writes = tt; memory = mem; spills = tt }
@@ -249,7 +251,7 @@ stored_at : (p : Program) (s : State) (insn : Insn) → IsProgram p → IsState 
 stored_at p s insn program is e =
     let b = bundle_small p.bundles s.place is.place in
     let c = program.counts.bundles in
-    let below : s.place.bundle < 4096 = omega arith in
+    let below : s.place.bundle < 2 ^ 31 = omega arith in
     let o : Outcome = effect (site p s.place.bundle) insn s.registers s.memory s.registers.unat in
     let f : IsOutcomeInRange p o = effect_in_range p (site p s.place.bundle) s.registers s.memory s.registers.unat below is.registers is.memory insn (listed_at p s.place insn program e) in
     step_stored p s (outcome_of p s insn) (outcome_of p s insn).next is

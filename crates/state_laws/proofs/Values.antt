@@ -1,9 +1,10 @@
 -- What registers hold are words, and where they stand are keys of the ALAT.
-use Rattle.std.proofs.Common.{◌≡◌, ◌≢◌, ℕ, zero, suc, ◌+◌, ◌-◌, ◌<◌, ◌≤◌, ◌⊎◌, inl, inr, Bool, true, false, nat_lt, if◌then◌else◌, List, length, get_or, Option, Some, None, refl, subst, arith}
+use Rattle.std.proofs.Common.{◌≡◌, ◌≢◌, ℕ, zero, suc, ◌+◌, ◌-◌, ◌^◌, ◌<◌, ◌≤◌, ◌⊎◌, inl, inr, Bool, true, false, nat_lt, if◌then◌else◌, List, length, get_or, Option, Some, None, refl, subst, arith}
 use Rattle.std.proofs.lemmas.Bool.{cases_lt}
 use Rattle.std.proofs.lemmas.Bool.Decides.{nat_tests}
 use Rattle.std.proofs.lemmas.List.{get_or_past}
 use Rattle.std.proofs.lemmas.List.Elements.{All-get_or}
+use Rattle.ia_meaning.specs.declared.limits.TheConstants.{STACK_LIMIT}
 use Rattle.ia_insn.specs.declared.registers.Ar.{Ar}
 use Rattle.ia_insn.specs.declared.registers.Ar.TheVariants as ar
 use Rattle.ia_meaning.specs.declared.state.Cell.{Cell}
@@ -47,7 +48,7 @@ look_word r h zero c e = same_cell zero_cell c e (omega arith)
 look_word r h (suc n) c e = spot_word r h (spot r.frame (suc n)) c e
 
 -- the place of a register other than r0 is a key
-pub spot_key : (f : FrameShape) → IsFrame f → f.base + f.sof ≤ 65536 → (r : ℕ) (d : Spot) → r ≢ 0 → spot f r ≡ Some d → IsKey d
+pub spot_key : (f : FrameShape) → IsFrame f → f.base + f.sof ≤ STACK_LIMIT → (r : ℕ) (d : Spot) → r ≢ 0 → spot f r ≡ Some d → IsKey d
 unfolding spot
 spot_key f frame most r d some h = by_tests (is_stacked r) (nat_lt (r - 32) f.sof) refl refl h
   where
@@ -71,7 +72,7 @@ application_word r ar.Pfs h = h.pfs
 application_word r ar.Lc h = h.lc
 application_word r ar.Ec h = let e = h.ec in omega arith
 
-pub source_word : (bundle : ℕ) (r : Registers) (x : Source) → bundle < 4096 → AreRegisters r → IsWord (source_value bundle r x)
+pub source_word : (bundle : ℕ) (r : Registers) (x : Source) → bundle < 2 ^ 31 → AreRegisters r → IsWord (source_value bundle r x)
 source_word bundle r (source.Branch b) k h = branch_word r.branches h.branches b
 source_word bundle r (source.Application a) k h = application_word r a h
 source_word bundle r source.Predicates k h = predicates_word r.predicates h.predicate_count

@@ -1,11 +1,11 @@
-use Rattle.std.proofs.Common.{◌≡◌, ◌<◌, ◌*◌, ◌^◌, List, [], Some, length, sym, ap, ◌∙◌, subst, arith}
+use Rattle.std.proofs.Common.{◌≡◌, ◌<◌, ◌*◌, List, [], Some, length, sym, ap, ◌∙◌, subst, arith}
 use Rattle.ia_insn.specs.declared.place.Place.{Place}
 use Rattle.ia_insn.specs.Places.{place_number}
 use Rattle.ia_meaning.specs.Sequence.{next_of}
 use Rattle.group_checker.specs.declared.window.Entry.{Entry}
 use Rattle.group_checker.specs.Shown.{Report}
 use Rattle.group_checker.specs.Windows.{IsWindow}
-use Rattle.group_checker.specs.Progress.{HasReported, IsEarlier}
+use Rattle.group_checker.specs.Progress.{HasReported, IsEarlier, place_bound, second_bound}
 use Rattle.group_checker.proofs.Windowing.{first_window}
 use Rattle.group_checker.proofs.RunOrders.{accepted_robust}
 use Rattle.group_checker.proofs.Reporting.{none_reported, bounded, next_reported, verdict_reported, number_small, next_place, number_next}
@@ -32,7 +32,7 @@ slots-smaller c =
     let p = c.args.program.now in
     let j = c.slots.second in
     let follows : next_of p.bundles j ≡ Some c.in-Some.after = sym c.next.ensures ∙ c.in-Some.is in
-    let small : place_number j < 2 ^ 14 = number_small p j c.first_place-second.ensures.program c.slots.invariant.place in
+    let small : place_number j < place_bound = number_small p j c.first_place-second.ensures.program c.slots.invariant.place in
     let up : place_number j < place_number c.in-Some.after = number_next p j c.in-Some.after c.slots.invariant.place follows in
     omega arith
 
@@ -42,12 +42,12 @@ slots-preserved c =
     let j = c.slots.second in
     let next = c.in-Some.after in
     let follows : next_of p.bundles j ≡ Some next = sym c.next.ensures ∙ c.in-Some.is in
-    let small : place_number j < 2 ^ 14 = number_small p j c.first_place-second.ensures.program c.slots.invariant.place in
+    let small : place_number j < place_bound = number_small p j c.first_place-second.ensures.program c.slots.invariant.place in
     let up : place_number j < place_number next = number_next p j next c.slots.invariant.place follows in
     record {
       place = next_place p j next follows;
       window = c.in_ok-move_on.ensures next follows;
-      reports = next_reported p c.check_second.new.report j next _ (2 ^ 27 * place_number next) follows (omega (arith, c.slots.invariant.window.size, c.deref.ensures.len, ap (length {A = Entry}) c.deref.ensures.value)) c.in_ok-check_second.ensures;
+      reports = next_reported p c.check_second.new.report j next _ (second_bound * place_number next) follows (omega (arith, c.slots.invariant.window.size, c.deref.ensures.len, ap (length {A = Entry}) c.deref.ensures.value)) c.in_ok-check_second.ensures;
     }
 
 pub returns-in_default-clause-verdict : goal.returns-in_default-clause-verdict

@@ -1,15 +1,15 @@
-use Rattle.std.proofs.Common.{◌-◌, ◌*◌, ◌^◌}
+use Rattle.std.proofs.Common.{◌-◌, ◌*◌}
 use Rattle.ia_insn.specs.Places.{place_number, IsPlaceOf}
 use Rattle.group_checker.specs.Windows.{IsWindow}
-use Rattle.group_checker.specs.Progress.{HasReported, IsEarlier}
+use Rattle.group_checker.specs.Progress.{HasReported, IsEarlier, place_bound, second_bound}
 use Rattle.group_checker.proofs.checker.check.Given as goal
 
 abbrev pub invariant-slots : goal.invariant-slots
 invariant-slots l = record {
   place : IsPlaceOf l.program.bundles l.second;
   window : IsWindow l.program l.window.items l.second;
-  reports : HasReported l.program l.report (IsEarlier l.second) (2 ^ 27 * place_number l.second);
+  reports : HasReported l.program l.report (IsEarlier l.second) (second_bound * place_number l.second);
 }
 
 abbrev pub decreases-slots : goal.decreases-slots
-decreases-slots l = 2 ^ 14 - place_number l.second
+decreases-slots l = place_bound - place_number l.second

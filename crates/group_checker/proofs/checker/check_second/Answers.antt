@@ -1,7 +1,7 @@
-use Rattle.std.proofs.Common.{◌≡◌, ◌+◌, ◌*◌, ◌^◌, ◌++◌, ℕ, List, length, take, ap, ◌∙◌, subst, arith}
+use Rattle.std.proofs.Common.{◌≡◌, ◌+◌, ◌*◌, ◌++◌, ℕ, List, length, take, ap, ◌∙◌, subst, arith}
 use Rattle.ia_insn.specs.Places.{place_number}
 use Rattle.group_checker.specs.declared.violation.Violation.{Violation}
-use Rattle.group_checker.specs.Progress.{HasReported, IsEarlierPair, IsUpTo}
+use Rattle.group_checker.specs.Progress.{HasReported, IsEarlierPair, IsUpTo, pair_bound, second_bound}
 use Rattle.group_checker.proofs.Reporting.{none_of_second, pair_reported, second_reported, shown_short, bounded}
 use Rattle.group_checker.proofs.checker.check_second.Goals as goal
 
@@ -32,4 +32,4 @@ returns c =
     let p = c.args.program.now in
     let P : ℕ → ℕ → Type 0 = λ n b. HasReported p c.loop-n.report (IsEarlierPair c.args.window.now c.args.second n) b in
     bounded p c.loop-n.report (IsUpTo c.args.second) _ _ (omega arith)
-    (second_reported p c.loop-n.report c.args.window.now c.args.second _ c.requires.window (subst (λ (n : ℕ). P n (2 ^ 27 * place_number c.args.second + 2 ^ 13 * c.loop-n.n)) done c.loop-n.invariant))
+    (second_reported p c.loop-n.report c.args.window.now c.args.second _ c.requires.window (subst (λ (n : ℕ). P n (second_bound * place_number c.args.second + pair_bound * c.loop-n.n)) done c.loop-n.invariant))

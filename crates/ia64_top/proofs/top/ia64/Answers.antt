@@ -1,5 +1,5 @@
 use Rattle.std.proofs.Common.{◌≤◌, length, Err, sym, ap, arith}
-use Rattle.ia64_top.specs.Output.{input_limit}
+use Rattle.ia64_top.specs.declared.limits.TheConstants.{INPUT_LIMIT}
 use Rattle.ia64_top.proofs.Outputs.{either_gives_one}
 use Rattle.ia64_top.proofs.Ordering.{promised, run_in_each_order, promised_beyond, runs_beyond}
 use Rattle.ia64_top.proofs.Answering.{too_long, answered, given_in_part, accepted_beyond, accepted_within, judged_beyond, judged_within, only_within, ended_beyond, ended_within, beyond, untouched, read_whole, same_whole}
@@ -29,13 +29,13 @@ pub returns-in-Ok-write_all-clause-output : goal.returns-in-Ok-write_all-clause-
 returns-in-Ok-write_all-clause-output g c u =
     let whole = same_whole (g.S.Source.left c.args.source.now) c.deref.result.now c.in-Ok.input.items c.deref.ensures.value c.in-Ok.ensures.whole in
     let written = rw c.deref-2.ensures.value at c.in-Ok-write_all.ensures in
-    let within : length c.deref.result.now ≤ input_limit = omega (arith, c.in-Ok.ensures.within, c.deref.ensures.len, ap length c.deref.ensures.value) in
+    let within : length c.deref.result.now ≤ INPUT_LIMIT = omega (arith, c.in-Ok.ensures.within, c.deref.ensures.len, ap length c.deref.ensures.value) in
     answered c.args.words.now c.in-Some.command (g.S.Source.left c.args.source.now) (g.K.Sink.given c.args.sink.now) (g.K.Sink.given c.write_all.new.sink) c.deref.result.now c.in-Ok-respond.answer.bytes.items c.in-Ok-respond.answer.status (sym c.in-Some.ensures) whole within c.in-Ok-respond.ensures.output written.ok
 
 pub returns-in-Ok-write_all-clause-only : goal.returns-in-Ok-write_all-clause-only
 returns-in-Ok-write_all-clause-only g c u =
     let whole = same_whole (g.S.Source.left c.args.source.now) c.deref.result.now c.in-Ok.input.items c.deref.ensures.value c.in-Ok.ensures.whole in
-    let within : length c.deref.result.now ≤ input_limit = omega (arith, c.in-Ok.ensures.within, c.deref.ensures.len, ap length c.deref.ensures.value) in
+    let within : length c.deref.result.now ≤ INPUT_LIMIT = omega (arith, c.in-Ok.ensures.within, c.deref.ensures.len, ap length c.deref.ensures.value) in
     only_within c.args.words.now c.in-Some.command (g.S.Source.left c.args.source.now) c.deref.result.now c.in-Ok-respond.answer.status (sym c.in-Some.ensures) whole within c.in-Ok-respond.ensures.only
 
 pub returns-in-Ok-write_all-clause-accepted : goal.returns-in-Ok-write_all-clause-accepted
@@ -57,7 +57,7 @@ pub returns-clause-written_part : goal.returns-clause-written_part
 returns-clause-written_part g c u =
     let whole = same_whole (g.S.Source.left c.args.source.now) c.deref.result.now c.in-Ok.input.items c.deref.ensures.value c.in-Ok.ensures.whole in
     let written = rw c.deref-2.ensures.value at c.in-Err.ensures in
-    let within : length c.deref.result.now ≤ input_limit = omega (arith, c.in-Ok.ensures.within, c.deref.ensures.len, ap length c.deref.ensures.value) in (
+    let within : length c.deref.result.now ≤ INPUT_LIMIT = omega (arith, c.in-Ok.ensures.within, c.deref.ensures.len, ap length c.deref.ensures.value) in (
       c.in-Ok.ensures.end,
       c.in-Ok.ensures.quiet,
       given_in_part c.args.words.now c.in-Some.command (g.S.Source.left c.args.source.now) (g.K.Sink.given c.args.sink.now) (g.K.Sink.given c.write_all.new.sink) c.deref.result.now c.in-Ok-respond.answer.bytes.items c.in-Ok-respond.answer.status (sym c.in-Some.ensures) whole within c.in-Ok-respond.ensures.output written.prefix,

@@ -1,4 +1,5 @@
 use Rattle.std.proofs.Common.{rules, ◌<◌, arith}
+use Rattle.ia_insn.specs.declared.limits.TheConstants.{RUN_LIMIT}
 use Rattle.ia_insn.specs.Runs.{EndsRun, IsWithinRun}
 use Rattle.ia_insn.proofs.Reaching.{first_reached, goes_on, fewer_left, within_run, first_run, run_ends, run_goes_on}
 use Rattle.ia_insn.proofs.runs.long_run.Goals as goal
@@ -15,7 +16,7 @@ loop-reached-smaller c =
 pub loop-reached-preserved : goal.loop-reached-preserved
 loop-reached-preserved c =
     let i = rw c.in-Some.is at c.loop-reached.invariant in
-    let small : c.loop-reached.run < 192 = omega (arith, i.2, c.if-run-eq-RUN_LIMIT.false) in
+    let small : c.loop-reached.run < RUN_LIMIT = omega (arith, i.2, c.if-run-eq-RUN_LIMIT.false) in
     let good = within_run c.args.bundles.now c.in-Some.place c.loop-reached.run i.1 small in
     let reached = goes_on c.args.bundles.now (IsWithinRun c.args.bundles.now) c.in-Some.place c.next-reached.result i.0 good c.next-reached.ensures in
     elim c.if-ends_run.branch [

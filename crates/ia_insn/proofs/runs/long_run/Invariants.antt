@@ -1,10 +1,11 @@
 use Rattle.std.proofs.Common.{◌≤◌, length}
+use Rattle.ia_insn.specs.declared.limits.TheConstants.{RUN_LIMIT}
 use Rattle.ia_insn.specs.Runs.{IsWithinRun}
 use Rattle.ia_insn.proofs.Reaching.{HasReached, HasRun, slots_left}
 use Rattle.ia_insn.proofs.runs.long_run.Given as goal
 
 abbrev pub invariant-loop-reached : goal.invariant-loop-reached
-invariant-loop-reached l = HasReached l.bundles (IsWithinRun l.bundles) l.reached × HasRun l.bundles l.reached l.run × (l.run ≤ 192)
+invariant-loop-reached l = HasReached l.bundles (IsWithinRun l.bundles) l.reached × HasRun l.bundles l.reached l.run × (l.run ≤ RUN_LIMIT)
 
 abbrev pub decreases-loop-reached : goal.decreases-loop-reached
 decreases-loop-reached l = slots_left (length l.bundles) l.reached

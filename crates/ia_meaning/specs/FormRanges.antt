@@ -1,0 +1,32 @@
+-- The ranges of the numbers of a form.
+use Rattle.std.specs.Prelude.{◌≡◌, ◌⊎◌, ◌*◌, ◌≤◌}
+use Rattle.ia_insn.specs.Ranges.{IsBitField, IsLoadSize, IsStoreSize}
+use Rattle.ia_meaning.specs.declared.form.Function.{Function}
+use Rattle.ia_meaning.specs.declared.form.Function.TheVariants.{ShiftAdd, ShiftPair, Extract, Deposit, DepositImmediate, Extend}
+use Rattle.ia_meaning.specs.declared.form.Condition.{Condition}
+use Rattle.ia_meaning.specs.declared.form.Condition.TheVariants.{BitIsZero}
+use Rattle.ia_meaning.specs.declared.form.Form.{Form}
+use Rattle.ia_meaning.specs.declared.form.Form.TheVariants.{Compute, Test, FromMemory, ToMemory, Allocate}
+
+-- counts, fields and sizes are those that its value is defined for
+abbrev pub IsFunction : Function → Type 0
+IsFunction (ShiftAdd p4 count) = count ≤ 63
+IsFunction (ShiftPair count) = count ≤ 63
+IsFunction (Extract signed pos len) = IsBitField pos len 64
+IsFunction (Deposit pos len) = IsBitField pos len 64
+IsFunction (DepositImmediate pos len imm) = IsBitField pos len 64
+IsFunction (Extend signed size) = (size ≡ 1) ⊎ ((size ≡ 2) ⊎ (size ≡ 4))
+IsFunction f = Unit {0}
+
+abbrev pub IsCondition : Condition → Type 0
+IsCondition (BitIsZero pos) = pos ≤ 63
+IsCondition c = Unit {0}
+
+-- so are the sizes of a load, a store and a frame
+abbrev pub HasFormRanges : Form → Type 0
+HasFormRanges (Compute r1 r2 r3 f) = IsFunction f
+HasFormRanges (Test kind p1 p2 r2 r3 c) = IsCondition c
+HasFormRanges (FromMemory size kind r1 r3 update) = IsLoadSize kind size
+HasFormRanges (ToMemory size kind r3 r2 update) = IsStoreSize kind size
+HasFormRanges (Allocate r1 sof sol sor) = (sof ≤ 96) × (sol ≤ sof) × (8 * sor ≤ sof)
+HasFormRanges form = Unit {0}

@@ -1,0 +1,54 @@
+-- What a listed instruction says of its form.
+use Rattle.std.proofs.Common.{◌≡◌, ◌≢◌, ℕ, ◌*◌, ◌≤◌, ◌⊎◌, inr, arith}
+use Rattle.ia_insn.specs.declared.choices.AluFn.TheVariants.{Add}
+use Rattle.ia_insn.specs.declared.choices.LoadKind.{LoadKind}
+use Rattle.ia_insn.specs.declared.choices.LoadKind.TheVariants as load
+use Rattle.ia_insn.specs.declared.choices.BranchKind.TheVariants.{Cond}
+use Rattle.ia_insn.specs.declared.insn.Op.{Op}
+use Rattle.ia_insn.specs.declared.insn.Op.TheVariants as op
+use Rattle.ia_insn.specs.Ranges.{IsAccessSize, IsLoadSize, HasRanges}
+use Rattle.ia_meaning.specs.State.{IsWord}
+use Rattle.ia_meaning.specs.Arithmetic.{immediate}
+use Rattle.ia_meaning.specs.declared.form.Form.{Form}
+use Rattle.ia_meaning.specs.declared.form.Form.TheVariants.{Compute, ToApplication, FromMemory, Allocate}
+use Rattle.ia_meaning.specs.Actions.{addition, form_of, value_of, moved}
+use Rattle.state_laws.proofs.Words.{immediate_word, alu_word, shift_add_word, shift_word, shift_pair_word, extract_word, deposit_word, extend_word, ones_word}
+
+-- what it computes and moves of words are words, and its numbers are in range
+abbrev pub HasFormWords : Form → Type 0
+HasFormWords (Compute r1 r2 r3 f) = (a b : ℕ) → IsWord a → IsWord b → IsWord (value_of f a b)
+HasFormWords (ToApplication ar r2 w) = (a : ℕ) → IsWord a → IsWord (moved w a)
+HasFormWords (FromMemory size kind r1 r3 u) = (r1 ≢ 0) × IsAccessSize size
+HasFormWords (Allocate r1 sof sol sor) = (sof ≤ 96) × (sol ≤ sof) × (8 * sor ≤ sof)
+HasFormWords form = Unit {0}
+
+load_size : (kind : LoadKind) (size : ℕ) → IsLoadSize kind size → IsAccessSize size
+load_size load.Fill size h = inr (inr (inr h))
+load_size kind size h = h
+
+ext_size : (size : ℕ) → (size ≡ 1) ⊎ ((size ≡ 2) ⊎ (size ≡ 4)) → size ≤ 8
+ext_size size h = omega arith
+
+pub form_words : (o : Op) → HasRanges o → HasFormWords (form_of o)
+form_words (op.Alu f r1 r2 r3) h = alu_word f
+form_words (op.ShlAdd p4 r1 r2 count r3) h = λ a b i j. shift_add_word p4 count a b
+form_words (op.AluImm8 f r1 imm r3) h = λ a b i j. alu_word f (immediate imm) b (immediate_word 8 imm (omega arith) h.1) j
+form_words (op.AddImm14 p4 r1 imm r3) h = λ a b i j. alu_word (addition p4) (immediate imm) b (immediate_word 14 imm (omega arith) h.1) j
+form_words (op.AddImm22 r1 imm r3) h = λ a b i j. alu_word Add (immediate imm) b (immediate_word 22 imm (omega arith) h.1) j
+form_words (op.ShiftVar f r1 value count) h = λ a b i j. shift_word f a b i
+form_words (op.Popcnt r1 r3) h = λ a b i j. ones_word b j
+form_words (op.Shrp r1 r2 r3 count) h = λ a b i j. shift_pair_word count a b
+form_words (op.Extr signed r1 r3 pos len) h = λ a b i j. extract_word signed pos len b
+form_words (op.DepZ r1 r2 pos len) h = λ a b i j. deposit_word pos len a b h.1.position j
+form_words (op.DepZImm r1 imm pos len) h = λ a b i j. deposit_word pos len (immediate imm) b h.1.position j
+form_words (op.DepImm r1 ones r3 pos len) h = λ a b i j. deposit_word pos len _ b h.1.position j
+form_words (op.Dep r1 r2 r3 pos len) h = λ a b i j. deposit_word pos len a b h.1.position j
+form_words (op.MovToAr ar r2) h = λ a i. i
+form_words (op.MovToArImm ar imm) h = λ a i. immediate_word 8 imm (omega arith) h
+form_words (op.Ext signed size r1 r3) h = λ a b i j. extend_word signed size b (ext_size size h.1)
+form_words (op.Load size kind hint r1 r3 update) h = (h.0, load_size kind size h.1)
+form_words (op.Alloc r1 sof sol sor) h = (h.1, h.2, h.3)
+form_words (op.Movl r1 imm) h = λ a b i j. h.1
+form_words (op.Br Cond wh many clr disp) h = tt
+form_words (op.Br kind wh many clr disp) h = tt
+form_words o h = tt
