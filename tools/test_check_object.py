@@ -386,8 +386,8 @@ class Ties(Case):
                            "and by 'br.call.sptk.few b0=g' (+0x0 slot 2)")
 
     def test_ways_into_the_middle(self):
-        """A symbol inside, though it says more bytes than there are, and the entry point of a linked file: nothing is known
-        there of the predicates that the compare before it sets."""
+        """A symbol inside, though it says more bytes than there are, and the entry point and a global label of a linked file:
+        nothing is known there of the predicates that the compare before it sets."""
         text = bundle("mii", "cmp.eq p6,p7=r8,r9", "nop.i 0", "nop.i 0") + bundle(
             "mii", "nop.m 0", "(p6) adds r8=1,r0", "(p7) adds r8=2,r0") + RETURN
         elf = one_function(text)
@@ -397,10 +397,23 @@ class Ties(Case):
             "a.o(.text+0x10) f: WAW r8: written by '(p6) adds r8=1,r0' (+0x10 slot 1) and by '(p7) adds r8=2,r0' (+0x10 slot 2)",
             "a.o(.text+0x10) inner: not judged: cut off: it has 0x1000 bytes, and the section ends at +0x30",
             "0 accepted, 1 violated, 1 not judged"]))
-        for entry, status in ((0x4000000000000080, 0), (0x4000000000000090, 1)):
+        start = 0x4000000000000080
+        for entry, label, status in ((start, None, 0), (start + 0x10, None, 1), (start, start + 0x10, 1), (start, start, 0)):
             elf, code = Elf(2, entry), bundles(text)
-            elf.symbol("f", elf.section(".text", code, address=0x4000000000000080), 0x4000000000000080, len(code))
-            self.assertEqual(self.call(self.put(elf))[0], status)
+            section = elf.section(".text", code, address=start)
+            elf.symbol("f", section, start, len(code))
+            if label:
+                elf.symbol("l", section, label, kind=0)
+            self.assertEqual(self.call(self.put(elf))[0], status, (entry, label))
+
+    def test_a_branch_from_another_section(self):
+        code = bundles(bundle("mii", "cmp.eq p6,p7=r8,r9", "nop.i 0", "nop.i 0") + "middle:\n" + bundle(
+            "mii", "nop.m 0", "(p6) adds r8=1,r0", "(p7) adds r8=2,r0") + RETURN + bundle("mib", "nop.m 0", "nop.i 0", "br.cond.sptk.few middle"))
+        start, last = 0x4000000000000080, len(code) - 16
+        elf = Elf(2)
+        elf.symbol("f", elf.section(".text", code[:last], address=start), start, last)
+        elf.symbol("g", elf.section(".text.g", code[last:], address=start + last), start + last, 16)
+        self.assertEqual(self.call(self.put(elf))[1][-1], "1 accepted, 1 violated, 0 not judged")
 
     def test_system_calls(self):
         text = bundle("mib", "break.m 0x100000") + WRITES + RETURN
@@ -751,6 +764,14 @@ class Calls(Case):
             done = subprocess.run(["tools/check_object", "a.o"], capture_output=True, text=True, check=False)
             self.assertEqual((done.returncode, done.stdout), (2, ""))
             self.assertTrue(done.stderr.startswith(says), done.stderr)
+
+    def test_a_reader_that_ends_early(self):
+        self.put(one_function(RETURN))
+        done = subprocess.Popen([sys.executable, TOOL, "--program", PROGRAM, "a.o"], stdout=subprocess.PIPE, stderr=subprocess.PIPE)
+        done.stdout.close()
+        said = done.stderr.read()
+        done.stderr.close()
+        self.assertEqual((done.wait(), said), (2, b""))
 
     def test_a_full_output(self):
         self.put(one_function(RETURN))
