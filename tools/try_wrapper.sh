@@ -51,7 +51,7 @@ note $? 'a text as its canonical text'
   echo '1 accepted, 1 violated, 1 not judged'
 } > "$dir/functions"
 tools/check_object examples/functions.o > "$dir/out" 2> "$dir/err"
-[ $? = 1 ] && [ ! -s "$dir/err" ] && sed 's/^.*functions.s:[0-9]*: //; s/lfetch[.a-z]* at\|0x[0-9a-f]* at/lfetch.nta at/' "$dir/out" | cmp -s - "$dir/functions"
+[ $? = 1 ] && [ ! -s "$dir/err" ] && sed 's/^.*functions.s:[0-9]*: //; s/word 0x[0-9a-f]* at/lfetch.nta at/' "$dir/out" | cmp -s - "$dir/functions"
 note $? 'an object file'
 
 # Words that are no command, refusals, and statuses that print nothing.
