@@ -28,7 +28,7 @@ try() {
 printf 'accepted\n' > "$dir/accepted"
 printf 'violations 1\nRAW r8 0.1 0.2\n' > "$dir/raw"
 printf 'image: magic\n' > "$dir/magic"
-for name in count call; do sed -n 's|^//   ||p' "examples/$name.s" > "$dir/$name"; done
+for name in count call pipelined_loop loop_edge; do sed -n 's|^//   ||p' "examples/$name.s" > "$dir/$name"; done
 
 # The calls of the README, on the proved program: nothing is said beside the answer.
 try 'a hazard' 1 "$dir/raw" '' examples/read_after_write.s ./ia64 check
@@ -36,6 +36,9 @@ try 'a hazard of an image' 1 "$dir/raw" '' examples/read_after_write.image ./ia6
 try 'a mended hazard' 0 "$dir/accepted" '' examples/read_after_write_mended.s ./ia64 check
 try 'an image' 0 "$dir/accepted" '' examples/three_nops.image ./ia64 check
 try 'a run' 0 "$dir/count" '' examples/count.s ./ia64 run 100
+try 'two predicates' 0 "$dir/accepted" '' examples/predicated.s ./ia64 check
+try 'a run of a pipelined loop' 0 "$dir/pipelined_loop" '' examples/pipelined_loop.s ./ia64 run 100
+try 'a violation on the way back' 1 "$dir/loop_edge" '' examples/loop_edge.s ./ia64 check
 try 'a run with register frames' 0 "$dir/call" '' examples/call.s ./ia64 run 100
 try 'build' 0 examples/read_after_write.image '' examples/read_after_write.s ./ia64 build
 try 'wrap' 0 examples/three_nops.image '' examples/three_nops.bundles ./ia64 wrap
