@@ -1,3 +1,5 @@
+//! Sources and sinks in memory, which tell what is left and what was given, and fail where they are told to.
+
 ghost use Rattle.std.specs.Prelude.{◌≡◌, ◌⊎◌, ◌-◌, ◌^◌, ◌<◌, ◌≤◌, ◌↔◌, [], ◌++◌, Some, length, take, drop, min, IsTrue, IsErr, IfOk, OnOk, OnErr, Contains};
 ghost use Rattle.io_seam.specs.Faults.{counted};
 

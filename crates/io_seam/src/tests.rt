@@ -1,3 +1,5 @@
+//! Tests of reads and writes, over sources and sinks in memory and of the standard library.
+
 ghost use Rattle.std.specs.Prelude.{◌≤◌, IfOk};
 
 use super::*;
