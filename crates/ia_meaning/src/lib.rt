@@ -9,6 +9,7 @@
 #![tactic(auto)]
 
 mod form;
+mod landings;
 mod laws;
 pub mod limits;
 mod next;
@@ -17,6 +18,7 @@ mod state;
 mod turn;
 
 pub use form::{Condition, Form, Function, Goal, MovedWord, Source, form_of, update_register};
+pub use landings::target_of;
 pub use laws::{
     addresses, entry_test, frame_test, law_codes, next_place, stop_test, zero_is_start,
 };
