@@ -1,6 +1,8 @@
 //! The forms of instructions: what each does.
 
 ghost use Rattle.std.specs.Prelude.{◌≡◌};
+ghost use Rattle.ia_insn.specs.Ranges.{HasRanges};
+ghost use Rattle.ia_meaning.specs.FormRanges.{HasFormRanges};
 ghost use Rattle.ia_meaning.specs.Actions.{test_kind, addition, filling, branch_form, form_of};
 ghost use Rattle.ia_meaning.specs.Loads.{update_register};
 ghost use Rattle.ia_meaning.specs.declared.form.Form.TheVariants.{Compute, Test};
@@ -270,9 +272,12 @@ fn test(kind: CmpKind, p1: Pr, p2: Pr, r2: Gr, r3: Gr, condition: Condition) -> 
     }
 }
 
-/// The form of an operation.
+/// The form of an operation. That of one whose operands have their ranges, as those of a listed
+/// instruction have, has its own.
+#[tactic(auto, using(crate::proofs::FormRanges::form_ranges))]
 pub fn form_of(op: &Op) -> Form
-    ensures { result ≡ form_of op.now }
+    ensures form { result ≡ form_of op.now }
+    ensures ranges { HasRanges op.now → HasFormRanges result }
 {
     let r0 = Gr::of_field(0);
     match *op {
