@@ -51,6 +51,6 @@ pub use listed_x::is_listed_x;
 pub use place::{Place, numbers_rise};
 pub use program::{Program, ProgramFault};
 pub use registers::{Ar, Br, Gr, Pr};
-pub use signed::{fits_signed, sign_extended, twos_complement};
+pub use signed::{sign_extended, twos_complement};
 pub use slot_fitness::{fits, is_branch_slot};
 pub use template::{Template, one_template};

@@ -30,7 +30,7 @@ pub fn sign_extended<const W: u32>(number: u64) -> i64
 }
 
 /// Whether `W` bits, 1 to 62, are enough for the signed number.
-pub fn fits_signed<const W: u32>(number: i64) -> bool
+pub(crate) fn fits_signed<const W: u32>(number: i64) -> bool
     requires some { 1 ≤ W }
     requires within { W ≤ 62 }
     ensures exact { IsTrue result ↔ FitsSigned W number }
