@@ -119,7 +119,15 @@ impl Program {
         })
     }
 
-    /// How many bundles there are, 1 to 4,096.
+    /// The law that a program is one: its instructions fit their bundles, its counts are in range, its
+    /// entries rise, its targets are inside and its runs end. It does nothing.
+    pub fn is_program(&self)
+        ensures { IsProgram self.now }
+    {
+        let _ = &self.bundles;
+    }
+
+    /// How many bundles there are, 1 to [`BUNDLE_LIMIT`](crate::limits::BUNDLE_LIMIT).
     pub fn bundle_count(&self) -> u32
         ensures count { result ≡ length self.now.bundles }
         ensures program { IsProgram self.now }
