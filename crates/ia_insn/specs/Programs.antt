@@ -20,7 +20,7 @@ pub record Program : Type 0 where
   pub entries : List ℕ
   pub bytes : List ℕ
 
--- 1 to 4,096 bundles, at most 1,024 declared entries, at most 1,048,576 data bytes, a multiple of 8
+-- at least one bundle; no more bundles, declared entries and data bytes than their limits, and these a multiple of 8
 pub record AreInRange (bundle_count entry_count byte_count : ℕ) : Type 0 where
   pub some : 1 ≤ bundle_count
   pub bundles : bundle_count ≤ BUNDLE_LIMIT
@@ -53,7 +53,7 @@ abbrev pub AreBytes : List ℕ → Type 0
 AreBytes bytes = (i : ℕ) → slice_index bytes i < 256
 
 -- A program: its instructions fit their bundles, its counts are in range, its entries rise, each target
--- is one of its bundles, a run has at most 192 slots, and its data are bytes.
+-- is one of its bundles, a run has at most RUN_LIMIT slots, and its data are bytes.
 pub record IsProgram (p : Program) : Type 0 where
   pub fit : AreBundles p.bundles
   pub counts : AreInRange (length p.bundles) (length p.entries) (length p.bytes)

@@ -29,6 +29,6 @@ StandBefore bundles [] place = ⊤
 StandBefore bundles (p ∷ ps) place =
     IsPlaceOf bundles p × IsNext bundles p place × ¬ EndsRun bundles p × StandBefore bundles ps p
 
--- A run has at most 192 slots, so fewer stand before each of them.
+-- A run has at most RUN_LIMIT slots, so fewer stand before each of them.
 abbrev pub IsWithinRun : List Bundle → Place → Type 0
 IsWithinRun bundles place = (slots : List Place) → StandBefore bundles slots place → length slots < RUN_LIMIT

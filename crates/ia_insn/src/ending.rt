@@ -99,7 +99,8 @@ pub struct GroupEvent {
     pub first: Place,
     /// The place of its last slot.
     pub last: Place,
-    /// How many slots were reached, 1 to 192; one that ends the run counts.
+    /// How many slots were reached, 1 to [`RUN_LIMIT`](crate::limits::RUN_LIMIT); one that ends the
+    /// run counts.
     pub slots: u32,
     /// How it ended.
     pub how: How,

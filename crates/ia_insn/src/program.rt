@@ -19,8 +19,8 @@ use std::marker::Model;
 /// Why bundles, entries and data are no program: the first of these.
 #[derive(Clone, Copy, Debug, PartialEq, Eq)]
 pub enum ProgramFault {
-    /// There are no bundles or more than 4,096, more than 1,024 entries, or more than 1,048,576
-    /// bytes of data or none of a multiple of 8.
+    /// There are no bundles, more bundles, entries or bytes of data than their
+    /// [limits](crate::limits), or bytes that are no multiple of 8.
     Counts,
     /// An entry isn't a bundle from 1 on, or isn't above the one before it. This is the first one.
     Entry {
@@ -32,9 +32,9 @@ pub enum ProgramFault {
         /// The place of the branch.
         place: Place,
     },
-    /// More than 192 slots follow one another without an end.
+    /// More than [`RUN_LIMIT`](crate::limits::RUN_LIMIT) slots follow one another without an end.
     LongRun {
-        /// The place of the first 193rd slot of a run.
+        /// The place of the first slot that is one too many in its run.
         place: Place,
     },
 }
@@ -135,7 +135,7 @@ impl Program {
         self.bundles.len() as u32
     }
 
-    /// The bundles, 1 to 4,096, in order.
+    /// The bundles, at least one, in order.
     pub fn bundles(&self) -> &[BundleOf]
         ensures { result.now ≡ self.now.bundles }
     {

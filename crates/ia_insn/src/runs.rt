@@ -40,7 +40,7 @@ fn ends_run(bundles: &[BundleOf], place: Place) -> bool
     }
 }
 
-/// The first slot that follows 192 of its run.
+/// The first slot that follows [`RUN_LIMIT`] of its run.
 pub(crate) fn long_run(bundles: &[BundleOf]) -> Option<Place>
     requires some { 1 ≤ length bundles.now }
     requires most { length bundles.now ≤ BUNDLE_LIMIT }

@@ -401,7 +401,7 @@ allocated_name :
 unfolding look spot holds frame_place has_zero_bases
 allocated_name = (refl, refl, refl)
 
--- The rotating part stays the same where a base is not 0, and there are at most 65,536 cells.
+-- The rotating part stays the same where a base is not 0, and there are at most STACK_LIMIT cells.
 allocated_faults :
     (alloc 32 16 4 2 (record zero_frame { sof = 8; sor = 1; rrbs = record zero_bases { pr = 1 } }) ≡ faults ReservedField memory)
     × (alloc 32 8 4 0 (record zero_frame { base = 65529 }) ≡ faults StackLimit memory)

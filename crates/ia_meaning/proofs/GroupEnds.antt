@@ -83,7 +83,7 @@ pub goes_on_under_way : (n : ℕ) (p : Program) (m : Progress) → IsProgram p �
 goes_on_under_way zero p m program u = u
 goes_on_under_way (suc n) p m program u = goes_on_under_way n p (group_further p m) program (group_under_way p m program u)
 
--- the group under way has fewer than 192 slots so far
+-- the group under way has fewer than RUN_LIMIT slots so far
 pub has_few_slots : (p : Program) (m : Progress) → IsProgram p → IsUnderWay p m → m.slots < RUN_LIMIT
 has_few_slots p m program u = let few = program.runs m.state.place u.place u.before u.stand in omega (arith, u.count)
 

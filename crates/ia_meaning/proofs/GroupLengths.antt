@@ -1,4 +1,4 @@
--- A group that begins at a place of a program is over within its 192 slots.
+-- A group that begins at a place of a program is over within its RUN_LIMIT slots.
 use Rattle.std.proofs.Common.{◌≡◌, ℕ, zero, suc, ◌+◌, ◌≤◌, Bool, true, false, ◌&&◌, List, [], ◌∷◌, length, Option, Some, None, refl, sym, subst, arith, if◌then◌else◌}
 use Rattle.std.specs.Prelude.{IsSome}
 use Rattle.ia_insn.specs.declared.limits.TheConstants.{RUN_LIMIT}
@@ -25,7 +25,7 @@ pub record StandsAfter (p : Program) (before : List Place) (place : Place) : Typ
   pub is : IsPlaceOf p.bundles place
   pub stand : StandBefore p.bundles before place
 
--- fewer than 192 slots stand before it
+-- fewer than RUN_LIMIT slots stand before it
 no_more : (p : Program) (before : List Place) (place : Place) → IsProgram p → StandsAfter p before place → RUN_LIMIT ≤ length before + 0 → ⊥
 no_more p before place program at enough = let few = program.runs place at.is before at.stand in omega arith
 

@@ -10,6 +10,7 @@ use Rattle.ia_insn.specs.declared.choices.Update.TheVariants as update
 use Rattle.ia_insn.specs.declared.ending.FaultKind.{FaultKind}
 use Rattle.ia_insn.specs.declared.ending.FaultKind.TheVariants.{OutOfFrame, NatConsumed, Unaligned, BadAddress}
 use Rattle.ia_insn.specs.Addresses.{data_base, data_address}
+use Rattle.ia_meaning.specs.declared.limits.TheConstants.{ALAT_LIMIT}
 use Rattle.ia_meaning.specs.declared.state.Cell.{Cell}
 use Rattle.ia_meaning.specs.declared.state.AlatKey.{AlatKey as Spot}
 use Rattle.ia_meaning.specs.declared.state.AlatKey.TheVariants.{Static, Stacked}
@@ -60,9 +61,9 @@ unfoldable pub forgotten : List AlatEntry → Spot → List AlatEntry
 forgotten [] d = []
 forgotten (e ∷ es) d = if is_spot e.key d then forgotten es d else e ∷ forgotten es d
 
--- the newest entry comes last; an entry of the same register goes, and where 32 are left the oldest goes
+-- the newest entry comes last; an entry of the same register goes, and where ALAT_LIMIT are left the oldest goes
 unfoldable pub entered : List AlatEntry → AlatEntry → List AlatEntry
-entered es e = drop (length (forgotten es e.key) - 31) (forgotten es e.key) ++ e ∷ []
+entered es e = drop (length (forgotten es e.key) - (ALAT_LIMIT - 1)) (forgotten es e.key) ++ e ∷ []
 
 -- an entry's bytes and those of an access don't meet
 abbrev pub is_apart : AlatEntry → ℕ → ℕ → Bool

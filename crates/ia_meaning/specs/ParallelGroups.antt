@@ -124,7 +124,7 @@ gathered_within (suc most) p begins g =
     gathered_by p (begins && allocates insn) g o o.next
     (gathered_within most p false (gathers (begins && allocates insn) g o (place_after g.place (next_of p.bundles g.place))))
 
--- All slots of a group. A program's has at most 192 (`groups_end`).
+-- All slots of a group. A program's has at most RUN_LIMIT (`groups_end`).
 abbrev pub gathered : Program → State → GatheredGroup
 gathered p s = gathered_within RUN_LIMIT p true (gathered_from s)
 

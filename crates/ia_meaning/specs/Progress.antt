@@ -59,7 +59,7 @@ abbrev pub to_group_end : ℕ → Program → Progress → Progress
 to_group_end zero p m = m
 to_group_end (suc most) p m = let next = advanced p m in rest_by next.slots next (to_group_end most p next)
 
--- One group further, or the rest of the one under way. A program's has at most 192 slots.
+-- One group further, or the rest of the one under way. A program's has at most RUN_LIMIT slots.
 unfoldable pub group_further : Program → Progress → Progress
 group_further p m = to_group_end RUN_LIMIT p m
 

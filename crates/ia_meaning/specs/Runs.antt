@@ -29,7 +29,7 @@ abbrev pub StaysInside : Type 0
 StaysInside =
     (p : Program) (s : State) → IsProgram p → IsPlaceOf p.bundles s.place → IsPlaceOf p.bundles (seq_step p s).state.place
 
--- A sequential group from a place of the program is over within its 192 slots, so the bound cuts none off.
+-- A sequential group from a place of the program is over within its RUN_LIMIT slots, so the bound cuts none off.
 abbrev pub SeqGroupEnds : Type 0
 SeqGroupEnds = (p : Program) (s : State) → IsProgram p → IsPlaceOf p.bundles s.place → IsSome (seq_group p s).how
 
@@ -52,7 +52,7 @@ abbrev pub GoesOnUnderWay : Type 0
 GoesOnUnderWay =
     (n : ℕ) (p : Program) (m : Progress) → IsProgram p → IsUnderWay p m → IsUnderWay p (groups_further n p m)
 
--- The group under way has fewer than 192 slots so far.
+-- The group under way has fewer than RUN_LIMIT slots so far.
 abbrev pub HasFewSlots : Type 0
 HasFewSlots = (p : Program) (m : Progress) → IsProgram p → IsUnderWay p m → m.slots < RUN_LIMIT
 

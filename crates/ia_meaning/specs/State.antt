@@ -1,6 +1,6 @@
 -- The state of the machine (volume 1, chapter 3, application register state, and chapter 4).
 use Rattle.std.specs.Prelude.{◌≡◌, ◌≢◌, ℕ, ◌+◌, ◌*◌, ◌/◌, ◌%◌, ◌<◌, ◌≤◌, ◌^◌, ◌⊎◌, Bool, true, false, List, [], ◌∷◌, length, replicate, get_or, AllPairs, All}
-use Rattle.ia_meaning.specs.declared.limits.TheConstants.{STACK_LIMIT}
+use Rattle.ia_meaning.specs.declared.limits.TheConstants.{ALAT_LIMIT, STACK_LIMIT}
 use Rattle.ia_insn.specs.declared.place.Place.{Place}
 use Rattle.ia_insn.specs.Places.{IsPlaceOf}
 use Rattle.ia_insn.specs.Programs.{Program, IsProgram, IsEntry, AreBytes}
@@ -102,7 +102,7 @@ pub record AreRegisters (r : Registers) : Type 0 where
 
 abbrev pub IsKey : AlatKey → Type 0
 IsKey (Static n) = (1 ≤ n) × (n ≤ 31)
-IsKey (Stacked n) = n ≤ 65535
+IsKey (Stacked n) = n < STACK_LIMIT
 
 -- An entry of an access to so many bytes of data.
 pub record IsAlatEntry (count : ℕ) (e : AlatEntry) : Type 0 where
@@ -115,7 +115,7 @@ pub record IsAlatEntry (count : ℕ) (e : AlatEntry) : Type 0 where
 pub record IsMemory (p : Program) (m : Memory) : Type 0 where
   pub count : length m.bytes ≡ length p.bytes
   pub bytes : AreBytes m.bytes
-  pub most : length m.alat ≤ 32
+  pub most : length m.alat ≤ ALAT_LIMIT
   pub entries : All (IsAlatEntry (length m.bytes)) m.alat
   pub apart : AllPairs (λ d e. d.key ≢ e.key) m.alat
 

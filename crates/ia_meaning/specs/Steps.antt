@@ -108,7 +108,7 @@ group_within zero p s = record { state = s; last = s.place; slots = 0; how = Non
 group_within (suc most) p s =
     let step = seq_step p s in group_by p s step step.how (group_within most p step.state)
 
--- One sequential group. A program's has at most 192 slots (`groups_end`).
+-- One sequential group. A program's has at most RUN_LIMIT slots (`groups_end`).
 abbrev pub seq_group : Program → State → Group
 seq_group p s = group_within RUN_LIMIT p s
 

@@ -53,7 +53,7 @@ pub struct Rse {
 pub enum AlatKey {
     /// A static register, by its number, 0 to 31.
     Static(u8),
-    /// A stacked register, by the number of its cell, 0 to 65,535.
+    /// A stacked register, by the number of its cell, below [`STACK_LIMIT`](crate::limits::STACK_LIMIT).
     Stacked(u32),
 }
 
