@@ -1,0 +1,89 @@
+-- What the slot of a place says of the place.
+use Rattle.std.proofs.Common.{◌≡◌, ℕ, ◌*◌, ◌<◌, ◌≤◌, ◌⊎◌, Bool, Option, None, Some, option_map, List, length, get_or, refl, sym, ap, ◌∙◌, subst, arith, inl, inr}
+use Rattle.std.specs.Prelude.{MatchOption, IsSomeAnd, IsTrue, ◌↔◌, slice_get}
+use Rattle.std.proofs.lemmas.Bool.{cases_lt}
+use Rattle.std.proofs.lemmas.Option.{same_Some}
+use Rattle.std.proofs.lemmas.List.{get_or_past}
+use Rattle.ia_insn.specs.declared.insn.Insn.{Insn}
+use Rattle.ia_insn.specs.declared.place.Place.{Place}
+use Rattle.ia_insn.specs.Bundles.{Bundle, IsStopAfter}
+use Rattle.ia_insn.specs.Places.{place_at, insn_at, IsPlaceOf}
+use Rattle.ia_insn.specs.Programs.{Program, IsProgram}
+use Rattle.ia_insn.proofs.InOrder.{bundle_small, slot_small}
+use Rattle.ia_meaning.specs.Sequence.{is_stopped}
+use Rattle.ia_meaning.proofs.Sequences.{stop_same}
+use Rattle.predicate_rel.specs.declared.edge.Edge.{Edge}
+use Rattle.predicate_rel.specs.declared.edge.Edge.TheVariants.{Falls, Taken}
+use Rattle.predicate_rel.specs.Edges.{edge_of, edge_end, HasEdge}
+use Rattle.predicate_rel.proofs.EdgeEnds.{is_edge_end}
+use Rattle.slot_table.specs.declared.slot.Slot.{Slot}
+use Rattle.slot_table.specs.Slots.{slot_of, slot_at, edge_from}
+
+-- The slot is that of an instruction, which stands at the place.
+pub record IsSlotOf (bundles : List Bundle) (place : Place) (slot : Slot) : Type 0 where
+  pub insn : Insn
+  pub here : insn_at bundles place ≡ Some insn
+  pub is : slot_of bundles place insn ≡ slot
+
+-- a slot at a place is that of the instruction there
+pub slot_is : (bundles : List Bundle) (place : Place) (slot : Slot) → slot_at bundles place ≡ Some slot → IsSlotOf bundles place slot
+unfolding slot_at
+slot_is bundles place slot at = of (insn_at bundles place) refl at
+  where
+    of : (o : Option Insn) → insn_at bundles place ≡ o → option_map (slot_of bundles place) o ≡ Some slot → IsSlotOf bundles place slot
+    of None here e = absurd cc
+    of (Some insn) here e = record { insn = insn; here = here; is = same_Some _ _ e }
+
+-- where there is no slot there is no place
+pub not_place : (bundles : List Bundle) (place : Place) → slot_at bundles place ≡ None → IsPlaceOf bundles place → ⊥
+unfolding slot_at
+not_place bundles place none is = of (insn_at bundles place) refl none
+  where
+    of : (o : Option Insn) → insn_at bundles place ≡ o → option_map (slot_of bundles place) o ≡ None → ⊥
+    of None here n = let there = rw here at is in cc
+    of (Some insn) here n = cc
+
+-- and where there is no place there is no slot
+pub no_slot : (bundles : List Bundle) (place : Place) → (IsPlaceOf bundles place → ⊥) → slot_at bundles place ≡ None
+unfolding slot_at
+no_slot bundles place none = of (insn_at bundles place) refl
+  where
+    of : (o : Option Insn) → insn_at bundles place ≡ o → option_map (slot_of bundles place) o ≡ None
+    of None here = refl
+    of (Some insn) here = absurd (none (rw here refl))
+
+edge_of-slot : (bundles : List Bundle) (place : Place) (insn : Insn) (e : Edge) → edge_from (slot_of bundles place insn) e ≡ edge_of bundles place (Some insn) e
+edge_of-slot bundles place insn Falls = refl
+edge_of-slot bundles place insn Taken = refl
+
+-- the edges of a slot lead where those of its place do
+pub edge_from-slot : (bundles : List Bundle) (place : Place) (slot : Slot) (e : Edge) → slot_at bundles place ≡ Some slot → edge_from slot e ≡ edge_end bundles place e
+unfolding edge_end
+edge_from-slot bundles place slot e at =
+    let s = slot_is bundles place slot at in
+    ap (λ (q : Slot). edge_from q e) (sym s.is) ∙ edge_of-slot bundles place s.insn e ∙ ap (λ (o : Option Insn). edge_of bundles place o e) (sym s.here)
+
+-- and are those of the program
+pub slot_edges : (p : Program) (from : Place) (slot : Slot) (e : Edge) → IsProgram p → slot_at p.bundles from ≡ Some slot → MatchOption (edge_from slot e) ((to : Place) → HasEdge p from e to → ⊥) (λ to. HasEdge p from e to)
+slot_edges p from slot e program at =
+    let s = slot_is p.bundles from slot at in
+    is_edge_end p from s.insn e (edge_from slot e) program s.here (ap (λ (q : Slot). edge_from q e) (sym s.is) ∙ edge_of-slot p.bundles from s.insn e)
+
+-- a stop that follows a slot of a bundle follows its place
+pub stop_here : (bundles : List Bundle) (place : Place) (b : Bundle) (stops : Bool) → slice_get bundles place.bundle ≡ Some b → IsTrue stops ↔ IsStopAfter b.template b.slots place.slot → stops ≡ is_stopped bundles place
+stop_here bundles place b stops at h =
+    stop_same bundles place stops (subst (λ (o : Option Bundle). IsTrue stops ↔ IsSomeAnd o (λ b. IsStopAfter b.template b.slots place.slot)) (sym at) h)
+
+-- a slot above 2 is at no place
+pub no_slot_above : (bundles : List Bundle) (place : Place) → 2 < place.slot → None ≡ slot_at bundles place
+no_slot_above bundles place above = sym (no_slot bundles place (λ is. let small = slot_small bundles place is in omega arith))
+
+-- a list of the slots of all places, in order, has the slot of each
+pub filled : (bundles : List Bundle) (slots : List (Option Slot)) → length slots ≡ 3 * length bundles → ((n : ℕ) → n < length slots → get_or slots n None ≡ slot_at bundles (place_at n)) → (n : ℕ) → get_or slots n None ≡ slot_at bundles (place_at n)
+filled bundles slots size each n = by_end (cases_lt n (length slots))
+  where
+    by_end : (n < length slots) ⊎ (length slots ≤ n) → get_or slots n None ≡ slot_at bundles (place_at n)
+    by_end (inl inside) = each n inside
+    by_end (inr beyond) =
+        get_or_past slots n None beyond
+        ∙ sym (no_slot bundles (place_at n) (λ is. let small = bundle_small bundles (place_at n) is in omega (arith, size)))

@@ -1,0 +1,23 @@
+//! Places by their numbers.
+
+ghost use Rattle.std.specs.Prelude.{◌≡◌};
+ghost use Rattle.ia_insn.specs.Places.{place_number, place_at};
+
+use ia_insn::Place;
+
+/// The number of a place: the three slots of a bundle follow those of the bundle before it.
+pub fn place_number(place: Place) -> usize
+    ensures { result ≡ place_number place }
+{
+    3 * place.bundle as usize + place.slot as usize
+}
+
+/// The place with this number.
+pub(crate) fn place_at(number: u32) -> Place
+    ensures { result ≡ place_at number }
+{
+    Place {
+        bundle: number / 3,
+        slot: (number % 3) as u8,
+    }
+}

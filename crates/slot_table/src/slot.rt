@@ -1,0 +1,59 @@
+//! Slots.
+
+ghost use Rattle.std.specs.Prelude.{◌≡◌};
+ghost use Rattle.slot_table.specs.Slots.{slot_at, edge_from};
+
+use crate::edges::{is_stopped, leaves, next_place, target};
+use ia_insn::{Place, Pr, Program};
+use ia_meaning::{Form, form_of};
+use predicate_rel::Edge;
+
+/// What can be said of the instruction at a place before it runs.
+#[derive(Clone, Copy, Debug, PartialEq, Eq)]
+pub struct Slot {
+    /// The form of the instruction.
+    pub form: Form,
+    /// Its qualifying predicate.
+    pub qp: Pr,
+    /// Whether a stop follows.
+    pub stop: bool,
+    /// Whether control may fall through: not from a branch or `break` under p0, but for loop branches.
+    pub falls: bool,
+    /// The next place, where there is one.
+    pub next: Option<Place>,
+    /// Slot 0 of the target of a direct branch or check.
+    pub target: Option<Place>,
+}
+
+impl Slot {
+    /// The slot at a place of a program. None exactly where there is no such place.
+    #[tactic(auto, unfolding(ia_insn::specs::Places::insn_at, crate::specs::Slots::slot_at))]
+    pub(crate) fn at(program: &Program, place: Place) -> Option<Slot>
+        ensures { result ≡ slot_at program.now.bundles place }
+    {
+        // This call tells that the program is one, so it has few bundles.
+        let _count = program.bundle_count();
+        let bundle = program.bundle(place.bundle)?;
+        let insn = bundle.slots().insn(place.slot)?;
+        let form = form_of(&insn.op);
+        Some(Slot {
+            form,
+            qp: insn.qp,
+            stop: is_stopped(program, bundle, place),
+            falls: !(insn.qp.is_zero() && leaves(&form)),
+            next: next_place(program, bundle, place),
+            target: target(place.bundle, &form),
+        })
+    }
+
+    /// Where the edge of this sort leads: a fall to the next place, a taken direct branch or check to slot 0
+    /// of its target (volume 1, chapter 3, instruction sequencing). None exactly where there is no such edge.
+    pub fn edge_end(&self, edge: Edge) -> Option<Place>
+        ensures { result ≡ edge_from self.now edge }
+    {
+        match edge {
+            Edge::Falls => { if self.falls { self.next } else { None } }
+            Edge::Taken => self.target,
+        }
+    }
+}
