@@ -69,11 +69,6 @@ slot_edges p from slot e program at =
     let s = slot_is p.bundles from slot at in
     is_edge_end p from s.insn e (edge_from slot e) program s.here (ap (λ (q : Slot). edge_from q e) (sym s.is) ∙ edge_of-slot p.bundles from s.insn e)
 
--- a stop that follows a slot of a bundle follows its place
-pub stop_here : (bundles : List Bundle) (place : Place) (b : Bundle) (stops : Bool) → slice_get bundles place.bundle ≡ Some b → IsTrue stops ↔ IsStopAfter b.template b.slots place.slot → stops ≡ is_stopped bundles place
-stop_here bundles place b stops at h =
-    stop_same bundles place stops (subst (λ (o : Option Bundle). IsTrue stops ↔ IsSomeAnd o (λ b. IsStopAfter b.template b.slots place.slot)) (sym at) h)
-
 -- a slot above 2 is at no place
 pub no_slot_above : (bundles : List Bundle) (place : Place) → 2 < place.slot → None ≡ slot_at bundles place
 no_slot_above bundles place above = sym (no_slot bundles place (λ is. let small = slot_small bundles place is in omega arith))

@@ -3,7 +3,7 @@
 ghost use Rattle.std.specs.Prelude.{◌≡◌};
 ghost use Rattle.slot_table.specs.Slots.{slot_at, edge_from};
 
-use crate::edges::{is_stopped, leaves, next_place, target};
+use crate::edges::{is_stopped, leaves, next, target};
 use ia_insn::{Place, Pr, Program};
 use ia_meaning::{Form, form_of};
 use predicate_rel::Edge;
@@ -27,21 +27,19 @@ pub struct Slot {
 
 impl Slot {
     /// The slot at a place of a program. None exactly where there is no such place.
-    #[tactic(auto, unfolding(ia_insn::specs::Places::insn_at, crate::specs::Slots::slot_at))]
+    #[tactic(auto, unfolding(crate::specs::Slots::slot_at), using(predicate_rel::proofs::EdgeEnds::bundle_below))]
     pub(crate) fn at(program: &Program, place: Place) -> Option<Slot>
         ensures { result ≡ slot_at program.now.bundles place }
     {
-        // This call tells that the program is one, so it has few bundles.
-        let _count = program.bundle_count();
-        let bundle = program.bundle(place.bundle)?;
-        let insn = bundle.slots().insn(place.slot)?;
+        program.is_program();
+        let insn = program.insn_at(place)?;
         let form = form_of(&insn.op);
         Some(Slot {
             form,
             qp: insn.qp,
-            stop: is_stopped(program, bundle, place),
+            stop: is_stopped(program, place),
             falls: !(insn.qp.is_zero() && leaves(&form)),
-            next: next_place(program, bundle, place),
+            next: next(program, place),
             target: target(place.bundle, &form),
         })
     }

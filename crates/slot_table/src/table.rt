@@ -58,8 +58,7 @@ impl<'a> SlotTable<'a> {
     pub fn open(alloc: Global, program: &'a Program) -> Result<SlotTable<'a>, AllocError>
         ensures { IfOk result (λ table. table ≡ program.now) }
     {
-        // This call tells that the program is one.
-        let _count = program.bundle_count();
+        program.is_program();
         let slots = slots_of(alloc, program)?;
         Ok(SlotTable { program, slots })
     }
@@ -99,8 +98,7 @@ impl<'a> SlotTable<'a> {
     pub fn edge_end(&self, from: Place, edge: Edge) -> Option<Place>
         ensures { MatchOption result ((to : Place) → HasEdge self.now from edge to → ⊥) (λ to. HasEdge self.now from edge to) }
     {
-        // This call tells that the program is one, so its targets are its bundles.
-        let _program = self.program();
+        self.program().is_program();
         self.at(from)?.edge_end(edge)
     }
 }
