@@ -4,22 +4,18 @@ use Rattle.std.proofs.lemmas.Bool.Decides.{nat_tests}
 use Rattle.std.specs.Prelude.{IsSome, slice_get}
 use Rattle.ia_insn.specs.declared.place.Place.{Place}
 use Rattle.ia_insn.specs.declared.bundle.Slots.{Slots}
-use Rattle.ia_insn.specs.declared.bundle.Slots.TheVariants.{Three, Long}
 use Rattle.ia_insn.specs.Bundles.{Bundle, slot_insn, last_slot}
 use Rattle.ia_insn.specs.Places.{bundle_insn, insn_at, IsPlaceOf, IsBefore, IsNext}
 
 -- a slot has an instruction exactly up to the last
 slot_within : (slots : Slots) (slot : ℕ) → IsSome (slot_insn slots slot) → slot ≤ last_slot slots
-slot_within (Three a b c) slot h = grind (arith, nat_tests)
-slot_within (Long first long) slot h = grind (arith, nat_tests)
+slot_within slots slot h = grind (arith, nat_tests)
 
 within_slot : (slots : Slots) (slot : ℕ) → slot ≤ last_slot slots → IsSome (slot_insn slots slot)
-within_slot (Three a b c) slot h = grind (arith, nat_tests)
-within_slot (Long first long) slot h = grind (arith, nat_tests)
+within_slot slots slot h = grind (arith, nat_tests)
 
 last_small : (slots : Slots) → last_slot slots ≤ 2
-last_small (Three a b c) = omega arith
-last_small (Long first long) = omega arith
+last_small slots = grind arith
 
 -- a place lies in a bundle
 pub record LiesIn (bundles : List Bundle) (place : Place) : Type 0 where

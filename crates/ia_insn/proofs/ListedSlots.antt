@@ -1,10 +1,9 @@
 -- The instructions of bundles and of programs are listed.
-use Rattle.std.proofs.Common.{◌≡◌, ℕ, List, [], ◌∷◌, Bool, true, false, subst, inl, inr}
+use Rattle.std.proofs.Common.{◌≡◌, ℕ, List, [], ◌∷◌, Bool, true, false, subst, arith}
 use Rattle.std.specs.Prelude.{Option, Some, None, ◌==◌, if◌then◌else◌, IfSome, slice_get}
 use Rattle.ia_insn.specs.declared.insn.Insn.{Insn}
 use Rattle.ia_insn.specs.declared.place.Place.{Place}
 use Rattle.ia_insn.specs.declared.choices.Unit.{Unit as ExecutionUnit}
-use Rattle.ia_insn.specs.declared.choices.Unit.TheVariants.{M, I, F, B, L, X}
 use Rattle.ia_insn.specs.declared.bundle.Slots.{Slots}
 use Rattle.ia_insn.specs.declared.bundle.Slots.TheVariants.{Three, Long}
 use Rattle.ia_insn.specs.Templates.{units_of}
@@ -34,14 +33,7 @@ at_slot P (Long first long) n i h e =
 
 -- an instruction that fits a unit is listed
 pub unit_listed : (i : Insn) (u : ExecutionUnit) (slot : ℕ) → FitsUnit i u slot → IsListed i
-unit_listed i M slot (inl h) = inl h
-unit_listed i M slot (inr h) = inr (inr (inl h))
-unit_listed i I slot (inl h) = inl h
-unit_listed i I slot (inr h) = inr (inl h)
-unit_listed i F slot h = inr (inr (inr (inr (inl h))))
-unit_listed i B slot h = inr (inr (inr (inl h.0)))
-unit_listed i L slot h = inr (inr (inr (inr (inr h.0))))
-unit_listed i X slot h = inr (inr (inr (inr (inr h.0))))
+unit_listed i u slot h = grind arith
 
 -- so is each that fits its slot
 slots_listed : (units : List ExecutionUnit) (slots : Slots) → FitUnits units slots → EachSlot IsListed slots
