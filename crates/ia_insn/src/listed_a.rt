@@ -44,17 +44,17 @@ pub fn is_listed_a(insn: &Insn) -> bool
 {
     insn.qp.has_six_bits();
     match insn.op {
-        Op::Alu { f: _, r1, r2, r3 } => {
+        Op::Alu { r1, r2, r3, .. } => {
             r2.has_seven_bits();
             r3.has_seven_bits();
             !r1.is_zero()
         }
         Op::ShlAdd {
-            p4: _,
             r1,
             r2,
             count,
             r3,
+            ..
         } => {
             r2.has_seven_bits();
             r3.has_seven_bits();
@@ -64,7 +64,7 @@ pub fn is_listed_a(insn: &Insn) -> bool
             r3.has_seven_bits();
             !r1.is_zero() && fits_signed::<8>(imm) && has_imm8_codes(f)
         }
-        Op::AddImm14 { p4: _, r1, imm, r3 } => {
+        Op::AddImm14 { r1, imm, r3, .. } => {
             r3.has_seven_bits();
             !r1.is_zero() && fits_signed::<14>(imm)
         }
@@ -72,37 +72,37 @@ pub fn is_listed_a(insn: &Insn) -> bool
             !r1.is_zero() && r3.number() < 4 && fits_signed::<22>(imm)
         }
         Op::Cmp {
-            four: _,
             rel,
             kind,
             p1,
             p2,
             r2,
             r3,
+            ..
         } => {
             r2.has_seven_bits();
             r3.has_seven_bits();
             p1.number() != p2.number() && is_compare(kind, rel)
         }
         Op::CmpZero {
-            four: _,
             rel,
             kind,
             p1,
             p2,
             r3,
+            ..
         } => {
             r3.has_seven_bits();
             p1.number() != p2.number() && is_zero_compare(kind, rel)
         }
         Op::CmpImm {
-            four: _,
             rel,
             kind,
             p1,
             p2,
             imm,
             r3,
+            ..
         } => {
             r3.has_seven_bits();
             p1.number() != p2.number() && fits_signed::<8>(imm) && is_compare(kind, rel)

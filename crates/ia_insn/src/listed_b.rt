@@ -27,50 +27,23 @@ pub fn is_listed_b(insn: &Insn) -> bool
 {
     insn.qp.has_six_bits();
     match insn.op {
-        Op::Br {
-            kind,
-            wh,
-            many: _,
-            clr: _,
-            disp,
-        } => is_qualifier(kind, insn.qp) && wh < 4 && fits_signed::<21>(i64::from(disp)),
-        Op::BrCall {
-            b1,
-            wh,
-            many: _,
-            clr: _,
-            disp,
-        } => {
+        Op::Br { kind, wh, disp, .. } => is_qualifier(kind, insn.qp)
+            && wh < 4
+            && fits_signed::<21>(i64::from(disp)),
+        Op::BrCall { b1, wh, disp, .. } => {
             b1.has_three_bits();
             wh < 4 && fits_signed::<21>(i64::from(disp))
         }
-        Op::BrInd {
-            b2,
-            wh,
-            many: _,
-            clr: _,
-        }
-        | Op::BrRet {
-            b2,
-            wh,
-            many: _,
-            clr: _,
-        } => {
+        Op::BrInd { b2, wh, .. } | Op::BrRet { b2, wh, .. } => {
             b2.has_three_bits();
             wh < 4
         }
-        Op::BrCallInd {
-            b1,
-            b2,
-            wh,
-            many: _,
-            clr: _,
-        } => {
+        Op::BrCallInd { b1, b2, wh, .. } => {
             b1.has_three_bits();
             b2.has_three_bits();
             wh < 4
         }
-        Op::Clrrrb { pred_only: _ } => insn.qp.is_zero(),
+        Op::Clrrrb { .. } => insn.qp.is_zero(),
         Op::Break { unit, imm } | Op::Nop { unit, imm } | Op::Hint { unit, imm } => {
             unit == Unit::B && imm < 0x20_0000
         }

@@ -25,10 +25,10 @@ pub fn is_listed_i(insn: &Insn) -> bool
     insn.qp.has_six_bits();
     match insn.op {
         Op::ShiftVar {
-            f: _,
             r1,
             value,
             count,
+            ..
         } => {
             value.has_seven_bits();
             count.has_seven_bits();
@@ -44,11 +44,11 @@ pub fn is_listed_i(insn: &Insn) -> bool
             !r1.is_zero() && count <= 63
         }
         Op::Extr {
-            signed: _,
             r1,
             r3,
             pos,
             len,
+            ..
         } => {
             r3.has_seven_bits();
             !r1.is_zero() && is_bit_range(pos, len)
@@ -62,10 +62,10 @@ pub fn is_listed_i(insn: &Insn) -> bool
         }
         Op::DepImm {
             r1,
-            ones: _,
             r3,
             pos,
             len,
+            ..
         } => {
             r3.has_seven_bits();
             !r1.is_zero() && is_bit_range(pos, len)
@@ -82,16 +82,16 @@ pub fn is_listed_i(insn: &Insn) -> bool
             !r1.is_zero() && is_bit_range(pos, len) && len <= 16
         }
         Op::Tbit {
-            unc: _,
             p1,
             p2,
             r3,
             pos,
+            ..
         } => {
             r3.has_seven_bits();
             p1.number() != p2.number() && pos <= 63
         }
-        Op::Tnat { unc: _, p1, p2, r3 } => {
+        Op::Tnat { p1, p2, r3, .. } => {
             r3.has_seven_bits();
             p1.number() != p2.number()
         }
@@ -105,10 +105,9 @@ pub fn is_listed_i(insn: &Insn) -> bool
         Op::MovToBr {
             b1,
             r2,
-            ret: _,
-            imp: _,
             wh,
             tag,
+            ..
         } => {
             b1.has_three_bits();
             r2.has_seven_bits();

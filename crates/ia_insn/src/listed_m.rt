@@ -117,7 +117,7 @@ pub fn is_listed_m(insn: &Insn) -> bool
             r2.has_seven_bits();
             unit == Unit::M && fits_signed::<21>(i64::from(disp))
         }
-        Op::ChkA { clear: _, r1, disp } => {
+        Op::ChkA { r1, disp, .. } => {
             r1.has_seven_bits();
             fits_signed::<21>(i64::from(disp))
         }
