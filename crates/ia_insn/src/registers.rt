@@ -61,7 +61,7 @@ impl Gr {
     }
 
     /// The law that its number has seven bits. It does nothing.
-    pub fn has_seven_bits(self)
+    pub(crate) fn has_seven_bits(self)
         ensures { self < 2 ^ 7 }
     {}
 }
@@ -135,7 +135,7 @@ impl Pr {
     }
 
     /// The law that its number has six bits. It does nothing.
-    pub fn has_six_bits(self)
+    pub(crate) fn has_six_bits(self)
         ensures { self < 2 ^ 6 }
     {}
 }
