@@ -1,7 +1,7 @@
 pub mod Numbers
 pub mod Parts
 mod Examples
-mod TemplateCodes
+pub mod TemplateCodes
 pub mod InOrder
 pub mod Stops
 pub mod Reaching

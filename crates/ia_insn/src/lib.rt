@@ -51,6 +51,7 @@ pub use listed_x::is_listed_x;
 pub use place::{Place, numbers_rise};
 pub use program::{Program, ProgramFault};
 pub use registers::{Ar, Br, Gr, Pr};
+pub use runs::long_run;
 pub use signed::{sign_extended, twos_complement};
 pub use slot_fitness::{fits, is_branch_slot};
 pub use template::{Template, one_template};

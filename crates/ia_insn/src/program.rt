@@ -112,11 +112,19 @@ impl Program {
         if let Some(place) = long_run(&bundles) {
             return Err(ProgramFault::LongRun { place });
         }
-        Ok(Program {
+        Ok(Program::of_parts(bundles, entries, memory))
+    }
+
+    /// The program of these, where it is known that they are one. Nothing is looked at.
+    pub fn of_parts(bundles: Vec<BundleOf>, entries: Vec<u32>, memory: Vec<u8>) -> Program
+        requires { IsProgram (record { bundles = bundles.items; entries = entries.items; bytes = memory.items }) }
+        ensures { result ≡ record { bundles = bundles.items; entries = entries.items; bytes = memory.items } }
+    {
+        Program {
             bundles,
             entries,
             bytes: memory,
-        })
+        }
     }
 
     /// The law that a program is one: its instructions fit their bundles, its counts are in range, its

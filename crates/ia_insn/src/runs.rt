@@ -40,8 +40,8 @@ fn ends_run(bundles: &[BundleOf], place: Place) -> bool
     }
 }
 
-/// The first slot that follows [`RUN_LIMIT`] of its run.
-pub(crate) fn long_run(bundles: &[BundleOf]) -> Option<Place>
+/// The first slot that follows [`RUN_LIMIT`] of its run. None exactly where there is none.
+pub fn long_run(bundles: &[BundleOf]) -> Option<Place>
     requires some { 1 ≤ length bundles.now }
     requires most { length bundles.now ≤ BUNDLE_LIMIT }
     ensures { MatchOption result (EachPlace bundles.now (IsWithinRun bundles.now)) (λ place. IsFirstBad bundles.now (IsWithinRun bundles.now) place) }
