@@ -81,11 +81,23 @@ move_others = refl
 falls_guard : form_rule (form.Jump (pos 0)) Falls 8 8 20 ≡ always
 falls_guard = refl
 
+falls_call : form_rule (form.Call 0 (goal.Direct (pos 0))) Falls 8 8 20 ≡ always
+falls_call = refl
+
+falls_indirect : form_rule (form.JumpIndirect 6) Falls 8 8 20 ≡ always
+falls_indirect = refl
+
+falls_return : form_rule (form.Return 0) Falls 8 8 20 ≡ always
+falls_return = refl
+
+falls_stop : form_rule (form.Stop B 0) Falls 8 8 20 ≡ always
+falls_stop = refl
+
 falls_others : form_rule (form.Call 0 (goal.Direct (pos 0))) Falls 8 9 20 ≡ one 9 20
 falls_others = refl
 
-falls_break : form_rule (form.Stop B 0) Falls 8 20 8 ≡ always
-falls_break = refl
+falls_turned : form_rule (form.Stop B 0) Falls 8 20 8 ≡ always
+falls_turned = refl
 
 taken_jump : form_rule (form.Jump (pos 0)) Taken 8 8 20 ≡ one 8 20
 taken_jump = refl

@@ -141,6 +141,10 @@ form_rule f edge g x y = one x y
 unfoldable pub rule_of : Insn → Edge → ℕ → ℕ → PairRule
 rule_of insn edge x y = form_rule (insn_form insn) edge insn.qp x y
 
+-- the pairs of predicates whose rules are met
+abbrev pub pairs_by : Pairs → (ℕ → ℕ → PairRule) → Pairs
+pairs_by f rules = λ x y. in_range x y && is_met (rules x y) f
+
 -- the pairs after an instruction
 unfoldable pub pairs_after : Pairs → Insn → Edge → Pairs
-pairs_after f insn edge = λ x y. in_range x y && is_met (rule_of insn edge x y) f
+pairs_after f insn edge = pairs_by f (rule_of insn edge)

@@ -3,12 +3,12 @@
 ghost use Rattle.std.specs.Prelude.{◌≡◌, ℕ, ◌<◌, ◌||◌};
 ghost use Rattle.std.specs.Bool.{OnTrue, OnFalse};
 ghost use Rattle.predicate_rel.specs.Pairs.{Table, has_bit, pairs_of, no_pairs, all_pairs, common, other_of, is_same_pair, with_pair, IsWithin, HasMore};
-ghost use Rattle.predicate_rel.specs.Rules.{pairs_after};
+ghost use Rattle.predicate_rel.specs.Rules.{form_rule, pairs_by, pairs_after};
 
 use crate::bits::{bit, both, is_within, with_bit_where};
 use crate::edge::Edge;
 use ia_insn::{Insn, Pr};
-use ia_meaning::form_of;
+use ia_meaning::{Form, form_of};
 use std::marker::Model;
 
 /// A set of pairs of predicates that are known not to be both 1 (volume 1, chapter 3, instruction
@@ -90,13 +90,20 @@ impl Facts {
     /// What is known after an instruction from what is known before it, where control goes on along the edge
     /// (volume 3, chapter 2). Every instruction has an answer on both edges, also on one that never leaves it;
     /// the rules are meant for listed instructions, whose loop branches are under p0 where they count.
+    #[tactic(auto, unfolding(crate::specs::Rules::pairs_after, crate::specs::Rules::rule_of))]
     pub fn after(&self, insn: &Insn, edge: Edge) -> Facts
         ensures { pairs_of result ≡ pairs_after (pairs_of self.now) insn.now edge }
     {
-        let form = form_of(&insn.op);
+        self.after_form(&form_of(&insn.op), insn.qp, edge)
+    }
+
+    /// The same after an instruction of this form under this qualifying predicate.
+    pub fn after_form(&self, form: &Form, qp: Pr, edge: Edge) -> Facts
+        ensures { pairs_of result ≡ pairs_by (pairs_of self.now) (form_rule form.now edge qp) }
+    {
         let mut rows = [0; 64];
         for x in 0..64u8 {
-            rows[x as usize] = self.form_row(&form, edge, insn.qp, x);
+            rows[x as usize] = self.form_row(form, edge, qp, x);
         }
         Facts { rows }
     }

@@ -17,3 +17,6 @@ mod rows;
 pub use edge::Edge;
 pub use facts::Facts;
 pub use laws::law_facts;
+
+#[cfg(test)]
+mod tests;

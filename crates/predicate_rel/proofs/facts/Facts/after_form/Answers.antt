@@ -1,10 +1,8 @@
 use Rattle.std.proofs.Common.{arith}
 use Rattle.std.proofs.lemmas.Bool.{and_left}
 use Rattle.predicate_rel.specs.Pairs.{in_range}
-use Rattle.predicate_rel.specs.Rules.{rule_of, pairs_after}
 use Rattle.predicate_rel.proofs.PairLemmas.{shows, in_range_from}
-use Rattle.predicate_rel.proofs.facts.Facts.after.Goals as goal
+use Rattle.predicate_rel.proofs.facts.Facts.after_form.Goals as goal
 
 pub returns : goal.returns
-unfolding pairs_after rule_of
 returns c = shows c.loop-x.rows _ (λ x y a b. rw (c.loop-x.invariant.done x y (omega arith) b, in_range_from x y a b)) (λ x y n. and_left (in_range x y) _ n)
