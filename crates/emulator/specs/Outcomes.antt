@@ -8,12 +8,12 @@ use Rattle.ia_meaning.specs.Outcomes.{Outcome}
 use Rattle.machine_state.specs.declared.change.Change.{Change}
 use Rattle.machine_state.specs.Contents.{Contents}
 use Rattle.machine_state.specs.Changes.{held, memory_after, spills_of, outcome_with}
-use Rattle.emulator.specs.declared.outcome.Outcome.{Outcome as Held}
+use Rattle.emulator.specs.declared.slot_effect.SlotEffect.{SlotEffect}
 use Rattle.emulator.specs.declared.loads.FoundLoad.{FoundLoad}
 
--- the outcome of a slot from this state
-abbrev pub outcome_of : Contents → Held → Outcome
-outcome_of c o = outcome_with c o.change o.next
+-- the outcome of a slot of this effect from this state
+abbrev pub outcome_of : Contents → SlotEffect → Outcome
+outcome_of c e = outcome_with c e.change e.next
 
 -- A change of registers alone.
 pub record IsPlain (change : Change) : Type 0 where

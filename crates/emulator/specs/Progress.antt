@@ -1,16 +1,18 @@
 -- How far a run of the machine has come.
-use Rattle.std.specs.Prelude.{◌≡◌, ℕ, suc, ◌+◌, Option, None}
-use Rattle.ia_insn.specs.declared.ending.GroupEvent.{GroupEvent}
+use Rattle.std.specs.Prelude.{◌≡◌, ℕ, ◌<◌, ◌^◌, Option}
 use Rattle.ia_insn.specs.Programs.{Program}
 use Rattle.ia_insn.specs.declared.place.Place.{Place}
 use Rattle.ia_meaning.specs.State.{State}
 use Rattle.ia_meaning.specs.Writes.{frame_changes}
 use Rattle.ia_meaning.specs.Outcomes.{Outcome}
-use Rattle.ia_meaning.specs.Steps.{Step, settled, step_by, registers_after}
+use Rattle.ia_meaning.specs.Effects.{site, guarded}
+use Rattle.ia_meaning.specs.FormRanges.{HasFormRanges}
+use Rattle.ia_meaning.specs.Sequence.{next_of, is_stopped}
+use Rattle.ia_meaning.specs.Steps.{Step, settled, step_by, registers_after, seq_step}
 use Rattle.ia_meaning.specs.ResidentRange.{range_of}
-use Rattle.ia_meaning.specs.Progress.{Progress, to_group_end}
-use Rattle.ia_meaning.specs.Runs.{event_to_end}
+use Rattle.ia_meaning.specs.Progress.{Progress}
 use Rattle.machine_state.specs.Contents.{Contents}
+use Rattle.slot_table.specs.declared.slot.Slot.{Slot}
 use Rattle.emulator.specs.declared.run.Run.{Run}
 
 -- the state of a machine that stands at a place
@@ -35,14 +37,10 @@ arrived m o place slots = record m {
   range = range_of m.range (frame_changes o.writes);
 }
 
--- A step that ends its group: whatever the most slots are, the group comes to here, with this event.
-pub record IsOver (p : Program) (old new : Progress) (told : GroupEvent) : Type 0 where
-  pub rest : (most : ℕ) → to_group_end (suc most) p old ≡ new
-  pub event : (most : ℕ) → event_to_end (suc most) p old ≡ told
-
--- A step after which its group goes on: the rest of the group is what comes after it.
-pub record IsLater (p : Program) (old new : Progress) : Type 0 where
-  pub rest : (most : ℕ) → to_group_end (suc most) p old ≡ to_group_end most p new
-  pub event : (most : ℕ) → event_to_end (suc most) p old ≡ event_to_end most p new
-  pub slots : new.slots ≡ old.slots + 1
-  pub running : new.end ≡ None
+-- At the place of a state stands the slot of an instruction of the program.
+pub record IsHere (p : Program) (s : State) (slot : Slot) : Type 0 where
+  pub bundle : s.place.bundle < 2 ^ 31
+  pub ranges : HasFormRanges slot.form
+  pub next : slot.next ≡ next_of p.bundles s.place
+  pub stop : slot.stop ≡ is_stopped p.bundles s.place
+  pub step : seq_step p s ≡ settled_step p s slot.next (guarded (site p s.place.bundle) slot.qp slot.form s.registers s.memory s.registers.unat)

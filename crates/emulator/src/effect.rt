@@ -1,9 +1,8 @@
 //! What a slot does, by the form of its instruction. Nothing is written here.
 
 ghost use Rattle.std.specs.Prelude.{◌≡◌, ◌<◌, ◌^◌};
-ghost use Rattle.ia_insn.specs.Ranges.{HasRanges};
 ghost use Rattle.ia_meaning.specs.FormRanges.{HasFormRanges};
-ghost use Rattle.ia_meaning.specs.Effects.{site, act, skip, effect};
+ghost use Rattle.ia_meaning.specs.Effects.{site, act, skip, guarded};
 ghost use Rattle.machine_state.specs.Changes.{MayChange};
 ghost use Rattle.emulator.specs.Outcomes.{outcome_of};
 
@@ -12,13 +11,13 @@ use crate::landings::target;
 use crate::loads::{check_alat, check_nat, forget, load, store};
 use crate::loops::turn;
 use crate::moves::{compute, fetch, skip_test, test, to_application, to_branch, to_predicates};
-use crate::outcome::Outcome;
-use ia_insn::{Insn, Program};
-use ia_meaning::{Form, form_of};
+use crate::slot_effect::SlotEffect;
+use ia_insn::{Pr, Program};
+use ia_meaning::Form;
 use machine_state::{Change, MachineState};
 
 /// What an instruction does that is executed.
-fn act(state: &MachineState, program: &Program, bundle: u32, form: &Form) -> Outcome
+fn act(state: &MachineState, program: &Program, bundle: u32, form: &Form) -> SlotEffect
     requires place { bundle < 2 ^ 31 }
     requires ranges { HasFormRanges form.now }
     ensures value { outcome_of state.now result ≡ act (site program.now bundle) form.now state.now.registers state.now.memory state.now.registers.unat }
@@ -59,22 +58,22 @@ fn act(state: &MachineState, program: &Program, bundle: u32, form: &Form) -> Out
         } => store(state, size, kind, r3, r2, update),
         Form::CheckNat { r2, disp } => check_nat(state, bundle, r2, disp),
         Form::CheckAlat { clear, r1, disp } => check_alat(state, bundle, clear, r1, disp),
-        Form::ForgetAll => Outcome::falls(Change::AllForgotten),
+        Form::ForgetAll => SlotEffect::falls(Change::AllForgotten),
         Form::Forget { r1 } => forget(state, r1),
         Form::Allocate { r1, sof, sol, sor } => allocate(state, r1, sof, sol, sor),
-        Form::Jump { disp } => Outcome::goes(Change::Nothing, target(bundle, disp)),
+        Form::Jump { disp } => SlotEffect::goes(Change::Nothing, target(bundle, disp)),
         Form::JumpIndirect { b2 } => land(state, program, b2, Change::Nothing),
         Form::Loop { kind, disp } => turn(state, kind, true, target(bundle, disp)),
         Form::Call { b1, goal } => call(state, program, bundle, b1, goal),
         Form::Return { b2 } => ret(state, program, b2),
-        Form::ClearBases { pred_only } => Outcome::falls(Change::Cleared { pred_only }),
-        Form::Stop { imm, .. } => Outcome::breaks(imm),
-        Form::Idle { .. } => Outcome::falls(Change::Nothing),
+        Form::ClearBases { pred_only } => SlotEffect::falls(Change::Cleared { pred_only }),
+        Form::Stop { imm, .. } => SlotEffect::breaks(imm),
+        Form::Idle { .. } => SlotEffect::falls(Change::Nothing),
     }
 }
 
 /// What an instruction does whose qualifying predicate is 0: nothing but for `unc` tests and loop branches.
-fn skip(state: &MachineState, program: &Program, bundle: u32, form: &Form) -> Outcome
+fn skip(state: &MachineState, program: &Program, bundle: u32, form: &Form) -> SlotEffect
     requires { bundle < 2 ^ 31 }
     ensures value { outcome_of state.now result ≡ skip (site program.now bundle) form.now state.now.registers state.now.memory }
     ensures may { MayChange state.now result.change }
@@ -82,22 +81,26 @@ fn skip(state: &MachineState, program: &Program, bundle: u32, form: &Form) -> Ou
     match *form {
         Form::Test { kind, p1, p2, .. } => skip_test(kind, p1, p2),
         Form::Loop { kind, disp } => turn(state, kind, false, target(bundle, disp)),
-        _ => Outcome::falls(Change::Nothing),
+        _ => SlotEffect::falls(Change::Nothing),
     }
 }
 
-/// What an instruction does (volume 3, chapter 2).
-#[tactic(auto, using(ia_meaning::proofs::FormRanges::form_ranges))]
-pub(crate) fn effect(state: &MachineState, program: &Program, bundle: u32, insn: &Insn) -> Outcome
+/// What an instruction of this form does under a qualifying predicate (volume 3, chapter 2).
+pub(crate) fn effect(
+    state: &MachineState,
+    program: &Program,
+    bundle: u32,
+    qp: Pr,
+    form: &Form,
+) -> SlotEffect
     requires place { bundle < 2 ^ 31 }
-    requires ranges { HasRanges insn.now.op }
-    ensures value { outcome_of state.now result ≡ effect (site program.now bundle) insn.now state.now.registers state.now.memory state.now.registers.unat }
+    requires ranges { HasFormRanges form.now }
+    ensures value { outcome_of state.now result ≡ guarded (site program.now bundle) qp form.now state.now.registers state.now.memory state.now.registers.unat }
     ensures may { MayChange state.now result.change }
 {
-    let form = form_of(&insn.op);
-    if state.holds(insn.qp) {
-        act(state, program, bundle, &form)
+    if state.holds(qp) {
+        act(state, program, bundle, form)
     } else {
-        skip(state, program, bundle, &form)
+        skip(state, program, bundle, form)
     }
 }

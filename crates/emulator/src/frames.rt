@@ -11,7 +11,7 @@ ghost use Rattle.machine_state.specs.Changes.{writes_of, MayChange};
 ghost use Rattle.emulator.specs.Outcomes.{outcome_of, IsPlain};
 
 use crate::landings::{landing, target};
-use crate::outcome::Outcome;
+use crate::slot_effect::SlotEffect;
 use ia_insn::{Br, FaultKind, Gr, Program, bundle_address};
 use ia_meaning::Goal;
 use machine_state::{Change, MachineState};
@@ -32,7 +32,7 @@ fn kind_of(fault: StackFault) -> FaultKind
 
 /// `alloc`. Its target is named in the new frame.
 #[tactic(auto, using(crate::proofs::NewFrames::outside_new, crate::proofs::NewFrames::inside_new, crate::proofs::NewFrames::allocated_fits, crate::proofs::NewFrames::allocated_fails))]
-pub(crate) fn allocate(state: &MachineState, r1: Gr, sof: u8, sol: u8, sor: u8) -> Outcome
+pub(crate) fn allocate(state: &MachineState, r1: Gr, sof: u8, sol: u8, sor: u8) -> SlotEffect
     requires size { sof ≤ 96 }
     requires locals { sol ≤ sof }
     requires rotating { 8 * sor ≤ sof }
@@ -40,25 +40,25 @@ pub(crate) fn allocate(state: &MachineState, r1: Gr, sof: u8, sol: u8, sor: u8) 
     ensures may { MayChange state.now result.change }
 {
     if r1.number() >= 32 + sof {
-        return Outcome::faults(FaultKind::OutOfFrame);
+        return SlotEffect::faults(FaultKind::OutOfFrame);
     }
     reg_stack::alloc_fault_is_that();
     match state.stack().may_alloc(sof, sol, sor) {
-        Err(fault) => Outcome::faults(kind_of(fault)),
-        Ok(()) => Outcome::falls(Change::Allocated { r1, sof, sol, sor }),
+        Err(fault) => SlotEffect::faults(kind_of(fault)),
+        Ok(()) => SlotEffect::falls(Change::Allocated { r1, sof, sol, sor }),
     }
 }
 
 /// An indirect branch that makes a change of registers.
-pub(crate) fn land(state: &MachineState, program: &Program, b2: Br, change: Change) -> Outcome
+pub(crate) fn land(state: &MachineState, program: &Program, b2: Br, change: Change) -> SlotEffect
     requires plain { IsPlain change }
     requires may { MayChange state.now change }
     ensures value { outcome_of state.now result ≡ lands (writes_of state.now.registers change) state.now.memory (landing program.now (get_or state.now.registers.branches b2 0)) }
     ensures may { MayChange state.now result.change }
 {
     match landing(program, state.branch(b2)) {
-        Some(bundle) => Outcome::goes(change, bundle),
-        None => Outcome::faults(FaultKind::BadLanding),
+        Some(bundle) => SlotEffect::goes(change, bundle),
+        None => SlotEffect::faults(FaultKind::BadLanding),
     }
 }
 
@@ -69,7 +69,7 @@ pub(crate) fn call(
     bundle: u32,
     b1: Br,
     goal: Goal,
-) -> Outcome
+) -> SlotEffect
     requires { bundle < 2 ^ 31 }
     ensures value { outcome_of state.now result ≡ called goal (site program.now bundle) (call_writes bundle b1 state.now.registers.frame state.now.registers.ec) state.now.registers state.now.memory }
     ensures may { MayChange state.now result.change }
@@ -79,18 +79,18 @@ pub(crate) fn call(
         address: bundle_address(bundle + 1),
     };
     match goal {
-        Goal::Direct(disp) => Outcome::goes(change, target(bundle, disp)),
+        Goal::Direct(disp) => SlotEffect::goes(change, target(bundle, disp)),
         Goal::Indirect(b2) => land(state, program, b2, change),
     }
 }
 
 /// A return. The frame is looked at before the landing.
-pub(crate) fn ret(state: &MachineState, program: &Program, b2: Br) -> Outcome
+pub(crate) fn ret(state: &MachineState, program: &Program, b2: Br) -> SlotEffect
     ensures value { outcome_of state.now result ≡ returned state.now.registers.frame.base state.now.registers.pfs (landing program.now (get_or state.now.registers.branches b2 0)) state.now.memory }
     ensures may { MayChange state.now result.change }
 {
     match state.return_fault() {
-        Some(fault) => Outcome::faults(kind_of(fault)),
+        Some(fault) => SlotEffect::faults(kind_of(fault)),
         None => land(state, program, b2, Change::Returned),
     }
 }

@@ -14,7 +14,7 @@ mod loops;
 mod machine;
 mod moves;
 mod operands;
-mod outcome;
 mod run;
+mod slot_effect;
 
 pub use machine::Machine;

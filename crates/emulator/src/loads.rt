@@ -13,7 +13,7 @@ ghost use Rattle.emulator.specs.Outcomes.{outcome_of, IsLoadOf};
 
 use crate::landings::target;
 use crate::operands::operands;
-use crate::outcome::Outcome;
+use crate::slot_effect::SlotEffect;
 use ia_insn::{Ar, FaultKind, Gr, LoadKind, StoreKind, Update};
 use ia_meaning::{AlatEntry, Cell, update_register};
 use machine_state::{Change, MachineState};
@@ -59,16 +59,15 @@ fn is_check(kind: LoadKind) -> bool
 }
 
 /// A load that fails: where it is speculative the fault is deferred.
-fn load_failed(state: &MachineState, fault: FaultKind, load: &FoundLoad) -> Outcome
+fn load_failed(state: &MachineState, fault: FaultKind, load: &FoundLoad) -> SlotEffect
     requires { IsLoadOf state.now.registers load.now }
     ensures value { outcome_of state.now result ≡ load_failed fault load.now.kind load.now.entry.key state.now.memory (load_update state.now.registers load.now.r3 load.now.update) }
     ensures may { MayChange state.now result.change }
 {
-    let _state = state;
     if !is_speculative(load.kind) {
-        return Outcome::faults(fault);
+        return SlotEffect::faults(fault);
     }
-    Outcome::falls(Change::Loaded {
+    SlotEffect::falls(Change::Loaded {
         r1: load.r1,
         r3: load.r3,
         forgets: load.kind == LoadKind::Sa,
@@ -81,13 +80,12 @@ fn load_failed(state: &MachineState, fault: FaultKind, load: &FoundLoad) -> Outc
 }
 
 /// A check that hits: the target isn't written.
-fn load_hit(state: &MachineState, load: &FoundLoad) -> Outcome
+fn load_hit(state: &MachineState, load: &FoundLoad) -> SlotEffect
     requires { IsLoadOf state.now.registers load.now }
     ensures value { outcome_of state.now result ≡ load_hit load.now.kind load.now.entry.key state.now.memory (load_update state.now.registers load.now.r3 load.now.update) }
     ensures may { MayChange state.now result.change }
 {
-    let _state = state;
-    Outcome::falls(Change::Hit {
+    SlotEffect::falls(Change::Hit {
         r1: load.r1,
         r3: load.r3,
         forgets: load.kind != LoadKind::CNc,
@@ -96,14 +94,13 @@ fn load_hit(state: &MachineState, load: &FoundLoad) -> Outcome
 }
 
 /// A load that is made.
-fn load_made(state: &MachineState, load: &FoundLoad, cell: Cell) -> Outcome
+fn load_made(state: &MachineState, load: &FoundLoad, cell: Cell) -> SlotEffect
     requires made { IsLoadOf state.now.registers load.now }
     requires cell { cell ≡ record { value = loaded state.now.memory.bytes load.now.entry.address load.now.entry.size; nat = load_nat load.now.kind load.now.entry.address state.now.registers.unat } }
     ensures value { outcome_of state.now result ≡ load_made load.now.kind load.now.entry state.now.memory state.now.registers.unat (load_update state.now.registers load.now.r3 load.now.update) }
     ensures may { MayChange state.now result.change }
 {
-    let _state = state;
-    Outcome::falls(match load.kind {
+    SlotEffect::falls(match load.kind {
         LoadKind::A | LoadKind::Sa | LoadKind::CNc => Change::Entered {
             r1: load.r1,
             r3: load.r3,
@@ -137,7 +134,7 @@ fn read(state: &MachineState, kind: LoadKind, address: u64, size: u8) -> Result<
 }
 
 /// A load that isn't found in the ALAT.
-fn load_tried(state: &MachineState, load: &FoundLoad) -> Outcome
+fn load_tried(state: &MachineState, load: &FoundLoad) -> SlotEffect
     requires size { IsLoadSize load.now.kind load.now.entry.size }
     requires made { IsLoadOf state.now.registers load.now }
     ensures value { outcome_of state.now result ≡ load_tried (access_fault state.now.memory.bytes load.now.entry.address load.now.entry.size) load.now.kind load.now.entry state.now.memory state.now.registers.unat (load_update state.now.registers load.now.r3 load.now.update) }
@@ -150,7 +147,7 @@ fn load_tried(state: &MachineState, load: &FoundLoad) -> Outcome
 }
 
 /// A load whose base has no NaT; a check looks for a hit first.
-fn load_checked(state: &MachineState, load: &FoundLoad) -> Outcome
+fn load_checked(state: &MachineState, load: &FoundLoad) -> SlotEffect
     requires size { IsLoadSize load.now.kind load.now.entry.size }
     requires made { IsLoadOf state.now.registers load.now }
     ensures value { outcome_of state.now result ≡ load_checked load.now.kind load.now.entry state.now.memory state.now.registers.unat (load_update state.now.registers load.now.r3 load.now.update) }
@@ -172,13 +169,13 @@ pub(crate) fn load(
     r1: Gr,
     r3: Gr,
     update: Update,
-) -> Outcome
+) -> SlotEffect
     requires { IsLoadSize kind size }
     ensures value { outcome_of state.now result ≡ from_memory size kind update (spot state.now.registers.frame r1) (spot state.now.registers.frame r3) (look state.now.registers r3) (look state.now.registers (update_register update)) state.now.memory state.now.registers.unat }
     ensures may { MayChange state.now result.change }
 {
     let Some(found) = operands(state, r1, r3, update_register(&update)) else {
-        return Outcome::faults(FaultKind::OutOfFrame);
+        return SlotEffect::faults(FaultKind::OutOfFrame);
     };
     let base = found.first;
     let load = FoundLoad {
@@ -213,7 +210,7 @@ fn is_forbidden(kind: StoreKind, base: Cell, cell: Cell) -> bool
     base.nat || cell.nat && !takes_nat(kind)
 }
 
-/// A store. Its faults are those of a load.
+/// A store.
 #[tactic(auto, using(crate::proofs::Named::to_memory_missing))]
 pub(crate) fn store(
     state: &MachineState,
@@ -222,21 +219,21 @@ pub(crate) fn store(
     r3: Gr,
     r2: Gr,
     update: Update,
-) -> Outcome
+) -> SlotEffect
     requires { IsStoreSize kind size }
     ensures value { outcome_of state.now result ≡ to_memory size kind update (spot state.now.registers.frame r3) (look state.now.registers r3) (look state.now.registers r2) state.now.memory }
     ensures may { MayChange state.now result.change }
 {
     let Some(found) = operands(state, r3, r3, r2) else {
-        return Outcome::faults(FaultKind::OutOfFrame);
+        return SlotEffect::faults(FaultKind::OutOfFrame);
     };
     if is_forbidden(kind, found.first, found.second) {
-        return Outcome::faults(FaultKind::NatConsumed);
+        return SlotEffect::faults(FaultKind::NatConsumed);
     }
-    if let Err(fault) = state.data().load(found.first.value, size) {
-        return Outcome::faults(fault_of(fault));
+    if let Some(fault) = state.data().fault(found.first.value, size) {
+        return SlotEffect::faults(fault_of(fault));
     }
-    Outcome::falls(Change::Stored {
+    SlotEffect::falls(Change::Stored {
         r3,
         size,
         spills: takes_nat(kind),
@@ -246,15 +243,15 @@ pub(crate) fn store(
 }
 
 /// `chk.s`: a branch where the register has NaT.
-pub(crate) fn check_nat(state: &MachineState, bundle: u32, r2: Gr, disp: i32) -> Outcome
+pub(crate) fn check_nat(state: &MachineState, bundle: u32, r2: Gr, disp: i32) -> SlotEffect
     requires { bundle < 2 ^ 31 }
     ensures value { outcome_of state.now result ≡ check_nat (target_of bundle disp) (look state.now.registers r2) state.now.memory }
     ensures may { MayChange state.now result.change }
 {
     match state.general(r2) {
-        None => Outcome::faults(FaultKind::OutOfFrame),
-        Some(a) if a.nat => Outcome::goes(Change::Nothing, target(bundle, disp)),
-        Some(_) => Outcome::falls(Change::Nothing),
+        None => SlotEffect::faults(FaultKind::OutOfFrame),
+        Some(a) if a.nat => SlotEffect::goes(Change::Nothing, target(bundle, disp)),
+        Some(_) => SlotEffect::falls(Change::Nothing),
     }
 }
 
@@ -265,18 +262,18 @@ pub(crate) fn check_alat(
     clear: bool,
     r1: Gr,
     disp: i32,
-) -> Outcome
+) -> SlotEffect
     requires { bundle < 2 ^ 31 }
     ensures value { outcome_of state.now result ≡ check_alat clear (target_of bundle disp) (spot state.now.registers.frame r1) state.now.memory }
     ensures may { MayChange state.now result.change }
 {
     let Some(key) = state.spot(r1) else {
-        return Outcome::faults(FaultKind::OutOfFrame);
+        return SlotEffect::faults(FaultKind::OutOfFrame);
     };
     if !state.alat().has(key) {
-        return Outcome::goes(Change::Nothing, target(bundle, disp));
+        return SlotEffect::goes(Change::Nothing, target(bundle, disp));
     }
-    Outcome::falls(if clear {
+    SlotEffect::falls(if clear {
         Change::Forgotten { r1 }
     } else {
         Change::Nothing
@@ -284,12 +281,12 @@ pub(crate) fn check_alat(
 }
 
 /// `invala.e`: the entry of the register leaves the ALAT.
-pub(crate) fn forget(state: &MachineState, r1: Gr) -> Outcome
+pub(crate) fn forget(state: &MachineState, r1: Gr) -> SlotEffect
     ensures value { outcome_of state.now result ≡ forget (spot state.now.registers.frame r1) state.now.memory }
     ensures may { MayChange state.now result.change }
 {
     match state.spot(r1) {
-        None => Outcome::faults(FaultKind::OutOfFrame),
-        Some(_) => Outcome::falls(Change::Forgotten { r1 }),
+        None => SlotEffect::faults(FaultKind::OutOfFrame),
+        Some(_) => SlotEffect::falls(Change::Forgotten { r1 }),
     }
 }

@@ -15,13 +15,14 @@ use ia_insn::{Ar, Br, End, Gr, GroupEvent, Place, Program};
 use ia_meaning::Cell;
 use nat_alat::{Alat, DataMem};
 use reg_stack::{Stack, StackFault};
+use slot_table::SlotTable;
 use std::alloc::{AllocError, Global};
 use std::marker::Model;
 
 /// A machine that runs a program. Contracts see the program and how far it has run.
 #[derive(Debug, Drop)]
 pub struct Machine<'a> {
-    program: &'a Program,
+    slots: SlotTable<'a>,
     run: Run,
 }
 
@@ -48,10 +49,9 @@ impl<'a> Machine<'a> {
     pub fn open(alloc: Global, program: &'a Program) -> Result<Machine<'a>, AllocError>
         ensures { IfOk result (λ m. m ≡ record { program = program.now; progress = begun (zero_state program.now) }) }
     {
-        // This call tells that the program is one.
-        let _count = program.bundle_count();
-        let run = Run::begin(alloc, program.data())?;
-        Ok(Machine { program, run })
+        let slots = SlotTable::open(alloc, program)?;
+        let run = Run::begin(alloc, slots.program().data())?;
+        Ok(Machine { slots, run })
     }
 
     /// How the run ended, where it did. A finished machine changes nothing any more.
@@ -135,7 +135,7 @@ impl<'a> Machine<'a> {
         ensures state { self.new ≡ record self.old { progress = advanced self.old.program self.old.progress } }
         ensures end { result ≡ self.new.progress.end }
     {
-        self.run.step(self.program);
+        self.run.step(&self.slots);
         self.run.end
     }
 
@@ -146,7 +146,7 @@ impl<'a> Machine<'a> {
         ensures state { self.new ≡ record self.old { progress = group_further self.old.program self.old.progress } }
         ensures event { result ≡ event_further self.old.program self.old.progress }
     {
-        self.run.run_group(self.program)
+        self.run.run_group(&self.slots)
     }
 
     /// Runs so many groups more, at least one, or up to an end. A group that is under way is the first
@@ -159,7 +159,7 @@ impl<'a> Machine<'a> {
         ensures state { self.new ≡ record self.old { progress = groups_further groups self.old.program self.old.progress } }
         ensures end { result ≡ end_of self.new.progress }
     {
-        self.run.run_groups(self.program, groups);
+        self.run.run_groups(&self.slots, groups);
         self.run.ending()
     }
 }

@@ -4,33 +4,39 @@ ghost use Rattle.std.specs.Prelude.{◌≡◌, ◌<◌, ◌^◌};
 ghost use Rattle.ia_meaning.specs.Names.{spot, look, predicate_spot};
 ghost use Rattle.ia_meaning.specs.Actions.{value_of, result_of, moved};
 ghost use Rattle.ia_meaning.specs.FormRanges.{IsFunction, IsCondition};
-ghost use Rattle.ia_meaning.specs.Moves.{has_reserved_zeros, computed, fetched, source_value, test_made, test_writes, test_skipped, to_predicates, to_branch, application_written, to_application};
+ghost use Rattle.ia_meaning.specs.Moves.{computed, fetched, source_value, test_made, test_writes, test_skipped, to_predicates, to_branch, application_written, to_application};
 ghost use Rattle.machine_state.specs.Contents.{Contents};
 ghost use Rattle.machine_state.specs.Changes.{writes_of, MayChange};
 ghost use Rattle.emulator.specs.Outcomes.{outcome_of, IsPlain};
 
 use crate::operands::operands;
-use crate::outcome::Outcome;
+use crate::slot_effect::SlotEffect;
 use ia_insn::{Ar, Br, CmpKind, FaultKind, Gr, Pr, bundle_address};
 use ia_meaning::{Cell, Condition, Function, MovedWord, Source};
 use integer_ops::{computed, moved, tested};
-use machine_state::{Change, MachineState};
+use machine_state::{Change, MachineState, has_reserved_zeros};
 
 /// A computation.
 #[tactic(auto, using(crate::proofs::Named::computed_missing))]
-pub(crate) fn compute(state: &MachineState, r1: Gr, r2: Gr, r3: Gr, function: &Function) -> Outcome
+pub(crate) fn compute(
+    state: &MachineState,
+    r1: Gr,
+    r2: Gr,
+    r3: Gr,
+    function: &Function,
+) -> SlotEffect
     requires { IsFunction function.now }
     ensures value { outcome_of state.now result ≡ computed (value_of function.now) (spot state.now.registers.frame r1) (look state.now.registers r2) (look state.now.registers r3) state.now.memory }
     ensures may { MayChange state.now result.change }
 {
     let Some(found) = operands(state, r1, r2, r3) else {
-        return Outcome::faults(FaultKind::OutOfFrame);
+        return SlotEffect::faults(FaultKind::OutOfFrame);
     };
     let cell = Cell {
         value: computed(function, found.first.value, found.second.value),
         nat: found.first.nat || found.second.nat,
     };
-    Outcome::falls(Change::General { r1, cell })
+    SlotEffect::falls(Change::General { r1, cell })
 }
 
 /// What is copied in a bundle.
@@ -47,14 +53,14 @@ fn source_value(state: &MachineState, bundle: u32, source: Source) -> u64
 }
 
 /// A copy into a general register.
-pub(crate) fn fetch(state: &MachineState, bundle: u32, r1: Gr, source: Source) -> Outcome
+pub(crate) fn fetch(state: &MachineState, bundle: u32, r1: Gr, source: Source) -> SlotEffect
     requires { bundle < 2 ^ 31 }
     ensures value { outcome_of state.now result ≡ fetched (spot state.now.registers.frame r1) (source_value bundle state.now.registers source) state.now.memory }
     ensures may { MayChange state.now result.change }
 {
     match state.spot(r1) {
-        None => Outcome::faults(FaultKind::OutOfFrame),
-        Some(_) => Outcome::falls(Change::General {
+        None => SlotEffect::faults(FaultKind::OutOfFrame),
+        Some(_) => SlotEffect::falls(Change::General {
             r1,
             cell: Cell {
                 value: source_value(state, bundle, source),
@@ -93,38 +99,38 @@ pub(crate) fn test(
     targets: (Pr, Pr),
     sources: (Gr, Gr),
     condition: &Condition,
-) -> Outcome
+) -> SlotEffect
     requires { IsCondition condition.now }
     ensures value { outcome_of state.now result ≡ test_made kind (predicate_spot state.now.registers.frame targets.0) (predicate_spot state.now.registers.frame targets.1) (result_of condition.now) (look state.now.registers sources.0) (look state.now.registers sources.1) state.now.memory }
     ensures may { MayChange state.now result.change }
 {
     let (Some(a), Some(b)) = (state.general(sources.0), state.general(sources.1)) else {
-        return Outcome::faults(FaultKind::OutOfFrame);
+        return SlotEffect::faults(FaultKind::OutOfFrame);
     };
-    Outcome::falls(test_change(kind, targets.0, targets.1, tested(condition, a, b)))
+    SlotEffect::falls(test_change(kind, targets.0, targets.1, tested(condition, a, b)))
 }
 
 /// A test whose qualifying predicate is 0: `unc` clears both targets.
-pub(crate) fn skip_test(kind: CmpKind, p1: Pr, p2: Pr) -> Outcome
+pub(crate) fn skip_test(kind: CmpKind, p1: Pr, p2: Pr) -> SlotEffect
     ensures value { (c : Contents) → outcome_of c result ≡ test_skipped kind (predicate_spot c.registers.frame p1) (predicate_spot c.registers.frame p2) c.memory }
     ensures may { (c : Contents) → MayChange c result.change }
 {
     if kind == CmpKind::Unc {
-        Outcome::falls(test_change(kind, p1, p2, None))
+        SlotEffect::falls(test_change(kind, p1, p2, None))
     } else {
-        Outcome::falls(Change::Nothing)
+        SlotEffect::falls(Change::Nothing)
     }
 }
 
 /// A move to the predicates.
-pub(crate) fn to_predicates(state: &MachineState, r2: Gr, mask: u32, word: &MovedWord) -> Outcome
+pub(crate) fn to_predicates(state: &MachineState, r2: Gr, mask: u32, word: &MovedWord) -> SlotEffect
     ensures value { outcome_of state.now result ≡ to_predicates (moved word.now) mask (look state.now.registers r2) state.now.memory }
     ensures may { MayChange state.now result.change }
 {
     match state.general(r2) {
-        None => Outcome::faults(FaultKind::OutOfFrame),
-        Some(a) if a.nat => Outcome::faults(FaultKind::NatConsumed),
-        Some(a) => Outcome::falls(Change::PredicateWord {
+        None => SlotEffect::faults(FaultKind::OutOfFrame),
+        Some(a) if a.nat => SlotEffect::faults(FaultKind::NatConsumed),
+        Some(a) => SlotEffect::falls(Change::PredicateWord {
             mask: u64::from(mask),
             word: moved(word, a.value),
         }),
@@ -132,46 +138,38 @@ pub(crate) fn to_predicates(state: &MachineState, r2: Gr, mask: u32, word: &Move
 }
 
 /// A move to a branch register.
-pub(crate) fn to_branch(state: &MachineState, b1: Br, r2: Gr) -> Outcome
+pub(crate) fn to_branch(state: &MachineState, b1: Br, r2: Gr) -> SlotEffect
     ensures value { outcome_of state.now result ≡ to_branch b1 (look state.now.registers r2) state.now.memory }
     ensures may { MayChange state.now result.change }
 {
     match state.general(r2) {
-        None => Outcome::faults(FaultKind::OutOfFrame),
-        Some(a) if a.nat => Outcome::faults(FaultKind::NatConsumed),
-        Some(a) => Outcome::falls(Change::Branch { b1, value: a.value }),
+        None => SlotEffect::faults(FaultKind::OutOfFrame),
+        Some(a) if a.nat => SlotEffect::faults(FaultKind::NatConsumed),
+        Some(a) => SlotEffect::falls(Change::Branch { b1, value: a.value }),
     }
-}
-
-/// Whether bits 51:38 and 61:58 of a previous function state are zero.
-#[tactic(auto, unfolding(ia_meaning::specs::Moves::has_reserved_zeros))]
-fn has_reserved_zeros(pfs: u64) -> bool
-    ensures { result ≡ has_reserved_zeros pfs }
-{
-    (pfs >> 38) % (1 << 14) == 0 && (pfs >> 58) % (1 << 4) == 0
 }
 
 /// What a move to an application register does with a word.
 #[tactic(auto, using(crate::proofs::ReservedZeros::zeros))]
-fn application_written(ar: Ar, value: u64) -> Outcome
+fn application_written(ar: Ar, value: u64) -> SlotEffect
     ensures value { (c : Contents) → outcome_of c result ≡ application_written ar value c.memory }
     ensures may { (c : Contents) → MayChange c result.change }
 {
     if ar == Ar::Pfs && !has_reserved_zeros(value) {
-        return Outcome::faults(FaultKind::ReservedField);
+        return SlotEffect::faults(FaultKind::ReservedField);
     }
     let kept = if ar == Ar::Ec { value % 64 } else { value };
-    Outcome::falls(Change::Application { ar, value: kept })
+    SlotEffect::falls(Change::Application { ar, value: kept })
 }
 
 /// A move to an application register.
-pub(crate) fn to_application(state: &MachineState, ar: Ar, r2: Gr, word: &MovedWord) -> Outcome
+pub(crate) fn to_application(state: &MachineState, ar: Ar, r2: Gr, word: &MovedWord) -> SlotEffect
     ensures value { outcome_of state.now result ≡ to_application ar (moved word.now) (look state.now.registers r2) state.now.memory }
     ensures may { MayChange state.now result.change }
 {
     match state.general(r2) {
-        None => Outcome::faults(FaultKind::OutOfFrame),
-        Some(a) if a.nat => Outcome::faults(FaultKind::NatConsumed),
+        None => SlotEffect::faults(FaultKind::OutOfFrame),
+        Some(a) if a.nat => SlotEffect::faults(FaultKind::NatConsumed),
         Some(a) => application_written(ar, moved(word, a.value)),
     }
 }

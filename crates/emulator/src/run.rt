@@ -13,13 +13,14 @@ ghost use Rattle.ia_meaning.specs.State.{zero_registers};
 ghost use Rattle.ia_meaning.specs.Steps.{how_falling, seq_step};
 ghost use Rattle.machine_state.specs.Changes.{outcome_with, MayChange};
 ghost use Rattle.emulator.specs.Outcomes.{outcome_of};
-ghost use Rattle.emulator.specs.Progress.{state_of, progress_of, settled_step, arrived, IsOver, IsLater};
+ghost use Rattle.emulator.specs.Progress.{state_of, progress_of, settled_step, arrived, IsHere};
 
 use crate::effect::effect;
-use crate::outcome::Outcome;
-use ia_insn::{BundleOf, End, FaultKind, GroupEvent, How, Place, Program};
+use crate::slot_effect::SlotEffect;
+use ia_insn::{End, FaultKind, GroupEvent, How, Place};
 use ia_meaning::Next;
 use machine_state::{Change, MachineState};
+use slot_table::{Slot, SlotTable};
 use std::alloc::{AllocError, Global};
 
 /// The state of a run, its end, the groups begun, the first place of the group under way and the slots
@@ -32,38 +33,6 @@ pub(crate) struct Run {
     pub groups: u64,
     pub first: Place,
     pub slots: u32,
-}
-
-/// The next place, where there is one.
-#[tactic(auto, unfolding(ia_meaning::specs::Sequence::next_of))]
-fn next_place(program: &Program, bundle: &BundleOf, place: Place) -> Option<Place>
-    requires here { slice_get program.now.bundles place.bundle ≡ Some bundle.now }
-    ensures { result ≡ next_of program.now.bundles place }
-{
-    let count = program.bundle_count();
-    if place.slot < bundle.slots().last() {
-        return Some(Place {
-            bundle: place.bundle,
-            slot: place.slot + 1,
-        });
-    }
-    if place.bundle + 1 < count {
-        return Some(Place {
-            bundle: place.bundle + 1,
-            slot: 0,
-        });
-    }
-    None
-}
-
-/// Whether a stop follows the place.
-fn has_stop(program: &Program, bundle: &BundleOf, place: Place) -> bool
-    requires here { slice_get program.now.bundles place.bundle ≡ Some bundle.now }
-    ensures { result ≡ is_stopped program.now.bundles place }
-{
-    // This call tells what the bundles are.
-    let _bundles = program.bundles();
-    bundle.stop_after(place.slot)
 }
 
 /// The slots of a group after one more that falls through.
@@ -146,28 +115,26 @@ impl Run {
         self.slots = slots;
     }
 
-    /// Goes on as an outcome says. To fall through where there is no next place is a fault.
+    /// Goes on as the effect of a slot says. To fall through where there is no next place is a fault.
     #[tactic(auto, using(crate::proofs::SlotSteps::falls_on, crate::proofs::SlotSteps::goes_on))]
-    fn go_on(
-        &mut self,
-        program: &Program,
-        outcome: &Outcome,
-        next: Option<Place>,
-        stopped: bool,
-    ) -> Option<How>
-        requires may { MayChange self.old.state outcome.now.change }
+    fn go_on(&mut self, table: &SlotTable, slot: &Slot, effect: &SlotEffect) -> Option<How>
+        requires may { MayChange self.old.state effect.now.change }
         requires running { self.old.end ≡ None }
         requires few { self.old.slots < RUN_LIMIT }
-        requires next { next ≡ next_of program.now.bundles self.old.place }
-        requires stop { stopped ≡ is_stopped program.now.bundles self.old.place }
-        ensures value { progress_of self.new ≡ stepped (progress_of self.old) (settled_step program.now (state_of self.old) next (outcome_of self.old.state outcome.now)) }
-        ensures how { result ≡ (settled_step program.now (state_of self.old) next (outcome_of self.old.state outcome.now)).how }
+        requires next { slot.now.next ≡ next_of table.now.bundles self.old.place }
+        requires stop { slot.now.stop ≡ is_stopped table.now.bundles self.old.place }
+        ensures value { progress_of self.new ≡ stepped (progress_of self.old) (settled_step table.now (state_of self.old) slot.now.next (outcome_of self.old.state effect.now)) }
+        ensures how { result ≡ (settled_step table.now (state_of self.old) slot.now.next (outcome_of self.old.state effect.now)).how }
         ensures goes_on { IfNone result (self.new.end ≡ None) }
     {
         let place = self.here();
-        let (goal, slots, how) = match outcome.next {
-            Next::Falls => match next {
-                Some(next) => (next, slots_after(self.slots, stopped), how_falling(stopped)),
+        let (goal, slots, how) = match effect.next {
+            Next::Falls => match slot.next {
+                Some(next) => (
+                    next,
+                    slots_after(self.slots, slot.stop),
+                    how_falling(slot.stop),
+                ),
                 None => {
                     return self.finish(End::Fault {
                         kind: FaultKind::FellOff,
@@ -179,120 +146,113 @@ impl Run {
             Next::Breaks { imm } => return self.finish(End::Break { imm, place }),
             Next::Faults { kind } => return self.finish(End::Fault { kind, place }),
         };
-        self.arrive(&outcome.change, goal, slots);
+        self.arrive(&effect.change, goal, slots);
         how
     }
 
+    /// The slot at the place of a run.
+    #[inline(always)]
+    #[tactic(auto, using(crate::proofs::SlotSteps::has_slot))]
+    fn slot<'t>(&self, table: &'t SlotTable) -> &'t Slot
+        requires program { IsProgram table.now }
+        requires place { IsPlaceOf table.now.bundles self.now.place }
+        ensures { IsHere table.now (state_of self.now) result.now }
+    {
+        let Some(slot) = table.at(self.here()) else {
+            unreachable!()
+        };
+        slot
+    }
+
     /// Runs the next slot, and tells how its group ends, where it does.
-    #[tactic(auto, using(crate::proofs::SlotSteps::has_bundle, crate::proofs::SlotSteps::has_insn, crate::proofs::SlotSteps::step_here))]
-    fn run_slot(&mut self, program: &Program) -> Option<How>
+    fn run_slot(&mut self, table: &SlotTable) -> Option<How>
+        requires program { IsProgram table.now }
         requires running { self.old.end ≡ None }
-        requires place { IsPlaceOf program.now.bundles self.old.place }
+        requires place { IsPlaceOf table.now.bundles self.old.place }
         requires few { self.old.slots < RUN_LIMIT }
-        ensures value { progress_of self.new ≡ stepped (progress_of self.old) (seq_step program.now (state_of self.old)) }
-        ensures how { result ≡ (seq_step program.now (state_of self.old)).how }
+        ensures value { progress_of self.new ≡ stepped (progress_of self.old) (seq_step table.now (state_of self.old)) }
+        ensures how { result ≡ (seq_step table.now (state_of self.old)).how }
         ensures goes_on { IfNone result (self.new.end ≡ None) }
     {
-        let place = self.here();
-        // This call tells how many bundles there are.
-        let _count = program.bundle_count();
-        let Some(bundle) = program.bundle(place.bundle) else {
-            unreachable!()
-        };
-        let Some(insn) = bundle.slots().insn(place.slot) else {
-            unreachable!()
-        };
-        let outcome = effect(&self.state, program, place.bundle, insn);
-        let next = next_place(program, bundle, place);
-        let stopped = has_stop(program, bundle, place);
-        self.go_on(program, &outcome, next, stopped)
+        let slot = self.slot(table);
+        let effect = effect(
+            &self.state,
+            table.program(),
+            self.place.bundle,
+            slot.qp,
+            &slot.form,
+        );
+        self.go_on(table, slot, &effect)
     }
 
     /// Runs one slot more, and tells how its group ends, where it does.
     #[tactic(auto, using(ia_meaning::proofs::WholeRuns::advanced_is, ia_meaning::proofs::GroupEnds::has_few_slots))]
-    fn advance(&mut self, program: &Program) -> Option<How>
-        requires program { IsProgram program.now }
+    fn advance(&mut self, table: &SlotTable) -> Option<How>
+        requires program { IsProgram table.now }
         requires running { self.old.end ≡ None }
-        requires under_way { IsUnderWay program.now (progress_of self.old) }
+        requires under_way { IsUnderWay table.now (progress_of self.old) }
         requires room { self.old.slots ≡ 0 → self.old.groups + 1 < 2 ^ 64 }
-        ensures value { progress_of self.new ≡ advanced program.now (progress_of self.old) }
-        ensures how { result ≡ (seq_step program.now (state_of self.old)).how }
+        ensures value { progress_of self.new ≡ advanced table.now (progress_of self.old) }
+        ensures how { result ≡ (seq_step table.now (state_of self.old)).how }
         ensures goes_on { IfNone result (self.new.end ≡ None) }
-        ensures under_way { IsUnderWay program.now (progress_of self.new) }
+        ensures under_way { IsUnderWay table.now (progress_of self.new) }
     {
         self.open_group();
-        self.run_slot(program)
+        self.run_slot(table)
     }
 
     /// Runs one slot more; after an end nothing changes.
     #[tactic(auto, using(ia_meaning::proofs::GroupEnds::advanced_ended))]
-    pub fn step(&mut self, program: &Program)
-        requires program { IsProgram program.now }
-        requires under_way { IsUnderWay program.now (progress_of self.old) }
+    pub fn step(&mut self, table: &SlotTable)
+        requires program { IsProgram table.now }
+        requires under_way { IsUnderWay table.now (progress_of self.old) }
         requires room { self.old.groups + 1 < 2 ^ 64 }
-        ensures value { progress_of self.new ≡ advanced program.now (progress_of self.old) }
-        ensures under_way { IsUnderWay program.now (progress_of self.new) }
+        ensures value { progress_of self.new ≡ advanced table.now (progress_of self.old) }
+        ensures under_way { IsUnderWay table.now (progress_of self.new) }
     {
         if self.end.is_none() {
-            let _how = self.advance(program);
-        }
-    }
-
-    /// Runs one slot more, and tells of its group where it ends there.
-    fn group_slot(&mut self, program: &Program) -> Option<GroupEvent>
-        requires program { IsProgram program.now }
-        requires running { self.old.end ≡ None }
-        requires under_way { IsUnderWay program.now (progress_of self.old) }
-        requires room { self.old.slots ≡ 0 → self.old.groups + 1 < 2 ^ 64 }
-        ensures over { IfSome result (λ event. IsOver program.now (progress_of self.old) (progress_of self.new) event) }
-        ensures goes_on { IfNone result (IsLater program.now (progress_of self.old) (progress_of self.new)) }
-        ensures under_way { IsUnderWay program.now (progress_of self.new) }
-    {
-        let (last, slots) = (self.here(), self.slots + 1);
-        match self.advance(program) {
-            Some(how) => Some(GroupEvent {
-                number: self.groups,
-                first: self.first,
-                last,
-                slots,
-                how,
-            }),
-            None => None,
+            let _how = self.advance(table);
         }
     }
 
     /// Runs the group under way to its end, or the next one, and tells of it. It has at most 192 slots.
-    pub fn run_group(&mut self, program: &Program) -> GroupEvent
-        requires program { IsProgram program.now }
+    pub fn run_group(&mut self, table: &SlotTable) -> GroupEvent
+        requires program { IsProgram table.now }
         requires running { self.old.end ≡ None }
-        requires under_way { IsUnderWay program.now (progress_of self.old) }
+        requires under_way { IsUnderWay table.now (progress_of self.old) }
         requires room { self.old.slots ≡ 0 → self.old.groups + 1 < 2 ^ 64 }
-        ensures value { progress_of self.new ≡ group_further program.now (progress_of self.old) }
-        ensures event { result ≡ event_further program.now (progress_of self.old) }
-        ensures under_way { IsUnderWay program.now (progress_of self.new) }
+        ensures value { progress_of self.new ≡ group_further table.now (progress_of self.old) }
+        ensures event { result ≡ event_further table.now (progress_of self.old) }
+        ensures under_way { IsUnderWay table.now (progress_of self.new) }
     {
-        for _ in 0..192_u32 {
-            if let Some(event) = self.group_slot(program) {
-                return event;
+        loop {
+            let (last, slots) = (self.here(), self.slots + 1);
+            if let Some(how) = self.advance(table) {
+                return GroupEvent {
+                    number: self.groups,
+                    first: self.first,
+                    last,
+                    slots,
+                    how,
+                };
             }
         }
-        unreachable!()
     }
 
     /// Runs so many groups, or up to an end. A group that is under way is the first of them.
-    #[tactic(auto, using(crate::proofs::Groups::groups_rise, ia_meaning::proofs::GroupEnds::groups_ended))]
-    pub fn run_groups(&mut self, program: &Program, groups: u64)
-        requires program { IsProgram program.now }
-        requires under_way { IsUnderWay program.now (progress_of self.old) }
+    #[tactic(auto, using(ia_meaning::proofs::GroupEnds::groups_ended))]
+    pub fn run_groups(&mut self, table: &SlotTable, groups: u64)
+        requires program { IsProgram table.now }
+        requires under_way { IsUnderWay table.now (progress_of self.old) }
         requires room { self.old.groups + groups < 2 ^ 64 }
-        ensures value { progress_of self.new ≡ groups_further groups program.now (progress_of self.old) }
-        ensures under_way { IsUnderWay program.now (progress_of self.new) }
+        ensures value { progress_of self.new ≡ groups_further groups table.now (progress_of self.old) }
+        ensures under_way { IsUnderWay table.now (progress_of self.new) }
     {
-        for _ in 0..groups {
-            if self.end.is_some() {
-                return;
+        let mut left = groups;
+        while left > 0 && self.end.is_none() {
+            if self.advance(table).is_some() {
+                left -= 1;
             }
-            let _event = self.run_group(program);
         }
     }
 

@@ -14,4 +14,5 @@ mod previous_state;
 mod state;
 
 pub use change::Change;
+pub use previous_state::has_reserved_zeros;
 pub use state::MachineState;

@@ -95,8 +95,8 @@ impl MachineState {
                 Ok(unat) => self.unat = unat,
                 Err(_) => unreachable!(),
             }
-        } else if self.data.store(address, size, cell.value).is_err() {
-            unreachable!();
+        } else {
+            self.data.put(address, size, cell.value);
         }
         self.alat.stored(address, size);
     }

@@ -2,9 +2,10 @@
 
 ghost use Rattle.std.specs.Prelude.{◌≡◌, ◌/◌, ◌%◌, ◌^◌, ◌<◌};
 ghost use Rattle.ia_meaning.specs.State.{HasReservedZeros, IsFrame};
-ghost use Rattle.ia_meaning.specs.Frames.{call_state, frame_marker};
+ghost use Rattle.ia_meaning.specs.Moves.{has_reserved_zeros};
+ghost use Rattle.ia_meaning.specs.Frames.{call_state};
 
-use ia_meaning::FrameShape;
+use reg_stack::{FrameShape, frame_marker};
 
 /// The frame marker, in bits 37:0.
 pub(crate) fn marker_of(pfs: u64) -> u64
@@ -22,20 +23,12 @@ pub(crate) fn epilog_of(pfs: u64) -> u64
     (pfs >> 52) % (1 << 6)
 }
 
-/// The current frame marker as a number.
-#[tactic(auto, unfolding(ia_meaning::specs::Frames::frame_marker))]
-fn frame_marker(frame: &FrameShape) -> u64
-    requires { IsFrame frame.now }
-    ensures value { result ≡ frame_marker frame.now }
-    ensures within { result < 2 ^ 38 }
+/// Whether the reserved bits, 51:38 and 61:58, are zero.
+#[tactic(auto, unfolding(ia_meaning::specs::Moves::has_reserved_zeros))]
+pub fn has_reserved_zeros(pfs: u64) -> bool
+    ensures { result ≡ has_reserved_zeros pfs }
 {
-    let rrbs = frame.rrbs;
-    u64::from(frame.sof)
-        + (u64::from(frame.sol) << 7)
-        + (u64::from(frame.sor) << 14)
-        + (u64::from(rrbs.gr) << 18)
-        + (u64::from(rrbs.fr) << 25)
-        + (u64::from(rrbs.pr) << 32)
+    (pfs >> 38) % (1 << 14) == 0 && (pfs >> 58) % (1 << 4) == 0
 }
 
 /// The previous function state that a call writes: the frame, the epilog count, and 3 as the privilege

@@ -1,4 +1,4 @@
--- The faults of accesses, and the places of those without one.
+-- The places of accesses without a fault.
 use Rattle.std.proofs.Common.{◌≡◌, ℕ, ◌+◌, ◌-◌, ◌*◌, ◌%◌, ◌^◌, ◌<◌, ◌≤◌, ◌⊎◌, inl, inr, Bool, true, false, List, [], ◌++◌, length, take, drop, get_or, Option, Some, None, refl, sym, ap, ◌∙◌, arith}
 use Rattle.std.specs.Prelude.{◌==◌, ◌&&◌, nat_le, not, if◌then◌else◌}
 use Rattle.std.proofs.lemmas.List.{append-nil, drop_all, take_all}
@@ -9,33 +9,6 @@ use Rattle.ia_insn.specs.Addresses.{data_base}
 use Rattle.ia_meaning.specs.Loads.{access_fault, loaded, stored, bytes_at, with_bytes}
 use Rattle.ia_meaning.proofs.DataAccesses.{is_access, length-with_bytes}
 use Rattle.nat_alat.proofs.Spelling.{other_byte, read_back}
-
--- the bytes of an access are data
-abbrev pub reaches : ℕ → ℕ → ℕ → Bool
-reaches count address size = nat_le data_base address && nat_le (address + size) (data_base + count)
-
-inside : (count address size : ℕ) → reaches count address size ≡ true → (data_base ≤ address) × (address + size ≤ data_base + count)
-inside count address size h = grind (arith, nat_tests)
-
--- the fault by the two tests
-abbrev by_tests : Bool → Bool → Option FaultKind
-by_tests aligned within = if not aligned then Some Unaligned else if within then None else Some BadAddress
-
-fault_by_tests : (bytes : List ℕ) (address size : ℕ) → access_fault bytes address size ≡ by_tests (address % size == 0) (reaches (length bytes) address size)
-unfolding access_fault
-fault_by_tests bytes address size = refl
-
-pub unaligned : (bytes : List ℕ) (address size : ℕ) → (address % size == 0) ≡ false → access_fault bytes address size ≡ Some Unaligned
-unaligned bytes address size e = fault_by_tests bytes address size ∙ ap (λ b. by_tests b (reaches (length bytes) address size)) e
-
-pub beyond : (bytes : List ℕ) (address size : ℕ) → (address % size == 0) ≡ true → reaches (length bytes) address size ≡ false → access_fault bytes address size ≡ Some BadAddress
-beyond bytes address size e h = fault_by_tests bytes address size ∙ ap (λ b. by_tests b (reaches (length bytes) address size)) e ∙ ap (by_tests true) h
-
-pub in_reach : (bytes : List ℕ) (address size : ℕ) → (address % size == 0) ≡ true → reaches (length bytes) address size ≡ true
-    → (access_fault bytes address size ≡ None) × (address ≡ data_base + (address - data_base)) × (address - data_base + size ≤ length bytes)
-in_reach bytes address size e h =
-    let in_data = inside (length bytes) address size h in
-    (fault_by_tests bytes address size ∙ ap (λ b. by_tests b (reaches (length bytes) address size)) e ∙ ap (by_tests true) h, omega arith, omega arith)
 
 -- the place of an address
 place_of : (address at : ℕ) → address ≡ data_base + at → address - data_base ≡ at

@@ -1,6 +1,7 @@
 //! Data memory.
 
 ghost use Rattle.std.specs.Prelude.{◌≡◌, ◌==◌, ◌&&◌, ◌+◌, ◌%◌, ◌≤◌, length, nat_le, IfOk, IfErr, OnOk, OnErr, Some, None};
+ghost use Rattle.std.specs.Option.{option_map};
 ghost use Rattle.ia_insn.specs.declared.limits.TheConstants.{DATA_LIMIT};
 ghost use Rattle.ia_insn.specs.Ranges.{IsAccessSize};
 ghost use Rattle.ia_insn.specs.Addresses.{data_base};
@@ -11,9 +12,10 @@ ghost use Rattle.nat_alat.specs.Faults.{fault_of};
 
 use crate::bytes::{number_at, put_number};
 use crate::fault::MemFault;
-use crate::unat::{bit, unat_bit, with_bit};
+use crate::unat::{unat_bit, with_bit};
 use ia_insn::DATA_BASE;
 use ia_meaning::Cell;
+use integer_ops::bit;
 use std::alloc::{AllocError, Global};
 use std::marker::Model;
 
@@ -39,20 +41,28 @@ fn is_within(count: usize, address: u64, size: u8) -> bool
     address >= DATA_BASE && size <= count && address - DATA_BASE <= count - size
 }
 
-/// The place of an access among the data bytes.
-#[tactic(auto, using(crate::proofs::Accesses::unaligned, crate::proofs::Accesses::beyond, crate::proofs::Accesses::in_reach))]
-fn place_of(bytes: &[u8], address: u64, size: u8) -> Result<usize, MemFault>
+/// Why an access to data bytes is refused, where it is.
+#[tactic(auto, unfolding(ia_meaning::specs::Loads::access_fault))]
+fn access_fault(bytes: &[u8], address: u64, size: u8) -> Option<MemFault>
     requires { IsAccessSize size }
-    ensures ok { IfOk result (λ at. (access_fault bytes.now address size ≡ None) × (address ≡ data_base + at) × (at + size ≤ length bytes.now)) }
-    ensures err { IfErr result (λ e. access_fault bytes.now address size ≡ Some (fault_of e)) }
+    ensures { option_map fault_of result ≡ access_fault bytes.now address size }
 {
     if !is_aligned(address, size) {
-        return Err(MemFault::Unaligned);
+        Some(MemFault::Unaligned)
+    } else if is_within(bytes.len(), address, size) {
+        None
+    } else {
+        Some(MemFault::BadAddress)
     }
-    if !is_within(bytes.len(), address, size) {
-        return Err(MemFault::BadAddress);
-    }
-    Ok((address - DATA_BASE) as usize)
+}
+
+/// The place among data bytes of an access that has no fault.
+fn place_of(bytes: &[u8], address: u64, size: u8) -> usize
+    requires { access_fault bytes.now address size ≡ None }
+    ensures there { address ≡ data_base + result }
+    ensures within { result + size ≤ length bytes.now }
+{
+    (address - DATA_BASE) as usize
 }
 
 /// The data bytes, the first at address 0x100000. Contracts see the list of them.
@@ -95,6 +105,15 @@ impl DataMem {
         &self.bytes
     }
 
+    /// Why an access to 1, 2, 4 or 8 bytes from an address on is refused, where it is: an address that
+    /// isn't a multiple of the size, and then bytes that aren't data.
+    pub fn fault(&self, address: u64, size: u8) -> Option<MemFault>
+        requires { IsAccessSize size }
+        ensures { option_map fault_of result ≡ access_fault self.now address size }
+    {
+        access_fault(&self.bytes, address, size)
+    }
+
     /// The number in 1, 2, 4 or 8 bytes from an address on, the lowest byte first (volume 3, chapter 2,
     /// `ld`).
     ///
@@ -107,8 +126,22 @@ impl DataMem {
         ensures ok { IfOk result (λ v. (access_fault self.now address size ≡ None) × (v ≡ loaded self.now address size)) }
         ensures err { IfErr result (λ e. access_fault self.now address size ≡ Some (fault_of e)) }
     {
-        let at = place_of(&self.bytes, address, size)?;
-        Ok(number_at(&self.bytes, at, size))
+        if let Some(fault) = self.fault(address, size) {
+            return Err(fault);
+        }
+        let place = place_of(&self.bytes, address, size);
+        Ok(number_at(&self.bytes, place, size))
+    }
+
+    /// Stores the low bytes of a number, as [`DataMem::store`] does, where that is known to have no fault.
+    #[tactic(auto, using(crate::proofs::Accesses::stored_whole))]
+    pub fn put(&mut self, address: u64, size: u8, value: u64)
+        requires size { IsAccessSize size }
+        requires fault { access_fault self.old address size ≡ None }
+        ensures { self.new ≡ stored self.old address size value }
+    {
+        let place = place_of(&self.bytes, address, size);
+        put_number(&mut self.bytes, place, size, value);
     }
 
     /// Stores the low bytes of a number, 1, 2, 4 or 8, from an address on, the lowest first (volume 3,
@@ -118,15 +151,16 @@ impl DataMem {
     ///
     /// An address that isn't a multiple of the size, and then bytes that aren't data. The bytes are as
     /// before.
-    #[tactic(auto, using(crate::proofs::Accesses::stored_whole))]
     pub fn store(&mut self, address: u64, size: u8, value: u64) -> Result<(), MemFault>
         requires { IsAccessSize size }
         ensures ok { OnOk result ((access_fault self.old address size ≡ None) × (self.new ≡ stored self.old address size value)) }
         ensures err { IfErr result (λ e. access_fault self.old address size ≡ Some (fault_of e)) }
         ensures same { OnErr result (self.new ≡ self.old) }
     {
-        let place = place_of(&self.bytes, address, size)?;
-        put_number(&mut self.bytes, place, size, value);
+        if let Some(fault) = self.fault(address, size) {
+            return Err(fault);
+        }
+        self.put(address, size, value);
         Ok(())
     }
 

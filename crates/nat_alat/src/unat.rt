@@ -1,9 +1,10 @@
 //! The user NaT collection register UNAT, a word of 64 NaT bits.
 
 ghost use Rattle.std.specs.Prelude.{◌≡◌, ◌≤◌};
-ghost use Rattle.ia_meaning.specs.Arithmetic.{bit};
 ghost use Rattle.ia_meaning.specs.Loads.{unat_bit};
 ghost use Rattle.ia_meaning.specs.Steps.{with_bit};
+
+use integer_ops::bit;
 
 /// The bit of UNAT, 0 to 63, that a spill to an address or a fill from it uses: bits 8:3 of the address.
 pub(crate) fn unat_bit(address: u64) -> u8
@@ -11,14 +12,6 @@ pub(crate) fn unat_bit(address: u64) -> u8
     ensures within { result ≤ 63 }
 {
     ((address / 8) % 64) as u8
-}
-
-/// Whether the bit at a position, 0 to 63, is 1.
-pub(crate) fn bit(word: u64, pos: u8) -> bool
-    requires { pos ≤ 63 }
-    ensures { result ≡ bit word pos }
-{
-    (word >> pos) & 1 == 1
 }
 
 /// The word with the bit at a position, 0 to 63, as given.

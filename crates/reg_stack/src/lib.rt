@@ -13,6 +13,7 @@ mod stack;
 
 pub use ia_meaning::{Cell, FrameShape, Rrbs, Rse};
 pub use laws::{alloc_fault_is_that, return_fault_is_that};
+pub use marker::frame_marker;
 pub use stack::Stack;
 
 /// Why a call of the register stack is refused.

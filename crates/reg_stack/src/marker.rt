@@ -1,14 +1,31 @@
-//! Frames of previous function states (volume 1, chapter 3, previous function state).
+//! The layout of a frame marker (volume 1, chapter 3, current frame marker), and the frames of those that
+//! stand in previous function states.
 
-ghost use Rattle.std.specs.Prelude.{◌≡◌, ◌+◌, ◌-◌, ◌^◌, ◌<◌, ◌≤◌, ◌↔◌, IsTrue, IfOk};
+ghost use Rattle.std.specs.Prelude.{◌≡◌, ◌+◌, ◌^◌, ◌<◌, ◌≤◌, IfOk};
 ghost use Rattle.std.specs.Result.{result_err};
 ghost use Rattle.ia_meaning.specs.declared.limits.TheConstants.{STACK_LIMIT};
 ghost use Rattle.ia_meaning.specs.State.{IsFrame};
-ghost use Rattle.ia_meaning.specs.Frames.{marked_frame, is_frame};
+ghost use Rattle.ia_meaning.specs.Frames.{frame_marker, marked_frame, is_frame};
 ghost use Rattle.reg_stack.specs.Stacks.{return_fault_within, returned_frame};
 
 use crate::StackFault;
 use ia_meaning::{FrameShape, Rrbs};
+
+/// The marker of a frame, a number of 38 bits.
+#[tactic(auto, unfolding(ia_meaning::specs::Frames::frame_marker))]
+pub fn frame_marker(frame: &FrameShape) -> u64
+    requires { IsFrame frame.now }
+    ensures value { result ≡ frame_marker frame.now }
+    ensures within { result < 2 ^ 38 }
+{
+    let rrbs = frame.rrbs;
+    u64::from(frame.sof)
+        + (u64::from(frame.sol) << 7)
+        + (u64::from(frame.sor) << 14)
+        + (u64::from(rrbs.gr) << 18)
+        + (u64::from(rrbs.fr) << 25)
+        + (u64::from(rrbs.pr) << 32)
+}
 
 /// The frame at `base` whose marker is in the low 38 bits of a previous function state.
 #[tactic(auto, unfolding(ia_meaning::specs::Frames::marked_frame))]

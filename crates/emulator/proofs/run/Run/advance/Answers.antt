@@ -7,6 +7,6 @@ use Rattle.emulator.proofs.run.Run.advance.Goals as goal
 
 pub returns-clause-under_way : goal.returns-clause-under_way
 returns-clause-under_way c =
-    let p = c.args.program.now in
+    let p = c.args.table.now in
     let e : progress_of c.run_slot.new.self ≡ advanced p (progress_of c.args.self.now) = search (rules, advanced_is) in
     under_way_on p (progress_of c.args.self.now) (progress_of c.run_slot.new.self) c.requires.program c.requires.under_way e

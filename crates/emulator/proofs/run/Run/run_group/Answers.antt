@@ -1,25 +1,33 @@
-use Rattle.std.proofs.Common.{arith}
+use Rattle.std.proofs.Common.{◌≡◌, ◌-◌, ◌<◌, sym, ◌∙◌, arith}
+use Rattle.ia_insn.specs.declared.limits.TheConstants.{RUN_LIMIT}
 use Rattle.emulator.specs.Progress.{progress_of}
-use Rattle.emulator.proofs.Groups.{comes_to, told_of, rest_of, event_of_rest}
+use Rattle.emulator.proofs.Groups.{is_over, is_within}
 use Rattle.emulator.proofs.run.Run.run_group.Goals as goal
 
 pub returns-in-Some-clause-value : goal.returns-in-Some-clause-value
 returns-in-Some-clause-value c =
-    comes_to c.args.program.now (progress_of c.args.self.now) (progress_of c.loop.self) (progress_of c.group_slot.new.self) c.in-Some.event c.loop.counter c.loop-test.true c.in-Some.ensures.over c.loop.invariant.rest
+    let over = is_over c.args.table.now (progress_of c.loop-how.self) (progress_of c.advance.new.self) c.in-Some.how c.loop-how.invariant.running c.in-Some.ensures.value (sym c.in-Some.ensures.how) in
+    over.group ∙ c.loop-how.invariant.group
 
 pub returns-in-Some-clause-event : goal.returns-in-Some-clause-event
 returns-in-Some-clause-event c =
-    told_of c.args.program.now (progress_of c.args.self.now) (progress_of c.loop.self) (progress_of c.group_slot.new.self) c.in-Some.event c.loop.counter c.loop-test.true c.in-Some.ensures.over c.loop.invariant.event
+    let over = is_over c.args.table.now (progress_of c.loop-how.self) (progress_of c.advance.new.self) c.in-Some.how c.loop-how.invariant.running c.in-Some.ensures.value (sym c.in-Some.ensures.how) in
+    rw c.here-last.ensures (over.event ∙ c.loop-how.invariant.event)
 
-pub loop-preserved : goal.loop-preserved
-loop-preserved c =
-    let p = c.args.program.now in
-    let later = c.in_default.ensures.goes_on in
+pub loop-how-smaller : goal.loop-how-smaller
+loop-how-smaller c =
+    let now = progress_of c.loop-how.self in
+    let within = is_within c.args.table.now now (progress_of c.advance.new.self) c.requires.program c.loop-how.invariant.under_way c.loop-how.invariant.running c.in_default.ensures.value (sym c.in_default.ensures.how) in
+    omega (arith, within.few, within.slots)
+
+pub loop-how-preserved : goal.loop-how-preserved
+loop-how-preserved c =
+    let now = progress_of c.loop-how.self in
+    let within = is_within c.args.table.now now (progress_of c.advance.new.self) c.requires.program c.loop-how.invariant.under_way c.loop-how.invariant.running c.in_default.ensures.value (sym c.in_default.ensures.how) in
     record {
-      rest = rest_of p (progress_of c.args.self.now) (progress_of c.loop.self) (progress_of c.group_slot.new.self) c.loop.counter c.loop-test.true later c.loop.invariant.rest;
-      event = event_of_rest p (progress_of c.args.self.now) (progress_of c.loop.self) (progress_of c.group_slot.new.self) c.loop.counter c.loop-test.true later c.loop.invariant.event;
-      running = later.running;
-      under_way = c.group_slot.ensures.under_way;
-      slots = let more = later.slots in let before = c.loop.invariant.slots in omega (arith, more, before);
-      room = let more = later.slots in λ none. absurd (omega (arith, more, none));
+      group = within.group ∙ c.loop-how.invariant.group;
+      event = within.event ∙ c.loop-how.invariant.event;
+      running = c.in_default.ensures.goes_on;
+      under_way = c.in_default.ensures.under_way;
+      room = λ none. absurd (omega (arith, within.slots, none));
     }

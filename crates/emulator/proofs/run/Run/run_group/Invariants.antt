@@ -1,17 +1,19 @@
-use Rattle.std.proofs.Common.{◌≡◌, ◌-◌, ◌≤◌, ◌<◌, ◌+◌, ◌^◌}
+use Rattle.std.proofs.Common.{◌≡◌, ◌-◌, ◌<◌, ◌+◌, ◌^◌}
 use Rattle.std.specs.Prelude.{None}
 use Rattle.ia_insn.specs.declared.limits.TheConstants.{RUN_LIMIT}
-use Rattle.ia_meaning.specs.Progress.{to_group_end}
-use Rattle.ia_meaning.specs.Runs.{IsUnderWay, event_to_end}
+use Rattle.ia_meaning.specs.Progress.{group_further}
+use Rattle.ia_meaning.specs.Runs.{IsUnderWay, event_further}
 use Rattle.emulator.specs.Progress.{progress_of}
 use Rattle.emulator.proofs.run.Run.run_group.Given as goal
 
-abbrev pub invariant-loop : goal.invariant-loop
-invariant-loop l = record {
-  rest : to_group_end (RUN_LIMIT - l.counter) l.program (progress_of l.self) ≡ to_group_end RUN_LIMIT l.program (progress_of l.fn.self);
-  event : event_to_end (RUN_LIMIT - l.counter) l.program (progress_of l.self) ≡ event_to_end RUN_LIMIT l.program (progress_of l.fn.self);
+abbrev pub invariant-loop-how : goal.invariant-loop-how
+invariant-loop-how l = record {
+  group : group_further l.table (progress_of l.self) ≡ group_further l.table (progress_of l.fn.self);
+  event : event_further l.table (progress_of l.self) ≡ event_further l.table (progress_of l.fn.self);
   running : l.self.end ≡ None;
-  under_way : IsUnderWay l.program (progress_of l.self);
-  slots : l.counter ≤ l.self.slots;
+  under_way : IsUnderWay l.table (progress_of l.self);
   room : l.self.slots ≡ 0 → l.self.groups + 1 < 2 ^ 64;
 }
+
+abbrev pub decreases-loop-how : goal.decreases-loop-how
+decreases-loop-how l = RUN_LIMIT - l.self.slots

@@ -10,49 +10,49 @@ use machine_state::Change;
 
 /// What a slot does: what it writes, and how the run goes on.
 #[derive(Clone, Copy, Debug)]
-pub(crate) struct Outcome {
+pub(crate) struct SlotEffect {
     /// What it writes.
     pub change: Change,
     /// How the run goes on.
     pub next: Next,
 }
 
-impl Outcome {
+impl SlotEffect {
     /// It falls through.
-    pub fn falls(change: Change) -> Outcome
+    pub fn falls(change: Change) -> SlotEffect
         ensures { result ≡ record { change = change; next = Falls } }
     {
-        Outcome {
+        SlotEffect {
             change,
             next: Next::Falls,
         }
     }
 
     /// It takes a branch to a bundle.
-    pub fn goes(change: Change, bundle: u32) -> Outcome
+    pub fn goes(change: Change, bundle: u32) -> SlotEffect
         ensures { result ≡ record { change = change; next = Goes bundle } }
     {
-        Outcome {
+        SlotEffect {
             change,
             next: Next::Goes { bundle },
         }
     }
 
     /// It ends the run with a number.
-    pub fn breaks(imm: u64) -> Outcome
+    pub fn breaks(imm: u64) -> SlotEffect
         ensures { result ≡ record { change = Nothing; next = Breaks imm } }
     {
-        Outcome {
+        SlotEffect {
             change: Change::Nothing,
             next: Next::Breaks { imm },
         }
     }
 
     /// It ends the run with a fault.
-    pub fn faults(kind: FaultKind) -> Outcome
+    pub fn faults(kind: FaultKind) -> SlotEffect
         ensures { result ≡ record { change = Nothing; next = Faults kind } }
     {
-        Outcome {
+        SlotEffect {
             change: Change::Nothing,
             next: Next::Faults { kind },
         }
