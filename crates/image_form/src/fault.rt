@@ -19,7 +19,7 @@ pub enum ImageFault {
     #[error("not the first eight bytes of an image")]
     Magic,
     /// A number of the head is out of its range, or its last isn't zero. Of bare bundles: there are
-    /// none, or more than 4,096 whole ones.
+    /// none, or more whole ones than [`IMAGE_BUNDLE_LIMIT`](crate::IMAGE_BUNDLE_LIMIT).
     #[error("a number that is out of its range")]
     Counts,
     /// The number of bytes isn't the one that the head says. Of bare bundles: bytes are left over.
@@ -45,10 +45,11 @@ pub enum ImageFault {
         /// The place of the branch.
         place: Place,
     },
-    /// More than 192 slots follow one another without a stop or another end of a run.
+    /// More than [`RUN_LIMIT`](ia_insn::limits::RUN_LIMIT) slots follow one another without a stop or
+    /// another end of a run.
     #[error("{place} is the 193rd slot of a run")]
     LongRun {
-        /// The place of the 193rd.
+        /// The place of the first slot that is one too many.
         place: Place,
     },
     /// There was no memory for the program.

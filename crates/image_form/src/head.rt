@@ -10,7 +10,7 @@ use crate::numbers::number_at;
 use ia_insn::are_in_range;
 
 /// What an image begins with.
-pub const MAGIC: &[u8; 8] = b"IA64IMG1";
+pub(crate) const MAGIC: &[u8; 8] = b"IA64IMG1";
 
 /// How many bundles an image of this version has at most. No program has more.
 pub const IMAGE_BUNDLE_LIMIT: usize = 4096;
@@ -18,7 +18,7 @@ pub const IMAGE_BUNDLE_LIMIT: usize = 4096;
 /// How many bytes an image's head has.
 const HEAD_LEN: usize = 24;
 
-/// Whether the bytes begin as an image does, with [`MAGIC`].
+/// Whether the bytes begin as an image does, with `IA64IMG1`.
 pub fn is_image(bytes: &[u8]) -> bool
     ensures { IsTrue result ↔ (take 8 bytes.now ≡ magic) }
 {

@@ -15,7 +15,7 @@ mod reading;
 mod writing;
 
 pub use fault::ImageFault;
-pub use head::{IMAGE_BUNDLE_LIMIT, MAGIC, is_image};
+pub use head::{IMAGE_BUNDLE_LIMIT, is_image};
 pub use laws::{
     fault_where_none_raw, fault_where_none_spelled, image_size, no_fault_where_raw,
     no_fault_where_spelled, one_fault, one_image, one_program, one_raw_fault, one_raw_program,
