@@ -202,6 +202,10 @@ rows_by_name qp f = frame_row qp f ∷ (qp_rows qp f ++ own_rows f)
 unfoldable pub rows : ℕ → Form → List Row
 rows qp f = rows_by_name qp f ++ placed_rows f
 
+-- The accesses of an instruction by its qualifying predicate and its form.
+abbrev pub accesses_of : ℕ → Form → List Access
+accesses_of qp f = listed qp (rows qp f)
+
 -- The accesses of an instruction.
 abbrev pub accesses : Insn → List Access
-accesses insn = listed insn.qp (rows insn.qp (insn_form insn))
+accesses insn = accesses_of insn.qp (insn_form insn)

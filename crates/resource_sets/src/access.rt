@@ -2,6 +2,9 @@
 
 use ia_insn::Pr;
 
+/// How many accesses an instruction has at most.
+pub const ACCESS_LIMIT: usize = 80;
+
 /// What instructions share, in the order in which it is printed.
 #[derive(Clone, Copy, Debug, PartialEq, Eq, PartialOrd, Ord)]
 pub enum Resource {

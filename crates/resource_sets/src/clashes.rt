@@ -1,10 +1,9 @@
-//! Clashes, and writes of guards.
+//! Clashes.
 
 ghost use Rattle.std.specs.Prelude.{◌≡◌};
-ghost use Rattle.resource_sets.specs.Clashes.{is_written, is_write, is_read, is_raw, is_waw, is_war63, clash_of, clash, writes_guard, may_write_guard};
+ghost use Rattle.resource_sets.specs.Clashes.{is_written, is_write, is_read, is_raw, is_waw, is_war63, clash_of, clash};
 
 use crate::access::{Access, Kind, Resource};
-use ia_insn::Pr;
 
 /// Why two slots of one group clash, in the order in which they are printed.
 #[derive(Clone, Copy, Debug, PartialEq, Eq, PartialOrd, Ord)]
@@ -100,31 +99,4 @@ pub fn clash(first: &Access, second: &Access) -> Option<Rule>
     } else {
         None
     }
-}
-
-/// Whether the access may change the predicate of that name: it writes it, or the frame by which it is
-/// named.
-fn writes_guard(access: &Access, guard: Pr) -> bool
-    ensures { result ≡ writes_guard guard access.now.resource access.now.kind }
-{
-    match access.resource {
-        Resource::Pr(p) => {
-            p == guard.number()
-                && matches!(
-                    access.kind,
-                    Kind::Write | Kind::LoopWrite | Kind::OrWrite | Kind::AndWrite
-                )
-        }
-        Resource::Cfm => access.kind == Kind::Write && guard.number() >= 16,
-        _ => false,
-    }
-}
-
-/// Whether an instruction with these accesses may write a predicate that guards an access of an earlier
-/// slot: by its name, or from p16 on by writing the frame. The frame that `alloc` writes doesn't count,
-/// since it is seen by its whole group.
-pub fn may_write_guard(accesses: &[Access], guard: Pr) -> bool
-    ensures { result ≡ may_write_guard guard accesses.now }
-{
-    accesses.iter().any(|access| writes_guard(access, guard))
 }

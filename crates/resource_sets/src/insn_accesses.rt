@@ -8,9 +8,9 @@ ghost use Rattle.ia_meaning.specs.Names.{is_stacked, is_rotating};
 ghost use Rattle.resource_sets.specs.Rows.{gr, always, listed};
 ghost use Rattle.resource_sets.specs.declared.access.Resource.TheVariants as spec;
 ghost use Rattle.resource_sets.specs.declared.access.Kind.TheVariants.{Read, Write};
-ghost use Rattle.resource_sets.specs.Accesses.{test_rows, base_row, own_rows, other_name, application, source_rows, unat_row, loop_rows, call_rows, place_rows, mask_rows, placed_rows, reads_plainly, reads_as_branch, qp_rows, is_framed, any_framed, frame_row, rows, accesses};
+ghost use Rattle.resource_sets.specs.Accesses.{test_rows, base_row, own_rows, other_name, application, source_rows, unat_row, loop_rows, call_rows, place_rows, mask_rows, placed_rows, reads_plainly, reads_as_branch, qp_rows, is_framed, any_framed, frame_row, accesses_of, accesses};
 
-use crate::access::{Access, Kind, Resource};
+use crate::access::{ACCESS_LIMIT, Access, Kind, Resource};
 use crate::row::{Row, always, gr, pr, push, push_all};
 use arrayvec::ArrayVec;
 use ia_insn::{Ar, Br, BranchKind, CmpKind, Gr, Insn, LoadKind, Pr, StoreKind, Unit, Update};
@@ -298,8 +298,8 @@ fn frame_row(qp: Pr, form: &Form, own: &[Row]) -> Row
 }
 
 /// Appends an access of the n-th predicate, where a mask has it.
-fn push_place(out: &mut ArrayVec<Access, 80>, qp: Pr, mask: u64, kind: Kind, n: u64)
-    requires room { array_vec_len out.old < 80 }
+fn push_place(out: &mut ArrayVec<Access, ACCESS_LIMIT>, qp: Pr, mask: u64, kind: Kind, n: u64)
+    requires room { array_vec_len out.old < ACCESS_LIMIT }
     requires some { 1 ≤ n }
     requires most { n < 64 }
     ensures items { out.old.items ++ listed qp (place_rows (64 - n) n mask kind) ≡ out.new.items ++ listed qp (place_rows (64 - (n + 1)) (n + 1) mask kind) }
@@ -312,8 +312,8 @@ fn push_place(out: &mut ArrayVec<Access, 80>, qp: Pr, mask: u64, kind: Kind, n: 
 
 /// Appends accesses of the predicates that a mask has.
 #[tactic(auto, unfolding(crate::specs::Accesses::mask_rows))]
-fn push_mask(out: &mut ArrayVec<Access, 80>, qp: Pr, mask: u64, kind: Kind)
-    requires { array_vec_len out.old ≤ 17 }
+fn push_mask(out: &mut ArrayVec<Access, ACCESS_LIMIT>, qp: Pr, mask: u64, kind: Kind)
+    requires { array_vec_len out.old + 63 ≤ ACCESS_LIMIT }
     ensures { out.new.items ≡ out.old.items ++ listed qp (mask_rows mask kind) }
 {
     for n in 1..64 {
@@ -322,8 +322,8 @@ fn push_mask(out: &mut ArrayVec<Access, 80>, qp: Pr, mask: u64, kind: Kind)
 }
 
 /// Appends the accesses of predicates by place.
-fn push_placed(out: &mut ArrayVec<Access, 80>, qp: Pr, form: &Form)
-    requires { array_vec_len out.old ≤ 17 }
+fn push_placed(out: &mut ArrayVec<Access, ACCESS_LIMIT>, qp: Pr, form: &Form)
+    requires { array_vec_len out.old + 63 ≤ ACCESS_LIMIT }
     ensures { out.new.items ≡ out.old.items ++ listed qp (placed_rows form.now) }
 {
     match *form {
@@ -336,18 +336,24 @@ fn push_placed(out: &mut ArrayVec<Access, 80>, qp: Pr, form: &Form)
     }
 }
 
-/// The accesses of an instruction: what it reads and writes, and under which guard, at most 80.
+/// The accesses of an instruction by its qualifying predicate and its form: what it reads and writes, and under
+/// which guard.
 #[tactic(auto, using(crate::proofs::Listing::in_parts))]
-pub fn accesses(insn: &Insn) -> ArrayVec<Access, 80>
+pub fn accesses_of(qp: Pr, form: &Form) -> ArrayVec<Access, ACCESS_LIMIT>
+    ensures { result.items ≡ accesses_of qp form.now }
+{
+    let own = own_rows(form);
+    let mut out = ArrayVec::new();
+    push(&mut out, qp, frame_row(qp, form, own.as_slice()));
+    push_all(&mut out, qp, &qp_rows(qp, form));
+    push_all(&mut out, qp, own.as_slice());
+    push_placed(&mut out, qp, form);
+    out
+}
+
+/// The accesses of an instruction.
+pub fn accesses(insn: &Insn) -> ArrayVec<Access, ACCESS_LIMIT>
     ensures { result.items ≡ accesses insn.now }
 {
-    let qp = insn.qp;
-    let form = form_of(&insn.op);
-    let own = own_rows(&form);
-    let mut out = ArrayVec::new();
-    push(&mut out, qp, frame_row(qp, &form, own.as_slice()));
-    push_all(&mut out, qp, &qp_rows(qp, &form));
-    push_all(&mut out, qp, own.as_slice());
-    push_placed(&mut out, qp, &form);
-    out
+    accesses_of(insn.qp, &form_of(&insn.op))
 }

@@ -48,7 +48,7 @@ pub fn accesses_are_regular()
 
 /// Which accesses clash: each with an earlier write of its resource, but for a branch's read, for writes that
 /// may come in both orders, and for a fill after a spill; and by which rules. And what writes a guard, or the
-/// frame of its name, is found by `may_write_guard`.
+/// frame of its name, is found by the definition `may_write_guard`.
 pub fn accesses_clash()
     ensures clash { AccessesClash }
     ensures rule { ChangesClash }

@@ -2,8 +2,8 @@
 //! Architecture Software Developer's Manual, volume 1, chapter 3, instruction dependencies, and volume 3,
 //! chapter 5, resource and dependency semantics).
 //!
-//! `accesses` is a function of the form of the instruction's effect (`ia_meaning::Form`) and its qualifying
-//! predicate; `clash` is a table of two accesses. The laws say that no instruction depends on more than its
+//! `accesses_of` is a function of an instruction's qualifying predicate and the form of its effect
+//! (`ia_meaning::Form`); `clash` is a table of two accesses. The laws say that no instruction depends on more than its
 //! accesses name, or writes more than they name.
 #![tactic(auto)]
 
@@ -13,7 +13,7 @@ mod insn_accesses;
 mod laws;
 mod row;
 
-pub use access::{Access, Kind, Resource};
-pub use clashes::{Rule, clash, may_write_guard};
-pub use insn_accesses::accesses;
+pub use access::{ACCESS_LIMIT, Access, Kind, Resource};
+pub use clashes::{Rule, clash};
+pub use insn_accesses::{accesses, accesses_of};
 pub use laws::{accesses_are_regular, accesses_clash, depends_on_accesses, writes_are_accesses};

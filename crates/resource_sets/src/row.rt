@@ -4,7 +4,7 @@ ghost use Rattle.std.specs.Prelude.{◌≡◌, ◌+◌, ◌≤◌, ◌<◌, ◌+
 ghost use Rattle.arrayvec.specs.ArrayVec.{array_vec_len};
 ghost use Rattle.resource_sets.specs.Rows.{gr, pr, always, listed};
 
-use crate::access::{Access, Kind, Resource};
+use crate::access::{ACCESS_LIMIT, Access, Kind, Resource};
 use arrayvec::ArrayVec;
 use ia_insn::{Gr, Pr};
 
@@ -76,8 +76,8 @@ pub(crate) fn always(guarded: bool, resource: Resource, kind: Kind) -> Row
 }
 
 /// Appends a row's access, where it is there.
-pub(crate) fn push(out: &mut ArrayVec<Access, 80>, qp: Pr, row: Row)
-    requires { array_vec_len out.old < 80 }
+pub(crate) fn push(out: &mut ArrayVec<Access, ACCESS_LIMIT>, qp: Pr, row: Row)
+    requires { array_vec_len out.old < ACCESS_LIMIT }
     ensures items { out.new.items ≡ out.old.items ++ listed qp (row ∷ []) }
     ensures len { array_vec_len out.new ≤ array_vec_len out.old + 1 }
 {
@@ -91,8 +91,8 @@ pub(crate) fn push(out: &mut ArrayVec<Access, 80>, qp: Pr, row: Row)
 }
 
 /// Appends the accesses of rows.
-pub(crate) fn push_all(out: &mut ArrayVec<Access, 80>, qp: Pr, rows: &[Row])
-    requires { array_vec_len out.old + length rows.now ≤ 80 }
+pub(crate) fn push_all(out: &mut ArrayVec<Access, ACCESS_LIMIT>, qp: Pr, rows: &[Row])
+    requires { array_vec_len out.old + length rows.now ≤ ACCESS_LIMIT }
     ensures items { out.new.items ≡ out.old.items ++ listed qp rows.now }
     ensures len { array_vec_len out.new ≤ array_vec_len out.old + length rows.now }
 {
