@@ -12,7 +12,7 @@ use Rattle.resource_sets.specs.declared.clashes.Rule.{Rule}
 use Rattle.resource_sets.specs.declared.clashes.Rule.TheVariants.{AllocFirst, ClearLast}
 use Rattle.resource_sets.specs.Clashes.{clash}
 use Rattle.group_checker.specs.declared.violation.Violation.{Violation}
-use Rattle.group_checker.specs.declared.window.Entry.{Entry}
+use Rattle.group_checker.specs.declared.window.EarlierSlot.{EarlierSlot}
 use Rattle.group_checker.specs.Violations.{allocates_at, clears_at}
 use Rattle.group_checker.specs.Findings.{IsPair, FindsBy, may_be_excused, excused_by, IsSlotRule}
 use Rattle.group_checker.specs.Order.{Adds}
@@ -61,7 +61,7 @@ pub made : (v : Violation) (s f : Place) (r : Rule) (x : Resource) → v.second 
 made v s f r x a b c d = λ i. record { second = a i; first = b i; rule = c i; resource = d i }
 
 -- the violation that is noted is all that two accesses find
-pub one_found : (e : Entry) (j : Place) (a b : Access) (rule : Rule) → a.resource ≡ b.resource → clash a b ≡ Some rule → (may_be_excused rule && excused_by e a.guard b.guard) ≡ false → (xs ys : List Violation) → Adds xs ys (λ x. x ≡ violation j e.place rule a.resource) → Adds xs ys (λ v. IsPair e.place j v × FindsBy e a b v)
+pub one_found : (e : EarlierSlot) (j : Place) (a b : Access) (rule : Rule) → a.resource ≡ b.resource → clash a b ≡ Some rule → (may_be_excused rule && excused_by e a.guard b.guard) ≡ false → (xs ys : List Violation) → Adds xs ys (λ x. x ≡ violation j e.place rule a.resource) → Adds xs ys (λ v. IsPair e.place j v × FindsBy e a b v)
 one_found e j a b rule same broken stays xs ys adds =
     adds_like xs ys (λ x. x ≡ found) (λ v. IsPair e.place j v × FindsBy e a b v)
     (λ v q. let P : Violation → Type 0 = λ w. IsPair e.place j w × FindsBy e a b w in
@@ -78,7 +78,7 @@ one_found e j a b rule same broken stays xs ys adds =
         made v j e.place rule a.resource h.0.1 h.0.0 r (sym h.1.first_on)
 
 -- where no rule is broken nothing is found
-pub none_found : (e : Entry) (j : Place) (a b : Access) (xs : List Violation) → ((v : Violation) → FindsBy e a b v → ⊥) → Adds xs xs (λ v. IsPair e.place j v × FindsBy e a b v)
+pub none_found : (e : EarlierSlot) (j : Place) (a b : Access) (xs : List Violation) → ((v : Violation) → FindsBy e a b v → ⊥) → Adds xs xs (λ v. IsPair e.place j v × FindsBy e a b v)
 none_found e j a b xs never = adds_nothing xs (λ v. IsPair e.place j v × FindsBy e a b v) (λ v h. never v h.1)
 
 -- what is noted of the rules on slots

@@ -9,12 +9,12 @@ use Rattle.resource_sets.specs.Clashes.{may_write_guard}
 use Rattle.predicate_rel.specs.Pairs.{Table, has_bit, in_range, truth, pairs_of}
 use Rattle.predicate_rel.proofs.PairLemmas.{in_range_parts}
 use Rattle.flow_facts.specs.Walks.{Walk, earlier_in_group}
-use Rattle.group_checker.specs.declared.window.Entry.{Entry}
+use Rattle.group_checker.specs.declared.window.EarlierSlot.{EarlierSlot}
 use Rattle.group_checker.specs.Excuses.{accesses_at, IsExcused}
 use Rattle.group_checker.specs.Windows.{IsThrough, IsAt, HasWriter, HasPlace, IsWindow}
 use Rattle.group_checker.specs.Findings.{excused_by}
 use Rattle.group_checker.proofs.Falling.{before_trans, not_before_itself}
-use Rattle.group_checker.proofs.Entries.{at_once}
+use Rattle.group_checker.proofs.EarlierSlots.{at_once}
 
 -- A walk through the slot that doesn't excuse the two accesses.
 pub record IsOpenOn (p : Program) (i j : Place) (g h : ℕ) : Type 0 where
@@ -23,14 +23,14 @@ pub record IsOpenOn (p : Program) (i j : Place) (g h : ℕ) : Type 0 where
   pub stays : ¬ IsExcused p walk i g h
 
 -- a slot from the n-th on is passed by each walk through the n-th, and not before it
-from_on : (p : Program) (es : List Entry) (j : Place) (n m : ℕ) (e b : Entry) (w : Walk) → IsWindow p es j → IsAt es n e → IsAt es m b → n ≤ m → IsThrough p e.place j w → Contains (earlier_in_group p w) b.place × ¬ IsBefore b.place e.place
+from_on : (p : Program) (es : List EarlierSlot) (j : Place) (n m : ℕ) (e b : EarlierSlot) (w : Walk) → IsWindow p es j → IsAt es n e → IsAt es m b → n ≤ m → IsThrough p e.place j w → Contains (earlier_in_group p w) b.place × ¬ IsBefore b.place e.place
 from_on p es j n m e b w win at here late through = of (cases_eq m n)
   where
     of : (m ≡ n) ⊎ (m ≡ n → ⊥) → Contains (earlier_in_group p w) b.place × ¬ IsBefore b.place e.place
     of (inl z) =
         let same : e ≡ b = at_once es n e b at (subst (λ (k : ℕ). IsAt es k b) z here) in
         let P : Place → Type 0 = λ q. Contains (earlier_in_group p w) q × ¬ IsBefore q e.place in
-        subst P (ap (λ (q : Entry). q.place) same) (through.inside, not_before_itself e.place)
+        subst P (ap (λ (q : EarlierSlot). q.place) same) (through.inside, not_before_itself e.place)
     of (inr some) = (
       win.passes n m e b at here (omega arith) w through,
       λ before. not_before_itself b.place (before_trans b.place e.place b.place before (win.rises n m e b at here (omega arith))),
@@ -42,7 +42,7 @@ unfolding pairs_of
 below_64 rows g h e = let both = and_parts (in_range g h) (truth rows g h) e in (in_range_parts g h both.0).0
 
 -- where the test fails, some walk doesn't excuse the two
-pub opens : (p : Program) (es : List Entry) (j : Place) (n : ℕ) (e : Entry) (g h : ℕ) → IsWindow p es j → IsAt es n e → excused_by e g h ≡ false → IsOpenOn p e.place j g h
+pub opens : (p : Program) (es : List EarlierSlot) (j : Place) (n : ℕ) (e : EarlierSlot) (g h : ℕ) → IsWindow p es j → IsAt es n e → excused_by e g h ≡ false → IsOpenOn p e.place j g h
 opens p es j n e g h win at fails = elim (cases_Bool (pairs_of e.known g h)) [
   | inl t ↦ (elim (and_cases (pairs_of e.known g h) (not (has_bit e.written g)) fails) [
     | inl q ↦ unknown q
@@ -61,11 +61,11 @@ opens p es j n e g h win at fails = elim (cases_Bool (pairs_of e.known g h)) [
     written x =
         let is = win.carried n e at in
         let (w, through) = is.known.reached in
-        let place = from_on p es j n x.index e x.entry w win at x.at x.late through in
-        record { walk = w; through = through; stays = λ y. true≢false (sym x.writes ∙ y.unwritten x.entry.place place.0 place.1) }
+        let place = from_on p es j n x.index e x.slot w win at x.at x.late through in
+        record { walk = w; through = through; stays = λ y. true≢false (sym x.writes ∙ y.unwritten x.slot.place place.0 place.1) }
 
 -- where the test holds, each walk excuses the two
-pub excuses : (p : Program) (es : List Entry) (j : Place) (n : ℕ) (e : Entry) (g h : ℕ) (w : Walk) → IsWindow p es j → IsAt es n e → excused_by e g h ≡ true → IsThrough p e.place j w → IsExcused p w e.place g h
+pub excuses : (p : Program) (es : List EarlierSlot) (j : Place) (n : ℕ) (e : EarlierSlot) (g h : ℕ) (w : Walk) → IsWindow p es j → IsAt es n e → excused_by e g h ≡ true → IsThrough p e.place j w → IsExcused p w e.place g h
 excuses p es j n e g h w win at holds through =
     let both = and_parts (pairs_of e.known g h) (not (has_bit e.written g)) holds in
     let is = win.carried n e at in
@@ -76,9 +76,9 @@ excuses p es j n e g h w win at holds through =
   where
     unwritten : g < 64 → has_bit e.written g ≡ false → (k : Place) → HasPlace es k → ¬ IsBefore k e.place → may_write_guard g (accesses_at p k) ≡ false
     unwritten small none k has late = elim (cases_lt has.index n) [
-      | inl l ↦ absurd (late (subst (λ (q : Place). IsBefore q e.place) has.is (win.rises has.index n has.entry e has.at at l)))
+      | inl l ↦ absurd (late (subst (λ (q : Place). IsBefore q e.place) has.is (win.rises has.index n has.slot e has.at at l)))
       | inr l ↦ elim (cases_Bool (may_write_guard g (accesses_at p k))) [
-        | inl t ↦ (let writer : HasWriter p es n g = record { index = has.index; entry = has.entry; late = l; at = has.at; writes = subst (λ (q : Place). may_write_guard g (accesses_at p q) ≡ true) (sym has.is) t } in
+        | inl t ↦ (let writer : HasWriter p es n g = record { index = has.index; slot = has.slot; late = l; at = has.at; writes = subst (λ (q : Place). may_write_guard g (accesses_at p q) ≡ true) (sym has.is) t } in
             absurd (true≢false (sym ((win.written n e at).has g small writer) ∙ none)))
         | inr f ↦ f
       ]

@@ -3,7 +3,7 @@ pub mod Rising
 pub mod Falling
 pub mod Masks
 pub mod Meets
-pub mod Entries
+pub mod EarlierSlots
 pub mod Windowing
 pub mod Excusing
 pub mod Pairing

@@ -15,15 +15,15 @@ use Rattle.predicate_rel.specs.Edges.{HasEdge}
 use Rattle.flow_facts.specs.Walks.{Walk, end_of, earlier_in_group}
 use Rattle.predicate_rel.specs.declared.edge.Edge.TheVariants.{Falls}
 use Rattle.group_checker.specs.declared.violation.Violation.{Violation}
-use Rattle.group_checker.specs.declared.window.Entry.{Entry}
+use Rattle.group_checker.specs.declared.window.EarlierSlot.{EarlierSlot}
 use Rattle.group_checker.specs.Excuses.{accesses_at, IsExcused, IsLatest}
 use Rattle.group_checker.specs.Violations.{Clashes, Breaks, Violates, allocates_at}
-use Rattle.group_checker.specs.Order.{Rises, IsListOf, Adds}
+use Rattle.group_checker.specs.Order.{Adds}
 use Rattle.group_checker.specs.Windows.{IsThrough, IsAt, IsWindow}
 use Rattle.group_checker.specs.Findings.{may_be_excused, excused_by, FindsIn, IsPair, IsNthPair, IsSlotRule}
 use Rattle.group_checker.proofs.Members.{not_in_none}
 use Rattle.group_checker.proofs.Falling.{not_before_itself, one_before, comes_from}
-use Rattle.group_checker.proofs.Entries.{at_once, entry_at}
+use Rattle.group_checker.proofs.EarlierSlots.{at_once, earlier_at}
 use Rattle.group_checker.proofs.Excusing.{opens, excuses}
 
 -- a clash is by one of three rules
@@ -104,7 +104,7 @@ record Unexcused (p : Program) (i j : Place) (rule : Rule) (g h : ℕ) : Type 0 
   through : IsThrough p i j walk
   stays : may_be_excused rule ≡ true → ¬ IsExcused p walk i g h
 
-unexcused : (p : Program) (es : List Entry) (j : Place) (n : ℕ) (e : Entry) (rule : Rule) (g h : ℕ) → IsWindow p es j → IsAt es n e → (may_be_excused rule && excused_by e g h) ≡ false → Unexcused p e.place j rule g h
+unexcused : (p : Program) (es : List EarlierSlot) (j : Place) (n : ℕ) (e : EarlierSlot) (rule : Rule) (g h : ℕ) → IsWindow p es j → IsAt es n e → (may_be_excused rule && excused_by e g h) ≡ false → Unexcused p e.place j rule g h
 unexcused p es j n e rule g h win at fails = elim (and_cases (may_be_excused rule) (excused_by e g h) fails) [
   | inl never ↦ (let is = win.carried n e at in let (w, through) = is.known.reached in
       record { walk = w; through = through; stays = λ may. absurd (true≢false (sym may ∙ never)) })
@@ -112,7 +112,7 @@ unexcused p es j n e rule g h win at fails = elim (and_cases (may_be_excused rul
 ]
 
 -- what is found is broken on a walk
-pub found_violates : (p : Program) (es : List Entry) (j : Place) (n : ℕ) (e : Entry) (v : Violation) → IsWindow p es j → IsAt es n e → IsPair e.place j v → FindsIn e e.accesses.items (accesses_at p j) v → Violates p v
+pub found_violates : (p : Program) (es : List EarlierSlot) (j : Place) (n : ℕ) (e : EarlierSlot) (v : Violation) → IsWindow p es j → IsAt es n e → IsPair e.place j v → FindsIn e e.accesses.items (accesses_at p j) v → Violates p v
 found_violates p es j n e v win at is (a, of_first, (b, of_second, found)) =
     let o = unexcused p es j n e v.rule a.guard b.guard win at found.stays in
     let carried = win.carried n e at in
@@ -127,7 +127,7 @@ found_violates p es j n e v win at is (a, of_first, (b, of_second, found)) =
     }) o.stays)
 
 -- the last slot of the window is the latest of the group on each walk through it
-latest : (p : Program) (es : List Entry) (j : Place) (n : ℕ) (e : Entry) (w : Walk) → IsWindow p es j → IsAt es n e → n + 1 ≡ length es → IsThrough p e.place j w → IsLatest (earlier_in_group p w) e.place
+latest : (p : Program) (es : List EarlierSlot) (j : Place) (n : ℕ) (e : EarlierSlot) (w : Walk) → IsWindow p es j → IsAt es n e → n + 1 ≡ length es → IsThrough p e.place j w → IsLatest (earlier_in_group p w) e.place
 latest p es j n e w win at end through =
     let from = comes_from p w e.place through.there.walks through.inside in
     let edge = subst (HasEdge p (end_of from.before) Falls) through.there.ends from.edge in
@@ -135,7 +135,7 @@ latest p es j n e w win at end through =
     subst (λ (l : List Place). IsLatest l e.place) (sym from.group) same
 
 -- and no other slot is
-is_last : (p : Program) (es : List Entry) (j : Place) (n : ℕ) (e : Entry) (w : Walk) → IsWindow p es j → IsAt es n e → IsThrough p e.place j w → IsLatest (earlier_in_group p w) e.place → n + 1 ≡ length es
+is_last : (p : Program) (es : List EarlierSlot) (j : Place) (n : ℕ) (e : EarlierSlot) (w : Walk) → IsWindow p es j → IsAt es n e → IsThrough p e.place j w → IsLatest (earlier_in_group p w) e.place → n + 1 ≡ length es
 is_last p es j n e w win at through is = elim (cases_lt (n + 1) (length es)) [
   | inl l ↦ absurd (not_before_itself e.place (later l))
   | inr l ↦ omega (arith, at.short)
@@ -144,8 +144,8 @@ is_last p es j n e w win at through is = elim (cases_lt (n + 1) (length es)) [
     later : n + 1 < length es → IsBefore e.place e.place
     later l =
         let m : ℕ = length es - 1 in
-        let b : Entry = get_or es m e in
-        let there = entry_at es m e (omega arith) in
+        let b : EarlierSlot = get_or es m e in
+        let there = earlier_at es m e (omega arith) in
         let from = comes_from p w e.place through.there.walks through.inside in
         let same : end_of from.before ≡ e.place = subst (λ (l : List Place). IsLatest l e.place) from.group is in
         let edge : HasEdge p e.place Falls j = subst (λ (k : Place). HasEdge p k Falls j) same (subst (HasEdge p (end_of from.before) Falls) through.there.ends from.edge) in
@@ -153,7 +153,7 @@ is_last p es j n e w win at through is = elim (cases_lt (n + 1) (length es)) [
         subst (IsBefore e.place) one (win.rises n m e b at there (omega arith))
 
 -- the rules on slots break on each walk through the first
-pub slot_violates : (p : Program) (es : List Entry) (j : Place) (n : ℕ) (e : Entry) (v : Violation) → IsWindow p es j → IsAt es n e → n + 1 ≡ length es → IsPair e.place j v → IsSlotRule p e.place j v → Violates p v
+pub slot_violates : (p : Program) (es : List EarlierSlot) (j : Place) (n : ℕ) (e : EarlierSlot) (v : Violation) → IsWindow p es j → IsAt es n e → n + 1 ≡ length es → IsPair e.place j v → IsSlotRule p e.place j v → Violates p v
 slot_violates p es j n e v win at end is rule =
     let carried = win.carried n e at in
     let (w, through) = carried.known.reached in
@@ -169,7 +169,7 @@ slot_violates p es j n e v win at end is rule =
     broken w through here (inr r) = of w ClearLast r.rule r.resource (r.clears, here, refl)
 
 -- a clash on a walk is found
-finds_clash : (p : Program) (es : List Entry) (j : Place) (n : ℕ) (e : Entry) (v : Violation) (w : Walk) → IsWindow p es j → IsAt es n e → IsThrough p e.place j w → (c : Clashes p e.place (end_of w) v.rule v.resource) → (may_be_excused v.rule && excused_by e c.first.guard c.second.guard) ≡ false → FindsIn e e.accesses.items (accesses_at p j) v
+finds_clash : (p : Program) (es : List EarlierSlot) (j : Place) (n : ℕ) (e : EarlierSlot) (v : Violation) (w : Walk) → IsWindow p es j → IsAt es n e → IsThrough p e.place j w → (c : Clashes p e.place (end_of w) v.rule v.resource) → (may_be_excused v.rule && excused_by e c.first.guard c.second.guard) ≡ false → FindsIn e e.accesses.items (accesses_at p j) v
 finds_clash p es j n e v w win at through c stays =
     let carried = win.carried n e at in (
       c.first,
@@ -182,7 +182,7 @@ finds_clash p es j n e v w win at through c stays =
     )
 
 -- what is broken on a walk is found
-pub violation_found : (p : Program) (es : List Entry) (j : Place) (n : ℕ) (e : Entry) (v : Violation) → IsWindow p es j → IsAt es n e → IsPair e.place j v → Violates p v → FindsIn e e.accesses.items (accesses_at p j) v ⊎ ((n + 1 ≡ length es) × IsSlotRule p e.place j v)
+pub violation_found : (p : Program) (es : List EarlierSlot) (j : Place) (n : ℕ) (e : EarlierSlot) (v : Violation) → IsWindow p es j → IsAt es n e → IsPair e.place j v → Violates p v → FindsIn e e.accesses.items (accesses_at p j) v ⊎ ((n + 1 ≡ length es) × IsSlotRule p e.place j v)
 violation_found p es j n e v win at is x = let b = broken_on p e.place j v is x in by_rule b.walk b.through v.rule refl b.breaks
   where
     unexcused_stays : (w : Walk) → IsThrough p e.place j w → (may : Bool) (g h : ℕ) → ¬ IsExcused p w e.place g h → (may && excused_by e g h) ≡ false
@@ -207,27 +207,27 @@ violation_found p es j n e v win at is x = let b = broken_on p e.place j v is x 
 
 -- the violations of a pair of slots are those that its accesses break, and if the slots follow each other, those of the
 -- rules on slots
-pub pair_list : (p : Program) (es : List Entry) (j : Place) (n : ℕ) (e : Entry) (ys zs : List Violation) → IsWindow p es j → IsAt es n e → Rises zs → Adds [] ys (λ v. IsPair e.place j v × FindsIn e e.accesses.items (accesses_at p j) v) → Adds ys zs (λ v. (n + 1 ≡ length es) × (IsPair e.place j v × IsSlotRule p e.place j v)) → IsListOf (λ v. IsNthPair es n j v × Violates p v) zs
-pair_list p es j n e ys zs win at up a b = record {
-  rises = up;
+pub pair_all : (p : Program) (es : List EarlierSlot) (j : Place) (n : ℕ) (e : EarlierSlot) (ys zs : List Violation) → IsWindow p es j → IsAt es n e → Adds [] ys (λ v. IsPair e.place j v × FindsIn e e.accesses.items (accesses_at p j) v) → Adds ys zs (λ v. (n + 1 ≡ length es) × (IsPair e.place j v × IsSlotRule p e.place j v)) → Adds [] zs (λ v. IsNthPair es n j v × Violates p v)
+pair_all p es j n e ys zs win at a b = record {
+  keeps = λ v c. absurd (not_in_none v c);
   has = λ v (nth, x).
-      let same : nth.entry ≡ e = at_once es n nth.entry e nth.at at in
-      let pair : IsPair e.place j v = subst (λ (q : Entry). IsPair q.place j v) same nth.pair in
+      let same : nth.slot ≡ e = at_once es n nth.slot e nth.at at in
+      let pair : IsPair e.place j v = subst (λ (q : EarlierSlot). IsPair q.place j v) same nth.pair in
       elim (violation_found p es j n e v win at pair x) [
         | inl found ↦ b.keeps v (a.has v (pair, found))
         | inr slots ↦ b.has v (slots.0, (pair, slots.1))
       ];
   only = λ v c. elim (b.only v c) [
     | inl d ↦ elim (a.only v d) [
-      | inl none ↦ absurd (not_in_none v none)
-      | inr h ↦ (record { entry = e; at = at; pair = h.0 }, found_violates p es j n e v win at h.0 h.1)
+      | inl none ↦ inl none
+      | inr h ↦ inr (record { slot = e; at = at; pair = h.0 }, found_violates p es j n e v win at h.0 h.1)
     ]
-    | inr h ↦ (record { entry = e; at = at; pair = h.1.0 }, slot_violates p es j n e v win at h.0 h.1.0 h.1.1)
+    | inr h ↦ inr (record { slot = e; at = at; pair = h.1.0 }, slot_violates p es j n e v win at h.0 h.1.0 h.1.1)
   ];
 }
 
 -- what the accesses of a slot and those of the slot under way break, from an empty list on
-pub pair_found : (p : Program) (j : Place) (e : Entry) (xs ys : List Violation) (seconds : List Access) → xs ≡ [] → seconds ≡ accesses_at p j → Adds xs ys (λ v. IsPair e.place j v × FindsIn e e.accesses.items seconds v) → Adds [] ys (λ v. IsPair e.place j v × FindsIn e e.accesses.items (accesses_at p j) v)
+pub pair_found : (p : Program) (j : Place) (e : EarlierSlot) (xs ys : List Violation) (seconds : List Access) → xs ≡ [] → seconds ≡ accesses_at p j → Adds xs ys (λ v. IsPair e.place j v × FindsIn e e.accesses.items seconds v) → Adds [] ys (λ v. IsPair e.place j v × FindsIn e e.accesses.items (accesses_at p j) v)
 pair_found p j e xs ys seconds none is adds =
     let F : List Violation → List Access → Type 0 = λ old bs. Adds old ys (λ v. IsPair e.place j v × FindsIn e e.accesses.items bs v) in
     subst (λ (bs : List Access). F [] bs) is (subst (λ (old : List Violation). F old seconds) none adds)

@@ -1,8 +1,8 @@
 -- The report counts and begins to show the one rising list of all violations.
-use Rattle.std.proofs.Common.{◌≡◌, ℕ, zero, suc, ◌+◌, ◌<◌, ◌≤◌, ◌⊎◌, true, false, cond, eqb, eq-eqb, None, Some, List, [], ◌∷◌, ◌++◌, length, length-append, length-take, append_assoc, get_or, take, refl, sym, ap, ◌∙◌, subst, arith, inl, inr}
+use Rattle.std.proofs.Common.{◌≡◌, ℕ, zero, suc, ◌+◌, ◌-◌, ◌<◌, ◌≤◌, ◌⊎◌, true, false, cond, eqb, eq-eqb, None, Some, List, [], ◌∷◌, ◌++◌, length, length-append, length-take, append_assoc, get_or, take, refl, sym, ap, ◌∙◌, subst, arith, inl, inr}
 use Rattle.std.specs.Prelude.{Contains}
 use Rattle.std.proofs.lemmas.Bool.{cases_eq, ne_eqb}
-use Rattle.std.proofs.lemmas.List.{take_all, take_more, take-append-le}
+use Rattle.std.proofs.Math.Seq.{take-append-add}
 use Rattle.std.proofs.lemmas.List.Elements.{Contains-append_left, Contains-append_right, Contains-append_cases}
 use Rattle.ia_insn.specs.declared.place.Place.{Place}
 use Rattle.ia_insn.specs.Places.{place_number, IsBefore, IsNext, IsPlaceOf}
@@ -12,9 +12,10 @@ use Rattle.ia_meaning.specs.Sequence.{first_of, next_of}
 use Rattle.ia_meaning.proofs.Follows.{next_is}
 use Rattle.ia_meaning.proofs.Sequences.{next_fits}
 use Rattle.group_checker.specs.declared.violation.Violation.{Violation}
-use Rattle.group_checker.specs.declared.window.Entry.{Entry}
+use Rattle.group_checker.specs.declared.window.EarlierSlot.{EarlierSlot}
+use Rattle.group_checker.specs.declared.report.TheConstants.{SHOWN_LIMIT}
 use Rattle.group_checker.specs.declared.report.Verdict.TheVariants.{Accepted, Violations}
-use Rattle.group_checker.specs.Order.{Precedes, IsListOf}
+use Rattle.group_checker.specs.Order.{Precedes, Rises, IsListOf, Adds}
 use Rattle.group_checker.specs.Shown.{Report}
 use Rattle.group_checker.specs.Violations.{Violates}
 use Rattle.group_checker.specs.Reports.{Shows, IsVerdict}
@@ -23,7 +24,7 @@ use Rattle.group_checker.specs.Findings.{IsNthPair}
 use Rattle.group_checker.specs.Progress.{HasReported, IsEarlier, IsEarlierPair, IsUpTo, pair_bound, place_bound}
 use Rattle.group_checker.proofs.Members.{not_in_none}
 use Rattle.group_checker.proofs.Falling.{before_trans, number_rises, place_cases, comes_from}
-use Rattle.group_checker.proofs.Rising.{rises_append}
+use Rattle.group_checker.proofs.Rising.{precedes_by_second, precedes_by_first, rises_append, rises_none, all_added}
 
 -- what is cut is cut again
 pub take_again : {A : Type 0} (n : ℕ) (xs ys : List A) → take n (take n xs ++ ys) ≡ take n (xs ++ ys)
@@ -31,20 +32,15 @@ take_again zero xs ys = refl
 take_again (suc n) [] ys = refl
 take_again (suc n) (x ∷ xs) ys = ap (λ l. x ∷ l) (take_again n xs ys)
 
--- a full list shows no more
-pub take_full : {A : Type 0} (n : ℕ) (xs ys : List A) → length xs ≡ n → take n (xs ++ ys) ≡ xs
-take_full n xs ys e = take-append-le n xs ys (omega arith) ∙ take_all n xs (omega arith)
+-- a list that is filled up
+pub take_room : {A : Type 0} (n : ℕ) (xs ys zs : List A) → length xs ≤ n → zs ≡ xs ++ take (n - length xs) ys → zs ≡ take n (xs ++ ys)
+take_room n xs ys zs l e =
+    let all : length xs + (n - length xs) ≡ n = omega arith in
+    e ∙ sym (take-append-add xs ys (n - length xs)) ∙ ap (λ m. take m (xs ++ ys)) all
 
 -- at most so many are shown
 pub shown_short : (n : ℕ) (r : List Violation) (all : List Violation) → r ≡ take n all → length r ≤ n
 shown_short n r all e = rw e (simp length-take (omega arith))
-
--- a loop that shows one more
-pub show_more : (a f xs ys : List Violation) (k : ℕ) (d : Violation) → k < length f → xs ≡ take 100 (a ++ take k f) → ys ≡ take 100 (xs ++ get_or f k d ∷ []) → ys ≡ take 100 (a ++ take (k + 1) f)
-show_more a f xs ys k d l is next =
-    let v = get_or f k d in
-    next ∙ ap (λ (q : List Violation). take 100 (q ++ v ∷ [])) is ∙ take_again 100 (a ++ take k f) (v ∷ [])
-    ∙ ap (λ (q : List Violation). take 100 q) (append_assoc a (take k f) (v ∷ []) ∙ ap (λ (q : List Violation). a ++ q) (sym (take_more f k d l)))
 
 -- a list of some violations is followed by one of later ones
 list_append : (P Q R : Violation → Type 0) (xs ys : List Violation) → ((v : Violation) → P v → R v) → ((v : Violation) → Q v → R v) → ((v : Violation) → R v → P v ⊎ Q v) → ((v w : Violation) → P v → Q w → Precedes v w) → IsListOf P xs → IsListOf Q ys → IsListOf R (xs ++ ys)
@@ -71,35 +67,25 @@ retold p r P Q bound more l to from u = record {
 pub bounded : (p : Program) (r : Report) (P : Violation → Type 0) (bound more : ℕ) → bound ≤ more → HasReported p r P bound → HasReported p r P more
 bounded p r P bound more l u = retold p r P P bound more l (λ v x h. h) (λ v x h. h) u
 
--- violations with an earlier second slot come first
-precedes_by_second : (v w : Violation) → IsBefore v.second w.second → Precedes v w
-precedes_by_second v w (inl h) = inl h
-precedes_by_second v w (inr h) = inr (h.0, inl h.1)
-
--- then those with an earlier first slot
-precedes_by_first : (v w : Violation) → v.second ≡ w.second → IsBefore v.first w.first → Precedes v w
-precedes_by_first v w e (inl l) = inr (ap (λ (q : Place). q.bundle) e, inr (ap (λ (q : Place). q.slot) e, inl l))
-precedes_by_first v w e (inr l) = inr (ap (λ (q : Place). q.bundle) e, inr (ap (λ (q : Place). q.slot) e, inr (l.0, inl l.1)))
-
 -- pairs with an earlier first slot come before
-pair_precedes : (p : Program) (es : List Entry) (j : Place) (n : ℕ) (v w : Violation) → IsWindow p es j → IsEarlierPair es j n v → IsNthPair es n j w → Precedes v w
+pair_precedes : (p : Program) (es : List EarlierSlot) (j : Place) (n : ℕ) (v w : Violation) → IsWindow p es j → IsEarlierPair es j n v → IsNthPair es n j w → Precedes v w
 pair_precedes p es j n v w win (inl h) k = precedes_by_second v w (subst (IsBefore v.second) (sym k.pair.1) h)
 pair_precedes p es j n v w win (inr h) k =
     let has = h.1.has in
-    let up = win.rises has.index n has.entry k.entry has.at k.at h.1.below in
+    let up = win.rises has.index n has.slot k.slot has.at k.at h.1.below in
     precedes_by_first v w (h.0 ∙ sym k.pair.1)
-    (subst (λ (q : Place). IsBefore q w.first) has.is (subst (IsBefore has.entry.place) (sym k.pair.0) up))
+    (subst (λ (q : Place). IsBefore q w.first) has.is (subst (IsBefore has.slot.place) (sym k.pair.0) up))
 
 -- the violations of one more pair of slots
-pub pair_reported : (p : Program) (old new : Report) (es : List Entry) (j : Place) (n bound : ℕ) (found : List Violation) → IsWindow p es j → HasReported p old (IsEarlierPair es j n) bound → IsListOf (λ v. IsNthPair es n j v × Violates p v) found → length found ≤ 6402 → new.total ≡ old.total + length found → new.shown ≡ take 100 (old.shown ++ found) → HasReported p new (IsEarlierPair es j (n + 1)) (bound + pair_bound)
-pair_reported p old new es j n bound found win r list few total shown = record {
+pub pair_reported : (p : Program) (old new : Report) (es : List EarlierSlot) (j : Place) (n bound : ℕ) (found : List Violation) → IsWindow p es j → HasReported p old (IsEarlierPair es j n) bound → Rises found → Adds [] found (λ v. IsNthPair es n j v × Violates p v) → length found ≤ pair_bound → new.total ≡ old.total + length found → new.shown ≡ take SHOWN_LIMIT (old.shown ++ found) → HasReported p new (IsEarlierPair es j (n + 1)) (bound + pair_bound)
+pair_reported p old new es j n bound found win r up all few total shown = record {
   all = r.all ++ found;
   list = list_append (λ v. Violates p v × IsEarlierPair es j n v) (λ v. IsNthPair es n j v × Violates p v) (λ v. Violates p v × IsEarlierPair es j (n + 1) v) r.all found
       (λ v h. (h.0, wider v h.1)) (λ v h. (h.1, added v h.0)) (λ v h. split v h.0 h.1)
-      (λ v w h k. pair_precedes p es j n v w win h.1 k.0) r.list list;
+      (λ v w h k. pair_precedes p es j n v w win h.1 k.0) r.list (all_added (λ v. IsNthPair es n j v × Violates p v) found up all);
   shows = record {
     total = total ∙ ap (λ (n : ℕ). n + length found) r.shows.total ∙ sym (length-append r.all found);
-    shown = shown ∙ ap (λ (l : List Violation). take 100 (l ++ found)) r.shows.shown ∙ take_again 100 r.all found;
+    shown = shown ∙ ap (λ (l : List Violation). take SHOWN_LIMIT (l ++ found)) r.shows.shown ∙ take_again SHOWN_LIMIT r.all found;
   };
   small = omega (arith, length-append r.all found, r.small);
 }
@@ -109,17 +95,17 @@ pair_reported p old new es j n bound found win r list few total shown = record {
     wider v (inr e) = inr (e.0, record { has = e.1.has; below = omega (arith, e.1.below) })
 
     added : (v : Violation) → IsNthPair es n j v → IsEarlierPair es j (n + 1) v
-    added v k = inr (k.pair.1, record { has = record { index = n; entry = k.entry; at = k.at; is = sym k.pair.0 }; below = omega arith })
+    added v k = inr (k.pair.1, record { has = record { index = n; slot = k.slot; at = k.at; is = sym k.pair.0 }; below = omega arith })
 
     split : (v : Violation) → Violates p v → IsEarlierPair es j (n + 1) v → (Violates p v × IsEarlierPair es j n v) ⊎ (IsNthPair es n j v × Violates p v)
     split v x (inl l) = inl (x, inl l)
     split v x (inr e) = elim (cases_eq e.1.has.index n) [
-      | inl q ↦ inr (record { entry = e.1.has.entry; at = subst (λ (m : ℕ). IsAt es m e.1.has.entry) q e.1.has.at; pair = (sym e.1.has.is, e.0) }, x)
+      | inl q ↦ inr (record { slot = e.1.has.slot; at = subst (λ (m : ℕ). IsAt es m e.1.has.slot) q e.1.has.at; pair = (sym e.1.has.is, e.0) }, x)
       | inr q ↦ inl (x, inr (e.0, record { has = e.1.has; below = omega (arith, e.1.below) }))
     ]
 
 -- at the first slot of the window
-pub none_of_second : (p : Program) (r : Report) (es : List Entry) (j : Place) (bound : ℕ) → HasReported p r (IsEarlier j) bound → HasReported p r (IsEarlierPair es j 0) bound
+pub none_of_second : (p : Program) (r : Report) (es : List EarlierSlot) (j : Place) (bound : ℕ) → HasReported p r (IsEarlier j) bound → HasReported p r (IsEarlierPair es j 0) bound
 none_of_second p r es j bound u = retold p r (IsEarlier j) (IsEarlierPair es j 0) bound bound (omega arith) (λ v x h. inl h) (λ v x h. of v h) u
   where
     of : (v : Violation) → IsEarlierPair es j 0 v → IsEarlier j v
@@ -127,7 +113,7 @@ none_of_second p r es j bound u = retold p r (IsEarlier j) (IsEarlierPair es j 0
     of v (inr h) = absurd (omega (arith, h.1.below))
 
 -- and past the last
-pub second_reported : (p : Program) (r : Report) (es : List Entry) (j : Place) (bound : ℕ) → IsWindow p es j → HasReported p r (IsEarlierPair es j (length es)) bound → HasReported p r (IsUpTo j) bound
+pub second_reported : (p : Program) (r : Report) (es : List EarlierSlot) (j : Place) (bound : ℕ) → IsWindow p es j → HasReported p r (IsEarlierPair es j (length es)) bound → HasReported p r (IsUpTo j) bound
 second_reported p r es j bound win u = retold p r (IsEarlierPair es j (length es)) (IsUpTo j) bound bound (omega arith) (λ v x h. less v h) more u
   where
     less : (v : Violation) → IsEarlierPair es j (length es) v → IsUpTo j v
@@ -221,7 +207,7 @@ verdict_reported p r j bound end u = verdict_of p r (all_reported p r j bound en
 pub none_reported : (p : Program) (r : Report) → r.total ≡ 0 → r.shown ≡ [] → HasReported p r (IsEarlier (first_of 0)) 0
 none_reported p r a b = record {
   all = [];
-  list = record { rises = tt; has = λ v h. absurd (never v h.1); only = λ v c. absurd (not_in_none v c) };
+  list = record { rises = rises_none; has = λ v h. absurd (never v h.1); only = λ v c. absurd (not_in_none v c) };
   shows = record { total = a; shown = b };
   small = omega arith;
 }

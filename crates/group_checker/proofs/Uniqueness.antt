@@ -2,6 +2,7 @@
 use Rattle.std.proofs.Common.{◌≡◌, ◌≤◌, List, [], ◌∷◌, length, take, refl, sym, ap, ◌∙◌, arith}
 use Rattle.ia_insn.specs.Programs.{Program}
 use Rattle.group_checker.specs.declared.violation.Violation.{Violation}
+use Rattle.group_checker.specs.declared.report.TheConstants.{SHOWN_LIMIT}
 use Rattle.group_checker.specs.declared.report.Verdict.TheVariants.{Accepted, Violations}
 use Rattle.group_checker.specs.Order.{IsListOf}
 use Rattle.group_checker.specs.Shown.{Report}
@@ -27,7 +28,7 @@ one_report : (p : Program) (r s : Report) → IsReport p r → IsReport p s → 
 one_report p r s a b =
     let same : a.all ≡ b.all = one_list (Violates p) a.all b.all a.list b.list in
     let total : r.total ≡ s.total = a.shows.total ∙ ap (length {A = Violation}) same ∙ sym b.shows.total in
-    let shown : r.shown ≡ s.shown = a.shows.shown ∙ ap (λ (l : List Violation). take 100 l) same ∙ sym b.shows.shown in
+    let shown : r.shown ≡ s.shown = a.shows.shown ∙ ap (λ (l : List Violation). take SHOWN_LIMIT l) same ∙ sym b.shows.shown in
     λ i. record { total = total i; shown = shown i }
 
 -- and so are two verdicts

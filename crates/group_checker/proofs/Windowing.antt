@@ -12,14 +12,14 @@ use Rattle.predicate_rel.specs.declared.edge.Edge.TheVariants.{Falls}
 use Rattle.predicate_rel.specs.Pairs.{Pairs, Table, has_bit, pairs_of}
 use Rattle.predicate_rel.specs.Edges.{HasEdge, pairs_past}
 use Rattle.flow_facts.specs.Walks.{Walk, goes_on, EndsAt, end_of, facts_on, earlier_in_group, IsMeet, Known, IsSolution, NoWalk, known_at}
-use Rattle.group_checker.specs.declared.window.Entry.{Entry}
+use Rattle.group_checker.specs.declared.window.EarlierSlot.{EarlierSlot}
 use Rattle.group_checker.specs.Excuses.{accesses_at}
 use Rattle.group_checker.specs.Windows.{IsThrough, IsMeetOf, IsAt, IsCarried, HasWriter, IsWritten, HasPlace, IsWindow, IsGuardMask, GoesOn, HasAdvanced}
 use Rattle.group_checker.proofs.Members.{cases_in, in_head, in_tail}
 use Rattle.group_checker.proofs.Falling.{before_trans, not_before_itself, number_rises, falls_next, same_before, falls_up, comes_from, falls_group}
 use Rattle.group_checker.proofs.Meets.{GoOn, meet_past, meet_at}
 use Rattle.group_checker.proofs.Masks.{has_bit_or}
-use Rattle.group_checker.proofs.Entries.{at_once, entry_at, at_push, pushed_left, pushed_last}
+use Rattle.group_checker.proofs.EarlierSlots.{at_once, earlier_at, at_push, pushed_left, pushed_last}
 
 -- where no walk has an earlier slot in its group the window is empty
 pub empty_window : (p : Program) (j : Place) → ((w : Walk) → EndsAt p j w → (i : Place) → Contains (earlier_in_group p w) i → ⊥) → IsWindow p [] j
@@ -141,26 +141,26 @@ new_walks p j next join = record {
   back = λ w h. let b = came p j next w j join.is (falls_next p j next join.edge) h.there h.inside in (b.before, b.there, b.facts);
 }
 
--- The entry of the slot that is left.
-pub record IsEntryOf (p : Program) (j : Place) (f : Pairs) (mask : ℕ) (e : Entry) : Type 0 where
+-- The slot that is left, as an earlier one.
+pub record IsSlotOf (p : Program) (j : Place) (f : Pairs) (mask : ℕ) (e : EarlierSlot) : Type 0 where
   pub place : e.place ≡ j
   pub accesses : e.accesses.items ≡ accesses_at p j
   pub known : pairs_of e.known ≡ pairs_past p j Falls f
   pub written : e.written ≡ mask
 
--- An entry of the new window is one that has gone on, or that of the slot that is left.
-record GoneOn (p : Program) (j : Place) (mask : ℕ) (old : List Entry) (m : ℕ) (b : Entry) : Type 0 where
-  entry : Entry
-  at : IsAt old m entry
-  on : GoesOn p j mask entry b
+-- A slot of the new window is one that has gone on, or the one that is left.
+record GoneOn (p : Program) (j : Place) (mask : ℕ) (old : List EarlierSlot) (m : ℕ) (b : EarlierSlot) : Type 0 where
+  slot : EarlierSlot
+  at : IsAt old m slot
+  on : GoesOn p j mask slot b
 
-which : (p : Program) (j : Place) (mask : ℕ) (old new : List Entry) (e : Entry) (m : ℕ) (b : Entry) → HasAdvanced p j mask old new (length old) → IsAt (new ++ e ∷ []) m b → GoneOn p j mask old m b ⊎ ((m ≡ length old) × (b ≡ e))
+which : (p : Program) (j : Place) (mask : ℕ) (old new : List EarlierSlot) (e : EarlierSlot) (m : ℕ) (b : EarlierSlot) → HasAdvanced p j mask old new (length old) → IsAt (new ++ e ∷ []) m b → GoneOn p j mask old m b ⊎ ((m ≡ length old) × (b ≡ e))
 which p j mask old new e m b adv h = elim (at_push new e m b h) [
-  | inl k ↦ inl (let (a, at, on) = adv.done m b (omega (arith, k.short, adv.same_length)) k in record { entry = a; at = at; on = on })
+  | inl k ↦ inl (let (a, at, on) = adv.done m b (omega (arith, k.short, adv.same_length)) k in record { slot = a; at = at; on = on })
   | inr k ↦ inr (k.0 ∙ adv.same_length, k.1)
 ]
 
-carried_old : (p : Program) (j next : Place) (mask : ℕ) (a b : Entry) → Joins p j next → IsCarried p j a → GoesOn p j mask a b → IsCarried p next b
+carried_old : (p : Program) (j next : Place) (mask : ℕ) (a b : EarlierSlot) → Joins p j next → IsCarried p j a → GoesOn p j mask a b → IsCarried p next b
 carried_old p j next mask a b join old on = record {
   accesses = ap (λ x. x.items) on.accesses ∙ old.accesses ∙ ap (accesses_at p) (sym on.place);
   known = (let P : Place → Pairs → Type 0 = λ k f. IsMeetOf p (IsThrough p k next) f in
@@ -169,7 +169,7 @@ carried_old p j next mask a b join old on = record {
   below = subst (λ (k : Place). IsBefore k next) (sym on.place) (before_trans a.place j next old.below (falls_up p j next join.edge));
 }
 
-carried_new : (p : Program) (j next : Place) (f : Pairs) (mask : ℕ) (e : Entry) → Joins p j next → IsMeet p j f → IsEntryOf p j f mask e → IsCarried p next e
+carried_new : (p : Program) (j next : Place) (f : Pairs) (mask : ℕ) (e : EarlierSlot) → Joins p j next → IsMeet p j f → IsSlotOf p j f mask e → IsCarried p next e
 carried_new p j next f mask e join meet is = record {
   accesses = is.accesses ∙ ap (accesses_at p) (sym is.place);
   known = (let P : Place → Pairs → Type 0 = λ k q. IsMeetOf p (IsThrough p k next) q in
@@ -178,78 +178,78 @@ carried_new p j next f mask e join meet is = record {
   below = subst (λ (k : Place). IsBefore k next) (sym is.place) (falls_up p j next join.edge);
 }
 
--- a later entry comes later, and each walk through an earlier one passes it
-rises_on : (p : Program) (j : Place) (mask : ℕ) (old new : List Entry) (e : Entry) → IsWindow p old j → e.place ≡ j → HasAdvanced p j mask old new (length old) → (m n : ℕ) (a b : Entry) → IsAt (new ++ e ∷ []) m a → IsAt (new ++ e ∷ []) n b → m < n → IsBefore a.place b.place
+-- a later slot comes later, and each walk through an earlier one passes it
+rises_on : (p : Program) (j : Place) (mask : ℕ) (old new : List EarlierSlot) (e : EarlierSlot) → IsWindow p old j → e.place ≡ j → HasAdvanced p j mask old new (length old) → (m n : ℕ) (a b : EarlierSlot) → IsAt (new ++ e ∷ []) m a → IsAt (new ++ e ∷ []) n b → m < n → IsBefore a.place b.place
 rises_on p j mask old new e win is adv m n a b h k less = of (which p j mask old new e m a adv h) (which p j mask old new e n b adv k)
   where
     of : GoneOn p j mask old m a ⊎ ((m ≡ length old) × (a ≡ e)) → GoneOn p j mask old n b ⊎ ((n ≡ length old) × (b ≡ e)) → IsBefore a.place b.place
     of (inl x) (inl y) =
-        subst (λ (q : Place). IsBefore q b.place) (sym x.on.place) (subst (IsBefore x.entry.place) (sym y.on.place) (win.rises m n x.entry y.entry x.at y.at less))
+        subst (λ (q : Place). IsBefore q b.place) (sym x.on.place) (subst (IsBefore x.slot.place) (sym y.on.place) (win.rises m n x.slot y.slot x.at y.at less))
     of (inl x) (inr y) =
-        let low = win.carried m x.entry x.at in
-        subst (λ (q : Place). IsBefore q b.place) (sym x.on.place) (subst (IsBefore x.entry.place) (sym (ap (λ (q : Entry). q.place) y.1 ∙ is)) low.below)
+        let low = win.carried m x.slot x.at in
+        subst (λ (q : Place). IsBefore q b.place) (sym x.on.place) (subst (IsBefore x.slot.place) (sym (ap (λ (q : EarlierSlot). q.place) y.1 ∙ is)) low.below)
     of (inr x) (inl y) = absurd (omega (arith, x.0, y.at.short))
     of (inr x) (inr y) = absurd (omega (arith, x.0, y.0))
 
-passes_on : (p : Program) (j next : Place) (mask : ℕ) (old new : List Entry) (e : Entry) → Joins p j next → IsWindow p old j → e.place ≡ j → HasAdvanced p j mask old new (length old) → (m n : ℕ) (a b : Entry) → IsAt (new ++ e ∷ []) m a → IsAt (new ++ e ∷ []) n b → m < n → (w : Walk) → IsThrough p a.place next w → Contains (earlier_in_group p w) b.place
+passes_on : (p : Program) (j next : Place) (mask : ℕ) (old new : List EarlierSlot) (e : EarlierSlot) → Joins p j next → IsWindow p old j → e.place ≡ j → HasAdvanced p j mask old new (length old) → (m n : ℕ) (a b : EarlierSlot) → IsAt (new ++ e ∷ []) m a → IsAt (new ++ e ∷ []) n b → m < n → (w : Walk) → IsThrough p a.place next w → Contains (earlier_in_group p w) b.place
 passes_on p j next mask old new e join win is adv m n a b h k less w t = of (which p j mask old new e m a adv h) (which p j mask old new e n b adv k)
   where
-    from : (x : GoneOn p j mask old m a) → (c : Came p j next w) × IsThrough p x.entry.place j c.before
-    from x = let low = win.carried m x.entry x.at in
-        through_before p j next x.entry.place w join low.below (subst (λ (q : Place). IsThrough p q next w) x.on.place t)
+    from : (x : GoneOn p j mask old m a) → (c : Came p j next w) × IsThrough p x.slot.place j c.before
+    from x = let low = win.carried m x.slot x.at in
+        through_before p j next x.slot.place w join low.below (subst (λ (q : Place). IsThrough p q next w) x.on.place t)
 
     of : GoneOn p j mask old m a ⊎ ((m ≡ length old) × (a ≡ e)) → GoneOn p j mask old n b ⊎ ((n ≡ length old) × (b ≡ e)) → Contains (earlier_in_group p w) b.place
     of (inl x) (inl y) =
         let (c, through) = from x in
-        let inside = win.passes m n x.entry y.entry x.at y.at less c.before through in
+        let inside = win.passes m n x.slot y.slot x.at y.at less c.before through in
         subst (λ (l : List Place). Contains l b.place) (sym c.group) (in_tail j b.place (earlier_in_group p c.before) (subst (Contains (earlier_in_group p c.before)) (sym y.on.place) inside))
     of (inl x) (inr y) =
         let (c, through) = from x in
-        subst (λ (l : List Place). Contains l b.place) (sym c.group) (in_head j b.place (earlier_in_group p c.before) (sym (ap (λ (q : Entry). q.place) y.1 ∙ is)))
+        subst (λ (l : List Place). Contains l b.place) (sym c.group) (in_head j b.place (earlier_in_group p c.before) (sym (ap (λ (q : EarlierSlot). q.place) y.1 ∙ is)))
     of (inr x) (inl y) = absurd (omega (arith, x.0, y.at.short))
     of (inr x) (inr y) = absurd (omega (arith, x.0, y.0))
 
--- an entry stays where it is
-still_there : (p : Program) (j : Place) (mask : ℕ) (old new : List Entry) (e : Entry) (m : ℕ) (a : Entry) → HasAdvanced p j mask old new (length old) → IsAt old m a → (b : Entry) × IsAt (new ++ e ∷ []) m b × GoesOn p j mask a b
+-- a slot stays where it is
+still_there : (p : Program) (j : Place) (mask : ℕ) (old new : List EarlierSlot) (e : EarlierSlot) (m : ℕ) (a : EarlierSlot) → HasAdvanced p j mask old new (length old) → IsAt old m a → (b : EarlierSlot) × IsAt (new ++ e ∷ []) m b × GoesOn p j mask a b
 still_there p j mask old new e m a adv at =
     let short : m < length new = omega (arith, at.short, adv.same_length) in
-    let b : Entry = get_or new m e in
-    let there : IsAt new m b = entry_at new m e short in
+    let b : EarlierSlot = get_or new m e in
+    let there : IsAt new m b = earlier_at new m e short in
     let (c, was, on) = adv.done m b at.short there in
-    (b, pushed_left new e m b there, subst (λ (q : Entry). GoesOn p j mask q b) (at_once old m c a was at) on)
+    (b, pushed_left new e m b there, subst (λ (q : EarlierSlot). GoesOn p j mask q b) (at_once old m c a was at) on)
 
--- each slot that is now earlier has its entry
-all_on : (p : Program) (j next : Place) (mask : ℕ) (old new : List Entry) (e : Entry) → Joins p j next → IsWindow p old j → e.place ≡ j → HasAdvanced p j mask old new (length old) → (w : Walk) → EndsAt p next w → (i : Place) → Contains (earlier_in_group p w) i → HasPlace (new ++ e ∷ []) i
+-- each slot that is now earlier is there
+all_on : (p : Program) (j next : Place) (mask : ℕ) (old new : List EarlierSlot) (e : EarlierSlot) → Joins p j next → IsWindow p old j → e.place ≡ j → HasAdvanced p j mask old new (length old) → (w : Walk) → EndsAt p next w → (i : Place) → Contains (earlier_in_group p w) i → HasPlace (new ++ e ∷ []) i
 all_on p j next mask old new e join win is adv w there i c =
     let b = came p j next w i join.is (falls_next p j next join.edge) there c in
     elim (passed_before p j next i w b c) [
-      | inl q ↦ record { index = length new; entry = e; at = pushed_last new e; is = is ∙ q }
+      | inl q ↦ record { index = length new; slot = e; at = pushed_last new e; is = is ∙ q }
       | inr d ↦ kept (win.all b.before b.there i d)
     ]
   where
     kept : HasPlace old i → HasPlace (new ++ e ∷ []) i
     kept h =
-        let (b, there, on) = still_there p j mask old new e h.index h.entry adv h.at in
-        record { index = h.index; entry = b; at = there; is = on.place ∙ h.is }
+        let (b, there, on) = still_there p j mask old new e h.index h.slot adv h.at in
+        record { index = h.index; slot = b; at = there; is = on.place ∙ h.is }
 
--- each slot from the entry's own on that may write a predicate is one of the old ones or the slot that is left
-writer_on : (p : Program) (j : Place) (mask : ℕ) (old new : List Entry) (e : Entry) (m g : ℕ) → e.place ≡ j → HasAdvanced p j mask old new (length old) → HasWriter p (new ++ e ∷ []) m g → HasWriter p old m g ⊎ (may_write_guard g (accesses_at p j) ≡ true)
-writer_on p j mask old new e m g is adv h = elim (which p j mask old new e h.index h.entry adv h.at) [
-  | inl x ↦ inl (record { index = h.index; entry = x.entry; late = h.late; at = x.at; writes = subst (λ (k : Place). may_write_guard g (accesses_at p k) ≡ true) x.on.place h.writes })
-  | inr y ↦ inr (subst (λ (k : Place). may_write_guard g (accesses_at p k) ≡ true) (ap (λ (q : Entry). q.place) y.1 ∙ is) h.writes)
+-- each slot from an earlier one on that may write a predicate is one of the old ones or the slot that is left
+writer_on : (p : Program) (j : Place) (mask : ℕ) (old new : List EarlierSlot) (e : EarlierSlot) (m g : ℕ) → e.place ≡ j → HasAdvanced p j mask old new (length old) → HasWriter p (new ++ e ∷ []) m g → HasWriter p old m g ⊎ (may_write_guard g (accesses_at p j) ≡ true)
+writer_on p j mask old new e m g is adv h = elim (which p j mask old new e h.index h.slot adv h.at) [
+  | inl x ↦ inl (record { index = h.index; slot = x.slot; late = h.late; at = x.at; writes = subst (λ (k : Place). may_write_guard g (accesses_at p k) ≡ true) x.on.place h.writes })
+  | inr y ↦ inr (subst (λ (k : Place). may_write_guard g (accesses_at p k) ≡ true) (ap (λ (q : EarlierSlot). q.place) y.1 ∙ is) h.writes)
 ]
 
-old_writer : (p : Program) (j : Place) (mask : ℕ) (old new : List Entry) (e : Entry) (m g : ℕ) → HasAdvanced p j mask old new (length old) → HasWriter p old m g → HasWriter p (new ++ e ∷ []) m g
+old_writer : (p : Program) (j : Place) (mask : ℕ) (old new : List EarlierSlot) (e : EarlierSlot) (m g : ℕ) → HasAdvanced p j mask old new (length old) → HasWriter p old m g → HasWriter p (new ++ e ∷ []) m g
 old_writer p j mask old new e m g adv h =
-    let (b, there, on) = still_there p j mask old new e h.index h.entry adv h.at in
-    record { index = h.index; entry = b; late = h.late; at = there; writes = subst (λ (k : Place). may_write_guard g (accesses_at p k) ≡ true) (sym on.place) h.writes }
+    let (b, there, on) = still_there p j mask old new e h.index h.slot adv h.at in
+    record { index = h.index; slot = b; late = h.late; at = there; writes = subst (λ (k : Place). may_write_guard g (accesses_at p k) ≡ true) (sym on.place) h.writes }
 
-new_writer : (p : Program) (j : Place) (new : List Entry) (e : Entry) (m g : ℕ) → e.place ≡ j → m ≤ length new → may_write_guard g (accesses_at p j) ≡ true → HasWriter p (new ++ e ∷ []) m g
+new_writer : (p : Program) (j : Place) (new : List EarlierSlot) (e : EarlierSlot) (m g : ℕ) → e.place ≡ j → m ≤ length new → may_write_guard g (accesses_at p j) ≡ true → HasWriter p (new ++ e ∷ []) m g
 new_writer p j new e m g is low writes =
-    record { index = length new; entry = e; late = low; at = pushed_last new e; writes = subst (λ (k : Place). may_write_guard g (accesses_at p k) ≡ true) (sym is) writes }
+    record { index = length new; slot = e; late = low; at = pushed_last new e; writes = subst (λ (k : Place). may_write_guard g (accesses_at p k) ≡ true) (sym is) writes }
 
--- what may be written from an entry on, with the slot that is left
-written_old : (p : Program) (j : Place) (mask : ℕ) (old new : List Entry) (e : Entry) (m : ℕ) (a b : Entry) → e.place ≡ j → IsGuardMask mask (accesses_at p j) → HasAdvanced p j mask old new (length old) → m ≤ length new → IsWritten p old m a.written → GoesOn p j mask a b → IsWritten p (new ++ e ∷ []) m b.written
+-- what may be written from an earlier slot on, with the slot that is left
+written_old : (p : Program) (j : Place) (mask : ℕ) (old new : List EarlierSlot) (e : EarlierSlot) (m : ℕ) (a b : EarlierSlot) → e.place ≡ j → IsGuardMask mask (accesses_at p j) → HasAdvanced p j mask old new (length old) → m ≤ length new → IsWritten p old m a.written → GoesOn p j mask a b → IsWritten p (new ++ e ∷ []) m b.written
 written_old p j mask old new e m a b is masks adv low win on = subst (IsWritten p (new ++ e ∷ []) m) (sym on.written) (record {
   has = λ g l h. has_bit_or a.written mask g ∙ (elim (writer_on p j mask old new e m g is adv h) [
     | inl x ↦ or_left (has_bit a.written g) (has_bit mask g) (win.has g l x)
@@ -262,7 +262,7 @@ written_old p j mask old new e m a b is masks adv low win on = subst (IsWritten 
 })
 
 -- and from the slot that is left on
-written_new : (p : Program) (j : Place) (mask : ℕ) (old new : List Entry) (e : Entry) → e.place ≡ j → IsGuardMask mask (accesses_at p j) → HasAdvanced p j mask old new (length old) → IsWritten p (new ++ e ∷ []) (length new) mask
+written_new : (p : Program) (j : Place) (mask : ℕ) (old new : List EarlierSlot) (e : EarlierSlot) → e.place ≡ j → IsGuardMask mask (accesses_at p j) → HasAdvanced p j mask old new (length old) → IsWritten p (new ++ e ∷ []) (length new) mask
 written_new p j mask old new e is masks adv = record {
   has = λ g l h. elim (writer_on p j mask old new e (length new) g is adv h) [
     | inl x ↦ absurd (omega (arith, x.late, x.at.short, adv.same_length))
@@ -271,33 +271,33 @@ written_new p j mask old new e is masks adv = record {
   only = λ g l t. new_writer p j new e (length new) g is (omega arith) (sym (masks g l) ∙ t);
 }
 
-pub next_window : (p : Program) (j next : Place) (f : Pairs) (mask : ℕ) (old new : List Entry) (e : Entry) → Joins p j next → IsMeet p j f → IsWindow p old j → HasAdvanced p j mask old new (length old) → IsEntryOf p j f mask e → IsGuardMask mask (accesses_at p j) → IsWindow p (new ++ e ∷ []) next
+pub next_window : (p : Program) (j next : Place) (f : Pairs) (mask : ℕ) (old new : List EarlierSlot) (e : EarlierSlot) → Joins p j next → IsMeet p j f → IsWindow p old j → HasAdvanced p j mask old new (length old) → IsSlotOf p j f mask e → IsGuardMask mask (accesses_at p j) → IsWindow p (new ++ e ∷ []) next
 next_window p j next f mask old new e join meet win adv is masks = record {
   size = (let up : place_number j < place_number next = number_rises j next (slot_small p.bundles j join.is) (falls_up p j next join.edge) in
       omega (arith, win.size, adv.same_length, length-append new (e ∷ [])));
   carried = λ m b h. elim (which p j mask old new e m b adv h) [
-    | inl x ↦ carried_old p j next mask x.entry b join (win.carried m x.entry x.at) x.on
+    | inl x ↦ carried_old p j next mask x.slot b join (win.carried m x.slot x.at) x.on
     | inr y ↦ subst (IsCarried p next) (sym y.1) (carried_new p j next f mask e join meet is)
   ];
   rises = rises_on p j mask old new e win is.place adv;
   passes = passes_on p j next mask old new e join win is.place adv;
   written = λ m b h. elim (which p j mask old new e m b adv h) [
-    | inl x ↦ written_old p j mask old new e m x.entry b is.place masks adv (omega (arith, x.at.short, adv.same_length)) (win.written m x.entry x.at) x.on
+    | inl x ↦ written_old p j mask old new e m x.slot b is.place masks adv (omega (arith, x.at.short, adv.same_length)) (win.written m x.slot x.at) x.on
     | inr y ↦ (let P : ℕ → ℕ → Type 0 = λ k w. IsWritten p (new ++ e ∷ []) k w in
-        subst (λ (k : ℕ). P k b.written) (adv.same_length ∙ sym y.0) (subst (P (length new)) (sym (ap (λ (q : Entry). q.written) y.1 ∙ is.written)) (written_new p j mask old new e is.place masks adv)))
+        subst (λ (k : ℕ). P k b.written) (adv.same_length ∙ sym y.0) (subst (P (length new)) (sym (ap (λ (q : EarlierSlot). q.written) y.1 ∙ is.written)) (written_new p j mask old new e is.place masks adv)))
   ];
   last = λ m b h end. elim (which p j mask old new e m b adv h) [
     | inl x ↦ absurd (omega (arith, x.at.short, adv.same_length, length-append new (e ∷ [])))
-    | inr y ↦ subst (λ (k : Place). HasEdge p k Falls next) (sym (ap (λ (q : Entry). q.place) y.1 ∙ is.place)) join.edge
+    | inr y ↦ subst (λ (k : Place). HasEdge p k Falls next) (sym (ap (λ (q : EarlierSlot). q.place) y.1 ∙ is.place)) join.edge
   ];
   all = all_on p j next mask old new e join win is.place adv;
 }
 
--- the entries go on one after another
-pub none_advanced : (p : Program) (j : Place) (mask : ℕ) (old : List Entry) → HasAdvanced p j mask old old 0
+-- the slots go on one after another
+pub none_advanced : (p : Program) (j : Place) (mask : ℕ) (old : List EarlierSlot) → HasAdvanced p j mask old old 0
 none_advanced p j mask old = record { same_length = refl; done = λ m b l h. absurd (omega arith); left = λ m b l h. h }
 
-pub one_advanced : (p : Program) (j : Place) (mask : ℕ) (old now : List Entry) (n : ℕ) (a b : Entry) → HasAdvanced p j mask old now n → IsAt now n a → GoesOn p j mask a b → HasAdvanced p j mask old (set now n b) (n + 1)
+pub one_advanced : (p : Program) (j : Place) (mask : ℕ) (old now : List EarlierSlot) (n : ℕ) (a b : EarlierSlot) → HasAdvanced p j mask old now n → IsAt now n a → GoesOn p j mask a b → HasAdvanced p j mask old (set now n b) (n + 1)
 one_advanced p j mask old now n a b adv at on = record {
   same_length = length-set now n b ∙ adv.same_length;
   done = λ m c l h. elim (cases_eq m n) [
@@ -308,7 +308,7 @@ one_advanced p j mask old now n a b adv at on = record {
   left = λ m c l h. let ne : m ≡ n → ⊥ = λ e. omega arith in adv.left m c (omega arith) (kept m c ne h);
 }
   where
-    kept : (m : ℕ) (c : Entry) → (m ≡ n → ⊥) → IsAt (set now n b) m c → IsAt now m c
+    kept : (m : ℕ) (c : EarlierSlot) → (m ≡ n → ⊥) → IsAt (set now n b) m c → IsAt now m c
     kept m c ne h = record { short = omega (arith, h.short, length-set now n b); is = sym (get_or-set_other now n m b c ne) ∙ h.is }
 
 -- what the table of the solution says of a place

@@ -9,12 +9,12 @@ use Rattle.resource_sets.specs.declared.clashes.Rule.TheVariants.{Raw, Waw, War6
 use Rattle.resource_sets.specs.Clashes.{clash}
 use Rattle.predicate_rel.specs.Pairs.{has_bit, pairs_of}
 use Rattle.group_checker.specs.declared.violation.Violation.{Violation}
-use Rattle.group_checker.specs.declared.window.Entry.{Entry}
+use Rattle.group_checker.specs.declared.window.EarlierSlot.{EarlierSlot}
 use Rattle.group_checker.specs.Violations.{allocates_at, clears_at}
 use Rattle.group_checker.specs.Windows.{IsAt}
 
 -- Each walk through the first slot excuses accesses under these guards.
-abbrev pub excused_by : Entry → ℕ → ℕ → Bool
+abbrev pub excused_by : EarlierSlot → ℕ → ℕ → Bool
 excused_by first g h = pairs_of first.known g h && not (has_bit first.written g)
 
 -- Only reads and writes after writes may be excused. Both accesses of a War63 have the guard p0, and the pair (p0, p0) is
@@ -27,28 +27,28 @@ may_be_excused AllocFirst = false
 may_be_excused ClearLast = false
 
 -- Two accesses break the rule on the resource, and some walk doesn't excuse them.
-pub record FindsBy (first : Entry) (a b : Access) (v : Violation) : Type 0 where
+pub record FindsBy (first : EarlierSlot) (a b : Access) (v : Violation) : Type 0 where
   pub first_on : a.resource ≡ v.resource
   pub second_on : b.resource ≡ v.resource
   pub clash : clash a b ≡ Some v.rule
   pub stays : (may_be_excused v.rule && excused_by first a.guard b.guard) ≡ false
 
 -- one of the accesses of the second slot
-abbrev pub FindsWith : Entry → Access → List Access → Violation → Type 0
+abbrev pub FindsWith : EarlierSlot → Access → List Access → Violation → Type 0
 FindsWith first a seconds v = (b : Access) × Contains seconds b × FindsBy first a b v
 
 -- and one of the first
-abbrev pub FindsIn : Entry → List Access → List Access → Violation → Type 0
+abbrev pub FindsIn : EarlierSlot → List Access → List Access → Violation → Type 0
 FindsIn first firsts seconds v = (a : Access) × Contains firsts a × FindsWith first a seconds v
 
 abbrev pub IsPair : Place → Place → Violation → Type 0
 IsPair first second v = (v.first ≡ first) × (v.second ≡ second)
 
 -- The violation is of the n-th slot of the window, and of this second one.
-pub record IsNthPair (window : List Entry) (n : ℕ) (second : Place) (v : Violation) : Type 0 where
-  pub entry : Entry
-  pub at : IsAt window n entry
-  pub pair : IsPair entry.place second v
+pub record IsNthPair (window : List EarlierSlot) (n : ℕ) (second : Place) (v : Violation) : Type 0 where
+  pub slot : EarlierSlot
+  pub at : IsAt window n slot
+  pub pair : IsPair slot.place second v
 
 -- An `alloc` comes just after another slot of its group.
 pub record IsAllocRule (p : Program) (j : Place) (v : Violation) : Type 0 where

@@ -1,11 +1,12 @@
 -- What is reported while slots are gone over.
-use Rattle.std.specs.Prelude.{◌≡◌, ◌<◌, ◌≤◌, ℕ, ◌*◌, ◌^◌, ◌⊎◌, List, length}
+use Rattle.std.specs.Prelude.{◌≡◌, ◌<◌, ◌≤◌, ℕ, ◌+◌, ◌*◌, ◌⊎◌, List, length}
 use Rattle.ia_insn.specs.declared.limits.TheConstants.{BUNDLE_LIMIT}
 use Rattle.ia_insn.specs.declared.place.Place.{Place}
 use Rattle.ia_insn.specs.Places.{IsBefore}
 use Rattle.ia_insn.specs.Programs.{Program}
+use Rattle.resource_sets.specs.declared.access.TheConstants.{ACCESS_LIMIT}
 use Rattle.group_checker.specs.declared.violation.Violation.{Violation}
-use Rattle.group_checker.specs.declared.window.Entry.{Entry}
+use Rattle.group_checker.specs.declared.window.EarlierSlot.{EarlierSlot}
 use Rattle.group_checker.specs.Violations.{Violates}
 use Rattle.group_checker.specs.Order.{IsListOf}
 use Rattle.group_checker.specs.Reports.{Shows}
@@ -16,11 +17,11 @@ use Rattle.group_checker.specs.Windows.{HasPlace}
 abbrev pub place_bound : ℕ
 place_bound = 3 * BUNDLE_LIMIT
 
--- more violations than two slots have
+-- as many violations as two slots have at most: one for each pair of their accesses, and one for each rule on slots
 abbrev pub pair_bound : ℕ
-pair_bound = 2 ^ 13
+pair_bound = ACCESS_LIMIT * ACCESS_LIMIT + 2
 
--- and more than one second slot has
+-- and as one second slot has
 abbrev pub second_bound : ℕ
 second_bound = pair_bound * place_bound
 
@@ -36,12 +37,12 @@ abbrev pub IsEarlier : Place → Violation → Type 0
 IsEarlier j v = IsBefore v.second j
 
 -- The first slot is one of the first n of the window.
-pub record IsAmong (window : List Entry) (n : ℕ) (place : Place) : Type 0 where
+pub record IsAmong (window : List EarlierSlot) (n : ℕ) (place : Place) : Type 0 where
   pub has : HasPlace window place
   pub below : has.index < n
 
 -- and those of j with one of the first n slots of its window
-abbrev pub IsEarlierPair : List Entry → Place → ℕ → Violation → Type 0
+abbrev pub IsEarlierPair : List EarlierSlot → Place → ℕ → Violation → Type 0
 IsEarlierPair window j n v = IsBefore v.second j ⊎ ((v.second ≡ j) × IsAmong window n v.first)
 
 -- and all those of j

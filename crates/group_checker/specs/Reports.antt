@@ -2,18 +2,19 @@
 use Rattle.std.specs.Prelude.{◌≡◌, ◌≤◌, List, length, take}
 use Rattle.ia_insn.specs.Programs.{Program}
 use Rattle.group_checker.specs.declared.violation.Violation.{Violation}
+use Rattle.group_checker.specs.declared.report.TheConstants.{SHOWN_LIMIT}
 use Rattle.group_checker.specs.declared.report.Verdict.{Verdict}
 use Rattle.group_checker.specs.declared.report.Verdict.TheVariants.{Accepted, Violations}
 use Rattle.group_checker.specs.Order.{IsListOf}
 use Rattle.group_checker.specs.Violations.{Violates}
 use Rattle.group_checker.specs.Shown.{Report}
 
--- The report counts the whole list and shows its first hundred.
+-- The report counts the whole list and shows the first violations, as many as the limit lets.
 pub record Shows (r : Report) (all : List Violation) : Type 0 where
   pub total : r.total ≡ length all
-  pub shown : r.shown ≡ take 100 all
+  pub shown : r.shown ≡ take SHOWN_LIMIT all
 
--- The violations of a program, at least one, are counted, and the first hundred of them are shown in order.
+-- The violations of a program, at least one, are counted, and the first of them are shown in order.
 pub record IsReport (p : Program) (r : Report) : Type 0 where
   pub all : List Violation
   pub list : IsListOf (Violates p) all

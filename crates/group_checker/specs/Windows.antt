@@ -11,7 +11,7 @@ use Rattle.predicate_rel.specs.declared.edge.Edge.TheVariants.{Falls}
 use Rattle.predicate_rel.specs.Pairs.{Pairs, has_bit, pairs_of, IsWithin}
 use Rattle.predicate_rel.specs.Edges.{HasEdge, pairs_past}
 use Rattle.flow_facts.specs.Walks.{Walk, EndsAt, facts_on, earlier_in_group}
-use Rattle.group_checker.specs.declared.window.Entry.{Entry}
+use Rattle.group_checker.specs.declared.window.EarlierSlot.{EarlierSlot}
 use Rattle.group_checker.specs.Excuses.{accesses_at}
 
 -- a walk to j with i earlier in its group
@@ -25,65 +25,65 @@ pub record IsMeetOf (p : Program) (IsOne : Walk → Type 0) (f : Pairs) : Type 0
   pub sound : (w : Walk) → IsOne w → IsWithin f (facts_on p w)
   pub exact : (x y : ℕ) → f x y ≡ false → (w : Walk) × IsOne w × (facts_on p w x y ≡ false)
 
--- the m-th entry
-pub record IsAt (window : List Entry) (m : ℕ) (e : Entry) : Type 0 where
+-- the m-th slot of the window
+pub record IsAt (window : List EarlierSlot) (m : ℕ) (e : EarlierSlot) : Type 0 where
   pub short : m < length window
   pub is : slice_index_or window m e ≡ e
 
--- At j the entry is that of a slot earlier in the group: it has what all walks through the slot know at j.
-pub record IsCarried (p : Program) (j : Place) (e : Entry) : Type 0 where
+-- At j the slot is earlier in the group: it has what all walks through it know at j.
+pub record IsCarried (p : Program) (j : Place) (e : EarlierSlot) : Type 0 where
   pub accesses : e.accesses.items ≡ accesses_at p e.place
   pub known : IsMeetOf p (IsThrough p e.place j) (pairs_of e.known)
   pub below : IsBefore e.place j
 
--- The slot of the m-th entry or of a later one may write the predicate.
-pub record HasWriter (p : Program) (window : List Entry) (m g : ℕ) : Type 0 where
+-- The m-th slot or a later one may write the predicate.
+pub record HasWriter (p : Program) (window : List EarlierSlot) (m g : ℕ) : Type 0 where
   pub index : ℕ
-  pub entry : Entry
+  pub slot : EarlierSlot
   pub late : m ≤ index
-  pub at : IsAt window index entry
-  pub writes : may_write_guard g (accesses_at p entry.place) ≡ true
+  pub at : IsAt window index slot
+  pub writes : may_write_guard g (accesses_at p slot.place) ≡ true
 
--- The bits of the word are the predicates that the slots from the m-th entry on may write.
-pub record IsWritten (p : Program) (window : List Entry) (m written : ℕ) : Type 0 where
+-- The bits of the word are the predicates that the slots from the m-th on may write.
+pub record IsWritten (p : Program) (window : List EarlierSlot) (m written : ℕ) : Type 0 where
   pub has : (g : ℕ) → g < 64 → HasWriter p window m g → has_bit written g ≡ true
   pub only : (g : ℕ) → g < 64 → has_bit written g ≡ true → HasWriter p window m g
 
--- Some entry is of the place.
-pub record HasPlace (window : List Entry) (place : Place) : Type 0 where
+-- Some slot of the window stands at the place.
+pub record HasPlace (window : List EarlierSlot) (place : Place) : Type 0 where
   pub index : ℕ
-  pub entry : Entry
-  pub at : IsAt window index entry
-  pub is : entry.place ≡ place
+  pub slot : EarlierSlot
+  pub at : IsAt window index slot
+  pub is : slot.place ≡ place
 
--- The entries are those of all slots that are earlier in the group on some walk to j, in order. A walk through one of them
--- passes all later ones, and the last falls to j. Each entry has the predicates that the slots from its own on may write.
-pub record IsWindow (p : Program) (window : List Entry) (j : Place) : Type 0 where
+-- The slots are all those that are earlier in the group on some walk to j, in order. A walk through one of them passes all
+-- later ones, and the last falls to j. Each has the predicates that the slots from it on may write.
+pub record IsWindow (p : Program) (window : List EarlierSlot) (j : Place) : Type 0 where
   pub size : length window ≤ place_number j
-  pub carried : (m : ℕ) (a : Entry) → IsAt window m a → IsCarried p j a
-  pub rises : (m n : ℕ) (a b : Entry) → IsAt window m a → IsAt window n b → m < n → IsBefore a.place b.place
-  pub passes : (m n : ℕ) (a b : Entry) → IsAt window m a → IsAt window n b → m < n →
+  pub carried : (m : ℕ) (a : EarlierSlot) → IsAt window m a → IsCarried p j a
+  pub rises : (m n : ℕ) (a b : EarlierSlot) → IsAt window m a → IsAt window n b → m < n → IsBefore a.place b.place
+  pub passes : (m n : ℕ) (a b : EarlierSlot) → IsAt window m a → IsAt window n b → m < n →
       (w : Walk) → IsThrough p a.place j w → Contains (earlier_in_group p w) b.place
-  pub written : (m : ℕ) (a : Entry) → IsAt window m a → IsWritten p window m a.written
-  pub last : (m : ℕ) (a : Entry) → IsAt window m a → m + 1 ≡ length window → HasEdge p a.place Falls j
+  pub written : (m : ℕ) (a : EarlierSlot) → IsAt window m a → IsWritten p window m a.written
+  pub last : (m : ℕ) (a : EarlierSlot) → IsAt window m a → m + 1 ≡ length window → HasEdge p a.place Falls j
   pub all : (w : Walk) → EndsAt p j w → (i : Place) → Contains (earlier_in_group p w) i → HasPlace window i
 
 -- the bits of the word are the predicates that an instruction with these accesses may write
 abbrev pub IsGuardMask : ℕ → List Access → Type 0
 IsGuardMask mask accesses = (g : ℕ) → g < 64 → has_bit mask g ≡ may_write_guard g accesses
 
--- the entry with what is known past the slot at j, which may write the predicates of the mask
-pub record GoesOn (p : Program) (j : Place) (mask : ℕ) (old new : Entry) : Type 0 where
+-- the earlier slot with what is known past the one at j, which may write the predicates of the mask
+pub record GoesOn (p : Program) (j : Place) (mask : ℕ) (old new : EarlierSlot) : Type 0 where
   pub place : new.place ≡ old.place
   pub accesses : new.accesses ≡ old.accesses
   pub known : pairs_of new.known ≡ pairs_past p j Falls (pairs_of old.known)
   pub written : new.written ≡ bit_or old.written mask
 
--- The first n entries have gone on.
-pub record HasAdvanced (p : Program) (j : Place) (mask : ℕ) (old new : List Entry) (n : ℕ) : Type 0 where
+-- The first n slots have gone on.
+pub record HasAdvanced (p : Program) (j : Place) (mask : ℕ) (old new : List EarlierSlot) (n : ℕ) : Type 0 where
   pub same_length : length new ≡ length old
-  pub done : (m : ℕ) (b : Entry) → m < n → IsAt new m b → (a : Entry) × IsAt old m a × GoesOn p j mask a b
-  pub left : (m : ℕ) (b : Entry) → n ≤ m → IsAt new m b → IsAt old m b
+  pub done : (m : ℕ) (b : EarlierSlot) → m < n → IsAt new m b → (a : EarlierSlot) × IsAt old m a × GoesOn p j mask a b
+  pub left : (m : ℕ) (b : EarlierSlot) → n ≤ m → IsAt new m b → IsAt old m b
 
 -- where control falls through, an instruction of any other form leaves what is known of predicates as it is
 abbrev pub changes_facts : Form → Bool

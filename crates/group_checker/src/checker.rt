@@ -13,10 +13,10 @@ ghost use Rattle.group_checker.specs.Progress.{HasReported, IsEarlier, IsUpTo, p
 use crate::moves::move_on;
 use crate::pairs::{accesses_at, pair_violations};
 use crate::report::{Report, Verdict};
-use crate::window::Entry;
+use crate::window::EarlierSlot;
 use flow_facts::solve;
 use ia_insn::{Place, Program};
-use resource_sets::Access;
+use resource_sets::{ACCESS_LIMIT, Access};
 use std::alloc::{AllocError, Global};
 
 /// The first place.
@@ -47,13 +47,13 @@ fn next(program: &Program, place: Place) -> Option<Place>
 fn check_second(
     alloc: Global,
     program: &Program,
-    window: &[Entry],
+    window: &[EarlierSlot],
     second: Place,
     seconds: &[Access],
     report: &mut Report,
 ) -> Result<(), AllocError>
     requires place { place_number second < place_bound }
-    requires few { length seconds.now ≤ 80 }
+    requires few { length seconds.now ≤ ACCESS_LIMIT }
     requires seconds { seconds.now ≡ accesses_at program.now second }
     requires window { IsWindow program.now window.now second }
     requires before { HasReported program.now report.old (IsEarlier second) (second_bound * place_number second) }

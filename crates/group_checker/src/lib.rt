@@ -25,5 +25,5 @@ mod window;
 
 pub use checker::{check, one_verdict};
 pub use laws::{law_orders, law_two_orders, law_view, law_walk};
-pub use report::{Report, Verdict};
+pub use report::{Report, SHOWN_LIMIT, Verdict};
 pub use violation::Violation;

@@ -14,13 +14,13 @@ ghost use Rattle.group_checker.specs.Excuses.{accesses_at};
 ghost use Rattle.group_checker.specs.Windows.{IsWindow, GoesOn, HasAdvanced, changes_facts};
 
 use crate::guards::guard_mask;
-use crate::window::Entry;
+use crate::window::EarlierSlot;
 use arrayvec::ArrayVec;
 use flow_facts::{InFacts, edge_end};
 use ia_insn::{Insn, Place, Program};
 use ia_meaning::{Form, form_of};
 use predicate_rel::Edge;
-use resource_sets::Access;
+use resource_sets::{ACCESS_LIMIT, Access};
 use std::alloc::AllocError;
 
 /// Whether a stop follows the place.
@@ -60,20 +60,20 @@ fn changes_facts(insn: &Insn) -> bool
     )
 }
 
-/// Takes one entry past the instruction at a place, which may write the predicates of the mask.
-fn pass(entry: &mut Entry, insn: &Insn, changes: bool, mask: u64)
+/// Takes one earlier slot past the instruction at a place, which may write the predicates of the mask.
+fn pass(earlier: &mut EarlierSlot, insn: &Insn, changes: bool, mask: u64)
     requires { changes ≡ changes_facts (form_of insn.now.op) }
-    ensures { (p : Program) (j : Place) → insn_at p.bundles j ≡ Some insn.now → GoesOn p j mask entry.old entry.new }
+    ensures { (p : Program) (j : Place) → insn_at p.bundles j ≡ Some insn.now → GoesOn p j mask earlier.old earlier.new }
 {
-    entry.written |= mask;
+    earlier.written |= mask;
     if !changes {
         return;
     }
-    entry.known = entry.known.after(insn, Edge::Falls);
+    earlier.known = earlier.known.after(insn, Edge::Falls);
 }
 
-/// Takes the entries past the instruction at a place, which may write the predicates of the mask.
-fn advance(window: &mut Vec<Entry>, insn: &Insn, mask: u64)
+/// Takes the earlier slots past the instruction at a place, which may write the predicates of the mask.
+fn advance(window: &mut Vec<EarlierSlot>, insn: &Insn, mask: u64)
     ensures { (p : Program) (j : Place) → insn_at p.bundles j ≡ Some insn.now → HasAdvanced p j mask window.old.items window.new.items (length window.old.items) }
 {
     let changes = changes_facts(insn);
@@ -82,8 +82,8 @@ fn advance(window: &mut Vec<Entry>, insn: &Insn, mask: u64)
     }
 }
 
-/// Takes the window from a place to the next one: it has the entries of all slots that are then earlier in
-/// the group on some walk.
+/// Takes the window from a place to the next one: it has all slots that are then earlier in the
+/// group on some walk.
 ///
 /// # Errors
 ///
@@ -91,9 +91,9 @@ fn advance(window: &mut Vec<Entry>, insn: &Insn, mask: u64)
 pub(crate) fn move_on(
     program: &Program,
     facts: &InFacts,
-    window: &mut Vec<Entry>,
+    window: &mut Vec<EarlierSlot>,
     place: Place,
-    accesses: ArrayVec<Access, 80>,
+    accesses: ArrayVec<Access, ACCESS_LIMIT>,
 ) -> Result<(), AllocError>
     requires facts { IsSolution program.now facts.now }
     requires accesses { accesses.items ≡ accesses_at program.now place }
@@ -116,7 +116,7 @@ pub(crate) fn move_on(
     let written = guard_mask(&accesses);
     advance(window, insn, written);
     let known = here.after(insn, Edge::Falls);
-    window.push(Entry {
+    window.push(EarlierSlot {
         place,
         known,
         written,

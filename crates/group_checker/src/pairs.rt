@@ -1,26 +1,28 @@
 //! What two slots of one group break.
 
-ghost use Rattle.std.specs.Prelude.{◌≡◌, ◌+◌, ◌*◌, ◌≤◌, ◌<◌, true, false, length, IfOk, OnOk, ◌&&◌};
+ghost use Rattle.std.specs.Prelude.{◌≡◌, ◌+◌, ◌*◌, ◌≤◌, ◌<◌, true, false, [], length, IfOk, OnOk, ◌&&◌};
 ghost use Rattle.ia_insn.specs.declared.place.Place.{Place};
 ghost use Rattle.ia_insn.specs.Places.{insn_at, IsPlaceOf};
-ghost use Rattle.group_checker.specs.Order.{Rises, Adds, IsListOf};
+ghost use Rattle.group_checker.specs.Order.{Adds};
 ghost use Rattle.group_checker.specs.Excuses.{accesses_at};
 ghost use Rattle.group_checker.specs.Violations.{clears, allocates_at, clears_at, Violates};
 ghost use Rattle.group_checker.specs.Windows.{IsWindow};
+ghost use Rattle.group_checker.specs.Progress.{pair_bound};
 ghost use Rattle.group_checker.specs.Findings.{IsNthPair, may_be_excused, excused_by, FindsBy, FindsWith, FindsIn, IsPair, IsSlotRule};
 
 use crate::guards::has_predicate;
-use crate::violation::{Violation, note, note_if};
-use crate::window::Entry;
+use crate::violation::Violation;
+use crate::window::EarlierSlot;
 use arrayvec::ArrayVec;
 use ia_insn::{Place, Pr, Program};
 use ia_meaning::{Form, form_of};
-use resource_sets::{Access, Resource, Rule, accesses, clash};
+use resource_sets::{ACCESS_LIMIT, Access, Resource, Rule, accesses, clash};
 use std::alloc::{AllocError, Global};
+use std::collections::BTreeSet;
 
 /// What the instruction at a place accesses. Nothing where there is no such place.
 #[tactic(auto, unfolding(crate::specs::Excuses::accesses_at))]
-pub(crate) fn accesses_at(program: &Program, place: Place) -> ArrayVec<Access, 80>
+pub(crate) fn accesses_at(program: &Program, place: Place) -> ArrayVec<Access, ACCESS_LIMIT>
     ensures { result.items ≡ accesses_at program.now place }
 {
     match program.insn_at(place) {
@@ -62,7 +64,7 @@ fn may_be_excused(rule: Rule) -> bool
 
 /// Whether each walk through the first slot excuses accesses under these guards, if the rule is one that may
 /// be excused.
-fn is_excused(first: &Entry, rule: Rule, a: Pr, b: Pr) -> bool
+fn is_excused(first: &EarlierSlot, rule: Rule, a: Pr, b: Pr) -> bool
     ensures { result ≡ (may_be_excused rule && excused_by first.now a b) }
 {
     may_be_excused(rule) && first.known.has(a, b) && !has_predicate(first.written, a)
@@ -70,16 +72,14 @@ fn is_excused(first: &Entry, rule: Rule, a: Pr, b: Pr) -> bool
 
 /// Notes the rule that two accesses break, where some walk doesn't excuse them.
 fn clash_of_two(
-    first: &Entry,
+    first: &EarlierSlot,
     second: Place,
     a: &Access,
     b: &Access,
-    found: &mut Vec<Violation>,
+    found: &mut BTreeSet<Violation>,
 ) -> Result<(), AllocError>
-    requires rises { Rises found.old.items }
-    ensures rises { OnOk result (Rises found.new.items) }
-    ensures length { OnOk result (length found.new.items ≤ length found.old.items + 1) }
-    ensures adds { OnOk result (Adds found.old.items found.new.items (λ v. IsPair first.now.place second v × FindsBy first.now a.now b.now v)) }
+    ensures length { OnOk result (length found.new.keys ≤ length found.old.keys + 1) }
+    ensures adds { OnOk result (Adds found.old.keys found.new.keys (λ v. IsPair first.now.place second v × FindsBy first.now a.now b.now v)) }
 {
     let Some(rule) = clash(a, b) else {
         return Ok(());
@@ -93,22 +93,20 @@ fn clash_of_two(
         rule,
         resource: a.resource,
     };
-    note(found, violation)?;
+    found.insert(violation)?;
     Ok(())
 }
 
 /// Notes the rules that one access of the first slot breaks with those of the second.
 fn clashes_with(
-    first: &Entry,
+    first: &EarlierSlot,
     second: Place,
     a: &Access,
     seconds: &[Access],
-    found: &mut Vec<Violation>,
+    found: &mut BTreeSet<Violation>,
 ) -> Result<(), AllocError>
-    requires rises { Rises found.old.items }
-    ensures rises { OnOk result (Rises found.new.items) }
-    ensures length { OnOk result (length found.new.items ≤ length found.old.items + length seconds.now) }
-    ensures adds { OnOk result (Adds found.old.items found.new.items (λ v. IsPair first.now.place second v × FindsWith first.now a.now seconds.now v)) }
+    ensures length { OnOk result (length found.new.keys ≤ length found.old.keys + length seconds.now) }
+    ensures adds { OnOk result (Adds found.old.keys found.new.keys (λ v. IsPair first.now.place second v × FindsWith first.now a.now seconds.now v)) }
 {
     for b in seconds {
         clash_of_two(first, second, a, b, found)?;
@@ -118,19 +116,28 @@ fn clashes_with(
 
 /// Notes the rules that the accesses of two slots break.
 fn clashes(
-    first: &Entry,
+    first: &EarlierSlot,
     second: Place,
     seconds: &[Access],
-    found: &mut Vec<Violation>,
+    found: &mut BTreeSet<Violation>,
 ) -> Result<(), AllocError>
-    requires few { length seconds.now ≤ 80 }
-    requires rises { Rises found.old.items }
-    ensures rises { OnOk result (Rises found.new.items) }
-    ensures length { OnOk result (length found.new.items ≤ length found.old.items + 6400) }
-    ensures adds { OnOk result (Adds found.old.items found.new.items (λ v. IsPair first.now.place second v × FindsIn first.now first.now.accesses.items seconds.now v)) }
+    requires few { length seconds.now ≤ ACCESS_LIMIT }
+    ensures length { OnOk result (length found.new.keys ≤ length found.old.keys + ACCESS_LIMIT * ACCESS_LIMIT) }
+    ensures adds { OnOk result (Adds found.old.keys found.new.keys (λ v. IsPair first.now.place second v × FindsIn first.now first.now.accesses.items seconds.now v)) }
 {
     for a in first.accesses.as_slice() {
         clashes_with(first, second, a, seconds, found)?;
+    }
+    Ok(())
+}
+
+/// Notes a violation where the test holds, and nothing where it doesn't.
+fn note_if(found: &mut BTreeSet<Violation>, holds: bool, v: Violation) -> Result<(), AllocError>
+    ensures length { OnOk result (length found.new.keys ≤ length found.old.keys + 1) }
+    ensures adds { OnOk result (Adds found.old.keys found.new.keys (λ x. (holds ≡ true) × (x ≡ v))) }
+{
+    if holds {
+        found.insert(v)?;
     }
     Ok(())
 }
@@ -140,12 +147,10 @@ fn slot_rules(
     program: &Program,
     first: Place,
     second: Place,
-    found: &mut Vec<Violation>,
+    found: &mut BTreeSet<Violation>,
 ) -> Result<(), AllocError>
-    requires rises { Rises found.old.items }
-    ensures rises { OnOk result (Rises found.new.items) }
-    ensures length { OnOk result (length found.new.items ≤ length found.old.items + 2) }
-    ensures adds { OnOk result (Adds found.old.items found.new.items (λ v. IsPair first second v × IsSlotRule program.now first second v)) }
+    ensures length { OnOk result (length found.new.keys ≤ length found.old.keys + 2) }
+    ensures adds { OnOk result (Adds found.old.keys found.new.keys (λ v. IsPair first second v × IsSlotRule program.now first second v)) }
 {
     let alloc_first = Violation {
         second,
@@ -173,19 +178,19 @@ fn slot_rules(
 pub(crate) fn pair_violations(
     alloc: Global,
     program: &Program,
-    window: &[Entry],
+    window: &[EarlierSlot],
     n: usize,
     second: Place,
     seconds: &[Access],
-) -> Result<Vec<Violation>, AllocError>
+) -> Result<BTreeSet<Violation>, AllocError>
     requires inside { n < length window.now }
-    requires few { length seconds.now ≤ 80 }
+    requires few { length seconds.now ≤ ACCESS_LIMIT }
     requires seconds { seconds.now ≡ accesses_at program.now second }
     requires window { IsWindow program.now window.now second }
-    ensures list { IfOk result (λ found. IsListOf (λ v. IsNthPair window.now n second v × Violates program.now v) found.items) }
-    ensures few { IfOk result (λ found. length found.items ≤ 6402) }
+    ensures all { IfOk result (λ found. Adds [] found.keys (λ v. IsNthPair window.now n second v × Violates program.now v)) }
+    ensures few { IfOk result (λ found. length found.keys ≤ pair_bound) }
 {
-    let mut found = Vec::new(alloc);
+    let mut found = BTreeSet::new(alloc);
     let first = &window[n];
     clashes(first, second, seconds, &mut found)?;
     if n + 1 < window.len() {

@@ -1,13 +1,18 @@
 //! Verdicts and reports.
 
-ghost use Rattle.std.specs.Prelude.{◌≡◌, ◌≤◌, ◌+◌, ◌<◌, ◌^◌, ◌++◌, ◌∷◌, [], length, take, OnOk, if◌then◌else◌, ◌==◌};
+ghost use Rattle.std.specs.Prelude.{◌≡◌, ◌≤◌, ◌+◌, ◌<◌, ◌^◌, ◌++◌, [], length, take, OnOk, if◌then◌else◌, ◌==◌};
 ghost use Rattle.group_checker.specs.declared.report.Verdict.TheVariants.{Accepted, Violations};
+ghost use Rattle.group_checker.specs.Order.{Rises};
 
 use crate::violation::Violation;
 use std::alloc::{AllocError, Global};
+use std::collections::BTreeSet;
 use std::marker::Model;
 
-/// How many violations of the rules of groups a program has, and the first hundred (volume 1, chapter 3,
+/// How many violations a report shows at most.
+pub const SHOWN_LIMIT: usize = 100;
+
+/// How many violations of the rules of groups a program has, and the first ones (volume 1, chapter 3,
 /// instruction dependencies). Contracts see the two.
 #[derive(Debug, Drop)]
 pub struct Report {
@@ -40,7 +45,7 @@ impl Report {
         self.total
     }
 
-    /// All of them, but at most the first hundred, in order of the second slot, the first, the rule and the resource.
+    /// All of them, but at most the first `SHOWN_LIMIT`, in order of the second slot, the first, the rule and the resource.
     pub fn shown(&self) -> &[Violation]
         ensures { result.now ≡ self.now.shown }
     {
@@ -62,11 +67,12 @@ impl Report {
     /// # Errors
     ///
     /// Want of memory.
-    pub(crate) fn add_all(&mut self, found: &[Violation]) -> Result<(), AllocError>
-        requires room { self.old.total + length found.now < 2 ^ 64 }
-        requires shown { length self.old.shown ≤ 100 }
-        ensures total { OnOk result (self.new.total ≡ self.old.total + length found.now) }
-        ensures shown { OnOk result (self.new.shown ≡ take 100 (self.old.shown ++ found.now)) }
+    pub(crate) fn add_all(&mut self, found: &BTreeSet<Violation>) -> Result<(), AllocError>
+        requires room { self.old.total + length found.now.keys < 2 ^ 64 }
+        requires shown { length self.old.shown ≤ SHOWN_LIMIT }
+        ensures rises { OnOk result (Rises found.now.keys) }
+        ensures total { OnOk result (self.new.total ≡ self.old.total + length found.now.keys) }
+        ensures shown { OnOk result (self.new.shown ≡ take SHOWN_LIMIT (self.old.shown ++ found.now.keys)) }
     {
         show_all(&mut self.shown, found)?;
         self.total += found.len() as u64;
@@ -85,24 +91,12 @@ impl Report {
     }
 }
 
-/// Shows one more violation, if there is room.
-fn show(shown: &mut Vec<Violation>, v: Violation) -> Result<(), AllocError>
-    requires { length shown.old.items ≤ 100 }
-    ensures { OnOk result (shown.new.items ≡ take 100 (shown.old.items ++ v ∷ [])) }
+/// Shows more violations in order, as many as there is room for.
+fn show_all(shown: &mut Vec<Violation>, found: &BTreeSet<Violation>) -> Result<(), AllocError>
+    requires { length shown.old.items ≤ SHOWN_LIMIT }
+    ensures { OnOk result (shown.new.items ≡ take SHOWN_LIMIT (shown.old.items ++ found.now.keys)) }
 {
-    if shown.len() < 100 {
-        shown.push(v)?;
-    }
-    Ok(())
-}
-
-/// Shows more violations, as many as there is room for.
-fn show_all(shown: &mut Vec<Violation>, found: &[Violation]) -> Result<(), AllocError>
-    requires { length shown.old.items ≤ 100 }
-    ensures { OnOk result (shown.new.items ≡ take 100 (shown.old.items ++ found.now)) }
-{
-    for v in found {
-        show(shown, *v)?;
-    }
+    let room = SHOWN_LIMIT - shown.len();
+    shown.extend(found.iter().copied().take(room))?;
     Ok(())
 }

@@ -3,11 +3,11 @@
 use arrayvec::ArrayVec;
 use ia_insn::Place;
 use predicate_rel::Facts;
-use resource_sets::Access;
+use resource_sets::{ACCESS_LIMIT, Access};
 
 /// A slot that is earlier in the group of the slot under way.
 #[derive(Drop)]
-pub(crate) struct Entry {
+pub(crate) struct EarlierSlot {
     /// Where it stands.
     pub place: Place,
     /// What is known at the slot under way on all walks that pass through this one.
@@ -16,5 +16,5 @@ pub(crate) struct Entry {
     /// is that of the predicate g.
     pub written: u64,
     /// What it accesses.
-    pub accesses: ArrayVec<Access, 80>,
+    pub accesses: ArrayVec<Access, ACCESS_LIMIT>,
 }

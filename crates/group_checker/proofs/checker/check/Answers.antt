@@ -2,7 +2,7 @@ use Rattle.std.proofs.Common.{◌≡◌, ◌<◌, ◌*◌, List, [], Some, lengt
 use Rattle.ia_insn.specs.declared.place.Place.{Place}
 use Rattle.ia_insn.specs.Places.{place_number}
 use Rattle.ia_meaning.specs.Sequence.{next_of}
-use Rattle.group_checker.specs.declared.window.Entry.{Entry}
+use Rattle.group_checker.specs.declared.window.EarlierSlot.{EarlierSlot}
 use Rattle.group_checker.specs.Shown.{Report}
 use Rattle.group_checker.specs.Windows.{IsWindow}
 use Rattle.group_checker.specs.Progress.{HasReported, IsEarlier, place_bound, second_bound}
@@ -15,10 +15,10 @@ pub slots-init : goal.slots-init
 slots-init c =
     let p = c.args.program.now in
     let r = c.empty-report.result in
-    let P : List Entry → Place → Type 0 = λ es j. IsWindow p es j in
+    let P : List EarlierSlot → Place → Type 0 = λ es j. IsWindow p es j in
     record {
       place = c.first_place-second.ensures.place;
-      window = subst (λ (es : List Entry). P es c.first_place-second.result) (sym c.new-window.ensures.items) (subst (λ (j : Place). P [] j) (sym c.first_place-second.ensures.first) (first_window p));
+      window = subst (λ (es : List EarlierSlot). P es c.first_place-second.result) (sym c.new-window.ensures.items) (subst (λ (j : Place). P [] j) (sym c.first_place-second.ensures.first) (first_window p));
       reports = bounded p r (IsEarlier c.first_place-second.result) 0 _ (omega arith)
           (subst (λ (j : Place). HasReported p r (IsEarlier j) 0) (sym c.first_place-second.ensures.first)
           (none_reported p r (ap (λ (q : Report). q.total) c.empty-report.ensures) (ap (λ (q : Report). q.shown) c.empty-report.ensures)));
@@ -47,7 +47,7 @@ slots-preserved c =
     record {
       place = next_place p j next follows;
       window = c.in_ok-move_on.ensures next follows;
-      reports = next_reported p c.check_second.new.report j next _ (second_bound * place_number next) follows (omega (arith, c.slots.invariant.window.size, c.deref.ensures.len, ap (length {A = Entry}) c.deref.ensures.value)) c.in_ok-check_second.ensures;
+      reports = next_reported p c.check_second.new.report j next _ (second_bound * place_number next) follows (omega (arith, c.slots.invariant.window.size, c.deref.ensures.len, ap (length {A = EarlierSlot}) c.deref.ensures.value)) c.in_ok-check_second.ensures;
     }
 
 pub returns-in_default-clause-verdict : goal.returns-in_default-clause-verdict

@@ -1,5 +1,5 @@
 use Rattle.std.proofs.Common.{◌<◌, length, arith}
-use Rattle.group_checker.proofs.Entries.{indexed}
+use Rattle.group_checker.proofs.EarlierSlots.{indexed}
 use Rattle.group_checker.proofs.Windowing.{none_advanced, one_advanced}
 use Rattle.group_checker.proofs.moves.advance.Goals as goal
 

@@ -7,7 +7,7 @@ pub returns : goal.returns
 returns c p j at = record {
   place = refl;
   accesses = refl;
-  known = c.after-entry.ensures ∙ sym (past_insn p j c.args.insn.now (pairs_of c.args.entry.now.known) at);
+  known = c.after-earlier.ensures ∙ sym (past_insn p j c.args.insn.now (pairs_of c.args.earlier.now.known) at);
   written = refl;
 }
 
@@ -15,6 +15,6 @@ pub returns-then-not-changes : goal.returns-then-not-changes
 returns-then-not-changes c p j at = record {
   place = refl;
   accesses = refl;
-  known = sym (past_insn p j c.args.insn.now (pairs_of c.args.entry.now.known) at ∙ facts_kept c.args.insn.now c.args.entry.now.known (sym c.requires ∙ c.if-not-changes.true));
+  known = sym (past_insn p j c.args.insn.now (pairs_of c.args.earlier.now.known) at ∙ facts_kept c.args.insn.now c.args.earlier.now.known (sym c.requires ∙ c.if-not-changes.true));
   written = refl;
 }

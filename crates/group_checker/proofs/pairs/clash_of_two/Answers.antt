@@ -4,13 +4,15 @@ use Rattle.resource_sets.specs.declared.clashes.Rule.{Rule}
 use Rattle.group_checker.specs.Findings.{may_be_excused, excused_by}
 use Rattle.group_checker.proofs.Adding.{one_found, none_found}
 use Rattle.group_checker.proofs.Pairing.{clash_resource}
+use Rattle.group_checker.proofs.Rising.{adds_one}
 use Rattle.group_checker.proofs.pairs.clash_of_two.Goals as goal
 
 pub returns-clause-adds : goal.returns-clause-adds
 returns-clause-adds c =
     let broken = sym c.clash.ensures ∙ c.in-Some.is in
     one_found c.args.first.now c.args.second c.args.a.now c.args.b.now c.in-Some.rule
-    (clash_resource c.args.a.now c.args.b.now c.in-Some.rule broken) broken (sym c.is_excused.ensures ∙ c.if-is_excused.false) _ _ c.in_ok-note.ensures.adds
+    (clash_resource c.args.a.now c.args.b.now c.in-Some.rule broken) broken (sym c.is_excused.ensures ∙ c.if-is_excused.false) _ _
+    (adds_one c.args.found.now c.insert.new.self _ c.in_ok-insert.ensures.updates)
 
 pub returns-in_default-clause-adds : goal.returns-in_default-clause-adds
 returns-in_default-clause-adds c = none_found c.args.first.now c.args.second c.args.a.now c.args.b.now _

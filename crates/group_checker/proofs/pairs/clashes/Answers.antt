@@ -14,9 +14,8 @@ loop-a-preserved c =
     let same : c.as_slice-a-items.result.now ≡ firsts = c.as_slice-a-items.ensures.value in
     let short : c.loop-a.a-index < length firsts = subst (λ (l : List Access). c.loop-a.a-index < length l) same (omega arith) in
     record {
-      rises = c.in_ok-clashes_with.ensures.rises;
       short = omega (arith, c.in_ok-clashes_with.ensures.length);
-      adds = adds_some_more c.args.found.now.items c.loop-a.found.items c.clashes_with.new.found.items firsts c.loop-a.a-index item (IsPair c.args.first.now.place c.args.second) (λ (a : Access) (v : Violation). FindsWith c.args.first.now a c.args.seconds.now v) short
+      adds = adds_some_more c.args.found.now.keys c.loop-a.found.keys c.clashes_with.new.found.keys firsts c.loop-a.a-index item (IsPair c.args.first.now.place c.args.second) (λ (a : Access) (v : Violation). FindsWith c.args.first.now a c.args.seconds.now v) short
           (c.a-item.is ∙ ap (λ (l : List Access). get_or l c.loop-a.a-index item) same) c.loop-a.invariant.adds c.in_ok-clashes_with.ensures.adds;
     }
 
@@ -26,4 +25,4 @@ returns-clause-length c = omega (arith, c.loop-a.invariant.short, c.as_slice-a-i
 pub returns-clause-adds : goal.returns-clause-adds
 returns-clause-adds c =
     let all : take c.loop-a.a-index c.args.first.now.accesses.items ≡ c.args.first.now.accesses.items = take_all _ _ (omega (arith, ap (length {A = Access}) c.as_slice-a-items.ensures.value)) in
-    subst (λ (l : List Access). Adds c.args.found.now.items c.loop-a.found.items (λ v. IsPair c.args.first.now.place c.args.second v × FindsIn c.args.first.now l c.args.seconds.now v)) all c.loop-a.invariant.adds
+    subst (λ (l : List Access). Adds c.args.found.now.keys c.loop-a.found.keys (λ v. IsPair c.args.first.now.place c.args.second v × FindsIn c.args.first.now l c.args.seconds.now v)) all c.loop-a.invariant.adds

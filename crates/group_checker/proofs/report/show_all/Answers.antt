@@ -1,13 +1,14 @@
-use Rattle.std.proofs.Common.{[], length-append, sym, ◌∙◌, arith}
-use Rattle.std.proofs.lemmas.List.{take_all, append-nil}
-use Rattle.group_checker.proofs.Reporting.{shown_short, show_more}
+use Rattle.std.proofs.Common.{◌-◌, length}
+use Rattle.std.proofs.lemmas.Iterator.{YieldsList-from_take}
+use Rattle.std.proofs.lemmas.Iterator.Adapters.{items_from_extend}
+use Rattle.std.proofs.lemmas.Iterator.Consumers.{YieldsList-from_copied, YieldsList-from_rest}
+use Rattle.group_checker.specs.declared.report.TheConstants.{SHOWN_LIMIT}
+use Rattle.group_checker.proofs.Reporting.{take_room}
 use Rattle.group_checker.proofs.report.show_all.Goals as goal
 
-pub loop-v-init : goal.loop-v-init
-loop-v-init c = sym (take_all 100 _ (omega (arith, length-append c.args.shown.now.items [])) ∙ append-nil _)
-
-pub show-requires : goal.show-requires
-show-requires c = shown_short 100 _ _ c.loop-v.invariant
-
-pub loop-v-preserved : goal.loop-v-preserved
-loop-v-preserved c = show_more c.args.shown.now.items c.args.found.now c.loop-v.shown.items c.show.new.shown.items c.loop-v.v-index _ (omega arith) c.loop-v.invariant c.in_ok-show.ensures
+pub returns : goal.returns
+returns c =
+    let shown = c.args.shown.now.items in
+    let found = c.args.found.now.keys in
+    let added = items_from_extend c.extend.result c.extend.ensures.ran (YieldsList-from_take (SHOWN_LIMIT - length shown) (YieldsList-from_copied (YieldsList-from_rest found cc)) cc) in
+    take_room SHOWN_LIMIT shown found c.extend.new.self.items c.requires (rw c.in_ok-extend.was at added).0
