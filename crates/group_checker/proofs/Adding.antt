@@ -4,16 +4,16 @@ use Rattle.std.specs.Prelude.{Contains}
 use Rattle.std.proofs.lemmas.List.{take_more}
 use Rattle.std.proofs.lemmas.List.Elements.{Contains-append_left, Contains-push, Contains-push_cases}
 use Rattle.ia_insn.specs.declared.place.Place.{Place}
-use Rattle.ia_insn.specs.Programs.{Program}
+use Rattle.ia_meaning.specs.Actions.{is_alloc}
 use Rattle.resource_sets.specs.declared.access.Resource.{Resource}
 use Rattle.resource_sets.specs.declared.access.Resource.TheVariants.{Cfm}
 use Rattle.resource_sets.specs.declared.access.Access.{Access}
 use Rattle.resource_sets.specs.declared.clashes.Rule.{Rule}
 use Rattle.resource_sets.specs.declared.clashes.Rule.TheVariants.{AllocFirst, ClearLast}
 use Rattle.resource_sets.specs.Clashes.{clash}
+use Rattle.slot_table.specs.declared.slot.Slot.{Slot}
 use Rattle.group_checker.specs.declared.violation.Violation.{Violation}
 use Rattle.group_checker.specs.declared.window.EarlierSlot.{EarlierSlot}
-use Rattle.group_checker.specs.Violations.{allocates_at, clears_at}
 use Rattle.group_checker.specs.Findings.{IsPair, FindsBy, may_be_excused, excused_by, IsSlotRule}
 use Rattle.group_checker.specs.Order.{Adds}
 
@@ -82,16 +82,17 @@ pub none_found : (e : EarlierSlot) (j : Place) (a b : Access) (xs : List Violati
 none_found e j a b xs never = adds_nothing xs (λ v. IsPair e.place j v × FindsBy e a b v) (λ v h. never v h.1)
 
 -- what is noted of the rules on slots
-pub slots_found : (p : Program) (i j : Place) (first last : Bool) → first ≡ allocates_at p j → last ≡ clears_at p i → (xs ys zs : List Violation) → Adds xs ys (λ x. (first ≡ true) × (x ≡ violation j i AllocFirst Cfm)) → Adds ys zs (λ x. (last ≡ true) × (x ≡ violation j i ClearLast Cfm)) → Adds xs zs (λ v. IsPair i j v × IsSlotRule p i j v)
-slots_found p i j first last one two xs ys zs a b =
-    adds_both xs ys zs (λ x. (first ≡ true) × (x ≡ violation j i AllocFirst Cfm)) (λ x. (last ≡ true) × (x ≡ violation j i ClearLast Cfm)) (λ v. IsPair i j v × IsSlotRule p i j v)
-    (λ v h. let P : Violation → Type 0 = λ w. IsPair i j w × IsSlotRule p i j w in
-    subst P (sym h.1) ((refl, refl), inl (record { rule = refl; allocates = sym one ∙ h.0; resource = refl })))
-    (λ v h. let P : Violation → Type 0 = λ w. IsPair i j w × IsSlotRule p i j w in
-    subst P (sym h.1) ((refl, refl), inr (record { rule = refl; clears = sym two ∙ h.0; resource = refl })))
+pub slots_found : (e : EarlierSlot) (j : Place) (s : Slot) (first : Bool) → first ≡ is_alloc s.form → (xs ys zs : List Violation) → Adds xs ys (λ x. (first ≡ true) × (x ≡ violation j e.place AllocFirst Cfm)) → Adds ys zs (λ x. (e.clears ≡ true) × (x ≡ violation j e.place ClearLast Cfm)) → Adds xs zs (λ v. IsPair e.place j v × IsSlotRule e s v)
+slots_found e j s first is xs ys zs a b =
+    adds_both xs ys zs (λ x. (first ≡ true) × (x ≡ violation j e.place AllocFirst Cfm)) (λ x. (e.clears ≡ true) × (x ≡ violation j e.place ClearLast Cfm)) (λ v. IsPair e.place j v × IsSlotRule e s v)
+    (λ v h. subst P (sym h.1) ((refl, refl), inl (record { rule = refl; allocates = sym is ∙ h.0; resource = refl })))
+    (λ v h. subst P (sym h.1) ((refl, refl), inr (record { rule = refl; clears = h.0; resource = refl })))
     (λ v h. of v h.0 h.1)
     a b
   where
-    of : (v : Violation) → IsPair i j v → IsSlotRule p i j v → ((first ≡ true) × (v ≡ violation j i AllocFirst Cfm)) ⊎ ((last ≡ true) × (v ≡ violation j i ClearLast Cfm))
-    of v is (inl r) = inl (one ∙ r.allocates, made v j i AllocFirst Cfm is.1 is.0 r.rule r.resource)
-    of v is (inr r) = inr (two ∙ r.clears, made v j i ClearLast Cfm is.1 is.0 r.rule r.resource)
+    P : Violation → Type 0
+    P w = IsPair e.place j w × IsSlotRule e s w
+
+    of : (v : Violation) → IsPair e.place j v → IsSlotRule e s v → ((first ≡ true) × (v ≡ violation j e.place AllocFirst Cfm)) ⊎ ((e.clears ≡ true) × (v ≡ violation j e.place ClearLast Cfm))
+    of v pair (inl r) = inl (is ∙ r.allocates, made v j e.place AllocFirst Cfm pair.1 pair.0 r.rule r.resource)
+    of v pair (inr r) = inr (r.clears, made v j e.place ClearLast Cfm pair.1 pair.0 r.rule r.resource)

@@ -1,7 +1,6 @@
 -- Control falls to the next place, which comes later, and to each place from one at most.
 use Rattle.std.proofs.Common.{◌≡◌, ◌<◌, ◌≤◌, ◌⊎◌, Bool, true, false, cond, List, [], ◌∷◌, Option, None, Some, refl, sym, ◌∙◌, subst, arith, inl, inr}
 use Rattle.std.specs.Prelude.{Contains}
-use Rattle.std.specs.Bool.{OnTrue}
 use Rattle.std.proofs.lemmas.Bool.{cases_lt, cases_eq}
 use Rattle.ia_insn.specs.declared.insn.Insn.{Insn}
 use Rattle.ia_insn.specs.declared.place.Place.{Place}
@@ -14,11 +13,6 @@ use Rattle.predicate_rel.specs.declared.edge.Edge.TheVariants.{Falls, Taken}
 use Rattle.predicate_rel.specs.Edges.{HasEdge, edge_of, edge_end, may_fall, pairs_past}
 use Rattle.flow_facts.specs.Walks.{Walk, begins, goes_on, IsWalk, end_of, facts_on, earlier_in_group}
 use Rattle.group_checker.proofs.Members.{not_in_none}
-
--- what holds holds where a test does
-pub on_true : (b : Bool) (P : Type 0) → P → OnTrue b P
-on_true true P h = h
-on_true false P h = tt
 
 -- the order of places goes on
 pub before_trans : (a b c : Place) → IsBefore a b → IsBefore b c → IsBefore a c
@@ -64,13 +58,6 @@ falls_next p i j e = of (insn_at p.bundles i) e.leads
     of : (o : Option Insn) → edge_of p.bundles i o Falls ≡ Some j → next_of p.bundles i ≡ Some j
     of None h = absurd cc
     of (Some insn) h = chosen (may_fall insn) h
-
--- where there is an edge on which control falls, it leads to the next place
-pub edge_to_next : (p : Program) (i j next : Place) → HasEdge p i Falls j → next_of p.bundles i ≡ Some next → HasEdge p i Falls next
-edge_to_next p i j next e follows =
-    let both : Some j ≡ Some next = sym (falls_next p i j e) ∙ follows in
-    let same : j ≡ next = cc in
-    subst (HasEdge p i Falls) same e
 
 -- two places that have one next place are one
 pub same_before : (bundles : List Bundle) (a b next : Place) → IsPlaceOf bundles a → IsPlaceOf bundles b → next_of bundles a ≡ Some next → next_of bundles b ≡ Some next → a ≡ b

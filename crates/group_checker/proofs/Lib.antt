@@ -4,6 +4,7 @@ pub mod Falling
 pub mod Masks
 pub mod Meets
 pub mod EarlierSlots
+pub mod Slots
 pub mod Windowing
 pub mod Excusing
 pub mod Pairing

@@ -8,10 +8,9 @@ use Rattle.ia_insn.specs.Places.{insn_at}
 use Rattle.ia_insn.specs.Programs.{Program}
 use Rattle.ia_meaning.specs.declared.form.Form.{Form}
 use Rattle.ia_meaning.specs.declared.form.Form.TheVariants as form
-use Rattle.ia_meaning.specs.Actions.{form_of}
 use Rattle.predicate_rel.specs.declared.edge.Edge.TheVariants.{Falls}
 use Rattle.predicate_rel.specs.Pairs.{Table, Pairs, pairs_of, in_range, truth, IsWithin}
-use Rattle.predicate_rel.specs.Rules.{PairRule, one, is_met, form_rule, rule_of, pairs_after}
+use Rattle.predicate_rel.specs.Rules.{PairRule, one, is_met, form_rule, pairs_by, pairs_after}
 use Rattle.predicate_rel.specs.RuleLaws.{WhyMissing, whatever, since, why_missing, pairs_after-within}
 use Rattle.predicate_rel.specs.Edges.{pairs_past, pairs_past_insn}
 use Rattle.flow_facts.specs.Walks.{Walk, EndsAt, facts_on, IsMeet}
@@ -75,7 +74,7 @@ twice true b = refl
 twice false b = refl
 
 -- so the facts stay
-pub facts_kept : (insn : Insn) (rows : Table) → changes_facts (form_of insn.op) ≡ false → pairs_after (pairs_of rows) insn Falls ≡ pairs_of rows
-unfolding pairs_after rule_of pairs_of
-facts_kept insn rows e = fun_ext (λ x. fun_ext (λ y.
-    ap (λ (r : PairRule). in_range x y && is_met r (pairs_of rows)) (kept_rule (form_of insn.op) insn.qp x y e) ∙ twice (in_range x y) (truth rows x y)))
+pub facts_kept : (f : Form) (qp : ℕ) (rows : Table) → changes_facts f ≡ false → pairs_by (pairs_of rows) (form_rule f Falls qp) ≡ pairs_of rows
+unfolding pairs_of
+facts_kept f qp rows e = fun_ext (λ x. fun_ext (λ y.
+    ap (λ (r : PairRule). in_range x y && is_met r (pairs_of rows)) (kept_rule f qp x y e) ∙ twice (in_range x y) (truth rows x y)))

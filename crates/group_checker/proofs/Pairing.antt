@@ -12,6 +12,8 @@ use Rattle.resource_sets.specs.declared.clashes.Rule.{Rule}
 use Rattle.resource_sets.specs.declared.clashes.Rule.TheVariants.{Raw, Waw, War63, AllocFirst, ClearLast}
 use Rattle.resource_sets.specs.Clashes.{clash, clash_of, is_resource, is_raw, is_waw, is_war63}
 use Rattle.predicate_rel.specs.Edges.{HasEdge}
+use Rattle.slot_table.specs.declared.slot.Slot.{Slot}
+use Rattle.slot_table.specs.Slots.{slot_at}
 use Rattle.flow_facts.specs.Walks.{Walk, end_of, earlier_in_group}
 use Rattle.predicate_rel.specs.declared.edge.Edge.TheVariants.{Falls}
 use Rattle.group_checker.specs.declared.violation.Violation.{Violation}
@@ -19,12 +21,13 @@ use Rattle.group_checker.specs.declared.window.EarlierSlot.{EarlierSlot}
 use Rattle.group_checker.specs.Excuses.{accesses_at, IsExcused, IsLatest}
 use Rattle.group_checker.specs.Violations.{Clashes, Breaks, Violates, allocates_at}
 use Rattle.group_checker.specs.Order.{Adds}
-use Rattle.group_checker.specs.Windows.{IsThrough, IsAt, IsWindow}
+use Rattle.group_checker.specs.Windows.{IsThrough, IsAt, IsWindow, IsUnderWay}
 use Rattle.group_checker.specs.Findings.{may_be_excused, excused_by, FindsIn, IsPair, IsNthPair, IsSlotRule}
 use Rattle.group_checker.proofs.Members.{not_in_none}
 use Rattle.group_checker.proofs.Falling.{not_before_itself, one_before, comes_from}
 use Rattle.group_checker.proofs.EarlierSlots.{at_once, earlier_at}
 use Rattle.group_checker.proofs.Excusing.{opens, excuses}
+use Rattle.group_checker.proofs.Slots.{slot_allocates}
 
 -- a clash is by one of three rules
 of_three : (a b c d : Bool) (P : Rule → Type 0) (rule : Rule) → cond a (cond b (Some Raw) (cond c (Some Waw) (cond d (Some War63) None))) None ≡ Some rule → P Raw → P Waw → P War63 → P rule
@@ -153,8 +156,8 @@ is_last p es j n e w win at through is = elim (cases_lt (n + 1) (length es)) [
         subst (IsBefore e.place) one (win.rises n m e b at there (omega arith))
 
 -- the rules on slots break on each walk through the first
-pub slot_violates : (p : Program) (es : List EarlierSlot) (j : Place) (n : ℕ) (e : EarlierSlot) (v : Violation) → IsWindow p es j → IsAt es n e → n + 1 ≡ length es → IsPair e.place j v → IsSlotRule p e.place j v → Violates p v
-slot_violates p es j n e v win at end is rule =
+pub slot_violates : (p : Program) (es : List EarlierSlot) (j : Place) (s : Slot) (n : ℕ) (e : EarlierSlot) (v : Violation) → IsWindow p es j → slot_at p.bundles j ≡ Some s → IsAt es n e → n + 1 ≡ length es → IsPair e.place j v → IsSlotRule e s v → Violates p v
+slot_violates p es j s n e v win here_at at end is rule =
     let carried = win.carried n e at in
     let (w, through) = carried.known.reached in
     let here = latest p es j n e w win at end through in
@@ -164,9 +167,9 @@ slot_violates p es j n e v win at end is rule =
     of w rule a b breaks = let P : Rule → Resource → Type 0 = λ r q. Breaks p w e.place r q in
         subst (λ (r : Rule). P r v.resource) (sym a) (subst (λ (q : Resource). P rule q) (sym b) breaks)
 
-    broken : (w : Walk) → IsThrough p e.place j w → IsLatest (earlier_in_group p w) e.place → IsSlotRule p e.place j v → Breaks p w e.place v.rule v.resource
-    broken w through here (inl r) = of w AllocFirst r.rule r.resource (subst (λ (k : Place). allocates_at p k ≡ true) (sym through.there.ends) r.allocates, here, refl)
-    broken w through here (inr r) = of w ClearLast r.rule r.resource (r.clears, here, refl)
+    broken : (w : Walk) → IsThrough p e.place j w → IsLatest (earlier_in_group p w) e.place → IsSlotRule e s v → Breaks p w e.place v.rule v.resource
+    broken w through here (inl r) = of w AllocFirst r.rule r.resource (subst (λ (k : Place). allocates_at p k ≡ true) (sym through.there.ends) (slot_allocates p j s here_at ∙ r.allocates), here, refl)
+    broken w through here (inr r) = of w ClearLast r.rule r.resource (sym (win.carried n e at).clears ∙ r.clears, here, refl)
 
 -- a clash on a walk is found
 finds_clash : (p : Program) (es : List EarlierSlot) (j : Place) (n : ℕ) (e : EarlierSlot) (v : Violation) (w : Walk) → IsWindow p es j → IsAt es n e → IsThrough p e.place j w → (c : Clashes p e.place (end_of w) v.rule v.resource) → (may_be_excused v.rule && excused_by e c.first.guard c.second.guard) ≡ false → FindsIn e e.accesses.items (accesses_at p j) v
@@ -182,8 +185,8 @@ finds_clash p es j n e v w win at through c stays =
     )
 
 -- what is broken on a walk is found
-pub violation_found : (p : Program) (es : List EarlierSlot) (j : Place) (n : ℕ) (e : EarlierSlot) (v : Violation) → IsWindow p es j → IsAt es n e → IsPair e.place j v → Violates p v → FindsIn e e.accesses.items (accesses_at p j) v ⊎ ((n + 1 ≡ length es) × IsSlotRule p e.place j v)
-violation_found p es j n e v win at is x = let b = broken_on p e.place j v is x in by_rule b.walk b.through v.rule refl b.breaks
+pub violation_found : (p : Program) (es : List EarlierSlot) (j : Place) (s : Slot) (n : ℕ) (e : EarlierSlot) (v : Violation) → IsWindow p es j → slot_at p.bundles j ≡ Some s → IsAt es n e → IsPair e.place j v → Violates p v → FindsIn e e.accesses.items (accesses_at p j) v ⊎ ((n + 1 ≡ length es) × IsSlotRule e s v)
+violation_found p es j s n e v win here_at at is x = let b = broken_on p e.place j v is x in by_rule b.walk b.through v.rule refl b.breaks
   where
     unexcused_stays : (w : Walk) → IsThrough p e.place j w → (may : Bool) (g h : ℕ) → ¬ IsExcused p w e.place g h → (may && excused_by e g h) ≡ false
     unexcused_stays w through false g h stays = refl
@@ -198,36 +201,30 @@ violation_found p es j n e v win at is x = let b = broken_on p e.place j v is x 
         (record { first = c.first; second = c.second; of_first = c.of_first; of_second = c.of_second; first_on = c.first_on; second_on = c.second_on; clash = c.clash ∙ ap Some (sym same) })
         (ap (λ (r : Rule). may_be_excused r && excused_by e c.first.guard c.second.guard) same ∙ stays)
 
-    by_rule : (w : Walk) → IsThrough p e.place j w → (rule : Rule) → v.rule ≡ rule → Breaks p w e.place rule v.resource → FindsIn e e.accesses.items (accesses_at p j) v ⊎ ((n + 1 ≡ length es) × IsSlotRule p e.place j v)
+    by_rule : (w : Walk) → IsThrough p e.place j w → (rule : Rule) → v.rule ≡ rule → Breaks p w e.place rule v.resource → FindsIn e e.accesses.items (accesses_at p j) v ⊎ ((n + 1 ≡ length es) × IsSlotRule e s v)
     by_rule w through Raw same b = inl (by_clash w Raw same through b.clashes (unexcused_stays w through true b.clashes.first.guard b.clashes.second.guard b.stays))
     by_rule w through Waw same b = inl (by_clash w Waw same through b.clashes (unexcused_stays w through true b.clashes.first.guard b.clashes.second.guard b.stays))
     by_rule w through War63 same b = inl (by_clash w War63 same through b refl)
-    by_rule w through AllocFirst same b = inr (is_last p es j n e w win at through b.1, inl (record { rule = same; allocates = subst (λ (k : Place). allocates_at p k ≡ true) through.there.ends b.0; resource = b.2 }))
-    by_rule w through ClearLast same b = inr (is_last p es j n e w win at through b.1, inr (record { rule = same; clears = b.0; resource = b.2 }))
+    by_rule w through AllocFirst same b = inr (is_last p es j n e w win at through b.1, inl (record { rule = same; allocates = sym (slot_allocates p j s here_at) ∙ subst (λ (k : Place). allocates_at p k ≡ true) through.there.ends b.0; resource = b.2 }))
+    by_rule w through ClearLast same b = inr (is_last p es j n e w win at through b.1, inr (record { rule = same; clears = (win.carried n e at).clears ∙ b.0; resource = b.2 }))
 
 -- the violations of a pair of slots are those that its accesses break, and if the slots follow each other, those of the
 -- rules on slots
-pub pair_all : (p : Program) (es : List EarlierSlot) (j : Place) (n : ℕ) (e : EarlierSlot) (ys zs : List Violation) → IsWindow p es j → IsAt es n e → Adds [] ys (λ v. IsPair e.place j v × FindsIn e e.accesses.items (accesses_at p j) v) → Adds ys zs (λ v. (n + 1 ≡ length es) × (IsPair e.place j v × IsSlotRule p e.place j v)) → Adds [] zs (λ v. IsNthPair es n j v × Violates p v)
-pair_all p es j n e ys zs win at a b = record {
+pub pair_all : (p : Program) (es : List EarlierSlot) (j : Place) (s : Slot) (seconds : List Access) (n : ℕ) (e : EarlierSlot) (xs ys zs : List Violation) → IsUnderWay p es j s seconds → IsAt es n e → xs ≡ [] → Adds xs ys (λ v. IsPair e.place j v × FindsIn e e.accesses.items seconds v) → Adds ys zs (λ v. (n + 1 ≡ length es) × (IsPair e.place j v × IsSlotRule e s v)) → Adds [] zs (λ v. IsNthPair es n j v × Violates p v)
+pair_all p es j s seconds n e xs ys zs u at none a b = record {
   keeps = λ v c. absurd (not_in_none v c);
   has = λ v (nth, x).
       let same : nth.slot ≡ e = at_once es n nth.slot e nth.at at in
       let pair : IsPair e.place j v = subst (λ (q : EarlierSlot). IsPair q.place j v) same nth.pair in
-      elim (violation_found p es j n e v win at pair x) [
-        | inl found ↦ b.keeps v (a.has v (pair, found))
+      elim (violation_found p es j s n e v u.window u.slot at pair x) [
+        | inl found ↦ b.keeps v (a.has v (pair, rw u.accesses found))
         | inr slots ↦ b.has v (slots.0, (pair, slots.1))
       ];
   only = λ v c. elim (b.only v c) [
     | inl d ↦ elim (a.only v d) [
-      | inl none ↦ inl none
-      | inr h ↦ inr (record { slot = e; at = at; pair = h.0 }, found_violates p es j n e v win at h.0 h.1)
+      | inl before ↦ inl (rw none at before)
+      | inr h ↦ inr (record { slot = e; at = at; pair = h.0 }, found_violates p es j n e v u.window at h.0 (rw u.accesses at h.1))
     ]
-    | inr h ↦ inr (record { slot = e; at = at; pair = h.1.0 }, slot_violates p es j n e v win at h.0 h.1.0 h.1.1)
+    | inr h ↦ inr (record { slot = e; at = at; pair = h.1.0 }, slot_violates p es j s n e v u.window u.slot at h.0 h.1.0 h.1.1)
   ];
 }
-
--- what the accesses of a slot and those of the slot under way break, from an empty list on
-pub pair_found : (p : Program) (j : Place) (e : EarlierSlot) (xs ys : List Violation) (seconds : List Access) → xs ≡ [] → seconds ≡ accesses_at p j → Adds xs ys (λ v. IsPair e.place j v × FindsIn e e.accesses.items seconds v) → Adds [] ys (λ v. IsPair e.place j v × FindsIn e e.accesses.items (accesses_at p j) v)
-pair_found p j e xs ys seconds none is adds =
-    let F : List Violation → List Access → Type 0 = λ old bs. Adds old ys (λ v. IsPair e.place j v × FindsIn e e.accesses.items bs v) in
-    subst (λ (bs : List Access). F [] bs) is (subst (λ (old : List Violation). F old seconds) none adds)

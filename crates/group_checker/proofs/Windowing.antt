@@ -14,6 +14,7 @@ use Rattle.predicate_rel.specs.Edges.{HasEdge, pairs_past}
 use Rattle.flow_facts.specs.Walks.{Walk, goes_on, EndsAt, end_of, facts_on, earlier_in_group, IsMeet, Known, IsSolution, NoWalk, known_at}
 use Rattle.group_checker.specs.declared.window.EarlierSlot.{EarlierSlot}
 use Rattle.group_checker.specs.Excuses.{accesses_at}
+use Rattle.group_checker.specs.Violations.{clears_at}
 use Rattle.group_checker.specs.Windows.{IsThrough, IsMeetOf, IsAt, IsCarried, HasWriter, IsWritten, HasPlace, IsWindow, IsGuardMask, GoesOn, HasAdvanced}
 use Rattle.group_checker.proofs.Members.{cases_in, in_head, in_tail}
 use Rattle.group_checker.proofs.Falling.{before_trans, not_before_itself, number_rises, falls_next, same_before, falls_up, comes_from, falls_group}
@@ -144,6 +145,7 @@ new_walks p j next join = record {
 -- The slot that is left, as an earlier one.
 pub record IsSlotOf (p : Program) (j : Place) (f : Pairs) (mask : ℕ) (e : EarlierSlot) : Type 0 where
   pub place : e.place ≡ j
+  pub clears : e.clears ≡ clears_at p j
   pub accesses : e.accesses.items ≡ accesses_at p j
   pub known : pairs_of e.known ≡ pairs_past p j Falls f
   pub written : e.written ≡ mask
@@ -162,6 +164,7 @@ which p j mask old new e m b adv h = elim (at_push new e m b h) [
 
 carried_old : (p : Program) (j next : Place) (mask : ℕ) (a b : EarlierSlot) → Joins p j next → IsCarried p j a → GoesOn p j mask a b → IsCarried p next b
 carried_old p j next mask a b join old on = record {
+  clears = on.clears ∙ old.clears ∙ ap (clears_at p) (sym on.place);
   accesses = ap (λ x. x.items) on.accesses ∙ old.accesses ∙ ap (accesses_at p) (sym on.place);
   known = (let P : Place → Pairs → Type 0 = λ k f. IsMeetOf p (IsThrough p k next) f in
       subst (λ (k : Place). P k (pairs_of b.known)) (sym on.place) (subst (λ (f : Pairs). P a.place f) (sym on.known)
@@ -171,6 +174,7 @@ carried_old p j next mask a b join old on = record {
 
 carried_new : (p : Program) (j next : Place) (f : Pairs) (mask : ℕ) (e : EarlierSlot) → Joins p j next → IsMeet p j f → IsSlotOf p j f mask e → IsCarried p next e
 carried_new p j next f mask e join meet is = record {
+  clears = is.clears ∙ ap (clears_at p) (sym is.place);
   accesses = is.accesses ∙ ap (accesses_at p) (sym is.place);
   known = (let P : Place → Pairs → Type 0 = λ k q. IsMeetOf p (IsThrough p k next) q in
       subst (λ (k : Place). P k (pairs_of e.known)) (sym is.place) (subst (λ (q : Pairs). P j q) (sym is.known)

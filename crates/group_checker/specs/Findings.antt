@@ -1,16 +1,16 @@
 -- What is found of two slots of one group by their accesses and by what is known of them.
 use Rattle.std.specs.Prelude.{◌≡◌, ℕ, Bool, true, false, not, ◌&&◌, ◌⊎◌, List, Contains, Some}
 use Rattle.ia_insn.specs.declared.place.Place.{Place}
-use Rattle.ia_insn.specs.Programs.{Program}
+use Rattle.ia_meaning.specs.Actions.{is_alloc}
 use Rattle.resource_sets.specs.declared.access.Resource.TheVariants.{Cfm}
 use Rattle.resource_sets.specs.declared.access.Access.{Access}
 use Rattle.resource_sets.specs.declared.clashes.Rule.{Rule}
 use Rattle.resource_sets.specs.declared.clashes.Rule.TheVariants.{Raw, Waw, War63, AllocFirst, ClearLast}
 use Rattle.resource_sets.specs.Clashes.{clash}
 use Rattle.predicate_rel.specs.Pairs.{has_bit, pairs_of}
+use Rattle.slot_table.specs.declared.slot.Slot.{Slot}
 use Rattle.group_checker.specs.declared.violation.Violation.{Violation}
 use Rattle.group_checker.specs.declared.window.EarlierSlot.{EarlierSlot}
-use Rattle.group_checker.specs.Violations.{allocates_at, clears_at}
 use Rattle.group_checker.specs.Windows.{IsAt}
 
 -- Each walk through the first slot excuses accesses under these guards.
@@ -51,17 +51,17 @@ pub record IsNthPair (window : List EarlierSlot) (n : ℕ) (second : Place) (v :
   pub pair : IsPair slot.place second v
 
 -- An `alloc` comes just after another slot of its group.
-pub record IsAllocRule (p : Program) (j : Place) (v : Violation) : Type 0 where
+pub record IsAllocRule (slot : Slot) (v : Violation) : Type 0 where
   pub rule : v.rule ≡ AllocFirst
-  pub allocates : allocates_at p j ≡ true
+  pub allocates : is_alloc slot.form ≡ true
   pub resource : v.resource ≡ Cfm
 
 -- A slot of the group comes just after a `clrrrb`.
-pub record IsClearRule (p : Program) (i : Place) (v : Violation) : Type 0 where
+pub record IsClearRule (first : EarlierSlot) (v : Violation) : Type 0 where
   pub rule : v.rule ≡ ClearLast
-  pub clears : clears_at p i ≡ true
+  pub clears : first.clears ≡ true
   pub resource : v.resource ≡ Cfm
 
 -- The rules on two slots of which one follows the other.
-abbrev pub IsSlotRule : Program → Place → Place → Violation → Type 0
-IsSlotRule p i j v = IsAllocRule p j v ⊎ IsClearRule p i v
+abbrev pub IsSlotRule : EarlierSlot → Slot → Violation → Type 0
+IsSlotRule first slot v = IsAllocRule slot v ⊎ IsClearRule first v

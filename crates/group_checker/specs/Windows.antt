@@ -1,8 +1,8 @@
 -- What is known, at the place under way, of the earlier slots of its group.
-use Rattle.std.specs.Prelude.{◌≡◌, ◌<◌, ◌≤◌, ℕ, ◌+◌, Bool, true, false, List, Contains, length, slice_index_or, bit_or}
+use Rattle.std.specs.Prelude.{◌≡◌, ◌<◌, ◌≤◌, ℕ, ◌+◌, Bool, true, false, not, ◌&&◌, Some, List, Contains, length, slice_index_or, bit_or}
 use Rattle.ia_insn.specs.declared.place.Place.{Place}
 use Rattle.ia_insn.specs.Places.{place_number, IsBefore}
-use Rattle.ia_insn.specs.Programs.{Program}
+use Rattle.ia_insn.specs.Programs.{Program, IsProgram}
 use Rattle.ia_meaning.specs.declared.form.Form.{Form}
 use Rattle.ia_meaning.specs.declared.form.Form.TheVariants as form
 use Rattle.resource_sets.specs.declared.access.Access.{Access}
@@ -10,9 +10,12 @@ use Rattle.resource_sets.specs.Clashes.{may_write_guard}
 use Rattle.predicate_rel.specs.declared.edge.Edge.TheVariants.{Falls}
 use Rattle.predicate_rel.specs.Pairs.{Pairs, has_bit, pairs_of, IsWithin}
 use Rattle.predicate_rel.specs.Edges.{HasEdge, pairs_past}
+use Rattle.slot_table.specs.declared.slot.Slot.{Slot}
+use Rattle.slot_table.specs.Slots.{slot_at}
 use Rattle.flow_facts.specs.Walks.{Walk, EndsAt, facts_on, earlier_in_group}
 use Rattle.group_checker.specs.declared.window.EarlierSlot.{EarlierSlot}
 use Rattle.group_checker.specs.Excuses.{accesses_at}
+use Rattle.group_checker.specs.Violations.{clears_at}
 
 -- a walk to j with i earlier in its group
 pub record IsThrough (p : Program) (i j : Place) (w : Walk) : Type 0 where
@@ -32,6 +35,7 @@ pub record IsAt (window : List EarlierSlot) (m : ℕ) (e : EarlierSlot) : Type 0
 
 -- At j the slot is earlier in the group: it has what all walks through it know at j.
 pub record IsCarried (p : Program) (j : Place) (e : EarlierSlot) : Type 0 where
+  pub clears : e.clears ≡ clears_at p e.place
   pub accesses : e.accesses.items ≡ accesses_at p e.place
   pub known : IsMeetOf p (IsThrough p e.place j) (pairs_of e.known)
   pub below : IsBefore e.place j
@@ -68,6 +72,17 @@ pub record IsWindow (p : Program) (window : List EarlierSlot) (j : Place) : Type
   pub last : (m : ℕ) (a : EarlierSlot) → IsAt window m a → m + 1 ≡ length window → HasEdge p a.place Falls j
   pub all : (w : Walk) → EndsAt p j w → (i : Place) → Contains (earlier_in_group p w) i → HasPlace window i
 
+-- At j stands this slot of the program, with these accesses, and this is its window.
+pub record IsUnderWay (p : Program) (es : List EarlierSlot) (j : Place) (s : Slot) (seconds : List Access) : Type 0 where
+  pub program : IsProgram p
+  pub slot : slot_at p.bundles j ≡ Some s
+  pub accesses : seconds ≡ accesses_at p j
+  pub window : IsWindow p es j
+
+-- control may fall from the slot to the next one, where there is one, within a group
+abbrev pub joins : Slot → Bool
+joins slot = slot.falls && not slot.stop
+
 -- the bits of the word are the predicates that an instruction with these accesses may write
 abbrev pub IsGuardMask : ℕ → List Access → Type 0
 IsGuardMask mask accesses = (g : ℕ) → g < 64 → has_bit mask g ≡ may_write_guard g accesses
@@ -75,6 +90,7 @@ IsGuardMask mask accesses = (g : ℕ) → g < 64 → has_bit mask g ≡ may_writ
 -- the earlier slot with what is known past the one at j, which may write the predicates of the mask
 pub record GoesOn (p : Program) (j : Place) (mask : ℕ) (old new : EarlierSlot) : Type 0 where
   pub place : new.place ≡ old.place
+  pub clears : new.clears ≡ old.clears
   pub accesses : new.accesses ≡ old.accesses
   pub known : pairs_of new.known ≡ pairs_past p j Falls (pairs_of old.known)
   pub written : new.written ≡ bit_or old.written mask

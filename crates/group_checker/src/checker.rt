@@ -1,41 +1,33 @@
 //! The check of a program.
 
-ghost use Rattle.std.specs.Prelude.{◌≡◌, ◌+◌, ◌*◌, ◌≤◌, ◌<◌, length, IfOk, OnOk, Some, None};
+ghost use Rattle.std.specs.Prelude.{◌≡◌, ◌+◌, ◌*◌, ◌≤◌, ◌<◌, length, IfOk, OnOk};
 ghost use Rattle.ia_insn.specs.Places.{IsPlaceOf, place_number};
-ghost use Rattle.ia_insn.specs.Programs.{IsProgram};
+ghost use Rattle.ia_insn.specs.Programs.{Program, IsProgram};
 ghost use Rattle.ia_meaning.specs.OrderIndependence.{IsRobust};
-ghost use Rattle.ia_meaning.specs.Sequence.{first_of, next_of};
-ghost use Rattle.group_checker.specs.Excuses.{accesses_at};
+ghost use Rattle.ia_meaning.specs.Sequence.{first_of};
 ghost use Rattle.group_checker.specs.Reports.{IsVerdict, OneVerdict};
-ghost use Rattle.group_checker.specs.Windows.{IsWindow};
+ghost use Rattle.group_checker.specs.Windows.{IsUnderWay};
 ghost use Rattle.group_checker.specs.Progress.{HasReported, IsEarlier, IsUpTo, pair_bound, place_bound, second_bound};
 
 use crate::moves::move_on;
-use crate::pairs::{accesses_at, pair_violations};
-use crate::report::{Report, Verdict};
+use crate::pairs::pair_violations;
+use crate::report::{Report, SHOWN_LIMIT, Verdict};
 use crate::window::EarlierSlot;
 use flow_facts::solve;
 use ia_insn::{Place, Program};
-use resource_sets::{ACCESS_LIMIT, Access};
+use resource_sets::{ACCESS_LIMIT, Access, accesses_of};
+use slot_table::{Slot, SlotTable};
 use std::alloc::{AllocError, Global};
 
 /// The first place.
-fn first_place(program: &Program) -> Place
+fn first_place(table: &SlotTable) -> Place
     ensures first { result ≡ first_of 0 }
-    ensures place { IsPlaceOf program.now.bundles result }
-    ensures program { IsProgram program.now }
+    ensures place { IsPlaceOf table.now.bundles result }
+    ensures program { IsProgram table.now }
 {
-    // This call tells that the program is one, so it has a bundle.
-    let _count = program.bundle_count();
+    // This call tells that the table is that of a program, so it has a bundle.
+    let _program = table.program();
     Place::FIRST
-}
-
-/// The next place.
-#[tactic(auto, using(ia_meaning::proofs::Sequences::next_same))]
-fn next(program: &Program, place: Place) -> Option<Place>
-    ensures { result ≡ next_of program.now.bundles place }
-{
-    program.next(place)
 }
 
 /// Reports what is broken with this second slot, if all that is broken with earlier ones is reported. `seconds`
@@ -46,29 +38,56 @@ fn next(program: &Program, place: Place) -> Option<Place>
 /// Want of memory.
 fn check_second(
     alloc: Global,
-    program: &Program,
     window: &[EarlierSlot],
     second: Place,
+    slot: &Slot,
     seconds: &[Access],
     report: &mut Report,
 ) -> Result<(), AllocError>
     requires place { place_number second < place_bound }
     requires few { length seconds.now ≤ ACCESS_LIMIT }
-    requires seconds { seconds.now ≡ accesses_at program.now second }
-    requires window { IsWindow program.now window.now second }
-    requires before { HasReported program.now report.old (IsEarlier second) (second_bound * place_number second) }
-    ensures { OnOk result (HasReported program.now report.new (IsUpTo second) (second_bound * place_number second + pair_bound * length window.now)) }
+    requires window { length window.now ≤ place_number second }
+    requires total { report.old.total ≤ second_bound * place_number second }
+    requires shown { length report.old.shown ≤ SHOWN_LIMIT }
+    ensures { OnOk result ((p : Program) → IsUnderWay p window.now second slot.now seconds.now → HasReported p report.old (IsEarlier second) (second_bound * place_number second) → HasReported p report.new (IsUpTo second) (second_bound * place_number second + pair_bound * length window.now)) }
 {
     for n in 0..window.len() {
-        let found = pair_violations(alloc, program, window, n, second, seconds)?;
+        let found = pair_violations(alloc, window, n, second, slot, seconds)?;
         report.add_all(&found)?;
     }
     Ok(())
 }
 
+/// The verdict on the program of a table, place after place.
+///
+/// # Errors
+///
+/// Want of memory.
+fn check_slots(alloc: Global, table: &SlotTable) -> Result<Verdict, AllocError>
+    ensures verdict { IfOk result (λ verdict. IsVerdict table.now verdict) }
+    ensures robust { IfOk result (λ verdict. verdict ≡ Verdict.Accepted → IsRobust table.now) }
+{
+    let facts = solve(alloc, table.program())?;
+    let mut report = Report::empty(alloc);
+    let mut window = Vec::new(alloc);
+    let mut second = first_place(table);
+    'slots: loop {
+        let Some(slot) = table.at(second) else {
+            unreachable!();
+        };
+        let seconds = accesses_of(slot.qp, &slot.form);
+        check_second(alloc, &window, second, slot, &seconds, &mut report)?;
+        move_on(&facts, &mut window, second, slot, seconds)?;
+        let Some(after) = slot.next else {
+            return Ok(report.verdict());
+        };
+        second = after;
+    }
+}
+
 /// Whether a program keeps the rules of instruction groups (volume 1, chapter 3, instruction dependencies;
 /// volume 3, chapter 5, resource and dependency semantics). It is accepted exactly where no walk breaks a
-/// rule; else the answer says how many violations there are, and which are the first hundred in order.
+/// rule; else the answer says how many violations there are, and which come first in order.
 ///
 /// A walk begins at slot 0 of an entry and follows the edges of the program; its group are the places since its
 /// last stop or taken edge. Each pair of places is counted once for each rule and resource for which some walk
@@ -89,19 +108,8 @@ pub fn check(alloc: Global, program: &Program) -> Result<Verdict, AllocError>
     ensures verdict { IfOk result (λ verdict. IsVerdict program.now verdict) }
     ensures robust { IfOk result (λ verdict. verdict ≡ Verdict.Accepted → IsRobust program.now) }
 {
-    let facts = solve(alloc, program)?;
-    let mut report = Report::empty(alloc);
-    let mut window = Vec::new(alloc);
-    let mut second = first_place(program);
-    'slots: loop {
-        let seconds = accesses_at(program, second);
-        check_second(alloc, program, &window, second, &seconds, &mut report)?;
-        move_on(program, &facts, &mut window, second, seconds)?;
-        let Some(after) = next(program, second) else {
-            return Ok(report.verdict());
-        };
-        second = after;
-    }
+    let table = SlotTable::open(alloc, program)?;
+    check_slots(alloc, &table)
 }
 
 /// The law that a program has one verdict: no other count and no other list is stated for it. It does

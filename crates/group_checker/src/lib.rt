@@ -11,7 +11,7 @@
 //!
 //! [`check`] says whether a program is accepted: exactly where no walk from an entry breaks a rule. Else it
 //! says how many violations there are, each pair of slots counted once for each rule and resource, and shows
-//! the first hundred in order.
+//! the first ones in order, up to [`SHOWN_LIMIT`].
 #![tactic(auto)]
 
 mod checker;

@@ -1,53 +1,45 @@
 //! The step from the slot under way to the next one.
 
-ghost use Rattle.std.specs.Prelude.{◌≡◌, ◌+◌, ◌≤◌, ◌<◌, length, Some, OnOk, ℕ, true, false};
-ghost use Rattle.std.specs.Bool.{OnTrue, OnFalse};
+ghost use Rattle.std.specs.Prelude.{◌≡◌, ◌≤◌, ◌<◌, length, Some, OnOk, ℕ, not, ◌&&◌};
 ghost use Rattle.ia_insn.specs.declared.place.Place.{Place};
 ghost use Rattle.ia_insn.specs.Programs.{Program};
-ghost use Rattle.ia_insn.specs.Places.{insn_at, IsPlaceOf};
-ghost use Rattle.ia_meaning.specs.Actions.{form_of};
-ghost use Rattle.ia_meaning.specs.Sequence.{next_of, is_stopped};
-ghost use Rattle.predicate_rel.specs.declared.edge.Edge.TheVariants.{Falls};
-ghost use Rattle.predicate_rel.specs.Edges.{HasEdge};
+ghost use Rattle.ia_meaning.specs.Sequence.{next_of};
+ghost use Rattle.slot_table.specs.Slots.{slot_at};
 ghost use Rattle.flow_facts.specs.Walks.{IsSolution};
-ghost use Rattle.group_checker.specs.Excuses.{accesses_at};
-ghost use Rattle.group_checker.specs.Windows.{IsWindow, GoesOn, HasAdvanced, changes_facts};
+ghost use Rattle.group_checker.specs.Violations.{clears};
+ghost use Rattle.group_checker.specs.Windows.{IsWindow, IsUnderWay, GoesOn, HasAdvanced, changes_facts, joins};
 
 use crate::guards::guard_mask;
 use crate::window::EarlierSlot;
 use arrayvec::ArrayVec;
-use flow_facts::{InFacts, edge_end};
-use ia_insn::{Insn, Place, Program};
-use ia_meaning::{Form, form_of};
+use flow_facts::InFacts;
+use ia_insn::Place;
+use ia_meaning::Form;
 use predicate_rel::Edge;
 use resource_sets::{ACCESS_LIMIT, Access};
+use slot_table::Slot;
 use std::alloc::AllocError;
 
-/// Whether a stop follows the place.
-fn is_stopped(program: &Program, place: Place) -> bool
-    ensures { result ≡ is_stopped program.now.bundles place }
+/// Whether control may fall from a slot to the next one, where there is one, within a group.
+fn joins(slot: &Slot) -> bool
+    ensures { result ≡ joins slot.now }
 {
-    program.stop_after(place)
+    slot.falls && !slot.stop
 }
 
-/// Whether control may fall from a place to the next one within a group.
-fn joins(program: &Program, place: Place) -> bool
-    ensures unstopped { OnTrue result (is_stopped program.now.bundles place ≡ false) }
-    ensures edge { OnTrue result ((next : Place) → next_of program.now.bundles place ≡ Some next → HasEdge program.now place Falls next) }
-    ensures parted { OnFalse result ((next : Place) → HasEdge program.now place Falls next → is_stopped program.now.bundles place ≡ true) }
+/// Whether it is a `clrrrb` or `clrrrb.pr`.
+fn clears(form: &Form) -> bool
+    ensures { result ≡ clears form.now }
 {
-    match edge_end(program, place, Edge::Falls) {
-        None => false,
-        Some(_) => !is_stopped(program, place),
-    }
+    matches!(form, Form::ClearBases { .. })
 }
 
-/// Whether an instruction may change what is known of predicates where control falls through.
-fn changes_facts(insn: &Insn) -> bool
-    ensures { result ≡ changes_facts (form_of insn.now.op) }
+/// Whether an instruction of this form may change what is known of predicates where control falls through.
+fn changes_facts(form: &Form) -> bool
+    ensures { result ≡ changes_facts form.now }
 {
     matches!(
-        form_of(&insn.op),
+        form,
         Form::Test { .. }
             | Form::ToPredicates { .. }
             | Form::Jump { .. }
@@ -60,65 +52,57 @@ fn changes_facts(insn: &Insn) -> bool
     )
 }
 
-/// Takes one earlier slot past the instruction at a place, which may write the predicates of the mask.
-fn pass(earlier: &mut EarlierSlot, insn: &Insn, changes: bool, mask: u64)
-    requires { changes ≡ changes_facts (form_of insn.now.op) }
-    ensures { (p : Program) (j : Place) → insn_at p.bundles j ≡ Some insn.now → GoesOn p j mask earlier.old earlier.new }
+/// Takes one earlier slot past the one under way, which may write the predicates of the mask.
+fn pass(earlier: &mut EarlierSlot, slot: &Slot, changes: bool, mask: u64)
+    requires { changes ≡ changes_facts slot.now.form }
+    ensures { (p : Program) (j : Place) → slot_at p.bundles j ≡ Some slot.now → GoesOn p j mask earlier.old earlier.new }
 {
     earlier.written |= mask;
     if !changes {
         return;
     }
-    earlier.known = earlier.known.after(insn, Edge::Falls);
+    earlier.known = earlier.known.after_form(&slot.form, slot.qp, Edge::Falls);
 }
 
-/// Takes the earlier slots past the instruction at a place, which may write the predicates of the mask.
-fn advance(window: &mut Vec<EarlierSlot>, insn: &Insn, mask: u64)
-    ensures { (p : Program) (j : Place) → insn_at p.bundles j ≡ Some insn.now → HasAdvanced p j mask window.old.items window.new.items (length window.old.items) }
+/// Takes the earlier slots past the one under way, which may write the predicates of the mask.
+fn advance(window: &mut Vec<EarlierSlot>, slot: &Slot, mask: u64)
+    ensures { (p : Program) (j : Place) → slot_at p.bundles j ≡ Some slot.now → HasAdvanced p j mask window.old.items window.new.items (length window.old.items) }
 {
-    let changes = changes_facts(insn);
+    let changes = changes_facts(&slot.form);
     for m in 0..window.len() {
-        pass(&mut window[m], insn, changes, mask);
+        pass(&mut window[m], slot, changes, mask);
     }
 }
 
-/// Takes the window from a place to the next one: it has all slots that are then earlier in the
+/// Takes the window from the place of a slot to the next one: it has all slots that are then earlier in the
 /// group on some walk.
 ///
 /// # Errors
 ///
 /// Want of memory.
 pub(crate) fn move_on(
-    program: &Program,
     facts: &InFacts,
     window: &mut Vec<EarlierSlot>,
     place: Place,
+    slot: &Slot,
     accesses: ArrayVec<Access, ACCESS_LIMIT>,
 ) -> Result<(), AllocError>
-    requires facts { IsSolution program.now facts.now }
-    requires accesses { accesses.items ≡ accesses_at program.now place }
-    requires place { IsPlaceOf program.now.bundles place }
-    requires window { IsWindow program.now window.old.items place }
-    ensures { OnOk result ((next : Place) → next_of program.now.bundles place ≡ Some next → IsWindow program.now window.new.items next) }
+    ensures { OnOk result ((p : Program) (next : Place) → IsSolution p facts.now → IsUnderWay p window.old.items place slot.now accesses.items → next_of p.bundles place ≡ Some next → IsWindow p window.new.items next) }
 {
-    let Some(insn) = program.insn_at(place) else {
-        window.clear();
-        return Ok(());
-    };
     let Some(here) = facts.at(place) else {
         window.clear();
         return Ok(());
     };
-    if !joins(program, place) {
+    if !joins(slot) {
         window.clear();
         return Ok(());
     }
     let written = guard_mask(&accesses);
-    advance(window, insn, written);
-    let known = here.after(insn, Edge::Falls);
+    advance(window, slot, written);
     window.push(EarlierSlot {
         place,
-        known,
+        clears: clears(&slot.form),
+        known: here.after_form(&slot.form, slot.qp, Edge::Falls),
         written,
         accesses,
     })?;

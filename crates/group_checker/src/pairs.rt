@@ -2,55 +2,29 @@
 
 ghost use Rattle.std.specs.Prelude.{◌≡◌, ◌+◌, ◌*◌, ◌≤◌, ◌<◌, true, false, [], length, IfOk, OnOk, ◌&&◌};
 ghost use Rattle.ia_insn.specs.declared.place.Place.{Place};
-ghost use Rattle.ia_insn.specs.Places.{insn_at, IsPlaceOf};
+ghost use Rattle.ia_insn.specs.Programs.{Program};
+ghost use Rattle.ia_meaning.specs.Actions.{is_alloc};
 ghost use Rattle.group_checker.specs.Order.{Adds};
-ghost use Rattle.group_checker.specs.Excuses.{accesses_at};
-ghost use Rattle.group_checker.specs.Violations.{clears, allocates_at, clears_at, Violates};
-ghost use Rattle.group_checker.specs.Windows.{IsWindow};
+ghost use Rattle.group_checker.specs.Violations.{Violates};
+ghost use Rattle.group_checker.specs.Windows.{IsUnderWay};
 ghost use Rattle.group_checker.specs.Progress.{pair_bound};
 ghost use Rattle.group_checker.specs.Findings.{IsNthPair, may_be_excused, excused_by, FindsBy, FindsWith, FindsIn, IsPair, IsSlotRule};
 
 use crate::guards::has_predicate;
 use crate::violation::Violation;
 use crate::window::EarlierSlot;
-use arrayvec::ArrayVec;
-use ia_insn::{Place, Pr, Program};
-use ia_meaning::{Form, form_of};
-use resource_sets::{ACCESS_LIMIT, Access, Resource, Rule, accesses, clash};
+use ia_insn::{Place, Pr};
+use ia_meaning::Form;
+use resource_sets::{ACCESS_LIMIT, Access, Resource, Rule, clash};
+use slot_table::Slot;
 use std::alloc::{AllocError, Global};
 use std::collections::BTreeSet;
 
-/// What the instruction at a place accesses. Nothing where there is no such place.
-#[tactic(auto, unfolding(crate::specs::Excuses::accesses_at))]
-pub(crate) fn accesses_at(program: &Program, place: Place) -> ArrayVec<Access, ACCESS_LIMIT>
-    ensures { result.items ≡ accesses_at program.now place }
+/// Whether it is an `alloc`.
+fn is_alloc(form: &Form) -> bool
+    ensures { result ≡ is_alloc form.now }
 {
-    match program.insn_at(place) {
-        None => ArrayVec::new(),
-        Some(insn) => accesses(insn),
-    }
-}
-
-/// Whether the place holds an `alloc`.
-#[tactic(auto, unfolding(crate::specs::Violations::allocates_at))]
-fn allocates_at(program: &Program, place: Place) -> bool
-    ensures { result ≡ allocates_at program.now place }
-{
-    match program.insn_at(place) {
-        None => false,
-        Some(insn) => matches!(form_of(&insn.op), Form::Allocate { .. }),
-    }
-}
-
-/// Whether the place holds a `clrrrb` or `clrrrb.pr`.
-#[tactic(auto, unfolding(crate::specs::Violations::clears_at))]
-fn clears_at(program: &Program, place: Place) -> bool
-    ensures { result ≡ clears_at program.now place }
-{
-    match program.insn_at(place) {
-        None => false,
-        Some(insn) => matches!(form_of(&insn.op), Form::ClearBases { .. }),
-    }
+    matches!(form, Form::Allocate { .. })
 }
 
 /// Whether accesses that break the rule may be excused. A write after a branch's read may not, as the rule
@@ -144,28 +118,28 @@ fn note_if(found: &mut BTreeSet<Violation>, holds: bool, v: Violation) -> Result
 
 /// Notes the rules on a slot and the one just after it: `alloc` comes first in its group, `clrrrb` last.
 fn slot_rules(
-    program: &Program,
-    first: Place,
+    first: &EarlierSlot,
     second: Place,
+    slot: &Slot,
     found: &mut BTreeSet<Violation>,
 ) -> Result<(), AllocError>
     ensures length { OnOk result (length found.new.keys ≤ length found.old.keys + 2) }
-    ensures adds { OnOk result (Adds found.old.keys found.new.keys (λ v. IsPair first second v × IsSlotRule program.now first second v)) }
+    ensures adds { OnOk result (Adds found.old.keys found.new.keys (λ v. IsPair first.now.place second v × IsSlotRule first.now slot.now v)) }
 {
     let alloc_first = Violation {
         second,
-        first,
+        first: first.place,
         rule: Rule::AllocFirst,
         resource: Resource::Cfm,
     };
     let clear_last = Violation {
         second,
-        first,
+        first: first.place,
         rule: Rule::ClearLast,
         resource: Resource::Cfm,
     };
-    note_if(found, allocates_at(program, second), alloc_first)?;
-    note_if(found, clears_at(program, first), clear_last)?;
+    note_if(found, is_alloc(&slot.form), alloc_first)?;
+    note_if(found, first.clears, clear_last)?;
     Ok(())
 }
 
@@ -177,17 +151,15 @@ fn slot_rules(
 /// Want of memory.
 pub(crate) fn pair_violations(
     alloc: Global,
-    program: &Program,
     window: &[EarlierSlot],
     n: usize,
     second: Place,
+    slot: &Slot,
     seconds: &[Access],
 ) -> Result<BTreeSet<Violation>, AllocError>
     requires inside { n < length window.now }
     requires few { length seconds.now ≤ ACCESS_LIMIT }
-    requires seconds { seconds.now ≡ accesses_at program.now second }
-    requires window { IsWindow program.now window.now second }
-    ensures all { IfOk result (λ found. Adds [] found.keys (λ v. IsNthPair window.now n second v × Violates program.now v)) }
+    ensures all { IfOk result (λ found. (p : Program) → IsUnderWay p window.now second slot.now seconds.now → Adds [] found.keys (λ v. IsNthPair window.now n second v × Violates p v)) }
     ensures few { IfOk result (λ found. length found.keys ≤ pair_bound) }
 {
     let mut found = BTreeSet::new(alloc);
@@ -196,6 +168,6 @@ pub(crate) fn pair_violations(
     if n + 1 < window.len() {
         return Ok(found);
     }
-    slot_rules(program, first.place, second, &mut found)?;
+    slot_rules(first, second, slot, &mut found)?;
     Ok(found)
 }

@@ -10,6 +10,8 @@ use resource_sets::{ACCESS_LIMIT, Access};
 pub(crate) struct EarlierSlot {
     /// Where it stands.
     pub place: Place,
+    /// Whether it is a `clrrrb` or `clrrrb.pr`.
+    pub clears: bool,
     /// What is known at the slot under way on all walks that pass through this one.
     pub known: Facts,
     /// The predicates that this slot and the later ones of the group, up to the slot under way, may write: bit g

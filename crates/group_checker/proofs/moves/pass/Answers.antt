@@ -1,20 +1,23 @@
 use Rattle.std.proofs.Common.{◌∙◌, sym, refl}
 use Rattle.predicate_rel.specs.Pairs.{pairs_of}
-use Rattle.group_checker.proofs.Meets.{past_insn, facts_kept}
+use Rattle.group_checker.proofs.Meets.{facts_kept}
+use Rattle.group_checker.proofs.Slots.{past_slot}
 use Rattle.group_checker.proofs.moves.pass.Goals as goal
 
 pub returns : goal.returns
 returns c p j at = record {
   place = refl;
+  clears = refl;
   accesses = refl;
-  known = c.after-earlier.ensures ∙ sym (past_insn p j c.args.insn.now (pairs_of c.args.earlier.now.known) at);
+  known = c.after_form-earlier.ensures ∙ sym (past_slot p j c.args.slot.now at (pairs_of c.args.earlier.now.known));
   written = refl;
 }
 
 pub returns-then-not-changes : goal.returns-then-not-changes
 returns-then-not-changes c p j at = record {
   place = refl;
+  clears = refl;
   accesses = refl;
-  known = sym (past_insn p j c.args.insn.now (pairs_of c.args.earlier.now.known) at ∙ facts_kept c.args.insn.now c.args.earlier.now.known (sym c.requires ∙ c.if-not-changes.true));
+  known = sym (past_slot p j c.args.slot.now at (pairs_of c.args.earlier.now.known) ∙ facts_kept c.args.slot.now.form c.args.slot.now.qp c.args.earlier.now.known (sym c.requires ∙ c.if-not-changes.true));
   written = refl;
 }

@@ -2,13 +2,13 @@ use Rattle.std.proofs.Common.{◌-◌, ◌*◌}
 use Rattle.ia_insn.specs.Places.{place_number, IsPlaceOf}
 use Rattle.group_checker.specs.Windows.{IsWindow}
 use Rattle.group_checker.specs.Progress.{HasReported, IsEarlier, place_bound, second_bound}
-use Rattle.group_checker.proofs.checker.check.Given as goal
+use Rattle.group_checker.proofs.checker.check_slots.Given as goal
 
 abbrev pub invariant-slots : goal.invariant-slots
 invariant-slots l = record {
-  place : IsPlaceOf l.program.bundles l.second;
-  window : IsWindow l.program l.window.items l.second;
-  reports : HasReported l.program l.report (IsEarlier l.second) (second_bound * place_number l.second);
+  place : IsPlaceOf l.table.bundles l.second;
+  window : IsWindow l.table l.window.items l.second;
+  reports : HasReported l.table l.report (IsEarlier l.second) (second_bound * place_number l.second);
 }
 
 abbrev pub decreases-slots : goal.decreases-slots
