@@ -1,13 +1,10 @@
 -- How a run goes on after an effect.
 use Rattle.std.proofs.Common.{◌≡◌, ℕ, zero, suc, List, Option, Some, None, refl, sym, subst, arith}
 use Rattle.std.specs.Prelude.{⊤, ℤ, IfSome}
-use Rattle.ia_insn.specs.declared.choices.BranchKind.{BranchKind}
-use Rattle.ia_insn.specs.declared.choices.BranchKind.TheVariants.{Cond}
 use Rattle.ia_insn.specs.declared.registers.Ar.{Ar}
 use Rattle.ia_insn.specs.declared.registers.Ar.TheVariants.{Unat, Pfs, Lc, Ec}
 use Rattle.ia_insn.specs.declared.ending.FaultKind.{FaultKind}
 use Rattle.ia_insn.specs.declared.insn.Op.{Op}
-use Rattle.ia_insn.specs.declared.insn.Op.TheVariants as op
 use Rattle.ia_insn.specs.declared.insn.Insn.{Insn}
 use Rattle.ia_insn.specs.declared.place.Place.{Place}
 use Rattle.ia_insn.specs.Targets.{displacement}
@@ -19,11 +16,11 @@ use Rattle.ia_meaning.specs.declared.form.Goal.TheVariants.{Direct, Indirect}
 use Rattle.ia_meaning.specs.State.{Registers, Memory}
 use Rattle.ia_meaning.specs.Writes.{Write}
 use Rattle.ia_meaning.specs.Outcomes.{Outcome}
-use Rattle.ia_meaning.specs.Frames.{lands, return_tried, return_fault, marked_frame}
+use Rattle.ia_meaning.specs.Frames.{lands, return_tried}
 use Rattle.ia_meaning.specs.Landings.{target_of}
 use Rattle.ia_meaning.specs.declared.form.Form.{Form}
 use Rattle.ia_meaning.specs.declared.form.Form.TheVariants.{Compute, Fetch, Test, ToPredicates, ToBranch, ToApplication, FromMemory, ToMemory, CheckNat, CheckAlat, ForgetAll, Forget, Allocate, Jump, JumpIndirect, Loop, Call, Return, ClearBases, Stop, Idle}
-use Rattle.ia_meaning.specs.Actions.{branch_form, form_of, moved}
+use Rattle.ia_meaning.specs.Actions.{form_of, moved}
 use Rattle.ia_meaning.specs.Effects.{Site, act, guarded, effect}
 use Rattle.ia_meaning.specs.Names.{holds}
 use Rattle.ia_meaning.specs.Steps.{settled}
@@ -99,14 +96,9 @@ skip_on Good s (Test kind p1 p2 r2 r3 c) r m target = (λ _. tt, λ _. tt)
 skip_on Good s (Loop kind disp) r m target = (λ _. target, λ _. tt)
 skip_on Good s _ r m target = tt
 
-branch_displacement : (kind : BranchKind) (disp : ℤ) → form_displacement (branch_form kind disp) ≡ Some disp
-branch_displacement Cond disp = refl
-branch_displacement _ disp = refl
-
 -- the target of an operation's form is that of the operation
 same_displacement : (o : Op) → form_displacement (form_of o) ≡ displacement o
-same_displacement (op.Br kind wh many clr disp) = branch_displacement kind disp
-same_displacement _ = refl
+same_displacement o = grind arith
 
 -- An instruction falls, goes to its target or to a bundle that the site gives, or ends the run.
 pub effect_on : (Good : ℕ → Type 0) (s : Site) (insn : Insn) (r : Registers) (m : Memory) (unat : ℕ) → AreGoodLandings Good s → IsGoodTarget Good s.bundle (displacement insn.op) → IsGoodWay Good (effect s insn r m unat)
@@ -115,11 +107,7 @@ effect_on Good s insn r m unat landings target =
     guarded_cases (IsGoodWay Good) s insn.qp (form_of insn.op) r m unat (λ _. act_on Good s (form_of insn.op) r m unat landings good) (λ _. skip_on Good s (form_of insn.op) r m good)
 
 settled_as : (Good : ℕ → Type 0) (next : Option Place) (m : Memory) (way : Next) (o : Outcome) → IsGoodWay Good o → IsGoodWay Good (settled next m way o)
-settled_as Good None m Falls o h = tt
-settled_as Good None m (Goes bundle) o h = h
-settled_as Good None m (Breaks imm) o h = h
-settled_as Good None m (Faults kind) o h = h
-settled_as Good (Some next) m way o h = h
+settled_as Good next m way o h = grind arith
 
 -- So does an instruction where no next place may be.
 pub settled_on : (Good : ℕ → Type 0) (next : Option Place) (m : Memory) (o : Outcome) → IsGoodWay Good o → IsGoodWay Good (settled next m o.next o)
@@ -132,10 +120,7 @@ pub record FallsTo (next : Option Place) (o : Outcome) : Type 0 where
   pub is : next ≡ Some place
 
 falls_as : (next : Option Place) (m : Memory) (way : Next) (o : Outcome) → o.next ≡ way → (settled next m way o).next ≡ Falls → FallsTo next o
-falls_as None m Falls o e h = absurd cc
-falls_as None m (Goes bundle) o e h = absurd cc
-falls_as None m (Breaks imm) o e h = absurd cc
-falls_as None m (Faults kind) o e h = absurd cc
+falls_as None m way o e h = absurd (grind arith)
 falls_as (Some place) m way o e h = record { falls = h; place = place; is = refl }
 
 pub falls_to : (next : Option Place) (m : Memory) (o : Outcome) → (settled next m o.next o).next ≡ Falls → FallsTo next o
@@ -151,13 +136,7 @@ return_leaves None f ec to m e = lands_leaves _ m to e
 
 -- a leaving operation that is executed doesn't fall through
 act_leaves : (s : Site) (o : Op) (r : Registers) (m : Memory) (unat : ℕ) → IsLeaving o → (act s (form_of o) r m unat).next ≡ Falls → ⊥
-act_leaves s (op.Br Cond wh many clr disp) r m unat h e = cc
-act_leaves s (op.BrCall b1 wh many clr disp) r m unat h e = cc
-act_leaves s (op.BrInd b2 wh many clr) r m unat h e = lands_leaves _ m _ e
-act_leaves s (op.BrRet b2 wh many clr) r m unat h e = return_leaves (return_fault r.frame.base (marked_frame r.frame.base r.pfs)) _ _ _ m e
-act_leaves s (op.BrCallInd b1 b2 wh many clr) r m unat h e = lands_leaves _ m _ e
-act_leaves s (op.Break unit imm) r m unat h e = cc
-act_leaves s _ r m unat h e = h
+act_leaves s o r m unat h e = grind arith
 
 guarded_leaves : (s : Site) (qp : ℕ) (o : Op) (r : Registers) (m : Memory) (unat : ℕ) → qp ≡ 0 → IsLeaving o → (guarded s qp (form_of o) r m unat).next ≡ Falls → ⊥
 unfolding holds

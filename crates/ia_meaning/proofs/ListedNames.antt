@@ -1,5 +1,5 @@
 -- What the list of instructions says of the names of registers and predicates.
-use Rattle.std.proofs.Common.{◌≢◌, ℕ, ◌<◌, Bool, inl, inr, arith}
+use Rattle.std.proofs.Common.{◌≢◌, ℕ, ◌<◌, Bool, arith}
 use Rattle.std.specs.Prelude.{ℤ}
 use Rattle.ia_insn.specs.declared.choices.BranchKind.{BranchKind}
 use Rattle.ia_insn.specs.declared.choices.BranchKind.TheVariants.{Cond}
@@ -27,12 +27,7 @@ HasNames qp f = Unit {0}
 
 -- of the list's six parts that of the branches has them
 branch_qualifier : (qp : ℕ) (kind : BranchKind) (wh : ℕ) (many clr : Bool) (disp : ℤ) → IsListed (record { qp = qp; op = op.Br kind wh many clr disp }) → IsQualifier kind qp
-branch_qualifier qp kind wh many clr disp (inl l) = absurd l.range
-branch_qualifier qp kind wh many clr disp (inr (inl l)) = absurd l.range
-branch_qualifier qp kind wh many clr disp (inr (inr (inl l))) = absurd l.range
-branch_qualifier qp kind wh many clr disp (inr (inr (inr (inl l)))) = l.range.0
-branch_qualifier qp kind wh many clr disp (inr (inr (inr (inr (inl l))))) = absurd l.range
-branch_qualifier qp kind wh many clr disp (inr (inr (inr (inr (inr l))))) = absurd l.range
+branch_qualifier qp kind wh many clr disp l = grind arith
 
 pub has_names : (qp : ℕ) (o : Op) → IsListed (record { qp = qp; op = o }) → HasNames qp (form_of o)
 has_names qp (op.Cmp four rel kind p1 p2 r2 r3) l = (grind arith, grind arith, grind arith)
