@@ -2,7 +2,7 @@
 use Rattle.std.proofs.Common.{◌≡◌, ℕ, zero, suc, List, Option, Some, None, refl, sym, subst, arith}
 use Rattle.std.specs.Prelude.{⊤, ℤ, IfSome}
 use Rattle.ia_insn.specs.declared.registers.Ar.{Ar}
-use Rattle.ia_insn.specs.declared.registers.Ar.TheVariants.{Unat, Pfs, Lc, Ec}
+use Rattle.ia_insn.specs.declared.registers.Ar.TheVariants.{Pfs}
 use Rattle.ia_insn.specs.declared.ending.FaultKind.{FaultKind}
 use Rattle.ia_insn.specs.declared.insn.Op.{Op}
 use Rattle.ia_insn.specs.declared.insn.Insn.{Insn}
@@ -10,7 +10,7 @@ use Rattle.ia_insn.specs.declared.place.Place.{Place}
 use Rattle.ia_insn.specs.Targets.{displacement}
 use Rattle.ia_insn.specs.Runs.{IsLeaving}
 use Rattle.ia_meaning.specs.declared.next.Next.{Next}
-use Rattle.ia_meaning.specs.declared.next.Next.TheVariants.{Falls, Goes, Breaks, Faults}
+use Rattle.ia_meaning.specs.declared.next.Next.TheVariants.{Falls, Goes}
 use Rattle.ia_meaning.specs.declared.state.FrameShape.{FrameShape}
 use Rattle.ia_meaning.specs.declared.form.Goal.TheVariants.{Direct, Indirect}
 use Rattle.ia_meaning.specs.State.{Registers, Memory}
@@ -19,7 +19,7 @@ use Rattle.ia_meaning.specs.Outcomes.{Outcome}
 use Rattle.ia_meaning.specs.Frames.{lands, return_tried}
 use Rattle.ia_meaning.specs.Landings.{target_of}
 use Rattle.ia_meaning.specs.declared.form.Form.{Form}
-use Rattle.ia_meaning.specs.declared.form.Form.TheVariants.{Compute, Fetch, Test, ToPredicates, ToBranch, ToApplication, FromMemory, ToMemory, CheckNat, CheckAlat, ForgetAll, Forget, Allocate, Jump, JumpIndirect, Loop, Call, Return, ClearBases, Stop, Idle}
+use Rattle.ia_meaning.specs.declared.form.Form.TheVariants.{Test, ToApplication, CheckNat, CheckAlat, Jump, JumpIndirect, Loop, Call, Return}
 use Rattle.ia_meaning.specs.Actions.{form_of, moved}
 use Rattle.ia_meaning.specs.Effects.{Site, act, guarded, effect}
 use Rattle.ia_meaning.specs.Names.{holds}
@@ -28,10 +28,8 @@ use Rattle.ia_meaning.proofs.Inversions.{ApplicationCases, ActCases, SkipCases, 
 
 -- where a branch is taken, the bundle that it goes to is a good one
 abbrev pub IsGoodNext : (ℕ → Type 0) → Next → Type 0
-IsGoodNext Good Falls = ⊤
 IsGoodNext Good (Goes bundle) = Good bundle
-IsGoodNext Good (Breaks imm) = ⊤
-IsGoodNext Good (Faults kind) = ⊤
+IsGoodNext Good way = ⊤
 
 -- the way that an outcome goes on
 abbrev pub IsGoodWay : (ℕ → Type 0) → Outcome → Type 0
@@ -42,10 +40,8 @@ lands_on : (Good : ℕ → Type 0) (o : Option ℕ) (to : ℕ) → IfSome o Good
 lands_on Good o to h e = subst (λ o. IfSome o Good) e h
 
 application_on : (Good : ℕ → Type 0) (ar : Ar) (x : ℕ) (m : Memory) → ApplicationCases (IsGoodWay Good) ar x m
-application_on Good Unat x m = tt
 application_on Good Pfs x m = λ _. tt
-application_on Good Lc x m = tt
-application_on Good Ec x m = tt
+application_on Good ar x m = tt
 
 -- how many bundles from its own the target of a direct form is
 abbrev pub form_displacement : Form → Option ℤ
@@ -64,31 +60,14 @@ IsGoodTarget Good bundle target = IfSome target (λ disp. Good (target_of bundle
 abbrev pub AreGoodLandings : (ℕ → Type 0) → Site → Type 0
 AreGoodLandings Good s = (address : ℕ) → IfSome (s.entry address) Good
 
--- an effect goes on by falling, to the form's target, to a bundle that the site gives, or not at all
+-- An effect goes on by falling, to the form's target, to a bundle that the site gives, or not at all. A form without a row
+-- here falls or goes to its target.
 act_on : (Good : ℕ → Type 0) (s : Site) (form : Form) (r : Registers) (m : Memory) (unat : ℕ) → AreGoodLandings Good s → IsGoodTarget Good s.bundle (form_displacement form) → ActCases (IsGoodWay Good) s form r m unat
-act_on Good s (Compute r1 r2 r3 f) r m unat landings target = (λ kind. tt, λ d a b _ _ _. tt)
-act_on Good s (Fetch r1 source) r m unat landings target = (λ kind. tt, λ d _. tt)
-act_on Good s (Test kind p1 p2 r2 r3 c) r m unat landings target = (λ kind. tt, λ a b _ _. tt)
-act_on Good s (ToPredicates r2 mask w) r m unat landings target = (λ kind. tt, λ a _ _. tt)
-act_on Good s (ToBranch b1 r2) r m unat landings target = (λ kind. tt, λ a _ _. tt)
 act_on Good s (ToApplication ar r2 w) r m unat landings target = (λ kind. tt, λ a _ _. application_on Good ar (moved w a.value) m)
-act_on Good s (FromMemory size kind r1 r3 u) r m unat landings target =
-    (λ kind. tt, λ d e base more _ _ _ _. record { loads = λ _ _. tt; defers = λ _ es _. tt; hits = λ _ _ _ es _. tt })
-act_on Good s (ToMemory size kind r3 r2 u) r m unat landings target = (λ kind. tt, λ e base x _ _ _ _ _ _. tt)
-act_on Good s (CheckNat r2 disp) r m unat landings target = (λ kind. tt, λ a _ _. target, λ a _ _. tt)
-act_on Good s (CheckAlat clear r1 disp) r m unat landings target = (λ kind. tt, λ d _ _. target, λ d _ _ es _. tt)
-act_on Good s ForgetAll r m unat landings target = tt
-act_on Good s (Forget r1) r m unat landings target = (λ kind. tt, λ d _. tt)
-act_on Good s (Allocate r1 sof sol sor) r m unat landings target = (λ kind. tt, λ d _ _ _. tt)
-act_on Good s (Jump disp) r m unat landings target = target
 act_on Good s (JumpIndirect b2) r m unat landings target = (λ kind. tt, λ to e. lands_on Good _ to (landings _) e)
-act_on Good s (Loop kind disp) r m unat landings target = (λ _. target, λ _. tt)
-act_on Good s (Call b1 (Direct disp)) r m unat landings target = target
 act_on Good s (Call b1 (Indirect b2)) r m unat landings target = (λ kind. tt, λ to e. lands_on Good _ to (landings _) e)
 act_on Good s (Return b2) r m unat landings target = (λ kind. tt, λ to _ e. lands_on Good _ to (landings _) e)
-act_on Good s (ClearBases pred_only) r m unat landings target = tt
-act_on Good s (Stop unit imm) r m unat landings target = tt
-act_on Good s (Idle unit) r m unat landings target = tt
+act_on Good s form r m unat landings target = search (target)
 
 -- so does one that is skipped
 skip_on : (Good : ℕ → Type 0) (s : Site) (form : Form) (r : Registers) (m : Memory) → IsGoodTarget Good s.bundle (form_displacement form) → SkipCases (IsGoodWay Good) s form r m

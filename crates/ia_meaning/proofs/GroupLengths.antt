@@ -10,7 +10,7 @@ use Rattle.ia_insn.specs.Places.{insn_at, IsPlaceOf}
 use Rattle.ia_insn.specs.Programs.{Program, IsProgram}
 use Rattle.ia_insn.specs.Runs.{StandBefore}
 use Rattle.ia_meaning.specs.declared.next.Next.{Next}
-use Rattle.ia_meaning.specs.declared.next.Next.TheVariants.{Falls, Goes, Breaks, Faults}
+use Rattle.ia_meaning.specs.declared.next.Next.TheVariants.{Falls}
 use Rattle.ia_meaning.specs.State.{State}
 use Rattle.ia_meaning.specs.Actions.{allocates}
 use Rattle.ia_meaning.specs.Outcomes.{Outcome}
@@ -59,9 +59,7 @@ slot_over p first g o Falls rest over = of (is_stopped p.bundles g.place) refl
     of : (b : Bool) → is_stopped p.bundles g.place ≡ b → IsSome (if b then ends_with (gathers first g o (place_after g.place (next_of p.bundles g.place))) g.place how.Falls None else one_more rest).how
     of true e = refl
     of false e = over e refl
-slot_over p first g o (Goes bundle) rest over = refl
-slot_over p first g o (Breaks imm) rest over = refl
-slot_over p first g o (Faults kind) rest over = refl
+slot_over p first g o way rest over = refl
 
 -- the group's next slot goes on to the next place where it falls through and no stop follows
 next_slot_falls_on : (p : Program) (g : Gathered) → IsPlaceOf p.bundles g.place → is_stopped p.bundles g.place ≡ false → (slot_outcome p g (insn_at p.bundles g.place)).next ≡ Falls → FallsOn p g.place

@@ -10,7 +10,7 @@ use Rattle.ia_insn.specs.Runs.{IsLeaving, EndsRun}
 use Rattle.ia_insn.specs.Targets.{displacement, IsBundleAt, IsTargetInside}
 use Rattle.ia_insn.proofs.InOrder.{is_place, get_some}
 use Rattle.ia_meaning.specs.declared.next.Next.{Next}
-use Rattle.ia_meaning.specs.declared.next.Next.TheVariants.{Falls, Goes, Breaks, Faults}
+use Rattle.ia_meaning.specs.declared.next.Next.TheVariants.{Falls, Goes}
 use Rattle.ia_meaning.specs.State.{Registers, Memory, State}
 use Rattle.ia_meaning.specs.Outcomes.{Outcome}
 use Rattle.ia_meaning.specs.Effects.{site, effect}
@@ -49,8 +49,7 @@ after_is_place bundles place (Some next) e is = let n = next_is bundles place ne
 step_inside : (p : Program) (s : State) (o : Outcome) (way : Next) → IsPlaceOf p.bundles s.place → IsGoodNext (IsBundleOf p) way → IsPlaceOf p.bundles (step_by p s o way).state.place
 step_inside p s o Falls is good = after_is_place p.bundles s.place (next_of p.bundles s.place) refl is
 step_inside p s o (Goes bundle) is good = first_is_place p.bundles bundle good
-step_inside p s o (Breaks imm) is good = is
-step_inside p s o (Faults kind) is good = is
+step_inside p s o way is good = is
 
 -- A step leaves the state at a place of the program.
 pub stays_inside : (p : Program) (s : State) → IsProgram p → IsPlaceOf p.bundles s.place → IsPlaceOf p.bundles (seq_step p s).state.place
@@ -95,9 +94,7 @@ pub record Continues (p : Program) (s : State) (step : Step) : Type 0 where
 continues_by : (p : Program) (s : State) (o : Outcome) (way : Next) → (is_stopped p.bundles s.place ≡ false → way ≡ Falls → FallsOn p s.place) → (step_by p s o way).how ≡ None → Continues p s (step_by p s o way)
 continues_by p s o Falls falls e =
     let f = falls (falling_on (is_stopped p.bundles s.place) e) refl in record { next = f.next; on = f.on; end = refl }
-continues_by p s o (Goes bundle) falls e = absurd cc
-continues_by p s o (Breaks imm) falls e = absurd cc
-continues_by p s o (Faults kind) falls e = absurd cc
+continues_by p s o way falls e = absurd cc
 
 -- A step that ends no group continues.
 pub step_continues : (p : Program) (s : State) → IsPlaceOf p.bundles s.place → (seq_step p s).how ≡ None → Continues p s (seq_step p s)

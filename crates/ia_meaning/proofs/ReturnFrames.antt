@@ -1,5 +1,5 @@
 -- The frame of a return.
-use Rattle.std.proofs.Common.{◌≡◌, ℕ, ◌+◌, ◌-◌, ◌≤◌, Bool, true, false, not, if◌then◌else◌, nat_lt, Some, None, refl, arith}
+use Rattle.std.proofs.Common.{◌≡◌, ℕ, ◌+◌, ◌-◌, ◌≤◌, Bool, false, not, if◌then◌else◌, nat_lt, Some, None, arith}
 use Rattle.std.specs.Prelude.{IsTrue}
 use Rattle.std.proofs.lemmas.Bool.Decides.{nat_tests}
 use Rattle.ia_meaning.specs.declared.limits.TheConstants.{STACK_LIMIT}
@@ -18,10 +18,7 @@ pub record MayReturn (limit base : ℕ) (f : FrameShape) : Type 0 where
 none_of_three : {Fault : Type 0} (a b c : Fault) (good under over : Bool)
     → (if not good then Some a else if under then Some b else if over then Some c else None) ≡ None
     → IsTrue good × (under ≡ false) × (over ≡ false)
-none_of_three a b c true false false e = (refl, refl, refl)
-none_of_three a b c true false true e = absurd (cc)
-none_of_three a b c true true over e = absurd (cc)
-none_of_three a b c false under over e = absurd (cc)
+none_of_three a b c good under over e = grind arith
 
 -- a return that none of the three faults refuses, whatever they are
 pub unrefused : {Fault : Type 0} (a b c : Fault) (limit base : ℕ) (f : FrameShape)

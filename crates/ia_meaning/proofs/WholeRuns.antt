@@ -10,7 +10,6 @@ use Rattle.ia_insn.specs.declared.ending.GroupEvent.{GroupEvent}
 use Rattle.ia_insn.specs.Places.{insn_at, IsPlaceOf}
 use Rattle.ia_insn.specs.Programs.{Program, IsProgram}
 use Rattle.ia_meaning.specs.declared.next.Next.{Next}
-use Rattle.ia_meaning.specs.declared.next.Next.TheVariants.{Falls, Goes, Breaks, Faults}
 use Rattle.ia_meaning.specs.declared.state.Rse.{Rse}
 use Rattle.ia_meaning.specs.State.{State}
 use Rattle.ia_meaning.specs.Outcomes.{Outcome}
@@ -40,10 +39,7 @@ unfolding advanced
 advanced_is p m none = rw none refl
 
 ends_no_run : (p : Program) (s : State) (o : Outcome) (way : Next) → (step_by p s o way).how ≡ None → (step_by p s o way).end ≡ None
-ends_no_run p s o Falls e = refl
-ends_no_run p s o (Goes bundle) e = absurd cc
-ends_no_run p s o (Breaks imm) e = absurd cc
-ends_no_run p s o (Faults kind) e = absurd cc
+ends_no_run p s o way e = grind arith
 
 -- a step that ends no group ends no run
 pub step_goes_on : (p : Program) (s : State) → (seq_step p s).how ≡ None → (seq_step p s).end ≡ None
