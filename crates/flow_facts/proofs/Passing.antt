@@ -1,27 +1,26 @@
 -- What comes along an edge.
-use Rattle.std.proofs.Common.{◌≡◌, ◌≢◌, ℕ, ◌+◌, ◌≤◌, ◌⊎◌, Bool, true, false, cond, Option, None, Some, List, length, set, length-set, refl, sym, ap, ◌∙◌, subst, arith, inl, inr}
+use Rattle.std.proofs.Common.{◌≡◌, ◌≢◌, ℕ, ◌+◌, ◌≤◌, ◌⊎◌, Bool, true, false, cond, Option, None, Some, List, length, get_or, set, length-set, refl, sym, ap, ◌∙◌, subst, arith, inl, inr}
 use Rattle.std.proofs.lemmas.Bool.{true≢false}
 use Rattle.std.proofs.lemmas.Option.{same_Some}
 use Rattle.std.proofs.lemmas.List.Sums.{sum_by-set}
 use Rattle.ia_insn.specs.declared.insn.Insn.{Insn}
 use Rattle.ia_insn.specs.declared.place.Place.{Place}
-use Rattle.ia_insn.specs.Places.{place_number, insn_at}
-use Rattle.ia_insn.specs.Programs.{Program, IsEntry}
+use Rattle.ia_insn.specs.Places.{place_number, place_at, insn_at}
+use Rattle.ia_insn.specs.Programs.{Program, IsProgram, IsEntry}
+use Rattle.ia_insn.proofs.InOrder.{slot_small}
 use Rattle.ia_meaning.specs.Sequence.{first_of}
 use Rattle.predicate_rel.specs.declared.edge.Edge.{Edge}
 use Rattle.predicate_rel.specs.declared.edge.Edge.TheVariants.{Falls, Taken}
 use Rattle.predicate_rel.specs.Pairs.{Table, Pairs, pairs_of, no_pairs, IsWithin}
-use Rattle.predicate_rel.specs.Rules.{pairs_after}
+use Rattle.predicate_rel.specs.Rules.{form_rule, pairs_by}
 use Rattle.predicate_rel.specs.RuleLaws.{WhyMissing, whatever, since, why_missing, pairs_after-within}
 use Rattle.predicate_rel.specs.Edges.{HasEdge, pairs_past, pairs_past_insn}
+use Rattle.slot_table.specs.declared.slot.Slot.{Slot}
+use Rattle.slot_table.specs.Slots.{slot_at, edge_from}
+use Rattle.slot_table.proofs.SlotLaws.{slot_edges, pairs_by-slot}
 use Rattle.flow_facts.specs.Walks.{Known, known_at, Walk, begins, goes_on, EndsAt, facts_on}
 use Rattle.flow_facts.specs.Tables.{weight, place_count, IsNumbered, AtMost, Shrinks, Joined, IsWitnessed, EdgeSettled, IsSettled, Passed, IsUnderWay, is_dirty, dirty_count}
-use Rattle.flow_facts.proofs.Numbering.{is_numbered, cases_place, value_at-set_same, value_at-set_other}
-
--- what is known past an instruction is what is known past its place
-pub past_insn : (p : Program) (from : Place) (insn : Insn) (e : Edge) (f : Pairs) → insn_at p.bundles from ≡ Some insn → pairs_after f insn e ≡ pairs_past p from e f
-unfolding pairs_past
-past_insn p from insn e f is = rw is refl
+use Rattle.flow_facts.proofs.Numbering.{is_numbered, place_at-number, value_read, cases_place, value_at-set_same, value_at-set_other}
 
 -- more before a place is more past it
 pub past_within : (p : Program) (from : Place) (e : Edge) (f g : Pairs) → IsWithin f g → IsWithin (pairs_past p from e f) (pairs_past p from e g)
@@ -111,29 +110,67 @@ not_dirty_there d k to l clean e =
 dirty_count-set : (d : List Bool) (to : Place) → IsNumbered (length d) to → dirty_count (set d (place_number to) true) ≤ dirty_count d + 1
 dirty_count-set d to l = omega (arith, sum_by-set (λ (is : Bool). cond is 1 0) d (place_number to) true false l.below)
 
+-- What is known at a place, these rows, has come along an edge from there.
+pub record ComesAlong (p : Program) (from : Place) (e : Edge) (to : Place) (t t' : List Known) (rows : Table) : Type 0 where
+  pub edge : HasEdge p from e to
+  pub at : known_at t from ≡ Some rows
+  pub joined : Joined t t' to (pairs_past p from e (pairs_of rows))
+
+-- by numbers of places and the slot
+pub comes_along : (p : Program) (from : ℕ) (e : Edge) (to : Place) (n : ℕ) (slot : Slot) (t t' : List Known) (read : Known) (rows : Table) (out : Pairs) → IsProgram p → length t ≡ place_count p → slot_at p.bundles (place_at from) ≡ Some slot → Some to ≡ edge_from slot e → read ≡ get_or t from read → read ≡ Some rows → n ≡ place_number to → out ≡ pairs_by (pairs_of rows) (form_rule slot.form e slot.qp) → Joined t t' (place_at n) out → ComesAlong p (place_at from) e to t t' rows
+comes_along p from e to n slot t t' read rows out program sized here leads got is number made joined =
+    let edge : HasEdge p (place_at from) e to = slot_edges p (place_at from) slot e (Some to) program here leads in
+    let numbered = is_numbered p (length t) (place_at from) sized edge.inside in
+    let at : place_at n ≡ to = ap place_at number ∙ place_at-number to (slot_small p.bundles to edge.lands) in
+    let past = made ∙ pairs_by-slot p (place_at from) slot e (pairs_of rows) here in
+    record {
+      edge = edge;
+      at = value_read None t from read (Some rows) (omega (arith, numbered.below)) got is;
+      joined = subst (λ (q : Place). Joined t t' q (pairs_past p (place_at from) e (pairs_of rows))) at (subst (Joined t t' (place_at n)) past joined);
+    }
+
+-- where the end of an edge knows no more than what comes along it, each edge of its sort is settled
+settled_pass : (p : Program) (from : Place) (e : Edge) (to : Place) (t : List Known) (rows : Table) → HasEdge p from e to → known_at t from ≡ Some rows → AtMost t to (pairs_past p from e (pairs_of rows)) → (to' : Place) → HasEdge p from e to' → EdgeSettled p t from e to'
+settled_pass p from e to t rows edge at most to' edge' = record {
+  settles = λ rows' at'.
+      let one : to ≡ to' = leads_to_one p from e to to' edge edge' in
+      let same : rows ≡ rows' = same_Some _ _ (sym at ∙ at') in
+      let P : Place → Table → Type 0 = λ k r. AtMost t k (pairs_past p from e (pairs_of r)) in
+      subst (λ (k : Place). P k rows') one (subst (λ (r : Table). P to r) same most);
+}
+
+-- nothing is changed where each edge of this sort is settled
+pub passed_settled : (p : Program) (from : Place) (e : Edge) (t : List Known) (d : List Bool) → IsWitnessed p t → ((to : Place) → HasEdge p from e to → EdgeSettled p t from e to) → Passed p from e t d t d
+passed_settled p from e t d wit settled = record {
+  witnessed = wit;
+  settled = λ clean. settled;
+  progress = record { shrinks = record { same_length = refl; keeps = λ k f most. most }; same_length = refl; clean = λ k c. (c, refl) };
+  lost = omega arith;
+}
+
+-- so it is where what came changes nothing
+pub passed_same : (p : Program) (from : Place) (e : Edge) (to : Place) (t t' : List Known) (d : List Bool) (rows : Table) → IsWitnessed p t → ComesAlong p from e to t t' rows → t' ≡ t → Passed p from e t d t' d
+passed_same p from e to t t' d rows wit came same =
+    let below : AtMost t to (pairs_past p from e (pairs_of rows)) = subst (λ (u : List Known). AtMost u to (pairs_past p from e (pairs_of rows))) same came.joined.below in
+    rw same (passed_settled p from e t d wit (settled_pass p from e to t rows came.edge came.at below))
+
 -- the end of an edge was changed and marked
-pub passed_changed : (p : Program) (from : Place) (e : Edge) (to : Place) (t t' : List Known) (d : List Bool) (rows : Table) → HasEdge p from e to → length d ≡ place_count p → IsWitnessed p t → known_at t from ≡ Some rows → Joined t t' to (pairs_past p from e (pairs_of rows)) → weight t' + 1 ≤ weight t → Passed p from e t d t' (set d (place_number to) true)
-passed_changed p from e to t t' d rows edge sized wit at joined less = record {
-  witnessed = witnessed_pass p t t' from e to rows wit at edge joined;
-  settled = λ clean to' edge'. record {
-    settles = λ rows' at'.
-        let one : to ≡ to' = leads_to_one p from e to to' edge edge' in
-        let same : rows ≡ rows' = same_Some _ _ (sym at ∙ sym (joined.others from (not_dirty_there d from to short clean)) ∙ at') in
-        let P : Place → Table → Type 0 = λ k r. AtMost t' k (pairs_past p from e (pairs_of r)) in
-        subst (λ (k : Place). P k rows') one (subst (λ (r : Table). P to r) same joined.below);
-  };
+pub passed_changed : (p : Program) (from : Place) (e : Edge) (to : Place) (t t' : List Known) (d : List Bool) (rows : Table) → length d ≡ place_count p → IsWitnessed p t → ComesAlong p from e to t t' rows → weight t' + 1 ≤ weight t → Passed p from e t d t' (set d (place_number to) true)
+passed_changed p from e to t t' d rows sized wit came less = record {
+  witnessed = witnessed_pass p t t' from e to rows wit came.at came.edge came.joined;
+  settled = λ clean. settled_pass p from e to t' rows came.edge (came.joined.others from (not_dirty_there d from to short clean) ∙ came.at) came.joined.below;
   progress = record {
-    shrinks = joined.shrinks;
+    shrinks = came.joined.shrinks;
     same_length = length-set d (place_number to) true;
     clean = λ k c.
         let apart = not_dirty_there d k to short c in
-        (sym (value_at-set_other false true d to k short.slot apart) ∙ c, joined.others k apart);
+        (sym (value_at-set_other false true d to k short.slot apart) ∙ c, came.joined.others k apart);
   };
   lost = omega (arith, dirty_count-set d to short, less);
 }
   where
     short : IsNumbered (length d) to
-    short = is_numbered p (length d) to sized edge.lands
+    short = is_numbered p (length d) to sized came.edge.lands
 
 -- what is settled stays so while its own place keeps its facts
 pub still_settled : (p : Program) (t t' : List Known) (k : Place) (e : Edge) (to : Place) → Shrinks t t' → known_at t' k ≡ known_at t k → EdgeSettled p t k e to → EdgeSettled p t' k e to

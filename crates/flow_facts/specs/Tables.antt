@@ -116,7 +116,3 @@ pub record Passed (p : Program) (from : Place) (e : Edge) (table : List Known) (
   pub settled : is_dirty dirty' from ≡ false → (to : Place) → HasEdge p from e to → EdgeSettled p table' from e to
   pub progress : Progress table dirty table' dirty'
   pub lost : weight table' + dirty_count dirty' ≤ weight table + dirty_count dirty
-
--- What is known past a place, on the way along an edge, by what is known at it.
-abbrev pub IsPast : Program → Place → Edge → Known → Pairs → Type 0
-IsPast p from e before out = (rows : Table) × (before ≡ Some rows) × (out ≡ pairs_past p from e (pairs_of rows))

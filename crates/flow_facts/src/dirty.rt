@@ -1,11 +1,8 @@
 //! The dirty places: those that are still to be gone on from.
 
-ghost use Rattle.std.specs.Prelude.{◌≡◌, ℕ, IfOk, MatchOption, List, Bool, true, false, length, slice_index_or, slice_set, replicate};
-ghost use Rattle.ia_insn.specs.Places.{place_number};
-ghost use Rattle.flow_facts.specs.Tables.{IsNumbered, IsKept, IsLowest};
+ghost use Rattle.std.specs.Prelude.{◌≡◌, ℕ, ◌<◌, IfOk, MatchOption, List, Bool, true, false, length, slice_index_or, slice_set, replicate};
+ghost use Rattle.flow_facts.specs.Tables.{IsKept, IsLowest};
 
-use crate::table::number;
-use ia_insn::Place;
 use std::alloc::{AllocError, Global};
 use std::marker::Model;
 
@@ -51,12 +48,11 @@ impl DirtyPlaces {
         })
     }
 
-    /// The place is dirty from now on.
-    pub(crate) fn insert(&mut self, place: Place)
-        requires { IsNumbered (length self.old) place }
-        ensures { self.new ≡ slice_set self.old (place_number place) true }
+    /// The place of this number is dirty from now on.
+    pub(crate) fn insert(&mut self, n: usize)
+        requires { n < length self.old }
+        ensures { self.new ≡ slice_set self.old n true }
     {
-        let n = number(place);
         self.flags[n] = true;
         self.blocks[n / BLOCK] = true;
         if n < self.low {
@@ -64,12 +60,11 @@ impl DirtyPlaces {
         }
     }
 
-    /// The place is no longer dirty.
-    pub(crate) fn remove(&mut self, place: Place)
-        requires { IsNumbered (length self.old) place }
-        ensures { self.new ≡ slice_set self.old (place_number place) false }
+    /// The place of this number is no longer dirty.
+    pub(crate) fn remove(&mut self, n: usize)
+        requires { n < length self.old }
+        ensures { self.new ≡ slice_set self.old n false }
     {
-        let n = number(place);
         self.flags[n] = false;
     }
 

@@ -1,16 +1,18 @@
 //! Facts run to a fixpoint over the places of a program.
 
-ghost use Rattle.std.specs.Prelude.{◌≡◌, ◌+◌, ◌<◌, List, true, false, length, None, IfOk};
+ghost use Rattle.std.specs.Prelude.{◌≡◌, ◌+◌, ◌<◌, List, true, false, length, slice_index_or, None, Some, IfOk};
 ghost use Rattle.std.specs.Option.{option_copied};
 ghost use Rattle.ia_insn.specs.declared.place.Place.{Place};
+ghost use Rattle.ia_insn.specs.Places.{place_at};
+ghost use Rattle.slot_table.specs.Slots.{slot_at};
 ghost use Rattle.flow_facts.specs.Walks.{Known, known_at, IsSolution};
-ghost use Rattle.flow_facts.specs.Tables.{IsNumbered, Passed, weight, dirty_count, IsWitnessed, IsUnderWay, is_dirty, place_count};
+ghost use Rattle.flow_facts.specs.Tables.{Passed, weight, dirty_count, IsWitnessed, IsUnderWay, is_dirty, place_count};
 
 use crate::dirty::DirtyPlaces;
-use crate::edges::edge_end;
-use crate::table::{join, known_past, number, place_at};
+use crate::table::join;
 use ia_insn::{Place, Program};
 use predicate_rel::{Edge, Facts};
+use slot_table::{Slot, SlotTable, place_number};
 use std::alloc::{AllocError, Global};
 use std::marker::Model;
 
@@ -36,30 +38,36 @@ impl InFacts {
         if place.slot > 2 {
             return None;
         }
-        self.table.get(number(place))?.as_ref()
+        self.table.get(place_number(place))?.as_ref()
     }
 }
 
-/// Takes what is known at a place along its edge of this sort, if it has one. If that changes the place
-/// at its end, that place is dirty from then on.
+/// Takes what is known at the place of this number along the edge of this sort from its slot, if there is one. If
+/// that changes the place at its end, that place is dirty from then on.
 fn pass(
-    program: &Program,
+    slots: &SlotTable,
     table: &mut Vec<Option<Facts>>,
     dirty: &mut DirtyPlaces,
-    from: Place,
+    from: usize,
+    slot: &Slot,
     edge: Edge,
 )
-    requires table { length table.old.items ≡ place_count program.now }
-    requires dirty { length dirty.old ≡ place_count program.now }
-    requires witnessed { IsWitnessed program.now table.old.items }
-    ensures { Passed program.now from edge table.old.items dirty.old table.new.items dirty.new }
+    requires slot { slot_at slots.now.bundles (place_at from) ≡ Some slot.now }
+    requires table { length table.old.items ≡ place_count slots.now }
+    requires dirty { length dirty.old ≡ place_count slots.now }
+    requires witnessed { IsWitnessed slots.now table.old.items }
+    ensures { Passed slots.now (place_at from) edge table.old.items dirty.old table.new.items dirty.new }
 {
-    let Some(to) = edge_end(program, from, edge) else {
+    // This call tells that the program is one, so its edges lead to its places.
+    let _program = slots.program();
+    let Some(to) = slot.edge_end(edge) else {
         return;
     };
-    let Some(out) = known_past(program, table, from, edge) else {
+    let Some(known) = &table[from] else {
         return;
     };
+    let out = known.after_form(&slot.form, slot.qp, edge);
+    let to = place_number(to);
     if join(table, to, out) {
         dirty.insert(to);
     }
@@ -67,29 +75,30 @@ fn pass(
 
 /// Takes what is known at a dirty place along all its edges. It is dirty no more, unless that changes the
 /// place itself.
-fn spread(program: &Program, table: &mut Vec<Option<Facts>>, dirty: &mut DirtyPlaces, from: Place)
-    requires from { IsNumbered (place_count program.now) from }
-    requires dirty { is_dirty dirty.old from ≡ true }
-    requires under_way { IsUnderWay program.now table.old.items dirty.old }
-    ensures under_way { IsUnderWay program.now table.new.items dirty.new }
+fn spread(slots: &SlotTable, table: &mut Vec<Option<Facts>>, dirty: &mut DirtyPlaces, from: usize)
+    requires from { from < place_count slots.now }
+    requires dirty { slice_index_or dirty.old from false ≡ true }
+    requires under_way { IsUnderWay slots.now table.old.items dirty.old }
+    ensures under_way { IsUnderWay slots.now table.new.items dirty.new }
     ensures less { weight table.new.items + dirty_count dirty.new < weight table.old.items + dirty_count dirty.old }
 {
     dirty.remove(from);
-    pass(program, table, dirty, from, Edge::Falls);
-    pass(program, table, dirty, from, Edge::Taken);
+    let Some(slot) = slots.at_number(from) else {
+        return;
+    };
+    pass(slots, table, dirty, from, slot, Edge::Falls);
+    pass(slots, table, dirty, from, slot, Edge::Taken);
 }
 
 /// Goes on from the lowest dirty place until none is left. This ends, since a place gets dirty only where
 /// the table loses something.
-fn settle(program: &Program, table: &mut Vec<Option<Facts>>, dirty: &mut DirtyPlaces)
-    requires { IsUnderWay program.now table.old.items dirty.old }
-    ensures under_way { IsUnderWay program.now table.new.items dirty.new }
+fn settle(slots: &SlotTable, table: &mut Vec<Option<Facts>>, dirty: &mut DirtyPlaces)
+    requires { IsUnderWay slots.now table.old.items dirty.old }
+    ensures under_way { IsUnderWay slots.now table.new.items dirty.new }
     ensures clean { (place : Place) → is_dirty dirty.new place ≡ false }
 {
-    // This call tells that the program is one, so the numbers of its places are small.
-    let _count = program.bundle_count();
-    'settling: while let Some(n) = dirty.lowest() {
-        spread(program, table, dirty, place_at(n as u32));
+    'settling: while let Some(from) = dirty.lowest() {
+        spread(slots, table, dirty, from);
     }
 }
 
@@ -102,9 +111,9 @@ fn enter(program: &Program, table: &mut Vec<Option<Facts>>, dirty: &mut DirtyPla
 {
     for bundle in 0..program.bundle_count() {
         if program.is_entry(bundle) {
-            let place = Place { bundle, slot: 0 };
-            let _changed = join(table, place, Facts::empty());
-            dirty.insert(place);
+            let first = place_number(Place { bundle, slot: 0 });
+            let _changed = join(table, first, Facts::empty());
+            dirty.insert(first);
         }
     }
 }
@@ -116,9 +125,10 @@ fn enter(program: &Program, table: &mut Vec<Option<Facts>>, dirty: &mut DirtyPla
 /// # Errors
 ///
 /// Want of memory.
-pub fn solve(alloc: Global, program: &Program) -> Result<InFacts, AllocError>
-    ensures { IfOk result (λ facts. IsSolution program.now facts) }
+pub fn solve(alloc: Global, slots: &SlotTable) -> Result<InFacts, AllocError>
+    ensures { IfOk result (λ facts. IsSolution slots.now facts) }
 {
+    let program = slots.program();
     let count = 3 * program.bundle_count() as usize;
     let mut table = Vec::with_capacity(alloc, count)?;
     'making: for _ in 0..count {
@@ -126,6 +136,6 @@ pub fn solve(alloc: Global, program: &Program) -> Result<InFacts, AllocError>
     }
     let mut dirty = DirtyPlaces::none(alloc, count)?;
     enter(program, &mut table, &mut dirty);
-    settle(program, &mut table, &mut dirty);
+    settle(slots, &mut table, &mut dirty);
     Ok(InFacts { table })
 }

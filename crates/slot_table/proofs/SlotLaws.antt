@@ -1,20 +1,20 @@
 -- What the slot of a place says of the place.
-use Rattle.std.proofs.Common.{◌≡◌, ℕ, ◌*◌, ◌<◌, ◌≤◌, ◌⊎◌, Bool, Option, None, Some, option_map, List, length, get_or, refl, sym, ap, ◌∙◌, subst, arith, inl, inr}
-use Rattle.std.specs.Prelude.{MatchOption, IsSomeAnd, IsTrue, ◌↔◌, slice_get}
+use Rattle.std.proofs.Common.{◌≡◌, ℕ, ◌*◌, ◌<◌, ◌≤◌, ◌⊎◌, Option, None, Some, option_map, List, length, get_or, refl, sym, ap, ◌∙◌, arith, inl, inr}
+use Rattle.std.specs.Prelude.{MatchOption}
 use Rattle.std.proofs.lemmas.Bool.{cases_lt}
 use Rattle.std.proofs.lemmas.Option.{same_Some}
 use Rattle.std.proofs.lemmas.List.{get_or_past}
 use Rattle.ia_insn.specs.declared.insn.Insn.{Insn}
 use Rattle.ia_insn.specs.declared.place.Place.{Place}
-use Rattle.ia_insn.specs.Bundles.{Bundle, IsStopAfter}
+use Rattle.ia_insn.specs.Bundles.{Bundle}
 use Rattle.ia_insn.specs.Places.{place_at, insn_at, IsPlaceOf}
 use Rattle.ia_insn.specs.Programs.{Program, IsProgram}
 use Rattle.ia_insn.proofs.InOrder.{bundle_small, slot_small}
-use Rattle.ia_meaning.specs.Sequence.{is_stopped}
-use Rattle.ia_meaning.proofs.Sequences.{stop_same}
 use Rattle.predicate_rel.specs.declared.edge.Edge.{Edge}
 use Rattle.predicate_rel.specs.declared.edge.Edge.TheVariants.{Falls, Taken}
-use Rattle.predicate_rel.specs.Edges.{edge_of, edge_end, HasEdge}
+use Rattle.predicate_rel.specs.Pairs.{Pairs}
+use Rattle.predicate_rel.specs.Rules.{form_rule, pairs_by, rule_of, pairs_after}
+use Rattle.predicate_rel.specs.Edges.{edge_of, edge_end, HasEdge, pairs_past, pairs_past_insn}
 use Rattle.predicate_rel.proofs.EdgeEnds.{is_edge_end}
 use Rattle.slot_table.specs.declared.slot.Slot.{Slot}
 use Rattle.slot_table.specs.Slots.{slot_of, slot_at, edge_from}
@@ -64,10 +64,17 @@ edge_from-slot bundles place slot e at =
     ap (λ (q : Slot). edge_from q e) (sym s.is) ∙ edge_of-slot bundles place s.insn e ∙ ap (λ (o : Option Insn). edge_of bundles place o e) (sym s.here)
 
 -- and are those of the program
-pub slot_edges : (p : Program) (from : Place) (slot : Slot) (e : Edge) → IsProgram p → slot_at p.bundles from ≡ Some slot → MatchOption (edge_from slot e) ((to : Place) → HasEdge p from e to → ⊥) (λ to. HasEdge p from e to)
-slot_edges p from slot e program at =
+pub slot_edges : (p : Program) (from : Place) (slot : Slot) (e : Edge) (r : Option Place) → IsProgram p → slot_at p.bundles from ≡ Some slot → r ≡ edge_from slot e → MatchOption r ((to : Place) → HasEdge p from e to → ⊥) (λ to. HasEdge p from e to)
+slot_edges p from slot e r program at leads =
     let s = slot_is p.bundles from slot at in
-    is_edge_end p from s.insn e (edge_from slot e) program s.here (ap (λ (q : Slot). edge_from q e) (sym s.is) ∙ edge_of-slot p.bundles from s.insn e)
+    is_edge_end p from s.insn e r program s.here (leads ∙ ap (λ (q : Slot). edge_from q e) (sym s.is) ∙ edge_of-slot p.bundles from s.insn e)
+
+-- what is known past a slot is what is known past its place
+pub pairs_by-slot : (p : Program) (from : Place) (slot : Slot) (e : Edge) (f : Pairs) → slot_at p.bundles from ≡ Some slot → pairs_by f (form_rule slot.form e slot.qp) ≡ pairs_past p from e f
+unfolding pairs_past pairs_after rule_of
+pairs_by-slot p from slot e f at =
+    let s = slot_is p.bundles from slot at in
+    ap (λ (q : Slot). pairs_by f (form_rule q.form e q.qp)) (sym s.is) ∙ ap (λ (o : Option Insn). pairs_past_insn o e f) (sym s.here)
 
 -- a slot above 2 is at no place
 pub no_slot_above : (bundles : List Bundle) (place : Place) → 2 < place.slot → None ≡ slot_at bundles place

@@ -1,11 +1,12 @@
 //! Where control goes on from a slot.
 
-ghost use Rattle.std.specs.Prelude.{◌≡◌, ◌^◌, ◌<◌};
+ghost use Rattle.std.specs.Prelude.{◌≡◌, ◌^◌, ◌<◌, Some};
+ghost use Rattle.ia_meaning.specs.Landings.{target_of};
 ghost use Rattle.ia_meaning.specs.Sequence.{next_of, is_stopped};
 ghost use Rattle.predicate_rel.specs.Edges.{leaves, displacement_of, target_at};
 
 use ia_insn::{Place, Program};
-use ia_meaning::{Form, Goal, target_of};
+use ia_meaning::{Form, Goal};
 
 /// Whether it is a `br.cond`, `br.call` or `br.ret`, direct or indirect, or a `break`: where the
 /// qualifying predicate is 1, control doesn't fall through.
@@ -40,6 +41,14 @@ fn displacement(form: &Form) -> Option<i32>
     }
 }
 
+/// The bundle that is so many from this one; where the sum is negative, the distance.
+fn target_of(bundle: u32, disp: i32) -> u32
+    requires { bundle < 2 ^ 31 }
+    ensures { result ≡ target_of bundle disp }
+{
+    (i64::from(bundle) + i64::from(disp)).unsigned_abs() as u32
+}
+
 /// Slot 0 of the target of an instruction of this form. None exactly where it has no target.
 pub(crate) fn target(bundle: u32, form: &Form) -> Option<Place>
     requires { bundle < 2 ^ 31 }
@@ -52,17 +61,17 @@ pub(crate) fn target(bundle: u32, form: &Form) -> Option<Place>
     })
 }
 
-/// Whether a stop follows the place.
-pub(crate) fn is_stopped(program: &Program, place: Place) -> bool
-    ensures { result ≡ is_stopped program.now.bundles place }
-{
-    program.stop_after(place)
-}
-
-/// The next place, where there is one.
+/// The next place.
 #[tactic(auto, using(ia_meaning::proofs::Sequences::next_same))]
 pub(crate) fn next(program: &Program, place: Place) -> Option<Place>
     ensures { result ≡ next_of program.now.bundles place }
 {
     program.next(place)
+}
+
+/// Whether a stop follows the place.
+pub(crate) fn is_stopped(program: &Program, place: Place) -> bool
+    ensures { result ≡ is_stopped program.now.bundles place }
+{
+    program.stop_after(place)
 }

@@ -27,11 +27,12 @@ pub struct Slot {
 
 impl Slot {
     /// The slot at a place of a program. None exactly where there is no such place.
-    #[tactic(auto, unfolding(crate::specs::Slots::slot_at), using(predicate_rel::proofs::EdgeEnds::bundle_below))]
+    #[tactic(auto, unfolding(crate::specs::Slots::slot_at))]
     pub(crate) fn at(program: &Program, place: Place) -> Option<Slot>
         ensures { result ≡ slot_at program.now.bundles place }
     {
-        program.is_program();
+        // This call tells that the program is one, so it has few bundles.
+        let _count = program.bundle_count();
         let insn = program.insn_at(place)?;
         let form = form_of(&insn.op);
         Some(Slot {

@@ -58,7 +58,8 @@ impl<'a> SlotTable<'a> {
     pub fn open(alloc: Global, program: &'a Program) -> Result<SlotTable<'a>, AllocError>
         ensures { IfOk result (λ table. table ≡ program.now) }
     {
-        program.is_program();
+        // This call tells that the program is one.
+        let _count = program.bundle_count();
         let slots = slots_of(alloc, program)?;
         Ok(SlotTable { program, slots })
     }
@@ -98,7 +99,8 @@ impl<'a> SlotTable<'a> {
     pub fn edge_end(&self, from: Place, edge: Edge) -> Option<Place>
         ensures { MatchOption result ((to : Place) → HasEdge self.now from edge to → ⊥) (λ to. HasEdge self.now from edge to) }
     {
-        self.program().is_program();
+        // This call tells that the program is one, so its targets are its bundles.
+        let _program = self.program();
         self.at(from)?.edge_end(edge)
     }
 }
