@@ -50,11 +50,6 @@ meet_past p j IsOld IsNew f go meet = record {
 pub meet_at : (p : Program) (j : Place) (f : Pairs) → IsMeet p j f → IsMeetOf p (EndsAt p j) f
 meet_at p j f meet = record { reached = meet.reached; sound = meet.sound; exact = meet.exact }
 
--- past the instruction at the slot
-pub past_insn : (p : Program) (j : Place) (insn : Insn) (f : Pairs) → insn_at p.bundles j ≡ Some insn → pairs_past p j Falls f ≡ pairs_after f insn Falls
-unfolding pairs_past
-past_insn p j insn f e = ap (λ (o : Option Insn). pairs_past_insn o Falls f) e
-
 -- an instruction that doesn't change what is known keeps each pair where control falls through
 kept_rule : (f : Form) (g x y : ℕ) → changes_facts f ≡ false → form_rule f Falls g x y ≡ one x y
 kept_rule (form.Test kind p1 p2 r2 r3 c) g x y e = absurd (true≢false e)

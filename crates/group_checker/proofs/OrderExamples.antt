@@ -1,11 +1,9 @@
 -- The examples of groups in two orders, computed.
-use Rattle.std.proofs.Common.{◌≡◌, refl, sym, ap, ◌∙◌, inl, inr, ◌∷◌, [], arith, rules}
+use Rattle.std.proofs.Common.{◌≡◌, refl, ap, inl, inr, ◌∷◌, [], arith, rules}
 use Rattle.std.proofs.lemmas.List.Elements.{All-replicate}
-use Rattle.ia_insn.specs.Programs.{IsEntry}
 use Rattle.ia_insn.specs.Places.{insn_at}
 use Rattle.ia_meaning.specs.declared.state.Cell.{Cell}
-use Rattle.ia_meaning.specs.State.{IsWord, IsFrame, AreRegisters, IsMemory, IsState, IsStart, zero_cell, zero_frame}
-use Rattle.ia_meaning.specs.OrderIndependence.{IsRobust}
+use Rattle.ia_meaning.specs.State.{IsWord, IsStart, zero_cell}
 use Rattle.ia_meaning.specs.Names.{look, spot, holds, frame_place, predicate_place, predicate_spot}
 use Rattle.ia_meaning.specs.Sequence.{next_of, is_stopped}
 use Rattle.ia_meaning.specs.Landings.{is_entry, landing}

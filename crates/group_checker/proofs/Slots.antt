@@ -1,5 +1,5 @@
 -- What the slot of a place says of the place.
-use Rattle.std.proofs.Common.{◌≡◌, Bool, true, false, not, ◌&&◌, if◌then◌else◌, Option, None, Some, List, refl, sym, ap, ◌∙◌, rules}
+use Rattle.std.proofs.Common.{◌≡◌, Bool, true, false, not, ◌&&◌, if◌then◌else◌, None, Some, List, refl, sym, ap, ◌∙◌, rules}
 use Rattle.std.proofs.lemmas.Bool.{and_parts, not-true, true≢false}
 use Rattle.ia_insn.specs.declared.place.Place.{Place}
 use Rattle.ia_insn.specs.Places.{IsPlaceOf}
@@ -9,9 +9,7 @@ use Rattle.ia_meaning.specs.Sequence.{next_of, is_stopped}
 use Rattle.resource_sets.specs.declared.access.Access.{Access}
 use Rattle.resource_sets.specs.Accesses.{accesses_of}
 use Rattle.predicate_rel.specs.declared.edge.Edge.TheVariants.{Falls}
-use Rattle.predicate_rel.specs.Pairs.{Pairs}
-use Rattle.predicate_rel.specs.Rules.{form_rule, rule_of, pairs_by, pairs_after}
-use Rattle.predicate_rel.specs.Edges.{HasEdge, pairs_past}
+use Rattle.predicate_rel.specs.Edges.{HasEdge}
 use Rattle.slot_table.specs.declared.slot.Slot.{Slot}
 use Rattle.slot_table.specs.Slots.{slot_at, edge_from}
 use Rattle.slot_table.proofs.SlotLaws.{slot_is, slot_edges, edge_from-slot}
@@ -19,7 +17,6 @@ use Rattle.group_checker.specs.declared.window.EarlierSlot.{EarlierSlot}
 use Rattle.group_checker.specs.Excuses.{accesses_in, accesses_at}
 use Rattle.group_checker.specs.Violations.{clears, clears_in, allocates_at, clears_at}
 use Rattle.group_checker.specs.Windows.{IsWindow, IsUnderWay, joins}
-use Rattle.group_checker.proofs.Meets.{past_insn}
 use Rattle.group_checker.proofs.Windowing.{Joins}
 
 module _ (p : Program) (j : Place) (s : Slot) (at : slot_at p.bundles j ≡ Some s) where
@@ -48,17 +45,12 @@ module _ (p : Program) (j : Place) (s : Slot) (at : slot_at p.bundles j ≡ Some
   pub slot_place : IsPlaceOf p.bundles j
   slot_place = let i = slot_is p.bundles j s at in rw i.here (search rules)
 
-  -- what is known past the slot
-  pub past_slot : (f : Pairs) → pairs_past p j Falls f ≡ pairs_by f (form_rule s.form Falls s.qp)
-  unfolding pairs_after rule_of
-  past_slot f = let i = slot_is p.bundles j s at in past_insn p j i.insn f i.here ∙ ap (λ (q : Slot). pairs_by f (form_rule q.form Falls q.qp)) i.is
-
   -- control falls from a slot that joins the next one within a group
   pub slot_joins : (next : Place) → IsProgram p → joins s ≡ true → next_of p.bundles j ≡ Some next → Joins p j next
   slot_joins next program joined follows =
       let (falls, goes) = and_parts s.falls (not s.stop) joined in
       let to : edge_from s Falls ≡ Some next = ap (λ (b : Bool). if b then s.next else None) falls ∙ slot_next ∙ follows in
-      record { is = slot_place; edge = rw to at (slot_edges p j s Falls program at); unstopped = sym slot_stop ∙ not-true s.stop goes }
+      record { is = slot_place; edge = slot_edges p j s Falls (Some next) program at (sym to); unstopped = sym slot_stop ∙ not-true s.stop goes }
 
   -- and not from another one
   pub slot_parts : (next : Place) → joins s ≡ false → HasEdge p j Falls next → is_stopped p.bundles j ≡ true

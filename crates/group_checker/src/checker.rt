@@ -1,10 +1,9 @@
 //! The check of a program.
 
 ghost use Rattle.std.specs.Prelude.{◌≡◌, ◌+◌, ◌*◌, ◌≤◌, ◌<◌, length, IfOk, OnOk};
-ghost use Rattle.ia_insn.specs.Places.{IsPlaceOf, place_number};
+ghost use Rattle.ia_insn.specs.Places.{place_number};
 ghost use Rattle.ia_insn.specs.Programs.{Program, IsProgram};
 ghost use Rattle.ia_meaning.specs.OrderIndependence.{IsRobust};
-ghost use Rattle.ia_meaning.specs.Sequence.{first_of};
 ghost use Rattle.group_checker.specs.Reports.{IsVerdict, OneVerdict};
 ghost use Rattle.group_checker.specs.Windows.{IsUnderWay};
 ghost use Rattle.group_checker.specs.Progress.{HasReported, IsEarlier, IsUpTo, pair_bound, place_bound, second_bound};
@@ -18,17 +17,6 @@ use ia_insn::{Place, Program};
 use resource_sets::{ACCESS_LIMIT, Access, accesses_of};
 use slot_table::{Slot, SlotTable};
 use std::alloc::{AllocError, Global};
-
-/// The first place.
-fn first_place(table: &SlotTable) -> Place
-    ensures first { result ≡ first_of 0 }
-    ensures place { IsPlaceOf table.now.bundles result }
-    ensures program { IsProgram table.now }
-{
-    // This call tells that the table is that of a program, so it has a bundle.
-    let _program = table.program();
-    Place::FIRST
-}
 
 /// Reports what is broken with this second slot, if all that is broken with earlier ones is reported. `seconds`
 /// are its accesses, `window` are the slots that are earlier in its group.
@@ -64,13 +52,14 @@ fn check_second(
 ///
 /// Want of memory.
 fn check_slots(alloc: Global, table: &SlotTable) -> Result<Verdict, AllocError>
+    requires { IsProgram table.now }
     ensures verdict { IfOk result (λ verdict. IsVerdict table.now verdict) }
     ensures robust { IfOk result (λ verdict. verdict ≡ Verdict.Accepted → IsRobust table.now) }
 {
-    let facts = solve(alloc, table.program())?;
+    let facts = solve(alloc, table)?;
     let mut report = Report::empty(alloc);
     let mut window = Vec::new(alloc);
-    let mut second = first_place(table);
+    let mut second = Place::FIRST;
     'slots: loop {
         let Some(slot) = table.at(second) else {
             unreachable!();
@@ -108,6 +97,8 @@ pub fn check(alloc: Global, program: &Program) -> Result<Verdict, AllocError>
     ensures verdict { IfOk result (λ verdict. IsVerdict program.now verdict) }
     ensures robust { IfOk result (λ verdict. verdict ≡ Verdict.Accepted → IsRobust program.now) }
 {
+    // This call tells that it is a program.
+    let _count = program.bundle_count();
     let table = SlotTable::open(alloc, program)?;
     check_slots(alloc, &table)
 }

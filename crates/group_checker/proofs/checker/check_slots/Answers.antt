@@ -1,15 +1,12 @@
-use Rattle.std.proofs.Common.{◌≡◌, ◌<◌, ◌*◌, List, [], Some, length, sym, ap, ◌∙◌, subst, arith}
-use Rattle.ia_insn.specs.declared.place.Place.{Place}
+use Rattle.std.proofs.Common.{◌≡◌, ◌<◌, ◌*◌, Some, length, sym, ap, ◌∙◌, arith}
 use Rattle.ia_insn.specs.Places.{place_number}
-use Rattle.ia_insn.specs.Programs.{Program}
-use Rattle.ia_meaning.specs.Sequence.{next_of}
+use Rattle.ia_meaning.specs.Sequence.{first_of, next_of}
+use Rattle.ia_meaning.proofs.Inside.{first_is_place}
 use Rattle.slot_table.proofs.SlotLaws.{not_place}
-use Rattle.flow_facts.specs.Walks.{IsSolution}
 use Rattle.group_checker.specs.declared.report.TheConstants.{SHOWN_LIMIT}
 use Rattle.group_checker.specs.declared.window.EarlierSlot.{EarlierSlot}
 use Rattle.group_checker.specs.Shown.{Report}
-use Rattle.group_checker.specs.Windows.{IsWindow}
-use Rattle.group_checker.specs.Progress.{HasReported, IsEarlier, place_bound, second_bound}
+use Rattle.group_checker.specs.Progress.{IsEarlier, place_bound, second_bound}
 use Rattle.group_checker.proofs.RunOrders.{accepted_robust}
 use Rattle.group_checker.proofs.Slots.{slot_next, under_way}
 use Rattle.group_checker.proofs.Windowing.{first_window}
@@ -23,17 +20,14 @@ pub slots-init : goal.slots-init
 slots-init c =
     let p = c.args.table.now in
     let r = c.empty-report.result in
-    let P : List EarlierSlot → Place → Type 0 = λ es j. IsWindow p es j in
     record {
-      place = c.first_place-second.ensures.place;
-      window = subst (λ (es : List EarlierSlot). P es c.first_place-second.result) (sym c.new-window.ensures.items) (subst (λ (j : Place). P [] j) (sym c.first_place-second.ensures.first) (first_window p));
-      reports = bounded p r (IsEarlier c.first_place-second.result) 0 _ (omega arith)
-          (subst (λ (j : Place). HasReported p r (IsEarlier j) 0) (sym c.first_place-second.ensures.first)
-          (none_reported p r (ap (λ (q : Report). q.total) c.empty-report.ensures) (ap (λ (q : Report). q.shown) c.empty-report.ensures)));
+      place = first_is_place p.bundles 0 (omega (arith, c.requires.counts.some));
+      window = rw c.new-window.ensures.items (first_window p);
+      reports = bounded p r (IsEarlier (first_of 0)) 0 _ (omega arith) (none_reported p r (ap (λ (q : Report). q.total) c.empty-report.ensures) (ap (λ (q : Report). q.shown) c.empty-report.ensures));
     }
 
 pub check_second-requires-clause-place : goal.check_second-requires-clause-place
-check_second-requires-clause-place c = number_small c.args.table.now c.slots.second c.first_place-second.ensures.program c.slots.invariant.place
+check_second-requires-clause-place c = number_small c.args.table.now c.slots.second c.requires c.slots.invariant.place
 
 pub check_second-requires-clause-window : goal.check_second-requires-clause-window
 check_second-requires-clause-window c = rw c.deref.ensures.value c.slots.invariant.window.size
@@ -49,7 +43,7 @@ slots-smaller c =
     let p = c.args.table.now in
     let j = c.slots.second in
     let follows : next_of p.bundles j ≡ Some c.in-Some-next.after = sym (slot_next p j c.in-Some.slot.now (sym c.in-Some.ensures)) ∙ c.in-Some-next.is in
-    let small : place_number j < place_bound = number_small p j c.first_place-second.ensures.program c.slots.invariant.place in
+    let small : place_number j < place_bound = number_small p j c.requires c.slots.invariant.place in
     let up : place_number j < place_number c.in-Some-next.after = number_next p j c.in-Some-next.after c.slots.invariant.place follows in
     omega arith
 
@@ -60,16 +54,15 @@ slots-preserved c =
     let s = c.in-Some.slot.now in
     let at = sym c.in-Some.ensures in
     let next = c.in-Some-next.after in
-    let program = c.first_place-second.ensures.program in
     let follows : next_of p.bundles j ≡ Some next = sym (slot_next p j s at) ∙ c.in-Some-next.is in
-    let small : place_number j < place_bound = number_small p j program c.slots.invariant.place in
+    let small : place_number j < place_bound = number_small p j c.requires c.slots.invariant.place in
     let up : place_number j < place_number next = number_next p j next c.slots.invariant.place follows in
     record {
       place = next_place p j next follows;
-      window = c.in_ok-move_on.ensures p next (subst (λ (q : Program). IsSolution q c.in_ok-facts.facts) c.program.ensures.value c.in_ok-facts.ensures)
-          (under_way p j s at c.slots.window.items c.accesses_of-seconds.result.items program c.accesses_of-seconds.ensures c.slots.invariant.window) follows;
+      window = c.in_ok-move_on.ensures p next c.in_ok-facts.ensures
+          (under_way p j s at c.slots.window.items c.accesses_of-seconds.result.items c.requires c.accesses_of-seconds.ensures c.slots.invariant.window) follows;
       reports = next_reported p c.check_second.new.report j next _ (second_bound * place_number next) follows (omega (arith, c.slots.invariant.window.size, c.deref.ensures.len, ap (length {A = EarlierSlot}) c.deref.ensures.value))
-          (c.in_ok-check_second.ensures p (under_way p j s at c.deref.result.now c.deref-in-slots.result.now program (c.deref-in-slots.ensures.0 ∙ c.accesses_of-seconds.ensures) (rw c.deref.ensures.value c.slots.invariant.window)) c.slots.invariant.reports);
+          (c.in_ok-check_second.ensures p (under_way p j s at c.deref.result.now c.deref-in-slots.result.now c.requires (c.deref-in-slots.ensures.0 ∙ c.accesses_of-seconds.ensures) (rw c.deref.ensures.value c.slots.invariant.window)) c.slots.invariant.reports);
     }
 
 pub returns-in_default-next-clause-verdict : goal.returns-in_default-next-clause-verdict
@@ -79,7 +72,7 @@ returns-in_default-next-clause-verdict c =
     let s = c.in-Some.slot.now in
     let at = sym c.in-Some.ensures in
     rw c.verdict.ensures (verdict_reported p c.check_second.new.report j _ (sym (slot_next p j s at) ∙ c.in_default-next.is)
-    (c.in_ok-check_second.ensures p (under_way p j s at c.deref.result.now c.deref-in-slots.result.now c.first_place-second.ensures.program (c.deref-in-slots.ensures.0 ∙ c.accesses_of-seconds.ensures) (rw c.deref.ensures.value c.slots.invariant.window)) c.slots.invariant.reports))
+    (c.in_ok-check_second.ensures p (under_way p j s at c.deref.result.now c.deref-in-slots.result.now c.requires (c.deref-in-slots.ensures.0 ∙ c.accesses_of-seconds.ensures) (rw c.deref.ensures.value c.slots.invariant.window)) c.slots.invariant.reports))
 
 pub returns-in_default-next-clause-robust : goal.returns-in_default-next-clause-robust
-returns-in_default-next-clause-robust c = accepted_robust c.args.table.now c.first_place-second.ensures.program c.verdict.result (returns-in_default-next-clause-verdict c)
+returns-in_default-next-clause-robust c = accepted_robust c.args.table.now c.requires c.verdict.result (returns-in_default-next-clause-verdict c)

@@ -1,7 +1,9 @@
 use Rattle.std.proofs.Common.{◌∙◌, sym, subst, refl}
+use Rattle.predicate_rel.specs.declared.edge.Edge.TheVariants.{Falls}
 use Rattle.predicate_rel.specs.Pairs.{pairs_of}
+use Rattle.slot_table.proofs.SlotLaws.{pairs_by-slot}
 use Rattle.group_checker.specs.Windows.{IsGuardMask}
-use Rattle.group_checker.proofs.Slots.{slot_place, slot_clears, past_slot, slot_joins, slot_parts}
+use Rattle.group_checker.proofs.Slots.{slot_place, slot_clears, slot_joins, slot_parts}
 use Rattle.group_checker.proofs.Windowing.{next_window, parted_window, unreached_window, meet_known, no_walk_known}
 use Rattle.group_checker.proofs.moves.move_on.Goals as goal
 
@@ -16,7 +18,7 @@ returns c p next solution u follows =
     (meet_known p c.args.facts.now j here solution (sym c.in-Some.ensures))
     u.window
     (c.advance.ensures p j u.slot)
-    (record { place = refl; clears = c.clears.ensures ∙ sym (slot_clears p j s u.slot); accesses = u.accesses; known = c.after_form.ensures ∙ sym (past_slot p j s u.slot f); written = refl })
+    (record { place = refl; clears = c.clears.ensures ∙ sym (slot_clears p j s u.slot); accesses = u.accesses; known = c.after_form.ensures ∙ pairs_by-slot p j s Falls f u.slot; written = refl })
     (subst (IsGuardMask c.guard_mask-written.result) (c.deref.ensures.0 ∙ u.accesses) c.guard_mask-written.ensures))
 
 pub returns-in_default : goal.returns-in_default
