@@ -2,17 +2,17 @@
 use Rattle.std.proofs.Common.{◌≡◌, ◌∙◌, ℕ, zero, suc, ◌<◌, ◌%◌, ◌^◌, List, [], ◌∷◌, ◌++◌, length, take, get_or, refl, ap, arith}
 use Rattle.std.specs.Int.{w64, to_le_bytes, from_le_bytes}
 use Rattle.std.proofs.lemmas.Nat.{le_bytes_8}
-use Rattle.asm_build.specs.CanonicalText.{word_of, words_of}
-use Rattle.asm_build.specs.Sources.{numbers_bytes}
+use Rattle.asm_build.specs.CanonicalText.{data_word, words_of}
+use Rattle.asm_build.specs.TextParts.{numbers_bytes}
 use Rattle.ia_insn.specs.Programs.{AreBytes}
 
 -- the bytes of a word, the lowest first
 word_bytes : (a b c d e f g h : ℕ) → a < 256 → b < 256 → c < 256 → d < 256 → e < 256 → f < 256 → g < 256 → h < 256
-    → to_le_bytes w64 (word_of a b c d e f g h) ≡ a ∷ b ∷ c ∷ d ∷ e ∷ f ∷ g ∷ h ∷ []
+    → to_le_bytes w64 (data_word a b c d e f g h) ≡ a ∷ b ∷ c ∷ d ∷ e ∷ f ∷ g ∷ h ∷ []
 word_bytes a b c d e f g h la lb lc ld le lf lg lh =
-    le_bytes_8 (a ∷ b ∷ c ∷ d ∷ e ∷ f ∷ g ∷ h ∷ []) (word_of a b c d e f g h) refl each value
+    le_bytes_8 (a ∷ b ∷ c ∷ d ∷ e ∷ f ∷ g ∷ h ∷ []) (data_word a b c d e f g h) refl each value
   where
-    value : word_of a b c d e f g h ≡ from_le_bytes w64 (a ∷ b ∷ c ∷ d ∷ e ∷ f ∷ g ∷ h ∷ [])
+    value : data_word a b c d e f g h ≡ from_le_bytes w64 (a ∷ b ∷ c ∷ d ∷ e ∷ f ∷ g ∷ h ∷ [])
     value = omega arith
 
     each : (i : ℕ) → get_or (a ∷ b ∷ c ∷ d ∷ e ∷ f ∷ g ∷ h ∷ []) i 0 < 256
@@ -26,7 +26,7 @@ word_bytes a b c d e f g h la lb lc ld le lf lg lh =
     each (suc (suc (suc (suc (suc (suc (suc zero))))))) = lh
     each (suc (suc (suc (suc (suc (suc (suc (suc i)))))))) = omega arith
 
-word_below : (a b c d e f g h : ℕ) → a < 256 → b < 256 → c < 256 → d < 256 → e < 256 → f < 256 → g < 256 → h < 256 → word_of a b c d e f g h < 2 ^ 64
+word_below : (a b c d e f g h : ℕ) → a < 256 → b < 256 → c < 256 → d < 256 → e < 256 → f < 256 → g < 256 → h < 256 → data_word a b c d e f g h < 2 ^ 64
 word_below a b c d e f g h la lb lc ld le lf lg lh = omega (arith, la, lb, lc, ld, le, lf, lg, lh)
 
 abbrev pub AreWords : List ℕ → Type 0

@@ -12,13 +12,13 @@ use Rattle.ia_insn.specs.declared.limits.TheConstants.{ENTRY_LIMIT}
 use Rattle.ia_insn.specs.Programs.{AreEntries}
 use Rattle.asm_build.specs.declared.address.Address.{Address}
 use Rattle.asm_build.specs.declared.address.Address.TheVariants as address
-use Rattle.asm_build.specs.declared.source.EntryLine.{EntryLine}
+use Rattle.asm_build.specs.declared.text_parts.EntryLine.{EntryLine}
 use Rattle.asm_build.specs.declared.reason.Reason.TheVariants.{Limit}
 use Rattle.asm_build.specs.declared.reason.TextError.{TextError}
 use Rattle.asm_build.specs.declared.reason.TextError.TheVariants as error
 use Rattle.asm_build.specs.Addresses.{IsInside}
 use Rattle.asm_build.specs.Names.{bundle_at, declared, within_limit, declared_by, and_then, all_declared}
-use Rattle.asm_build.specs.Sources.{Labels, label_of}
+use Rattle.asm_build.specs.TextParts.{Labels, address_of}
 use Rattle.asm_build.proofs.LabelValues.{label_within}
 
 -- they rise from above `low`, below `count`
@@ -73,8 +73,8 @@ pub declared_good : (labels : Labels) (count : ℕ) (entries out : List ℕ) (li
     → AreGood count entries → all_declared labels entries lines ≡ Ok out → AreGood count out
 declared_good labels count entries out [] inside good e = same_good count entries out (Ok entries) refl good e
 declared_good labels count entries out (l ∷ ls) inside good e =
-    then_good count out (declared_by (bundle_at (label_of labels l.name)) l.line entries) (λ more. all_declared labels more ls)
-    (one_declared count l.line (label_of labels l.name) entries (label_within (IsInside count) labels l.name inside) good)
+    then_good count out (declared_by (bundle_at (address_of labels l.name)) l.line entries) (λ more. all_declared labels more ls)
+    (one_declared count l.line (address_of labels l.name) entries (label_within (IsInside count) labels l.name inside) good)
     (λ more also f. declared_good labels count more out ls inside also f)
     e
 

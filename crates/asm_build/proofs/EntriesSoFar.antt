@@ -9,19 +9,15 @@ use Rattle.ia_insn.specs.declared.limits.TheConstants.{ENTRY_LIMIT}
 use Rattle.ia_insn.specs.Programs.{IsEntryAt, AreEntries}
 use Rattle.asm_text.specs.SlotTexts.{label_text}
 use Rattle.asm_build.specs.declared.address.Address.TheVariants.{Bundle}
-use Rattle.asm_build.specs.declared.source.EntryLine.{EntryLine}
+use Rattle.asm_build.specs.declared.text_parts.EntryLine.{EntryLine}
 use Rattle.asm_build.specs.CanonicalText.{is_among}
 use Rattle.asm_build.specs.Names.{declared, declared_by, bundle_at, within_limit, all_declared, and_then}
-use Rattle.asm_build.specs.Sources.{Labels, label_of}
+use Rattle.asm_build.specs.TextParts.{Labels, address_of}
 
 -- each is at least the floor, and above the one before it
 abbrev pub Rise : ℕ → List ℕ → Type 0
 Rise low [] = Unit {0}
 Rise low (x ∷ xs) = (low ≤ x) × Rise (x + 1) xs
-
-rise_lower : (low other : ℕ) (xs : List ℕ) → other ≤ low → Rise low xs → Rise other xs
-rise_lower low other [] h r = tt
-rise_lower low other (x ∷ xs) h r = (omega (arith, h, r.0), r.1)
 
 -- what the n-th is above
 abbrev above_what : ℕ → List ℕ → ℕ → ℕ
@@ -113,7 +109,7 @@ one_declared xs n line h some few =
     rw (e, room) refl
 
 -- Entries that rise, each with a line whose name is its label, are declared in turn.
-pub declared_in_turn : (labels : Labels) (done rest : List ℕ) (lines : List EntryLine) → map (λ e. e.name) lines ≡ map label_text rest → ((k : ℕ) → k < length rest → label_of labels (label_text (slice_index rest k)) ≡ Some (Bundle (slice_index rest k)))
+pub declared_in_turn : (labels : Labels) (done rest : List ℕ) (lines : List EntryLine) → map (λ e. e.name) lines ≡ map label_text rest → ((k : ℕ) → k < length rest → address_of labels (label_text (slice_index rest k)) ≡ Some (Bundle (slice_index rest k)))
     → (low : ℕ) → 1 ≤ low → AllByRecursion (λ m. m < low) done → Rise low rest → length done + length rest ≤ ENTRY_LIMIT → all_declared labels done lines ≡ Ok (done ++ rest)
 declared_in_turn labels done [] [] names found low some before rise few = ap (λ xs. Ok xs) (sym (append-nil done))
 declared_in_turn labels done (n ∷ rest) [] names found low some before rise few = cc
@@ -121,9 +117,9 @@ declared_in_turn labels done [] (l ∷ lines) names found low some before rise f
 declared_in_turn labels done (n ∷ rest) (l ∷ lines) names found low some before rise few =
     let name : l.name ≡ label_text n = cc in
     let others : map (λ e. e.name) lines ≡ map label_text rest = cc in
-    let here : label_of labels l.name ≡ Some (Bundle n) = ap (label_of labels) name ∙ found 0 (omega arith) in
+    let here : address_of labels l.name ≡ Some (Bundle n) = ap (address_of labels) name ∙ found 0 (omega arith) in
     let lower = lower_all low n done rise.0 before in
-    let one : declared_by (bundle_at (label_of labels l.name)) l.line done ≡ Ok (done ++ n ∷ []) = ap (λ o. declared_by (bundle_at o) l.line done) here ∙ one_declared done n l.line lower (omega (arith, some, rise.0)) (omega (arith, few)) in
+    let one : declared_by (bundle_at (address_of labels l.name)) l.line done ≡ Ok (done ++ n ∷ []) = ap (λ o. declared_by (bundle_at o) l.line done) here ∙ one_declared done n l.line lower (omega (arith, some, rise.0)) (omega (arith, few)) in
     ap (λ r. and_then r (λ more. all_declared labels more lines)) one
     ∙ declared_in_turn labels (done ++ n ∷ []) rest lines others (λ k less. found (suc k) (omega (arith, less))) (n + 1) (omega arith) (push_below done n lower) rise.1 (omega (arith, few, length-append done (n ∷ [])))
     ∙ ap (λ xs. Ok xs) (append_assoc done (n ∷ []) rest)

@@ -10,13 +10,11 @@ use Rattle.ia_insn.specs.declared.limits.TheConstants.{DATA_LIMIT}
 use Rattle.ia_insn.specs.declared.insn.Insn.{Insn}
 use Rattle.ia_insn.specs.declared.insn.Op.{Op}
 use Rattle.ia_insn.specs.declared.place.Place.{Place}
-use Rattle.ia_insn.specs.declared.program.ProgramFault.{ProgramFault}
-use Rattle.ia_insn.specs.declared.program.ProgramFault.TheVariants as program
 use Rattle.ia_insn.specs.declared.bundle.Slots.{Slots}
 use Rattle.ia_insn.specs.declared.bundle.Slots.TheVariants.{Three, Long}
 use Rattle.ia_insn.specs.Bundles.{Bundle, slot_insn}
 use Rattle.ia_insn.specs.Places.{bundle_insn, insn_at, EachPlace, IsFirstBad}
-use Rattle.ia_insn.specs.Programs.{Program, AreInRange, AreEntries, HasProgramFault}
+use Rattle.ia_insn.specs.Programs.{AreInRange, AreEntries}
 use Rattle.ia_insn.specs.Runs.{IsWithinRun}
 use Rattle.ia_insn.specs.Targets.{displacement, IsBundleAt, IsTargetInside}
 use Rattle.asm_build.specs.declared.draft.BundleLines.{BundleLines}
@@ -29,7 +27,7 @@ use Rattle.asm_build.specs.TextReading.{end_stages}
 use Rattle.asm_build.specs.Addresses.{IsInside}
 use Rattle.asm_build.specs.Addresses.{addressed}
 use Rattle.asm_build.specs.Names.{addressed_by, named, is_named, slot_names, unnamed_among, unnamed_slot, or_else, unnamed_bundle, slots_named, bundles_named, all_declared, earlier, name_fault, or_none, padded, program_of, line_at}
-use Rattle.asm_build.specs.Sources.{State, Labels, label_of, IsWithinLimits, AreLabelsInside}
+use Rattle.asm_build.specs.TextParts.{TextParts, Labels, address_of, IsWithinLimits, AreLabelsInside}
 use Rattle.asm_build.proofs.Addressed.{target_inside}
 use Rattle.asm_build.proofs.Entries.{AreGood, declared_good, entries_of_rising}
 use Rattle.asm_build.proofs.LabelValues.{label_within}
@@ -48,12 +46,12 @@ no_fault_named None (Err f) e = cc
 no_fault_named (Some line) (Ok entries) e = cc
 no_fault_named (Some line) (Err f) e = cc
 
-pub entries_good : (s : State) → AreLabelsInside s → name_fault s ≡ None → AreGood (length s.bundles) (program_of s).entries
+pub entries_good : (s : TextParts) → AreLabelsInside s → name_fault s ≡ None → AreGood (length s.bundles) (program_of s).entries
 entries_good s inside none =
     let named = no_fault_named (unnamed_bundle s.labels 0 s.bundles) (all_declared s.labels [] s.entries) none in
     declared_good s.labels (length s.bundles) [] (program_of s).entries s.entries inside (tt, omega arith) named.1
 
-pub in_range : (s : State) → IsWithinLimits s → 1 ≤ length s.bundles → AreLabelsInside s → name_fault s ≡ None
+pub in_range : (s : TextParts) → IsWithinLimits s → 1 ≤ length s.bundles → AreLabelsInside s → name_fault s ≡ None
     → AreInRange (length (program_of s).bundles) (length (program_of s).entries) (length (program_of s).bytes)
 in_range s limits some inside none =
     let count : length (program_of s).bundles ≡ length s.bundles = length_named s.labels 0 s.bundles in
@@ -68,7 +66,7 @@ in_range s limits some inside none =
       words = rw size fits.1;
     }
 
-pub entries_are : (s : State) → AreLabelsInside s → name_fault s ≡ None → AreEntries (length (program_of s).bundles) (program_of s).entries
+pub entries_are : (s : TextParts) → AreLabelsInside s → name_fault s ≡ None → AreEntries (length (program_of s).bundles) (program_of s).entries
 entries_are s inside none =
     rw (length_named s.labels 0 s.bundles) (entries_of_rising (length s.bundles) (program_of s).entries (entries_good s inside none).0)
 
@@ -79,9 +77,6 @@ HasTargetInside count n x = IfSome (displacement x) (IsBundleAt count n)
 no_target : (count n : ℕ) (o : Option ℤ) → is_some o ≡ false → IfSome o (IsBundleAt count n)
 no_target count n None h = tt
 no_target count n (Some z) h = cc
-
-is_true : Bool → Type 0
-is_true b = b ≡ true
 
 -- of an operation whose name means something
 plain_inside : (count n : ℕ) (x : Op) (b : Bool) → is_some (displacement x) ≡ b → is_some (if b then None else Some x) ≡ true
@@ -102,12 +97,7 @@ named_inside : (labels : Labels) (count n : ℕ) (x : Op) (target : Option (List
     → is_some (named labels n x target) ≡ true → HasTargetInside count n (unwrap_or (named labels n x target) x)
 named_inside labels count n x None all is = plain_inside count n x (is_some (displacement x)) refl is
 named_inside labels count n x (Some name) all is =
-    addressed_inside count n x (label_of labels name) (label_within (IsInside count) labels name all) is
-
--- the slots of a bundle, none of which has a name without a label
-first_none : (p : Bool) (line : ℕ) (rest : Option ℕ) → (if not p then Some line else rest) ≡ None → (p ≡ true) × (rest ≡ None)
-first_none true line rest e = (refl, e)
-first_none false line rest e = cc
+    addressed_inside count n x (address_of labels name) (label_within (IsInside count) labels name all) is
 
 -- each slot of a bundle, with the address of its name, has its target inside
 abbrev AreTargetsInside : ℕ → ℕ → Slots → Type 0
@@ -169,7 +159,7 @@ at_place count n slot None h = tt
 at_place count n slot (Some b) h = at_slot count n b.slots slot h
 
 -- the target of each place is a bundle of the program
-pub targets_are : (s : State) → AreLabelsInside s → name_fault s ≡ None → EachPlace (program_of s).bundles (IsTargetInside (program_of s).bundles)
+pub targets_are : (s : TextParts) → AreLabelsInside s → name_fault s ≡ None → EachPlace (program_of s).bundles (IsTargetInside (program_of s).bundles)
 unfolding insn_at
 targets_are s inside none place is =
     let named = no_fault_named (unnamed_bundle s.labels 0 s.bundles) (all_declared s.labels [] s.entries) none in
@@ -177,7 +167,7 @@ targets_are s inside none place is =
     (at_place (length s.bundles) place.bundle place.slot (slice_get (program_of s).bundles place.bundle) (bundles_inside s.labels (length s.bundles) 0 s.bundles inside named.0 place.bundle place.bundle (omega arith)))
 
 -- What is known of bundles, entries and data that are the program's: their counts and entries are right.
-pub record AreParts (s : State) (bundles : List Bundle) (entries bytes : List ℕ) : Type 0 where
+pub record AreParts (s : TextParts) (bundles : List Bundle) (entries bytes : List ℕ) : Type 0 where
   pub limits : IsWithinLimits s
   pub some : 1 ≤ length s.bundles
   pub inside : AreLabelsInside s
@@ -186,36 +176,26 @@ pub record AreParts (s : State) (bundles : List Bundle) (entries bytes : List �
   pub entries_are : entries ≡ (program_of s).entries
   pub bytes_are : bytes ≡ padded s.bytes
 
-pub parts_in_range : (s : State) (bundles : List Bundle) (entries bytes : List ℕ) → AreParts s bundles entries bytes
+pub parts_in_range : (s : TextParts) (bundles : List Bundle) (entries bytes : List ℕ) → AreParts s bundles entries bytes
     → AreInRange (length bundles) (length entries) (length bytes)
 parts_in_range s bundles entries bytes h =
     rw (h.bundles_are, h.entries_are, h.bytes_are) (in_range s h.limits h.some h.inside h.none)
 
-pub parts_rise : (s : State) (bundles : List Bundle) (entries bytes : List ℕ) → AreParts s bundles entries bytes → AreEntries (length bundles) entries
+pub parts_rise : (s : TextParts) (bundles : List Bundle) (entries bytes : List ℕ) → AreParts s bundles entries bytes → AreEntries (length bundles) entries
 parts_rise s bundles entries bytes h = rw (h.bundles_are, h.entries_are) (entries_are s h.inside h.none)
 
--- A fault of the program is then a run that is too long.
-pub long_run : (p : Program) (fault : ProgramFault) → AreInRange (length p.bundles) (length p.entries) (length p.bytes) → AreEntries (length p.bundles) p.entries
-    → EachPlace p.bundles (IsTargetInside p.bundles) → HasProgramFault p fault
-    → (place : Place) × (fault ≡ program.LongRun place) × IsFirstBad p.bundles (IsWithinRun p.bundles) place
-long_run p fault counts entries targets (inl (key, is, fails)) = absurd (fails counts)
-long_run p fault counts entries targets (inr (_, inl (n, is, first))) = absurd (first.misplaced (entries n first.inside))
-long_run p fault counts entries targets (inr (_, inr (_, inl (place, is, first)))) = absurd (first.bad (targets place first.is))
-long_run p fault counts entries targets (inr (_, inr (_, inr (_, inl (place, is, first))))) = (place, is, first)
-long_run p fault counts entries targets (inr (_, inr (_, inr (_, inr (_, f))))) = absurd f
-
-pub parts_inside : (s : State) (bundles : List Bundle) (entries bytes : List ℕ) → AreParts s bundles entries bytes → EachPlace bundles (IsTargetInside bundles)
+pub parts_inside : (s : TextParts) (bundles : List Bundle) (entries bytes : List ℕ) → AreParts s bundles entries bytes → EachPlace bundles (IsTargetInside bundles)
 parts_inside s bundles entries bytes h = rw h.bundles_are (targets_are s h.inside h.none)
 
 -- After the last line there was no fault but the run.
-pub run_is_first : (count : ℕ) (s : State) (place : Place) (line : ℕ) → s.current ≡ None → AreLabelsInside s → 1 ≤ length s.bundles → name_fault s ≡ None
+pub run_is_first : (count : ℕ) (s : TextParts) (place : Place) (line : ℕ) → s.current ≡ None → AreLabelsInside s → 1 ≤ length s.bundles → name_fault s ≡ None
     → IsFirstBad (program_of s).bundles (IsWithinRun (program_of s).bundles) place → line ≡ line_at s.bundles place
     → IsFirstFault (end_stages count s) (error.Fault line LongRun)
 run_is_first count s place line closed inside some none first is =
     inr ((closed, inside), inr (some, inr (none, inl (place, ap (λ l. error.Fault l LongRun) is, first))))
 
 -- So the fault of a run is the first one.
-pub run_reported : {T : Type 0} (count : ℕ) (s : State) (lines : List BundleLines) (bundles : List Bundle) (r : Result T TextError) → s.current ≡ None → AreLabelsInside s → 1 ≤ length s.bundles → name_fault s ≡ None
+pub run_reported : {T : Type 0} (count : ℕ) (s : TextParts) (lines : List BundleLines) (bundles : List Bundle) (r : Result T TextError) → s.current ≡ None → AreLabelsInside s → 1 ≤ length s.bundles → name_fault s ≡ None
     → lines ≡ s.bundles → bundles ≡ (program_of s).bundles
     → IfErr r (λ e. (place : Place) × IsFirstBad bundles (IsWithinRun bundles) place × (e ≡ error.Fault (line_at lines place) LongRun))
     → IfErr r (λ e. (e ≡ error.Memory) ⊎ IsFirstFault (end_stages count s) e)

@@ -9,9 +9,9 @@ use Rattle.std.specs.Ordering.{nat_cmp, match_ordering}
 use Rattle.std.specs.declared.cmp.Ordering.TheVariants.{Less, Equal, Greater}
 use Rattle.asm_build.specs.declared.address.Address.{Address}
 use Rattle.asm_build.specs.Addresses.{IsWithin}
-use Rattle.asm_build.specs.declared.source.Section.{Section}
-use Rattle.asm_build.specs.declared.source.Section.TheVariants as section
-use Rattle.asm_build.specs.Sources.{State, Labels, label_of, IsWithinLimits, place_in, here}
+use Rattle.asm_build.specs.declared.text_parts.Section.{Section}
+use Rattle.asm_build.specs.declared.text_parts.Section.TheVariants as section
+use Rattle.asm_build.specs.TextParts.{TextParts, Labels, address_of, IsWithinLimits, place_in, here}
 
 -- holds of what is found
 pub found_among : (P : Address → Type 0) (test : List ℕ → Bool) (labels : Labels) → AllByRecursion P (values_of labels) → IfSome (lookup test labels) P
@@ -19,7 +19,7 @@ found_among P test [] all = tt
 found_among P test (e ∷ es) all =
     elim (test e.0) as (λ b. IfSome (cond b (Some e.1) (lookup test es)) P) [ true ↦ all.0 | false ↦ found_among P test es all.1 ]
 
-pub label_within : (P : Address → Type 0) (labels : Labels) (name : List ℕ) → AllByRecursion P (values_of labels) → IfSome (label_of labels name) P
+pub label_within : (P : Address → Type 0) (labels : Labels) (name : List ℕ) → AllByRecursion P (values_of labels) → IfSome (address_of labels name) P
 label_within P labels name all = found_among P (is_at (slice_cmp nat_cmp name)) labels all
 
 -- and of one more
@@ -33,15 +33,15 @@ kept_among P (e ∷ es) name a all p =
       | Greater ↦ (all.0, kept_among P es name a all.1 p)
     ]
 
-place_within : (section : Section) (s : State) → IsWithinLimits s → IsWithin (place_in section s)
+place_within : (section : Section) (s : TextParts) → IsWithinLimits s → IsWithin (place_in section s)
 place_within section.Text s h = omega (arith, h.bundles)
 place_within section.Data s h = h.bytes
 
 -- what a label names that stands here is in reach
-pub here_within : (s : State) → IsWithinLimits s → IsWithin (here s)
+pub here_within : (s : TextParts) → IsWithinLimits s → IsWithin (here s)
 here_within s h = place_within s.section s h
 
 -- so labels stay within with one more
-pub label_added : (s : State) (name : List ℕ) (a : Address) (labels : Labels) → IsWithinLimits s → a ≡ here s → labels ≡ insert_entry (slice_cmp nat_cmp) s.labels name a
+pub label_added : (s : TextParts) (name : List ℕ) (a : Address) (labels : Labels) → IsWithinLimits s → a ≡ here s → labels ≡ insert_entry (slice_cmp nat_cmp) s.labels name a
     → AllByRecursion IsWithin (values_of labels)
 label_added s name a labels h is grown = rw (grown, is) (kept_among IsWithin s.labels name (here s) h.labels (here_within s h))

@@ -13,7 +13,7 @@ use Rattle.asm_text.specs.SlotTexts.{label_text}
 use Rattle.asm_build.specs.declared.address.Address.TheVariants.{Bundle}
 use Rattle.asm_build.specs.Addresses.{IsInside}
 use Rattle.asm_build.specs.CanonicalText.{is_among}
-use Rattle.asm_build.specs.Sources.{Labels, label_of}
+use Rattle.asm_build.specs.TextParts.{Labels, address_of}
 use Rattle.asm_build.proofs.Choices.{true_is_not_false}
 use Rattle.asm_build.proofs.LabelValues.{kept_among}
 use Rattle.asm_build.proofs.PutIn.{put_here, put_elsewhere}
@@ -29,8 +29,8 @@ differ m n a b other = by (slice_cmp nat_cmp (label_text m) (label_text n)) refl
 
 -- The bundles before the n-th that are entries or targets have labels, and no other has; each is one of so many.
 pub record HasLabels (entries targets : List ℕ) (count n : ℕ) (labels : Labels) : Type 0 where
-  pub named : (m : ℕ) → m < n → (is_among entries m || is_among targets m) ≡ true → label_of labels (label_text m) ≡ Some (Bundle m)
-  pub later : (m : ℕ) → n ≤ m → m < 2 ^ 32 → label_of labels (label_text m) ≡ None
+  pub named : (m : ℕ) → m < n → (is_among entries m || is_among targets m) ≡ true → address_of labels (label_text m) ≡ Some (Bundle m)
+  pub later : (m : ℕ) → n ≤ m → m < 2 ^ 32 → address_of labels (label_text m) ≡ None
   pub inside : AllByRecursion (IsInside count) (values_of labels)
 
 -- none at first
@@ -53,9 +53,9 @@ one_label entries targets count n labels less few h = record {
   inside = kept_among (IsInside count) labels (label_text n) (Bundle n) h.inside less;
 }
   where
-    at : (m : ℕ) → (m ≡ n) ⊎ (m < n) → (is_among entries m || is_among targets m) ≡ true → label_of (insert_entry (slice_cmp nat_cmp) labels (label_text n) (Bundle n)) (label_text m) ≡ Some (Bundle m)
+    at : (m : ℕ) → (m ≡ n) ⊎ (m < n) → (is_among entries m || is_among targets m) ≡ true → address_of (insert_entry (slice_cmp nat_cmp) labels (label_text n) (Bundle n)) (label_text m) ≡ Some (Bundle m)
     at m (inl e) is =
-        subst (λ k. label_of (insert_entry (slice_cmp nat_cmp) labels (label_text n) (Bundle n)) (label_text k) ≡ Some (Bundle k)) (sym e)
+        subst (λ k. address_of (insert_entry (slice_cmp nat_cmp) labels (label_text n) (Bundle n)) (label_text k) ≡ Some (Bundle k)) (sym e)
         (put_here (slice_cmp nat_cmp) labels (label_text n) (Bundle n) (tied_itself nat_list_cmp_total (label_text n)))
     at m (inr before) is =
         put_elsewhere (slice_cmp nat_cmp) nat_list_cmp_total labels (label_text n) (Bundle n) (label_text m) (differ m n (omega (arith, before, less, few)) (omega (arith, less, few)) (λ e. omega (arith, e, before))) ∙ h.named m before is
@@ -68,6 +68,6 @@ same_labels entries targets count n labels other h = record {
   inside = h.inside;
 }
   where
-    at : (m : ℕ) → (m ≡ n) ⊎ (m < n) → (is_among entries m || is_among targets m) ≡ true → label_of labels (label_text m) ≡ Some (Bundle m)
+    at : (m : ℕ) → (m ≡ n) ⊎ (m < n) → (is_among entries m || is_among targets m) ≡ true → address_of labels (label_text m) ≡ Some (Bundle m)
     at m (inl e) is = absurd (true_is_not_false (sym is ∙ ap (λ k. is_among entries k || is_among targets k) e ∙ other))
     at m (inr before) is = h.named m before is

@@ -22,6 +22,7 @@ mod PutIn
 mod LabelsSoFar
 mod EntriesSoFar
 mod NamedTemplates
+mod OpenBundles
 mod UntargetedSlots
 mod WrittenBundles
 mod WrittenTexts

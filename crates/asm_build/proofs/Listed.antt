@@ -2,26 +2,26 @@
 use Rattle.std.proofs.Common.{◌≡◌, refl, ℕ, ◌+◌, ◌<◌, ◌≤◌, List, [], ◌∷◌, ◌++◌, length, drop, get_or, append_assoc}
 use Rattle.std.proofs.lemmas.List.{append-nil, drop_all}
 use Rattle.ia_insn.specs.Bundles.{Bundle}
-use Rattle.asm_build.specs.Listing.{IsListed, AreListed, IsAppended}
+use Rattle.asm_build.specs.Listing.{IsBundleListing, AreBundleListings, IsAppended}
 use Rattle.asm_build.proofs.Steps.{item_and_rest}
 
 -- Up to the n-th bundle all is listed: what lists the rest makes the listing whole.
 abbrev pub IsListedTo : List Bundle → ℕ → List ℕ → List ℕ → Type 0
 IsListedTo bundles n old out =
-    (rest : List ℕ) → AreListed n (drop n bundles) rest → IsAppended old (out ++ rest) (AreListed 0 bundles)
+    (rest : List ℕ) → AreBundleListings n (drop n bundles) rest → IsAppended old (out ++ rest) (AreBundleListings 0 bundles)
 
 pub none_listed : (bundles : List Bundle) (out : List ℕ) → IsListedTo bundles 0 out out
 none_listed bundles out rest listed = (rest, refl, listed)
 
 pub one_more_listed : (bundles : List Bundle) (n : ℕ) (b : Bundle) (old out new : List ℕ) → n < length bundles → b ≡ get_or bundles n b
-    → IsListedTo bundles n old out → IsAppended out new (IsListed n b) → IsListedTo bundles (n + 1) old new
+    → IsListedTo bundles n old out → IsAppended out new (IsBundleListing n b) → IsListedTo bundles (n + 1) old new
 one_more_listed bundles n b old out new h is so (more, grown, listed) rest others =
-    let whole : AreListed n (b ∷ drop (n + 1) bundles) (more ++ rest) = (more, rest, refl, listed, others) in
+    let whole : AreBundleListings n (b ∷ drop (n + 1) bundles) (more ++ rest) = (more, rest, refl, listed, others) in
     let there = so (more ++ rest) (rw (item_and_rest bundles n b h is) whole) in
     rw (grown, append_assoc out more rest) there
 
-pub all_listed : (bundles : List Bundle) (n : ℕ) (old out : List ℕ) → length bundles ≤ n → IsListedTo bundles n old out → IsAppended old out (AreListed 0 bundles)
+pub all_listed : (bundles : List Bundle) (n : ℕ) (old out : List ℕ) → length bundles ≤ n → IsListedTo bundles n old out → IsAppended old out (AreBundleListings 0 bundles)
 all_listed bundles n old out h so =
-    let rest : AreListed n (drop n bundles) [] = rw (drop_all n bundles h) refl in
+    let rest : AreBundleListings n (drop n bundles) [] = rw (drop_all n bundles h) refl in
     let whole = so [] rest in
     rw (append-nil out) at whole

@@ -1,9 +1,9 @@
 -- Marks of one number more, and of those of two lists.
-use Rattle.std.proofs.Common.{◌≡◌, ◌∙◌, ℕ, zero, suc, ◌+◌, ◌<◌, Bool, true, false, ◌||◌, ◌==◌, List, [], ◌∷◌, ◌++◌, length, get_or, set, take, drop, replicate, refl, sym, ap, subst, arith}
+use Rattle.std.proofs.Common.{◌≡◌, ◌∙◌, ℕ, zero, suc, ◌+◌, ◌<◌, Bool, true, false, ◌||◌, ◌==◌, List, [], ◌∷◌, ◌++◌, length, get_or, set, take, refl, sym, ap, subst, arith}
 use Rattle.std.proofs.lemmas.Bool.Decides.{nat_tests}
 use Rattle.std.proofs.lemmas.Grind.{common_steps}
 use Rattle.std.proofs.lemmas.List.Folds.{list_any-append}
-use Rattle.std.proofs.lemmas.List.{append_assoc, append-nil, take_more, drop_more, get_or-replicate}
+use Rattle.std.proofs.lemmas.List.{append_assoc, append-nil, take_more}
 use Rattle.std.proofs.Math.Bool.{or_assoc}
 use Rattle.std.specs.Prelude.{slice_index_or, Contains, ◌↔◌, IsTrue}
 use Rattle.ia_insn.specs.declared.insn.Insn.{Insn}
@@ -12,7 +12,7 @@ use Rattle.ia_insn.specs.declared.bundle.Slots.TheVariants.{Three, Long}
 use Rattle.asm_text.specs.SlotTexts.{target_of}
 use Rattle.ia_insn.specs.Bundles.{Bundle}
 use Rattle.asm_build.specs.CanonicalText.{is_among, listed_once, bundle_targets, targets_from, bundles_text}
-use Rattle.asm_build.specs.Marks.{AreMarks, Marked, marked_text, marked_texts}
+use Rattle.asm_build.specs.Marks.{AreMarks, Marked, marked_texts}
 
 one_each : (marks : List Bool) (k n : ℕ) → k < length marks → n < length marks → get_or (set marks k true) n false ≡ (get_or marks n false || is_among (k ∷ []) n)
 one_each marks k n h inside = grind (arith, common_steps, nat_tests)
@@ -53,7 +53,7 @@ among_here : (xs : List ℕ) (n x k : ℕ) → (Contains xs n → is_among xs n 
 among_here xs n x zero more less is = rw (is, eqb_same n) refl
 among_here xs n x (suc k) more less is = rw (more (k, omega (arith, less), is)) (or_true (x == n))
 
-among_from : (xs : List ℕ) (n : ℕ) → Contains xs n → is_among xs n ≡ true
+pub among_from : (xs : List ℕ) (n : ℕ) → Contains xs n → is_among xs n ≡ true
 among_from [] n h = absurd (omega (arith, h.1))
 among_from (x ∷ xs) n h = among_here xs n x h.0 (among_from xs n) h.1 h.2
 
@@ -61,7 +61,7 @@ contains_here : (xs : List ℕ) (n x : ℕ) (b : Bool) → (x == n) ≡ b → (i
 contains_here xs n x true e more h = (0, omega arith, grind (arith, nat_tests, e))
 contains_here xs n x false e more h = let rest = more (sym (ap (λ b. b || is_among xs n) e) ∙ h) in (suc rest.0, omega (arith, rest.1), rest.2)
 
-among_to : (xs : List ℕ) (n : ℕ) → is_among xs n ≡ true → Contains xs n
+pub among_to : (xs : List ℕ) (n : ℕ) → is_among xs n ≡ true → Contains xs n
 among_to [] n h = absurd cc
 among_to (x ∷ xs) n h = contains_here xs n x (x == n) refl (among_to xs n) h
 
@@ -86,10 +86,6 @@ three_marked n slots a b c m o p q is f g h =
 pub long_marked : (n : ℕ) (slots : Slots) (a b : Insn) (m o p : List Bool) → slots ≡ Long a b → Marked m o (listed_once (target_of n a.op)) → Marked o p (listed_once (target_of n b.op)) → Marked m p (bundle_targets n slots)
 long_marked n slots a b m o p is f g = rw is (both_marked m o p (listed_once (target_of n a.op)) (listed_once (target_of n b.op)) f g)
 
--- one number more of a list
-pub next_marks : (count : ℕ) (xs : List ℕ) (at : ℕ) (a b : List Bool) → at < length xs → AreMarks count (take at xs) a → Marked a b (get_or xs at 0 ∷ []) → AreMarks count (take (at + 1) xs) b
-next_marks count xs at a b less g h = rw (take_more xs at 0 less) (more_marks count (take at xs) (get_or xs at 0 ∷ []) a b g h)
-
 targets_of_both : (n : ℕ) (xs bs : List Bundle) → targets_from n (xs ++ bs) ≡ targets_from n xs ++ targets_from (n + length xs) bs
 targets_of_both n [] bs = let none : n + 0 ≡ n = omega arith in rw none refl
 targets_of_both n (b ∷ xs) bs =
@@ -111,17 +107,6 @@ pub next_bundle : (count : ℕ) (bs : List Bundle) (at : ℕ) (bundle : Bundle) 
 next_bundle count bs at bundle slots a b less is same g h =
     let marked : Marked a b (bundle_targets at bundle.slots) = subst (λ s. Marked a b (bundle_targets at s)) same h in
     rw (next_targets bs at bundle less is) (more_marks count (targets_from 0 (take at bs)) (bundle_targets at bundle.slots) a b g marked)
-
--- nothing is marked at first
-pub no_marks : (count : ℕ) → AreMarks count [] (replicate count false)
-no_marks count = record { count = grind (arith, common_steps); each = λ n less. get_or-replicate count n false false less }
-
--- the text of one bundle more
-pub next_text : (entries targets : List Bool) (bs : List Bundle) (at : ℕ) (b : Bundle) (done new : List ℕ) → at < length bs → b ≡ get_or bs at b → new ≡ done ++ marked_text (get_or entries at false) (get_or targets at false) at b
-    → new ++ marked_texts entries targets (at + 1) (drop (at + 1) bs) ≡ done ++ marked_texts entries targets at (drop at bs)
-next_text entries targets bs at b done new less is grown =
-    let there : drop at bs ≡ b ∷ drop (at + 1) bs = drop_more bs at b less ∙ ap (λ x. x ∷ drop (at + 1) bs) (sym is) in
-    rw (grown, there) (append_assoc done (marked_text (get_or entries at false) (get_or targets at false) at b) (marked_texts entries targets (at + 1) (drop (at + 1) bs)))
 
 -- the texts of bundles by marks and by the lists that they mark
 pub texts_alike : (count : ℕ) (entries targets : List ℕ) (entry_marks target_marks : List Bool) (n : ℕ) (bs : List Bundle) → AreMarks count entries entry_marks → AreMarks count targets target_marks

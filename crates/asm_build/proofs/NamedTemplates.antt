@@ -1,162 +1,235 @@
--- The name of a template and the stops of its code give the code back.
-use Rattle.std.proofs.Common.{◌≡◌, ◌≢◌, ◌∙◌, ℕ, zero, suc, ◌/◌, ◌<◌, ◌⊎◌, Bool, true, false, [], ◌∷◌, Option, Some, None, refl, sym, ap, subst, inl, inr, arith}
-use Rattle.std.specs.Prelude.{is_some, slice_index_or, unwrap_or}
-use Rattle.std.proofs.lemmas.Bool.Decides.{nat_tests}
+-- The template of a name and its stops, and the name of each template.
+use Rattle.std.proofs.Common.{◌≡◌, ◌≢◌, ◌∙◌, ℕ, zero, suc, ◌/◌, ◌%◌, ◌<◌, ◌⊎◌, Bool, true, false, cond, ◌==◌, List, [], ◌∷◌, ◌++◌, map, Option, Some, None, refl, sym, ap, subst, inl, inr, arith}
+use Rattle.std.specs.Prelude.{is_some, find, slice_index_or, unwrap_or, if◌then◌else◌, MatchOption}
+use Rattle.std.specs.Bool.{Decides}
+use Rattle.std.proofs.lemmas.Bool.Decides.{Decides-and}
+use Rattle.std.proofs.lemmas.Slice.Eq.{bytes_eq-Decides}
 use Rattle.ia_insn.specs.declared.choices.Unit.{Unit as ExecutionUnit}
-use Rattle.ia_insn.specs.declared.choices.Unit.TheVariants.{L}
+use Rattle.ia_insn.specs.declared.choices.Unit.TheVariants.{M, I, F, B, L, X}
 use Rattle.ia_insn.specs.declared.bundle.Slots.{Slots}
 use Rattle.ia_insn.specs.Bundles.{FitUnits}
-use Rattle.ia_insn.specs.Templates.{Shape as TemplateShape, no_shape, shape_of, IsTemplate, units_of}
+use Rattle.ia_insn.specs.Templates.{Shape as TemplateShape, no_shape, shape_of, IsTemplate, units_of, stops_of, StopsAs, HasShape}
+use Rattle.ia_insn.proofs.TemplateCodes.{one_template, code_small}
 use Rattle.asm_text.specs.declared.line.Shape.{Shape}
 use Rattle.asm_text.specs.declared.line.Shape.TheVariants as shape
-use Rattle.asm_build.specs.CanonicalText.{has_stop}
+use Rattle.asm_build.specs.CanonicalText.{has_stop, is_among, unit_letter}
 use Rattle.asm_build.specs.Drafts.{IsShort}
-use Rattle.asm_build.specs.TemplateNames.{units_named, template_of}
-use Rattle.asm_build.proofs.Choices.{true_is_not_false}
+use Rattle.asm_build.specs.TemplateNames.{units_named, marked_slots, is_shaped, below, template_of}
+use Rattle.asm_build.proofs.Marking.{among_from, among_to, same_test}
+
+-- units are those of their letters
+abbrev lettered : ℕ → ExecutionUnit
+lettered n = if n == 109 then M else if n == 105 then I else if n == 102 then F else if n == 98 then B else if n == 108 then L else X
+
+one_back : (u : ExecutionUnit) → lettered (unit_letter u) ≡ u
+one_back M = refl
+one_back I = refl
+one_back F = refl
+one_back B = refl
+one_back L = refl
+one_back X = refl
+
+all_back : (us : List ExecutionUnit) → map lettered (map unit_letter us) ≡ us
+all_back [] = refl
+all_back (u ∷ us) = rw (one_back u, all_back us) refl
+
+letters_tell : (us vs : List ExecutionUnit) → map unit_letter us ≡ map unit_letter vs → us ≡ vs
+letters_tell us vs e = sym (all_back us) ∙ ap (map lettered) e ∙ all_back vs
+
+-- what the test of a template says
+shape_test : (units : List ExecutionUnit) (stops : List ℕ) (code : ℕ) → Decides (is_shaped units stops code) ((units_of code ≡ units) × (stops_of code ≡ stops))
+shape_test units stops code =
+    let letters = bytes_eq-Decides (map unit_letter (units_of code)) (map unit_letter units) in
+    Decides-and _ _ (λ h. letters_tell (units_of code) units (letters.0 h), λ e. letters.1 (ap (map unit_letter) e)) (bytes_eq-Decides (stops_of code) stops)
+
+-- what is found below a number
+order : (k n : ℕ) → k < suc n → (k ≡ n) ⊎ (k < n)
+order k n h = grind arith
+
+abbrev IsFoundBelow : (ℕ → Bool) → ℕ → Option ℕ → Type 0
+IsFoundBelow p n found = MatchOption found ((code : ℕ) → code < n → p code ≡ true → ⊥) (λ code. p code ≡ true)
+
+one_more : (p : ℕ → Bool) (n : ℕ) (found : Option ℕ) (b : Bool) → p n ≡ b → IsFoundBelow p n found → IsFoundBelow p (suc n) (cond b (Some n) found)
+one_more p n found true is h = is
+one_more p n (Some code) false is h = h
+one_more p n None false is h = λ code less passes. elim (order code n less) as (λ _. ⊥) [ inl e ↦ absurd cc | inr before ↦ h code before passes ]
+
+found_below : (p : ℕ → Bool) (n : ℕ) → IsFoundBelow p n (find p (below n))
+found_below p zero = λ code less passes. omega arith
+found_below p (suc n) = one_more p n (find p (below n)) (p n) refl (found_below p n)
+
+-- a code with the units of a name is that of a template
+no_units : (s : Shape) → [] ≡ units_named s → ⊥
+no_units shape.Mlx e = cc
+no_units s e = cc
+
+some_shape : (s : Shape) (o : Option TemplateShape) → (unwrap_or o no_shape).units ≡ units_named s → is_some o ≡ true
+some_shape s None e = absurd (no_units s e)
+some_shape s (Some t) e = refl
+
+is_named : (s : Shape) (code : ℕ) → units_of code ≡ units_named s → IsTemplate code
+is_named s code e = some_shape s (shape_of (code / 2)) e
+
+-- The template has the units of a name, and these stops.
+pub record IsTemplateOf (s : Shape) (a b c : Bool) (code : ℕ) : Type 0 where
+  pub units : units_of code ≡ units_named s
+  pub stops : stops_of code ≡ marked_slots a b c
+
+one_template_of : (s : Shape) (a b c : Bool) (x y : ℕ) → IsTemplateOf s a b c x → IsTemplateOf s a b c y → x ≡ y
+one_template_of s a b c x y h k =
+    let first : IsTemplate x = is_named s x h.units in
+    let second : IsTemplate y = is_named s y k.units in
+    one_template x y (code_small x first) (code_small y second) first second (h.units ∙ sym k.units) (h.stops ∙ sym k.stops)
+
+abbrev IsTheTemplate : Shape → Bool → Bool → Bool → Option ℕ → Type 0
+IsTheTemplate s a b c found = MatchOption found ((code : ℕ) → IsTemplateOf s a b c code → ⊥) (IsTemplateOf s a b c)
+
+found_template : (s : Shape) (a b c : Bool) (found : Option ℕ) → IsFoundBelow (is_shaped (units_named s) (marked_slots a b c)) 32 found → IsTheTemplate s a b c found
+found_template s a b c (Some code) passes = let has = (shape_test (units_named s) (marked_slots a b c) code).0 passes in record { units = has.0; stops = has.1 }
+found_template s a b c None none =
+    λ code h. none code (code_small code (is_named s code h.units)) ((shape_test (units_named s) (marked_slots a b c) code).1 (h.units, h.stops))
+
+the_template : (s : Shape) (a b c : Bool) → IsTheTemplate s a b c (template_of s a b c)
+unfolding template_of
+the_template s a b c = found_template s a b c _ (found_below (is_shaped (units_named s) (marked_slots a b c)) 32)
+
+-- there is one template, or none
+same_template : (s : Shape) (a b c : Bool) (o q : Option ℕ) → IsTheTemplate s a b c o → IsTheTemplate s a b c q → o ≡ q
+same_template s a b c None None h k = refl
+same_template s a b c None (Some y) h k = absurd (h y k)
+same_template s a b c (Some x) None h k = absurd (k x h)
+same_template s a b c (Some x) (Some y) h k = ap Some (one_template_of s a b c x y h k)
+
+template_is : (s : Shape) (a b c : Bool) (code : ℕ) → IsTemplateOf s a b c code → template_of s a b c ≡ Some code
+template_is s a b c code h = same_template s a b c (template_of s a b c) (Some code) (the_template s a b c) h
+
+-- The template of a name and its stops has its units.
+pub units_are : (s : Shape) (a b c : Bool) (code : ℕ) → template_of s a b c ≡ Some code → units_of code ≡ units_named s
+units_are s a b c code e = let has : IsTheTemplate s a b c (Some code) = subst (IsTheTemplate s a b c) e (the_template s a b c) in has.units
+
+-- stops are those after the slots that have one
+abbrev AreInOrder : List ℕ → Type 0
+AreInOrder stops = stops ≡ marked_slots (is_among stops 0) (is_among stops 1) (is_among stops 2)
 
 -- the template of a long instruction has no stop before its last slot
-abbrev pub HasLongStops : Shape → ℕ → Type 0
-HasLongStops shape.Mlx code = (has_stop code 0 ≡ false) × (has_stop code 1 ≡ false)
-HasLongStops s code = Unit {0}
+abbrev pub HasLongStops : Shape → List ℕ → Type 0
+HasLongStops shape.Mlx stops = (is_among stops 0 ≡ false) × (is_among stops 1 ≡ false)
+HasLongStops s stops = Unit {0}
+
+-- the stops of a template, with one after the last slot or without
+abbrev all_stops : List ℕ → Bool → List ℕ
+all_stops inner last = inner ++ (if last then 2 ∷ [] else [])
+
+-- what two codes share has a name
+record HasNameAs (t : TemplateShape) : Type 0 where
+  pub name : Shape
+  pub units : t.units ≡ units_named name
+  pub ordered : (last : Bool) → AreInOrder (all_stops t.inner last)
+  pub long : (last : Bool) → HasLongStops name (all_stops t.inner last)
+
+record IsNamed (o : Option TemplateShape) : Type 0 where
+  pub named : is_some o ≡ true → HasNameAs (unwrap_or o no_shape)
+
+reserved : IsNamed None
+reserved = record { named = λ is. absurd cc }
+
+either : (b : Bool) (x y : Option TemplateShape) → IsNamed x → IsNamed y → IsNamed (if b then x else y)
+either true x y h k = h
+either false x y h k = k
+
+row : (s : Shape) (inner : List ℕ) → ((last : Bool) → AreInOrder (all_stops inner last)) → ((last : Bool) → HasLongStops s (all_stops inner last)) → IsNamed (Some (record { units = units_named s; inner = inner }))
+row s inner ordered long = record { named = λ _. record { name = s; units = refl; ordered = ordered; long = long } }
+
+no_inner : (last : Bool) → AreInOrder (all_stops [] last)
+no_inner true = refl
+no_inner false = refl
+
+after_first : (last : Bool) → AreInOrder (all_stops (0 ∷ []) last)
+after_first true = refl
+after_first false = refl
+
+after_second : (last : Bool) → AreInOrder (all_stops (1 ∷ []) last)
+after_second true = refl
+after_second false = refl
+
+long_stops : (last : Bool) → HasLongStops shape.Mlx (all_stops [] last)
+long_stops true = (refl, refl)
+long_stops false = (refl, refl)
+
+each_named : (pair : ℕ) → IsNamed (shape_of pair)
+each_named pair =
+    either (pair == 0x00) _ _ (row shape.Mii [] no_inner (λ _. tt))
+    (either (pair == 0x01) _ _ (row shape.Mii (1 ∷ []) after_second (λ _. tt))
+    (either (pair == 0x02) _ _ (row shape.Mlx [] no_inner long_stops)
+    (either (pair == 0x04) _ _ (row shape.Mmi [] no_inner (λ _. tt))
+    (either (pair == 0x05) _ _ (row shape.Mmi (0 ∷ []) after_first (λ _. tt))
+    (either (pair == 0x06) _ _ (row shape.Mfi [] no_inner (λ _. tt))
+    (either (pair == 0x07) _ _ (row shape.Mmf [] no_inner (λ _. tt))
+    (either (pair == 0x08) _ _ (row shape.Mib [] no_inner (λ _. tt))
+    (either (pair == 0x09) _ _ (row shape.Mbb [] no_inner (λ _. tt))
+    (either (pair == 0x0b) _ _ (row shape.Bbb [] no_inner (λ _. tt))
+    (either (pair == 0x0c) _ _ (row shape.Mmb [] no_inner (λ _. tt))
+    (either (pair == 0x0e) _ _ (row shape.Mfb [] no_inner (λ _. tt)) reserved)))))))))))
 
 -- the code is that of the template with this name and its stops
 pub record IsNamedBy (s : Shape) (code : ℕ) : Type 0 where
   pub units : units_of code ≡ units_named s
   pub same : template_of s (has_stop code 0) (has_stop code 1) (has_stop code 2) ≡ Some code
-  pub long : HasLongStops s code
+  pub long : HasLongStops s (stops_of code)
 
 abbrev pub HasName : ℕ → Type 0
 HasName code = (s : Shape) × IsNamedBy s code
 
-abbrev NamedIfTemplate : ℕ → Type 0
-NamedIfTemplate code = IsTemplate code → HasName code
-
-abbrev EachBelow : (ℕ → Type 0) → ℕ → Type 0
-EachBelow P zero = Unit {0}
-EachBelow P (suc n) = P n × EachBelow P n
-
-order : (k n : ℕ) → k < suc n → (k ≡ n) ⊎ (k < n)
-order k n h = grind arith
-
-below : (P : ℕ → Type 0) (n k : ℕ) → EachBelow P n → k < n → P k
-below P zero k all h = absurd (omega arith)
-below P (suc n) k all h =
-    elim (order k n h) as (λ _. P k) [
-      | inl e ↦ subst P (sym e) all.0
-      | inr less ↦ below P n k all.1 less
-    ]
-
-named : (s : Shape) (code : ℕ) → units_of code ≡ units_named s → template_of s (has_stop code 0) (has_stop code 1) (has_stop code 2) ≡ Some code → HasLongStops s code → NamedIfTemplate code
-named s code units same long is = (s, record { units = units; same = same; long = long })
-
-no_template : (code : ℕ) → is_some (shape_of (code / 2)) ≡ false → NamedIfTemplate code
-no_template code none is = absurd (true_is_not_false (sym is ∙ none))
-
-each : EachBelow NamedIfTemplate 32
-each = (
-  no_template 31 refl,
-  (
-    no_template 30 refl,
-    (
-      named shape.Mfb 29 refl refl tt,
-      (
-        named shape.Mfb 28 refl refl tt,
-        (
-          no_template 27 refl,
-          (
-            no_template 26 refl,
-            (
-              named shape.Mmb 25 refl refl tt,
-              (
-                named shape.Mmb 24 refl refl tt,
-                (
-                  named shape.Bbb 23 refl refl tt,
-                  (
-                    named shape.Bbb 22 refl refl tt,
-                    (
-                      no_template 21 refl,
-                      (
-                        no_template 20 refl,
-                        (
-                          named shape.Mbb 19 refl refl tt,
-                          (
-                            named shape.Mbb 18 refl refl tt,
-                            (
-                              named shape.Mib 17 refl refl tt,
-                              (
-                                named shape.Mib 16 refl refl tt,
-                                (
-                                  named shape.Mmf 15 refl refl tt,
-                                  (
-                                    named shape.Mmf 14 refl refl tt,
-                                    (
-                                      named shape.Mfi 13 refl refl tt,
-                                      (
-                                        named shape.Mfi 12 refl refl tt,
-                                        (
-                                          named shape.Mmi 11 refl refl tt,
-                                          (
-                                            named shape.Mmi 10 refl refl tt,
-                                            (
-                                              named shape.Mmi 9 refl refl tt,
-                                              (
-                                                named shape.Mmi 8 refl refl tt,
-                                                (
-                                                  no_template 7 refl,
-                                                  (
-                                                    no_template 6 refl,
-                                                    (
-                                                      named shape.Mlx 5 refl refl (refl, refl),
-                                                      (
-                                                        named shape.Mlx 4 refl refl (refl, refl),
-                                                        (named shape.Mii 3 refl refl tt, (named shape.Mii 2 refl refl tt, (named shape.Mii 1 refl refl tt, (named shape.Mii 0 refl refl tt, tt)))),
-                                                      ),
-                                                    ),
-                                                  ),
-                                                ),
-                                              ),
-                                            ),
-                                          ),
-                                        ),
-                                      ),
-                                    ),
-                                  ),
-                                ),
-                              ),
-                            ),
-                          ),
-                        ),
-                      ),
-                    ),
-                  ),
-                ),
-              ),
-            ),
-          ),
-        ),
-      ),
-    ),
-  ),
-)
-
-code_small : (code : ℕ) → IsTemplate code → code < 32
-code_small code h = grind (arith, nat_tests)
-
-no_units : (o : Option TemplateShape) (slots : Slots) → is_some o ≡ false → FitUnits (unwrap_or o no_shape).units slots → ⊥
-no_units None slots none fit = fit
-no_units (Some s) slots none fit = absurd cc
+stops_ordered : (code : ℕ) → IsTemplate code → AreInOrder (stops_of code)
+stops_ordered code is = ((each_named (code / 2)).named is).ordered (code % 2 == 1)
 
 -- what fits the units of a code fits those of a template
-is_template : (code : ℕ) (slots : Slots) → FitUnits (units_of code) slots → IsTemplate code
-is_template code slots fit = of (is_some (shape_of (code / 2))) refl
-  where
-    of : (b : Bool) → is_some (shape_of (code / 2)) ≡ b → is_some (shape_of (code / 2)) ≡ true
-    of true e = e
-    of false e = absurd (no_units (shape_of (code / 2)) slots e fit)
+some_fit : (o : Option TemplateShape) (slots : Slots) → FitUnits (unwrap_or o no_shape).units slots → is_some o ≡ true
+some_fit None slots fit = absurd fit
+some_fit (Some t) slots fit = refl
 
 -- The template of a bundle has a name.
 pub has_name : (code : ℕ) (slots : Slots) → FitUnits (units_of code) slots → HasName code
-has_name code slots fit = let is = is_template code slots fit in below NamedIfTemplate 32 code each (code_small code is) is
+has_name code slots fit =
+    let is : IsTemplate code = some_fit (shape_of (code / 2)) slots fit in
+    let named = (each_named (code / 2)).named is in
+    (named.name, record { units = named.units; same = template_is named.name _ _ _ code (record { units = named.units; stops = stops_ordered code is }); long = named.long (code % 2 == 1) })
+
+stop_test : (code slot : ℕ) (marked : Bool) → StopsAs code slot marked → has_stop code slot ≡ marked
+stop_test code slot marked h = sym (same_test marked (stops_of code) slot (h.both.1, h.both.0))
+
+stops_as : (code slot : ℕ) (marked : Bool) → has_stop code slot ≡ marked → StopsAs code slot marked
+stops_as code slot marked e = record { both = (λ is. sym e ∙ among_from (stops_of code) slot is, λ is. among_to (stops_of code) slot (e ∙ is)) }
+
+marked_at : (a b c : Bool) → (is_among (marked_slots a b c) 0 ≡ a) × (is_among (marked_slots a b c) 1 ≡ b) × (is_among (marked_slots a b c) 2 ≡ c)
+marked_at true true true = (refl, refl, refl)
+marked_at true true false = (refl, refl, refl)
+marked_at true false true = (refl, refl, refl)
+marked_at true false false = (refl, refl, refl)
+marked_at false true true = (refl, refl, refl)
+marked_at false true false = (refl, refl, refl)
+marked_at false false true = (refl, refl, refl)
+marked_at false false false = (refl, refl, refl)
+
+has_shape : (units : List ExecutionUnit) (a b c : Bool) (code : ℕ) → units_of code ≡ units → stops_of code ≡ marked_slots a b c → HasShape code units (a ∷ b ∷ c ∷ [])
+has_shape units a b c code same stops =
+    let at = marked_at a b c in
+    record {
+      same = same;
+      first = stops_as code 0 a (ap (λ xs. is_among xs 0) stops ∙ at.0);
+      second = stops_as code 1 b (ap (λ xs. is_among xs 1) stops ∙ at.1);
+      third = stops_as code 2 c (ap (λ xs. is_among xs 2) stops ∙ at.2);
+    }
+
+-- what has the shape of a name and marks is the template of the name and these stops
+pub template_found : (s : Shape) (a b c : Bool) (found : Option ℕ) → MatchOption found ((code : ℕ) → IsTemplate code → HasShape code (units_named s) (a ∷ b ∷ c ∷ []) → ⊥) (λ code. HasShape code (units_named s) (a ∷ b ∷ c ∷ []))
+    → found ≡ template_of s a b c
+template_found s a b c None h =
+    same_template s a b c None (template_of s a b c) (λ code of. h code (is_named s code of.units) (has_shape (units_named s) a b c code of.units of.stops)) (the_template s a b c)
+template_found s a b c (Some code) h =
+    let ordered = stops_ordered code (is_named s code h.same) in
+    let stops : stops_of code ≡ marked_slots a b c = ordered ∙ rw (stop_test code 0 a h.first, stop_test code 1 b h.second, stop_test code 2 c h.third) refl in
+    sym (template_is s a b c code (record { units = h.same; stops = stops }))
 
 -- a template whose second unit isn't L is short
 pub short_of : (s : Shape) (u v w : ExecutionUnit) → units_named s ≡ u ∷ v ∷ w ∷ [] → v ≢ L → IsShort s
@@ -172,12 +245,4 @@ long_of s u v w e is = by s (second_unit s u v w e ∙ is)
   where
     by : (s : Shape) → slice_index_or (units_named s) 1 L ≡ L → s ≡ shape.Mlx
     by shape.Mlx h = refl
-    by shape.Mii h = cc
-    by shape.Mmi h = cc
-    by shape.Mfi h = cc
-    by shape.Mmf h = cc
-    by shape.Mib h = cc
-    by shape.Mbb h = cc
-    by shape.Bbb h = cc
-    by shape.Mmb h = cc
-    by shape.Mfb h = cc
+    by s h = absurd cc

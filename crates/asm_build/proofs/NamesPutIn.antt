@@ -21,7 +21,7 @@ use Rattle.asm_build.specs.declared.draft.SlotName.{SlotName}
 use Rattle.asm_build.specs.CanonicalText.{is_among, listed_once, bundle_targets, targets_from}
 use Rattle.asm_build.specs.Marks.{IsSound, AreSound}
 use Rattle.asm_build.specs.Names.{addressed_by, named, is_named, put_in, slot_names, slots_named, bundle_named, bundles_named, unnamed_slot, unnamed_bundle, or_else}
-use Rattle.asm_build.specs.Sources.{Labels, label_of}
+use Rattle.asm_build.specs.TextParts.{Labels, address_of}
 use Rattle.asm_build.proofs.Choices.{true_or, or_true}
 use Rattle.asm_build.proofs.UntargetedSlots.{until_named}
 use Rattle.asm_build.proofs.WrittenBundles.{name_in, slots_until, HasNames, AreLinesOf}
@@ -29,7 +29,7 @@ use Rattle.asm_build.proofs.WrittenTexts.{AreAllLinesOf, AreGood}
 
 -- the bundles of these numbers are what their labels name
 abbrev pub AreLabelled : Labels → ℕ → List ℕ → Type 0
-AreLabelled labels count ns = (m : ℕ) → m < count → is_among ns m ≡ true → label_of labels (label_text m) ≡ Some (address.Bundle m)
+AreLabelled labels count ns = (m : ℕ) → m < count → is_among ns m ≡ true → address_of labels (label_text m) ≡ Some (address.Bundle m)
 
 first_labelled : (labels : Labels) (count : ℕ) (xs ys : List ℕ) → AreLabelled labels count (xs ++ ys) → AreLabelled labels count xs
 first_labelled labels count xs ys h m less is = h m less (list_any-append (λ k. k == m) xs ys ∙ true_or (is_among xs m) (is_among ys m) is)
@@ -51,7 +51,7 @@ distance_back : (n count : ℕ) (disp : ℤ) → IsBundleAt count n disp → pos
 distance_back n count disp h = ap (λ z. z -ℤ pos n) (natural_is (pos n +ℤ disp) h.0 ∙ +ℤ_comm (pos n) disp) ∙ +ℤ-neg_ℤ_cancel disp (pos n)
 
 found_target : (labels : Labels) (count n : ℕ) (disp : ℤ) → IsBundleAt count n disp → AreLabelled labels count (natural_of (pos n +ℤ disp) ∷ [])
-    → label_of labels (label_text (natural_of (pos n +ℤ disp))) ≡ Some (address.Bundle (natural_of (pos n +ℤ disp)))
+    → address_of labels (label_text (natural_of (pos n +ℤ disp))) ≡ Some (address.Bundle (natural_of (pos n +ℤ disp)))
 found_target labels count n disp inside h =
     let m = natural_of (pos n +ℤ disp) in
     h m (natural_below (pos n +ℤ disp) count inside.0 inside.1) (true_or (m == m) false (eq-eqb m m refl))

@@ -1,5 +1,5 @@
 -- Bundles with the addresses of their names: they fit their templates, and their targets are bundles.
-use Rattle.std.proofs.Common.{ℕ, ◌<◌, Bool, true, false, if◌then◌else◌, List, [], ◌∷◌, Option, Some, None}
+use Rattle.std.proofs.Common.{ℕ, zero, suc, ◌<◌, ◌++◌, Bool, true, false, if◌then◌else◌, List, [], ◌∷◌, Option, Some, None}
 use Rattle.std.specs.Prelude.{IfSome, is_some, unwrap_or}
 use Rattle.std.specs.List.{AllByRecursion}
 use Rattle.std.specs.Map.{values_of}
@@ -8,7 +8,7 @@ use Rattle.ia_insn.specs.declared.insn.Op.{Op}
 use Rattle.ia_insn.specs.declared.choices.Unit.{Unit as ExecutionUnit}
 use Rattle.ia_insn.specs.declared.bundle.Slots.{Slots}
 use Rattle.ia_insn.specs.declared.bundle.Slots.TheVariants.{Three, Long}
-use Rattle.ia_insn.specs.Bundles.{FitUnits}
+use Rattle.ia_insn.specs.Bundles.{Bundle, FitUnits, IsBundle, AreBundles}
 use Rattle.ia_insn.specs.Fits.{Fits}
 use Rattle.ia_insn.specs.Targets.{displacement}
 use Rattle.asm_build.specs.declared.address.Address.{Address}
@@ -16,7 +16,7 @@ use Rattle.asm_build.specs.declared.draft.BundleLines.{BundleLines}
 use Rattle.asm_build.specs.declared.draft.SlotName.{SlotName}
 use Rattle.asm_build.specs.Addresses.{IsWithin, reach}
 use Rattle.asm_build.specs.Names.{addressed_by, named, put_in, slots_named}
-use Rattle.asm_build.specs.Sources.{Labels, label_of}
+use Rattle.asm_build.specs.TextParts.{Labels, address_of}
 use Rattle.asm_build.proofs.Addressed.{fit_stays}
 use Rattle.asm_build.proofs.LabelValues.{label_within}
 
@@ -40,7 +40,7 @@ plain P false x p = p
 fits_target : (labels : Labels) (n : ℕ) (i : Insn) (target : Option (List ℕ)) (u : ExecutionUnit) (slot : ℕ) → AreFoundWithin labels → n < reach
     → Fits i u slot → IfSome (named labels n i.op target) (λ y. Fits (record { qp = i.qp; op = y }) u slot)
 fits_target labels n i None u slot within k f = plain _ (is_some (displacement i.op)) i.op f
-fits_target labels n i (Some name) u slot within k f = fits_addressed i (label_of labels name) n u slot (label_within IsWithin labels name within) k f
+fits_target labels n i (Some name) u slot within k f = fits_addressed i (address_of labels name) n u slot (label_within IsWithin labels name within) k f
 
 fits_put_in : (labels : Labels) (n : ℕ) (i : Insn) (name : SlotName) (u : ExecutionUnit) (slot : ℕ) → AreFoundWithin labels → n < reach
     → Fits i u slot → Fits (put_in labels n i name) u slot
@@ -59,3 +59,10 @@ fit_named labels n (u ∷ v ∷ w ∷ []) (Three i j k) b within few f = (
 fit_named labels n (u ∷ v ∷ w ∷ []) (Long i j) b within few f =
     (fits_put_in labels n i b.first u 0 within few f.0, fits_put_in labels n j b.second v 1 within few f.1, f.2)
 fit_named labels n _ slots b within few f = absurd f
+
+-- bundles and one more
+pub one_more_fits : (bs : List Bundle) (b : Bundle) → AreBundles bs → IsBundle b → AreBundles (bs ++ b ∷ [])
+one_more_fits [] b all is zero = is
+one_more_fits [] b all is (suc n) = tt
+one_more_fits (x ∷ xs) b all is zero = all 0
+one_more_fits (x ∷ xs) b all is (suc n) = one_more_fits xs b (λ k. all (suc k)) is n

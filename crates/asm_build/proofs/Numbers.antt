@@ -2,7 +2,7 @@
 use Rattle.std.proofs.Common.{◌≡◌, ap, refl, ℕ, ◌+◌, ◌*◌, ◌≤◌, min, List, [], ◌∷◌, ◌++◌, length, take, arith}
 use Rattle.std.specs.Int.{w64, to_le_bytes}
 use Rattle.std.proofs.lemmas.List.{length-append, length-take-le, take_min}
-use Rattle.asm_build.specs.Sources.{numbers_bytes}
+use Rattle.asm_build.specs.TextParts.{numbers_bytes}
 
 -- a number has eight bytes
 eight : (v : ℕ) → length (to_le_bytes w64 v) ≡ 8

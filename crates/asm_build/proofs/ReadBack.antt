@@ -14,14 +14,14 @@ use Rattle.ia_insn.specs.Runs.{IsWithinRun}
 use Rattle.asm_text.specs.SlotTexts.{label_text}
 use Rattle.asm_build.specs.declared.address.Address.TheVariants as address
 use Rattle.asm_build.specs.declared.draft.BundleLines.{BundleLines}
-use Rattle.asm_build.specs.declared.source.EntryLine.{EntryLine}
-use Rattle.asm_build.specs.declared.source.Section.{Section}
-use Rattle.asm_build.specs.declared.source.Section.TheVariants as section
+use Rattle.asm_build.specs.declared.text_parts.EntryLine.{EntryLine}
+use Rattle.asm_build.specs.declared.text_parts.Section.{Section}
+use Rattle.asm_build.specs.declared.text_parts.Section.TheVariants as section
 use Rattle.asm_build.specs.Addresses.{IsInside}
 use Rattle.asm_build.specs.CanonicalText.{line as text_line, is_among, targets_from, bundles_text, words_of, words_text, data_text, canonical_text}
 use Rattle.asm_build.specs.Names.{all_declared, bundles_named, earlier, name_fault, or_none, padded, unnamed_bundle}
 use Rattle.asm_build.specs.RoundTrip.{CanonicalTextReads}
-use Rattle.asm_build.specs.Sources.{State, Labels, start, label_of, AreLabelsInside}
+use Rattle.asm_build.specs.TextParts.{TextParts, Labels, start, address_of, AreLabelsInside}
 use Rattle.asm_build.specs.TextReading.{text_lines, ComesTo, AllSay, Reads}
 use Rattle.asm_build.proofs.Choices.{true_or, or_true}
 use Rattle.asm_build.proofs.DataBack.{words_small, words_back}
@@ -34,7 +34,7 @@ use Rattle.asm_build.proofs.WrittenData.{data_goes}
 use Rattle.asm_build.proofs.WrittenTexts.{as_many, SoFar, AreGood, good_of, all_go}
 
 -- outside a bundle, in either section
-abbrev finished : Section → List BundleLines → List EntryLine → Labels → List ℕ → State
+abbrev finished : Section → List BundleLines → List EntryLine → Labels → List ℕ → TextParts
 finished s bs es ls bytes = record { section = s; current = None; bundles = bs; entries = es; labels = ls; bytes = bytes }
 
 -- Lines that come to the end.
@@ -67,7 +67,7 @@ nothing_padded bytes h =
     ap (λ n. bytes ++ replicate n 0) none ∙ append-nil bytes
 
 -- the lines come to the state
-all_say : (text : List ℕ) (s : State) (next : ℕ) → Goes start 1 text s next → AllSay text s
+all_say : (text : List ℕ) (s : TextParts) (next : ℕ) → Goes start 1 text s next → AllSay text s
 all_say text s next goes =
     let none : text_lines [] ≡ [] = ap (map without_terminator) lines-nil in
     subst (λ t. ComesTo start 1 (text_lines t) (Ok s)) (append-nil text) (goes [] (Ok s) (subst (λ ls. ComesTo s next ls (Ok s)) (sym none) refl))
@@ -89,13 +89,13 @@ given_back p h s bs es ls next so_far good goes =
     let names : unnamed_bundle ls 0 bs ≡ None = all_names_mean ls count 0 p.bundles bs good so_far.bundles labelled in
     let inside : (k : ℕ) → k < length p.entries → slice_index p.entries k < count = λ k less. (h.entries k less).inside in
     let lines : map (λ (e : EntryLine). e.name) es ≡ map label_text p.entries = so_far.entry_lines ∙ ap (map label_text) (all_below count p.entries inside) in
-    let found : (k : ℕ) → k < length p.entries → label_of ls (label_text (slice_index p.entries k)) ≡ Some (address.Bundle (slice_index p.entries k)) =
+    let found : (k : ℕ) → k < length p.entries → address_of ls (label_text (slice_index p.entries k)) ≡ Some (address.Bundle (slice_index p.entries k)) =
     λ k less. so_far.labels.named (slice_index p.entries k) (inside k less) (true_or (is_among p.entries (slice_index p.entries k)) (is_among (targets_from 0 p.bundles) (slice_index p.entries k)) (among_at p.entries k less)) in
     let entries : all_declared ls [] es ≡ Ok p.entries = declared_in_turn ls [] p.entries es lines found 1 (omega arith) tt (entries_rise count p.entries h.entries) (omega (arith, h.counts.entries)) in
     let no_fault : name_fault (finished s bs es ls p.bytes) ≡ None = ap (λ o. earlier o (all_declared ls [] es)) names ∙ ap (earlier None) entries in
     let labels : AreLabelsInside (finished s bs es ls p.bytes) = subst (λ n. AllByRecursion (IsInside n) (values_of ls)) (sym there) so_far.labels.inside in
     record {
-      state = finished s bs es ls p.bytes;
+      parts = finished s bs es ls p.bytes;
       lines = all_say (canonical_text p) (finished s bs es ls p.bytes) next goes;
       whole = ((refl, labels), (omega (arith, there, h.counts.some), (no_fault, (subst (λ cs. EachPlace cs (IsWithinRun cs)) (sym bundles) h.runs, tt))));
       program = sym (same_program (bundles_named ls 0 bs) p.bundles (or_none (all_declared ls [] es)) p.entries (padded p.bytes) p.bytes bundles (ap or_none entries) (nothing_padded p.bytes h.counts.words));

@@ -1,5 +1,5 @@
 -- Lines that are taken one by one.
-use Rattle.std.proofs.Common.{◌≡◌, ◌⊎◌, inl, inr, refl, ℕ, ◌+◌, ◌≤◌, List, ◌∷◌, length, Result, Ok, Err}
+use Rattle.std.proofs.Common.{◌≡◌, ◌⊎◌, inl, inr, ℕ, ◌+◌, ◌≤◌, List, ◌∷◌, length, Result, Ok, Err}
 use Rattle.std.specs.Prelude.{OnOk, IfErr}
 use Rattle.first_fault.specs.Stages.{ArePassed}
 use Rattle.asm_words.specs.declared.limits.TheConstants.{LINE_LIMIT}
@@ -8,17 +8,17 @@ use Rattle.asm_text.specs.Lines.{LineOf}
 use Rattle.asm_build.specs.declared.reason.Reason.{Reason}
 use Rattle.asm_build.specs.declared.reason.TextError.{TextError}
 use Rattle.asm_build.specs.declared.reason.TextError.TheVariants as error
-use Rattle.asm_build.specs.Sources.{State, after, value_stages, IsValueError}
+use Rattle.asm_build.specs.TextParts.{TextParts, after, value_stages, IsValueError}
 use Rattle.asm_build.specs.TextReading.{IsTaken, IsRefused, ComesTo}
 
 -- a line that is read and taken
-pub is_taken : (s t : State) (n : ℕ) (line : List ℕ) (value : Line) (r : Result (Unit {0}) TextError) → length line ≤ LINE_LIMIT → LineOf line value
+pub is_taken : (s t : TextParts) (n : ℕ) (line : List ℕ) (value : Line) (r : Result (Unit {0}) TextError) → length line ≤ LINE_LIMIT → LineOf line value
     → OnOk r (ArePassed (value_stages s value) × (t ≡ after s n value)) → OnOk r ((v : Line) × IsTaken s line v × (t ≡ after s n v))
 is_taken s t n line value (Ok u) short reads h = (value, (record { short = short; reads = reads }, h.0), h.1)
 is_taken s t n line value (Err e) short reads h = tt
 
 -- one that is read and refused
-pub is_refused : (s : State) (n : ℕ) (line : List ℕ) (value : Line) (r : Result (Unit {0}) TextError) → length line ≤ LINE_LIMIT → LineOf line value
+pub is_refused : (s : TextParts) (n : ℕ) (line : List ℕ) (value : Line) (r : Result (Unit {0}) TextError) → length line ≤ LINE_LIMIT → LineOf line value
     → IfErr r (IsValueError s n value) → IfErr r (λ e. (e ≡ error.Memory) ⊎ ((why : Reason) × (e ≡ error.Fault n why) × IsRefused s line why))
 is_refused s n line value (Ok u) short reads h = tt
 is_refused s n line value (Err e) short reads (inl memory) = inl memory
@@ -26,10 +26,6 @@ is_refused s n line value (Err e) short reads (inr (reason, is, first)) =
     inr (reason, is, inr (value, record { short = short; reads = reads }, first))
 
 -- after a line that is taken, what the rest comes to is what all come to
-pub one_more : (s t : State) (n : ℕ) (line : List ℕ) (lines : List (List ℕ)) (r : Result State TextError) → (v : Line) × IsTaken s line v × (t ≡ after s n v)
+pub one_more : (s t : TextParts) (n : ℕ) (line : List ℕ) (lines : List (List ℕ)) (r : Result TextParts TextError) → (v : Line) × IsTaken s line v × (t ≡ after s n v)
     → ComesTo t (n + 1) lines r → ComesTo s n (line ∷ lines) r
 one_more s t n line lines r (v, taken, is) rest = inr (v, taken, rw is at rest)
-
--- a line that is refused ends it
-pub ends_here : (s : State) (n : ℕ) (line : List ℕ) (lines : List (List ℕ)) (why : Reason) → IsRefused s line why → ComesTo s n (line ∷ lines) (Err (error.Fault n why))
-ends_here s n line lines why refused = inl (why, refused, refl)

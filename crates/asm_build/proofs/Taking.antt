@@ -7,20 +7,20 @@ use Rattle.asm_text.specs.declared.line.Line.{Line}
 use Rattle.asm_text.specs.Lines.{reading_of}
 use Rattle.asm_build.specs.CanonicalText.{line}
 use Rattle.asm_build.specs.declared.reason.TextError.{TextError}
-use Rattle.asm_build.specs.Sources.{State, after, value_stages}
+use Rattle.asm_build.specs.TextParts.{TextParts, after, value_stages}
 use Rattle.asm_build.specs.TextReading.{text_lines, Says, ComesTo}
 use Rattle.asm_build.proofs.TextLines.{lines_after}
 
 -- After a text, from the k-th line on, the state and the number of the next line are these.
-abbrev pub Goes : State → ℕ → List ℕ → State → ℕ → Type 0
-Goes s k text to next = (more : List ℕ) (r : Result State TextError) → ComesTo to next (text_lines more) r → ComesTo s k (text_lines (text ++ more)) r
+abbrev pub Goes : TextParts → ℕ → List ℕ → TextParts → ℕ → Type 0
+Goes s k text to next = (more : List ℕ) (r : Result TextParts TextError) → ComesTo to next (text_lines more) r → ComesTo s k (text_lines (text ++ more)) r
 
 -- no text
-pub stays : (s : State) (k : ℕ) → Goes s k [] s k
+pub stays : (s : TextParts) (k : ℕ) → Goes s k [] s k
 stays s k more r h = h
 
 -- one text after another
-pub goes_on : (s t u : State) (k m n : ℕ) (one two : List ℕ) → Goes s k one t m → Goes t m two u n → Goes s k (one ++ two) u n
+pub goes_on : (s t u : TextParts) (k m n : ℕ) (one two : List ℕ) → Goes s k one t m → Goes t m two u n → Goes s k (one ++ two) u n
 goes_on s t u k m n one two f g more r h =
     subst (λ text. ComesTo s k (text_lines text) r) (sym (append_assoc one two more)) (f (two ++ more) r (g more r h))
 
@@ -36,6 +36,6 @@ plain_of bytes value h = of (has_only_plain bytes) refl
         refused e = cc
 
 -- one line
-pub line_goes : (s : State) (k : ℕ) (bytes : List ℕ) (value : Line) → Says bytes value → ArePassed (value_stages s value) → Goes s k (line bytes) (after s k value) (k + 1)
+pub line_goes : (s : TextParts) (k : ℕ) (bytes : List ℕ) (value : Line) → Says bytes value → ArePassed (value_stages s value) → Goes s k (line bytes) (after s k value) (k + 1)
 line_goes s k bytes value says passed more r h =
     subst (λ lines. ComesTo s k lines r) (sym (lines_after bytes more (plain_of bytes value says.reads.reading))) (inr (value, (says, passed), h))

@@ -21,48 +21,52 @@ use Rattle.asm_build.proofs.PrintedLines.{label_says, entry_says, head_says}
 use Rattle.asm_build.proofs.WrittenBundles.{SlotsSay}
 use Rattle.asm_build.proofs.WrittenTexts.{AreGood, good_of}
 
+-- the bytes of a line with its end
+abbrev line_bytes : ℕ
+line_bytes = LINE_LIMIT + 1
+
 both_short : (xs ys : List ℕ) (m n : ℕ) → length xs ≤ m → length ys ≤ n → length (xs ++ ys) ≤ m + n
 both_short xs ys m n a b = omega (arith, a, b, length-append xs ys)
 
 line_short : (text : List ℕ) → length text ≤ LINE_LIMIT → length (text_line text) ≤ LINE_LIMIT + 1
 line_short text h = both_short text (10 ∷ []) LINE_LIMIT 1 h (omega arith)
 
-if_short : (is : Bool) (text : List ℕ) (most : ℕ) → length text ≤ most → length (if is then text else []) ≤ most
-if_short true text most h = h
-if_short false text most h = omega arith
+if_short : (is : Bool) (text : List ℕ) (n : ℕ) → length text ≤ n → length (if is then text else []) ≤ n
+if_short true text n h = h
+if_short false text n h = omega arith
 
-head_short : (b : Bundle) → IsBundle b → length (head_text b.template) ≤ 241
+head_short : (b : Bundle) → IsBundle b → length (head_text b.template) ≤ line_bytes
 head_short b fit =
     let name = has_name b.template b.slots fit in
-    subst (λ (us : List ExecutionUnit). length (text_line (codes "{ ." ++ map unit_letter us)) ≤ 241) (sym name.1.units) (line_short (codes "{ ." ++ map unit_letter (units_named name.0)) (head_says name.0).short)
+    subst (λ (us : List ExecutionUnit). length (text_line (codes "{ ." ++ map unit_letter us)) ≤ line_bytes) (sym name.1.units) (line_short (codes "{ ." ++ map unit_letter (units_named name.0)) (head_says name.0).short)
 
-slots_short : SlotsSay → (count n template : ℕ) (contents : Slots) → n < 2 ^ 32 → AreSound count n contents → length (slots_text n template contents) ≤ 723
+slots_short : SlotsSay → (count n template : ℕ) (contents : Slots) → n < 2 ^ 32 → AreSound count n contents → length (slots_text n template contents) ≤ 3 * line_bytes
 slots_short say count n template (slots.Three a b c) low sound =
     let la = line_short (slot_text a n (has_stop template 0)) (say a n (has_stop template 0) sound.0.listed low).short in
     let lb = line_short (slot_text b n (has_stop template 1)) (say b n (has_stop template 1) sound.1.0.listed low).short in
     let lc = line_short (slot_text c n (has_stop template 2)) (say c n (has_stop template 2) sound.1.1.listed low).short in
-    both_short (text_line (slot_text a n (has_stop template 0))) (text_line (slot_text b n (has_stop template 1)) ++ text_line (slot_text c n (has_stop template 2))) 241 482 la
-    (both_short (text_line (slot_text b n (has_stop template 1))) (text_line (slot_text c n (has_stop template 2))) 241 241 lb lc)
+    both_short (text_line (slot_text a n (has_stop template 0))) (text_line (slot_text b n (has_stop template 1)) ++ text_line (slot_text c n (has_stop template 2))) line_bytes (2 * line_bytes) la
+    (both_short (text_line (slot_text b n (has_stop template 1))) (text_line (slot_text c n (has_stop template 2))) line_bytes line_bytes lb lc)
 slots_short say count n template (slots.Long a b) low sound =
     let la = line_short (slot_text a n false) (say a n false sound.0.listed low).short in
     let lb = line_short (slot_text b n (has_stop template 2)) (say b n (has_stop template 2) sound.1.listed low).short in
-    both_short (text_line (slot_text a n false)) (text_line (slot_text b n (has_stop template 2))) 241 482 la (omega (arith, lb))
+    both_short (text_line (slot_text a n false)) (text_line (slot_text b n (has_stop template 2))) line_bytes (2 * line_bytes) la (omega (arith, lb))
 
-bundle_short : SlotsSay → (entries targets : List ℕ) (count n : ℕ) (b : Bundle) → n < 2 ^ 32 → IsBundle b → AreSound count n b.slots → length (bundle_text entries targets n b) ≤ 1448
+bundle_short : SlotsSay → (entries targets : List ℕ) (count n : ℕ) (b : Bundle) → n < 2 ^ 32 → IsBundle b → AreSound count n b.slots → length (bundle_text entries targets n b) ≤ 6 * line_bytes + 2
 bundle_short say entries targets count n b low fit sound =
     let entry = is_among entries n in
     let labelled = is_among entries n || is_among targets n in
     let entry_line = text_line (codes ".entry " ++ label_text n) in
     let label_line = text_line (label_text n ++ codes ":") in
     let body = slots_text n b.template b.slots ++ text_line (codes "}") in
-    both_short (if entry then entry_line else []) ((if labelled then label_line else []) ++ (head_text b.template ++ body)) 241 1207
-    (if_short entry entry_line 241 (line_short (codes ".entry " ++ label_text n) (entry_says n low).short))
-    (both_short (if labelled then label_line else []) (head_text b.template ++ body) 241 966
-    (if_short labelled label_line 241 (line_short (label_text n ++ codes ":") (label_says n low).short))
-    (both_short (head_text b.template) body 241 725 (head_short b fit)
-    (both_short (slots_text n b.template b.slots) (text_line (codes "}")) 723 2 (slots_short say count n b.template b.slots low sound) (omega arith))))
+    both_short (if entry then entry_line else []) ((if labelled then label_line else []) ++ (head_text b.template ++ body)) line_bytes (5 * line_bytes + 2)
+    (if_short entry entry_line line_bytes (line_short (codes ".entry " ++ label_text n) (entry_says n low).short))
+    (both_short (if labelled then label_line else []) (head_text b.template ++ body) line_bytes (4 * line_bytes + 2)
+    (if_short labelled label_line line_bytes (line_short (label_text n ++ codes ":") (label_says n low).short))
+    (both_short (head_text b.template) body line_bytes (3 * line_bytes + 2) (head_short b fit)
+    (both_short (slots_text n b.template b.slots) (text_line (codes "}")) (3 * line_bytes) 2 (slots_short say count n b.template b.slots low sound) (omega arith))))
 
-bundles_short : SlotsSay → (entries targets : List ℕ) (count n : ℕ) (bs : List Bundle) → n + length bs ≤ BUNDLE_LIMIT → AreGood count n bs → length (bundles_text entries targets n bs) ≤ 1448 * length bs
+bundles_short : SlotsSay → (entries targets : List ℕ) (count n : ℕ) (bs : List Bundle) → n + length bs ≤ BUNDLE_LIMIT → AreGood count n bs → length (bundles_text entries targets n bs) ≤ (6 * line_bytes + 2) * length bs
 bundles_short say entries targets count n [] few good = omega arith
 bundles_short say entries targets count n (b ∷ bs) few good =
     let here = bundle_short say entries targets count n b (omega (arith, few)) good.0.0 good.0.1 in

@@ -18,16 +18,15 @@ use Rattle.asm_text.specs.declared.line.Shape.TheVariants as shape
 use Rattle.asm_text.specs.ReadBack.{printed_line}
 use Rattle.asm_text.specs.SlotTexts.{label_text, target_of, slot_text}
 use Rattle.asm_build.specs.declared.draft.BundleLines.{BundleLines}
-use Rattle.asm_build.specs.declared.draft.Open.{Open}
 use Rattle.asm_build.specs.declared.draft.SlotLine.{SlotLine}
 use Rattle.asm_build.specs.declared.draft.SlotLines.{SlotLines}
 use Rattle.asm_build.specs.declared.draft.SlotLines.TheVariants as lines
-use Rattle.asm_build.specs.declared.source.EntryLine.{EntryLine}
-use Rattle.asm_build.specs.declared.source.Section.TheVariants as section
+use Rattle.asm_build.specs.declared.text_parts.EntryLine.{EntryLine}
+use Rattle.asm_build.specs.declared.text_parts.Section.TheVariants as section
 use Rattle.asm_build.specs.CanonicalText.{line as text_line, has_stop, unit_letter, head_text, slots_text}
-use Rattle.asm_build.specs.Drafts.{HasSlotRoom, IsWhole, next_unit, count_of, one_more, closed, closed_as, three, long}
+use Rattle.asm_build.specs.Drafts.{OpenBundle, HasSlotRoom, IsWhole, next_unit, count_of, one_more, closed, closed_as, three, long}
 use Rattle.asm_build.specs.Marks.{AreSound}
-use Rattle.asm_build.specs.Sources.{State, Labels, with_bundle}
+use Rattle.asm_build.specs.TextParts.{TextParts, Labels, with_bundle}
 use Rattle.asm_build.specs.TemplateNames.{units_named, template_of}
 use Rattle.asm_build.specs.TextReading.{Says}
 use Rattle.asm_build.proofs.NamedTemplates.{IsNamedBy, has_name, short_of, long_of}
@@ -40,10 +39,10 @@ abbrev pub SlotsSay : Type 0
 SlotsSay = (i : Insn) (n : ℕ) (stop : Bool) → IsListed i → n < 2 ^ 32 → Says (slot_text i n stop) (printed_line i n stop)
 
 -- outside a bundle and within one, where bundles are being written
-abbrev pub outside : List BundleLines → List EntryLine → Labels → State
+abbrev pub outside : List BundleLines → List EntryLine → Labels → TextParts
 outside bs es ls = record { section = section.Text; current = None; bundles = bs; entries = es; labels = ls; bytes = [] }
 
-abbrev pub inside : Open → List BundleLines → List EntryLine → Labels → State
+abbrev pub inside : OpenBundle → List BundleLines → List EntryLine → Labels → TextParts
 inside o bs es ls = record { section = section.Text; current = Some o; bundles = bs; entries = es; labels = ls; bytes = [] }
 
 -- the name of the target of an instruction in the n-th bundle
@@ -54,7 +53,7 @@ name_in n i = option_map label_text (target_of n i.op)
 abbrev slot_line : ℕ → ℕ → Insn → Bool → SlotLine
 slot_line k n i stop = record { line = k; insn = until_named i; target = name_in n i; stop = stop }
 
-abbrev opened : Shape → SlotLines → Open
+abbrev opened : Shape → SlotLines → OpenBundle
 opened s ls = record { shape = s; slots = ls }
 
 -- the slots until the names of their targets are put in
@@ -72,7 +71,7 @@ pub record AreLinesOf (n : ℕ) (b : Bundle) (l : BundleLines) : Type 0 where
   pub names : HasNames n b.slots l
 
 -- one slot line
-slot_goes : SlotsSay → (bs : List BundleLines) (es : List EntryLine) (ls : Labels) (k n : ℕ) (o : Open) (i : Insn) (stop : Bool) → IsListed i → n < 2 ^ 32 → HasSlotRoom o → Fits (until_named i) (next_unit o) (count_of o.slots)
+slot_goes : SlotsSay → (bs : List BundleLines) (es : List EntryLine) (ls : Labels) (k n : ℕ) (o : OpenBundle) (i : Insn) (stop : Bool) → IsListed i → n < 2 ^ 32 → HasSlotRoom o → Fits (until_named i) (next_unit o) (count_of o.slots)
     → Goes (inside o bs es ls) k (text_line (slot_text i n stop)) (inside (opened o.shape (one_more o.slots (slot_line k n i stop))) bs es ls) (k + 1)
 slot_goes say bs es ls k n o i stop listed low room fits =
     line_goes (inside o bs es ls) k (slot_text i n stop) (printed_line i n stop) (say i n stop listed low) (refl, (tt, (room, (fits, (tt, tt)))))
@@ -85,7 +84,7 @@ head_goes bs es ls k s template units room =
     (line_goes (outside bs es ls) k (codes "{ ." ++ map unit_letter (units_named s)) (line.Open s) (head_says s) (record { closed = refl; same = refl }, (tt, (tt, (tt, (room, tt))))))
 
 -- `}`
-close_goes : (bs : List BundleLines) (es : List EntryLine) (ls : Labels) (k : ℕ) (o : Open) (l : BundleLines) → closed o ≡ Some l → IsBundle l.bundle
+close_goes : (bs : List BundleLines) (es : List EntryLine) (ls : Labels) (k : ℕ) (o : OpenBundle) (l : BundleLines) → closed o ≡ Some l → IsBundle l.bundle
     → Goes (inside o bs es ls) k (text_line (codes "}")) (outside (bs ++ l ∷ []) es ls) (k + 1)
 close_goes bs es ls k o l e is =
     let whole : IsWhole o = subst (λ r. IsSomeAnd r (λ b. IsBundle b.bundle)) (sym e) is in
@@ -94,18 +93,6 @@ close_goes bs es ls k o l e is =
 
 unit_at : (s : Shape) (us : List ExecutionUnit) (n : ℕ) → units_named s ≡ us → slice_index_or us n X ≡ slice_index_or (units_named s) n X
 unit_at s us n e = ap (λ (vs : List ExecutionUnit). slice_index_or vs n X) (sym e)
-
-closed_three : (s : Shape) (a b c : SlotLine) → closed_as s (lines.Three a b c) ≡ option_map (three a b c) (template_of s a.stop b.stop c.stop)
-closed_three shape.Mii a b c = refl
-closed_three shape.Mlx a b c = refl
-closed_three shape.Mmi a b c = refl
-closed_three shape.Mfi a b c = refl
-closed_three shape.Mmf a b c = refl
-closed_three shape.Mib a b c = refl
-closed_three shape.Mbb a b c = refl
-closed_three shape.Bbb a b c = refl
-closed_three shape.Mmb a b c = refl
-closed_three shape.Mfb a b c = refl
 
 -- the lines of three slots
 three_goes : SlotsSay → (bs : List BundleLines) (es : List EntryLine) (ls : Labels) (k n template : ℕ) (s : Shape) (a b c : Insn) (u v w : ExecutionUnit) → units_named s ≡ u ∷ v ∷ w ∷ [] → v ≢ L
@@ -146,7 +133,7 @@ at_long : (template : ℕ) → IsNamedBy shape.Mlx template → template_of shap
 at_long template named =
     ap (λ a. template_of shape.Mlx a false (has_stop template 2)) (sym named.long.0) ∙ ap (λ b. template_of shape.Mlx (has_stop template 0) b (has_stop template 2)) (sym named.long.1) ∙ named.same
 
-closed_long : (s : Shape) (template : ℕ) (a b : SlotLine) → s ≡ shape.Mlx → IsNamedBy s template → a.stop ≡ false → b.stop ≡ has_stop template 2 → closed_as s (lines.Two a b) ≡ Some (long a b template)
+closed_long : (s : Shape) (template : ℕ) (a b : SlotLine) → s ≡ shape.Mlx → IsNamedBy s template → a.stop ≡ false → b.stop ≡ has_stop template 2 → closed_as (lines.Two a b) s ≡ Some (long a b template)
 closed_long shape.Mlx template a b is named none last =
     let same : template_of shape.Mlx a.stop false b.stop ≡ Some template = ap (λ x. template_of shape.Mlx x false b.stop) none ∙ ap (λ x. template_of shape.Mlx false false x) last ∙ at_long template named in
     ap (option_map (long a b)) same
@@ -154,7 +141,7 @@ closed_long s template a b is named none last = absurd cc
 
 -- the lines of the slots come to an open bundle that is closed as this one
 pub record SlotsGo (bs : List BundleLines) (es : List EntryLine) (ls : Labels) (k n template : ℕ) (s : Shape) (contents : Slots) : Type 0 where
-  pub open_bundle : Open
+  pub open_bundle : OpenBundle
   pub next : ℕ
   pub read : BundleLines
   pub goes : Goes (inside (opened s lines.Zero) bs es ls) k (slots_text n template contents) (inside open_bundle bs es ls) next
@@ -172,7 +159,7 @@ slots_go say bs es ls k n count template s (slots.Three a b c) low named (u ∷ 
       next = k + 1 + 1 + 1;
       read = three first second third template;
       goes = three_goes say bs es ls k n template s a b c u v w e fit.3 fit.0 fit.1 fit.2 sound.0.listed sound.1.0.listed sound.1.1.listed low;
-      whole = closed_three s first second third ∙ ap (option_map (three first second third)) named.same;
+      whole = ap (option_map (three first second third)) named.same;
       same = record { bundle = refl; names = (refl, (refl, refl)) };
     }
 slots_go say bs es ls k n count template s (slots.Long a b) low named (u ∷ v ∷ w ∷ []) e fit sound =

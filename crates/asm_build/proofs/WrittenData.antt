@@ -7,10 +7,10 @@ use Rattle.std.proofs.lemmas.Grind.{flat_map-append}
 use Rattle.ia_insn.specs.declared.limits.TheConstants.{DATA_LIMIT}
 use Rattle.asm_text.specs.declared.line.Line.TheVariants as says
 use Rattle.asm_build.specs.declared.draft.BundleLines.{BundleLines}
-use Rattle.asm_build.specs.declared.source.EntryLine.{EntryLine}
-use Rattle.asm_build.specs.declared.source.Section.TheVariants as section
+use Rattle.asm_build.specs.declared.text_parts.EntryLine.{EntryLine}
+use Rattle.asm_build.specs.declared.text_parts.Section.TheVariants as section
 use Rattle.asm_build.specs.CanonicalText.{line as text_line, words_text, is_nothing}
-use Rattle.asm_build.specs.Sources.{State, Labels, numbers_bytes}
+use Rattle.asm_build.specs.TextParts.{TextParts, Labels, numbers_bytes}
 use Rattle.asm_build.proofs.Choices.{or_true}
 use Rattle.asm_build.proofs.DataBack.{AreWords}
 use Rattle.asm_build.proofs.PrintedLines.{data_says}
@@ -19,7 +19,7 @@ use Rattle.asm_build.proofs.Taking.{Goes, stays, goes_on, line_goes}
 use Rattle.asm_build.proofs.WrittenBundles.{outside}
 
 -- outside a bundle, where data are being written
-abbrev pub in_data : List BundleLines → List EntryLine → Labels → List ℕ → State
+abbrev pub in_data : List BundleLines → List EntryLine → Labels → List ℕ → TextParts
 in_data bs es ls bytes = record { section = section.Data; current = None; bundles = bs; entries = es; labels = ls; bytes = bytes }
 
 -- the line feed after a word, where it has one
@@ -84,7 +84,7 @@ numbers_both : (xs ys : List ℕ) → numbers_bytes 8 (xs ++ ys) ≡ numbers_byt
 numbers_both xs ys = flat_map-append (λ v. take 8 (to_le_bytes w64 v)) xs ys
 
 -- Lines that come to data.
-pub record DataGoes (from : State) (bs : List BundleLines) (es : List EntryLine) (ls : Labels) (line : ℕ) (text bytes : List ℕ) : Type 0 where
+pub record DataGoes (from : TextParts) (bs : List BundleLines) (es : List EntryLine) (ls : Labels) (line : ℕ) (text bytes : List ℕ) : Type 0 where
   pub next : ℕ
   pub goes : Goes from line text (in_data bs es ls bytes) next
 

@@ -11,10 +11,10 @@ use Rattle.asm_text.specs.declared.line.Line.TheVariants as line
 use Rattle.asm_text.specs.SlotTexts.{label_text}
 use Rattle.asm_build.specs.declared.address.Address.TheVariants as address
 use Rattle.asm_build.specs.declared.draft.BundleLines.{BundleLines}
-use Rattle.asm_build.specs.declared.source.EntryLine.{EntryLine}
+use Rattle.asm_build.specs.declared.text_parts.EntryLine.{EntryLine}
 use Rattle.asm_build.specs.CanonicalText.{line as text_line, is_among, head_text, slots_text, bundle_text, bundles_text}
 use Rattle.asm_build.specs.Marks.{AreSound}
-use Rattle.asm_build.specs.Sources.{Labels, label_of}
+use Rattle.asm_build.specs.TextParts.{Labels, address_of}
 use Rattle.asm_build.proofs.EntriesSoFar.{Rise, below, one_below}
 use Rattle.asm_build.proofs.LabelsSoFar.{HasLabels, one_label, same_labels}
 use Rattle.asm_build.proofs.PrintedLines.{label_says, entry_says}
@@ -64,7 +64,7 @@ entry_goes : (is : Bool) (bs : List BundleLines) (es : List EntryLine) (ls : Lab
 entry_goes true bs es ls k n low = line_goes (outside bs es ls) k (codes ".entry " ++ label_text n) (line.Entry (label_text n)) (entry_says n low) (refl, (tt, (tt, (tt, (tt, tt)))))
 entry_goes false bs es ls k n low = stays (outside bs es ls) k
 
-label_goes : (is : Bool) (bs : List BundleLines) (es : List EntryLine) (ls : Labels) (k n : ℕ) → n < 2 ^ 32 → label_of ls (label_text n) ≡ None
+label_goes : (is : Bool) (bs : List BundleLines) (es : List EntryLine) (ls : Labels) (k n : ℕ) → n < 2 ^ 32 → address_of ls (label_text n) ≡ None
     → Goes (outside bs es ls) k (if is then text_line (label_text n ++ codes ":") else []) (outside bs es (label_if is ls n (length bs))) (next_if is k)
 label_goes true bs es ls k n low new = line_goes (outside bs es ls) k (label_text n ++ codes ":") (line.Label (label_text n)) (label_says n low) (refl, (new, (tt, (tt, (tt, tt)))))
 label_goes false bs es ls k n low new = stays (outside bs es ls) k

@@ -66,12 +66,12 @@ bundles_text entries targets n [] = []
 bundles_text entries targets n (b ∷ bs) = bundle_text entries targets n b ++ bundles_text entries targets (n + 1) bs
 
 -- a word of eight bytes, the lowest first
-abbrev pub word_of : ℕ → ℕ → ℕ → ℕ → ℕ → ℕ → ℕ → ℕ → ℕ
-word_of a b c d e f g h = a + 256 * (b + 256 * (c + 256 * (d + 256 * (e + 256 * (f + 256 * (g + 256 * h))))))
+abbrev pub data_word : ℕ → ℕ → ℕ → ℕ → ℕ → ℕ → ℕ → ℕ → ℕ
+data_word a b c d e f g h = a + 256 * (b + 256 * (c + 256 * (d + 256 * (e + 256 * (f + 256 * (g + 256 * h))))))
 
 -- the words of data, whose length is a multiple of eight
 abbrev pub words_of : List ℕ → List ℕ
-words_of (a ∷ b ∷ c ∷ d ∷ e ∷ f ∷ g ∷ h ∷ rest) = word_of a b c d e f g h ∷ words_of rest
+words_of (a ∷ b ∷ c ∷ d ∷ e ∷ f ∷ g ∷ h ∷ rest) = data_word a b c d e f g h ∷ words_of rest
 words_of _ = []
 
 abbrev pub is_nothing : List ℕ → Bool

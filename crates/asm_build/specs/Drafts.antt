@@ -13,7 +13,6 @@ use Rattle.asm_text.specs.declared.line.Draft.{Draft}
 use Rattle.asm_text.specs.declared.line.Shape.{Shape}
 use Rattle.asm_text.specs.declared.line.Shape.TheVariants as shape
 use Rattle.asm_build.specs.declared.draft.BundleLines.{BundleLines}
-use Rattle.asm_build.specs.declared.draft.Open.{Open}
 use Rattle.asm_build.specs.declared.draft.SlotLine.{SlotLine}
 use Rattle.asm_build.specs.declared.draft.SlotLines.{SlotLines}
 use Rattle.asm_build.specs.declared.draft.SlotLines.TheVariants as slots
@@ -36,6 +35,11 @@ lettered u x = x
 abbrev pub completed : Draft → ExecutionUnit → Insn
 completed d u =
     if d.bare then record { qp = d.insn.qp; op = lettered (letter_of u) d.insn.op } else d.insn
+
+-- A bundle that is not closed yet: the name of its template, and its slot lines so far.
+pub record OpenBundle : Type 0 where
+  pub shape : Shape
+  pub slots : SlotLines
 
 abbrev pub count_of : SlotLines → ℕ
 count_of slots.Zero = 0
@@ -64,7 +68,7 @@ abbrev pub HasSome : SlotLines → Type 0
 HasSome slots.Zero = ⊥
 HasSome lines = ⊤
 
-abbrev pub HasSlot : Open → Type 0
+abbrev pub HasSlot : OpenBundle → Type 0
 HasSlot o = HasSome o.slots
 
 abbrev pub IsShort : Shape → Type 0
@@ -78,23 +82,38 @@ HasRoomIn s (slots.Two a b) = IsShort s
 HasRoomIn s (slots.Three a b c) = ⊥
 
 -- one more slot line may follow: three, or two where the second is a long one
-abbrev pub HasSlotRoom : Open → Type 0
+abbrev pub HasSlotRoom : OpenBundle → Type 0
 HasSlotRoom o = HasRoomIn o.shape o.slots
 
-abbrev pub next_unit : Open → ExecutionUnit
-next_unit o = slice_index_or (units_named o.shape) (count_of o.slots) unit.X
+-- the unit of a slot
+abbrev pub unit_at : Shape → ℕ → ExecutionUnit
+unit_at s slot = slice_index_or (units_named s) slot unit.X
+
+abbrev pub next_unit : OpenBundle → ExecutionUnit
+next_unit o = unit_at o.shape (count_of o.slots)
 
 -- the instruction fits the next slot
-abbrev pub FitsNext : Open → Draft → Type 0
+abbrev pub FitsNext : OpenBundle → Draft → Type 0
 FitsNext o d = Fits (completed d (next_unit o)) (next_unit o) (count_of o.slots)
 
+-- the instruction of a slot line fits a slot
+abbrev pub FitsAt : Shape → ℕ → SlotLine → Type 0
+FitsAt s slot l = Fits l.insn (unit_at s slot) slot
+
+-- those of the slot lines fit their slots
+abbrev pub AreFitting : Shape → SlotLines → Type 0
+AreFitting s slots.Zero = ⊤
+AreFitting s (slots.One a) = FitsAt s 0 a
+AreFitting s (slots.Two a b) = FitsAt s 0 a × FitsAt s 1 b
+AreFitting s (slots.Three a b c) = FitsAt s 0 a × FitsAt s 1 b × FitsAt s 2 c × IsShort s
+
 -- the bundle with one more slot line
-abbrev pub added : Open → ℕ → Draft → Bool → Open
+abbrev pub added : OpenBundle → ℕ → Draft → Bool → OpenBundle
 added o line d stop =
     record { shape = o.shape; slots = one_more o.slots (record { line = line; insn = completed d (next_unit o); target = d.target; stop = stop }) }
 
 -- the bundle with a stop after its last slot line
-abbrev pub stopped : Open → Open
+abbrev pub stopped : OpenBundle → OpenBundle
 stopped o = record { shape = o.shape; slots = last_stopped o.slots }
 
 abbrev pub name_of : SlotLine → SlotName
@@ -111,15 +130,15 @@ abbrev pub long : SlotLine → SlotLine → ℕ → BundleLines
 long a b template =
     record { bundle = record { template = template; slots = Long a.insn b.insn }; first = name_of a; second = name_of b; third = no_name b }
 
-abbrev pub closed_as : Shape → SlotLines → Option BundleLines
-closed_as shape.Mlx (slots.Two a b) = option_map (long a b) (template_of shape.Mlx a.stop false b.stop)
-closed_as s (slots.Three a b c) = option_map (three a b c) (template_of s a.stop b.stop c.stop)
-closed_as s lines = None
+abbrev pub closed_as : SlotLines → Shape → Option BundleLines
+closed_as (slots.Two a b) shape.Mlx = option_map (long a b) (template_of shape.Mlx a.stop false b.stop)
+closed_as (slots.Three a b c) s = option_map (three a b c) (template_of s a.stop b.stop c.stop)
+closed_as lines s = None
 
 -- The bundle that its lines give: the one with this template's name and these stops.
-abbrev pub closed : Open → Option BundleLines
-closed o = closed_as o.shape o.slots
+abbrev pub closed : OpenBundle → Option BundleLines
+closed o = closed_as o.slots o.shape
 
 -- they give one
-abbrev pub IsWhole : Open → Type 0
+abbrev pub IsWhole : OpenBundle → Type 0
 IsWhole o = IsSomeAnd (closed o) (λ b. IsBundle b.bundle)

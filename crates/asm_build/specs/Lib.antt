@@ -5,7 +5,7 @@ pub mod Reasons
 pub mod Addresses
 pub mod TemplateNames
 pub mod Drafts
-pub mod Sources
+pub mod TextParts
 pub mod Names
 pub mod TextReading
 pub mod Laws

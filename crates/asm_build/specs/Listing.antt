@@ -13,18 +13,18 @@ head_listed n bytes template =
     line (decimal n ++ (codes " " ++ (encode_lower bytes ++ (codes " " ++ map unit_letter (units_of template)))))
 
 -- the lines of the n-th bundle
-abbrev pub IsListed : ℕ → Bundle → List ℕ → Type 0
-IsListed n b text =
+abbrev pub IsBundleListing : ℕ → Bundle → List ℕ → Type 0
+IsBundleListing n b text =
     (bytes : List ℕ) × IsSpelled b bytes × (text ≡ head_listed n bytes b.template ++ slots_text n b.template b.slots)
 
 -- those of bundles, the first of which is the n-th
-abbrev pub AreListed : ℕ → List Bundle → List ℕ → Type 0
-AreListed n [] text = text ≡ []
-AreListed n (b ∷ bs) text =
-    (front : List ℕ) × (rest : List ℕ) × (text ≡ front ++ rest) × IsListed n b front × AreListed (n + 1) bs rest
+abbrev pub AreBundleListings : ℕ → List Bundle → List ℕ → Type 0
+AreBundleListings n [] text = text ≡ []
+AreBundleListings n (b ∷ bs) text =
+    (front : List ℕ) × (rest : List ℕ) × (text ≡ front ++ rest) × IsBundleListing n b front × AreBundleListings (n + 1) bs rest
 
 abbrev pub IsListing : Program → List ℕ → Type 0
-IsListing p text = AreListed 0 p.bundles text
+IsListing p text = AreBundleListings 0 p.bundles text
 
 -- something is appended, of which something holds
 abbrev pub IsAppended : List ℕ → List ℕ → (List ℕ → Type 0) → Type 0

@@ -16,12 +16,12 @@ use Rattle.asm_build.specs.declared.address.Address.{Address}
 use Rattle.asm_build.specs.declared.address.Address.TheVariants as address
 use Rattle.asm_build.specs.declared.draft.BundleLines.{BundleLines}
 use Rattle.asm_build.specs.declared.draft.SlotName.{SlotName}
-use Rattle.asm_build.specs.declared.source.EntryLine.{EntryLine}
+use Rattle.asm_build.specs.declared.text_parts.EntryLine.{EntryLine}
 use Rattle.asm_build.specs.declared.reason.TextError.{TextError}
 use Rattle.asm_build.specs.declared.reason.TextError.TheVariants as error
 use Rattle.asm_build.specs.declared.reason.Reason.TheVariants.{NoLabel, Limit}
 use Rattle.asm_build.specs.Addresses.{addressed}
-use Rattle.asm_build.specs.Sources.{State, Labels, label_of}
+use Rattle.asm_build.specs.TextParts.{TextParts, Labels, address_of}
 
 abbrev pub addressed_by : Option Address → Op → ℕ → Option Op
 addressed_by None x n = None
@@ -31,7 +31,7 @@ addressed_by (Some a) x n = addressed x a n
 -- the name, and for a direct branch or check without a name, which no line has.
 abbrev pub named : Labels → ℕ → Op → Option (List ℕ) → Option Op
 named labels n x None = if is_some (displacement x) then None else Some x
-named labels n x (Some name) = addressed_by (label_of labels name) x n
+named labels n x (Some name) = addressed_by (address_of labels name) x n
 
 -- a slot by its instruction and its name
 abbrev pub is_named : Labels → ℕ → Insn × SlotName → Bool
@@ -102,7 +102,7 @@ and_then (Err e) next = Err e
 abbrev pub all_declared : Labels → List ℕ → List EntryLine → Result (List ℕ) TextError
 all_declared labels entries [] = Ok entries
 all_declared labels entries (e ∷ es) =
-    and_then (declared_by (bundle_at (label_of labels e.name)) e.line entries) (λ more. all_declared labels more es)
+    and_then (declared_by (bundle_at (address_of labels e.name)) e.line entries) (λ more. all_declared labels more es)
 
 -- of two faults of lines, that of the earlier one
 abbrev pub earlier_of : TextError → TextError → TextError
@@ -120,7 +120,7 @@ earlier (Some line) (Ok entries) = Some (no_label line)
 earlier (Some line) (Err e) = Some (earlier_of (no_label line) e)
 
 -- the first line with a name that means nothing that fits, or with a declared entry past the last
-abbrev pub name_fault : State → Option TextError
+abbrev pub name_fault : TextParts → Option TextError
 name_fault s = earlier (unnamed_bundle s.labels 0 s.bundles) (all_declared s.labels [] s.entries)
 
 abbrev pub or_none : Result (List ℕ) TextError → List ℕ
@@ -132,7 +132,7 @@ abbrev pub padded : List ℕ → List ℕ
 padded bytes = bytes ++ replicate ((8 - length bytes % 8) % 8) 0
 
 -- The program that the lines say.
-abbrev pub program_of : State → Program
+abbrev pub program_of : TextParts → Program
 program_of s =
     record { bundles = bundles_named s.labels 0 s.bundles; entries = or_none (all_declared s.labels [] s.entries); bytes = padded s.bytes }
 

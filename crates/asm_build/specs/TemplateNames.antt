@@ -1,10 +1,12 @@
 -- The templates that a template's name stands for (volume 3, chapter 4, bundle templates).
-use Rattle.std.specs.Prelude.{ℕ, ◌+◌, Bool, true, false, if◌then◌else◌, List, [], ◌∷◌, Option, Some, None}
-use Rattle.std.specs.Option.{option_map}
+use Rattle.std.specs.Prelude.{ℕ, zero, suc, ◌&&◌, Bool, if◌then◌else◌, List, [], ◌∷◌, ◌++◌, map, find, Option}
+use Rattle.std.specs.Str.{bytes_eq}
 use Rattle.ia_insn.specs.declared.choices.Unit.{Unit as ExecutionUnit}
 use Rattle.ia_insn.specs.declared.choices.Unit.TheVariants.{M, I, F, B, L, X}
+use Rattle.ia_insn.specs.Templates.{units_of, stops_of}
 use Rattle.asm_text.specs.declared.line.Shape.{Shape}
 use Rattle.asm_text.specs.declared.line.Shape.TheVariants as shape
+use Rattle.asm_build.specs.CanonicalText.{unit_letter}
 
 -- the units of the three slots
 abbrev pub units_named : Shape → List ExecutionUnit
@@ -19,23 +21,22 @@ units_named shape.Bbb = B ∷ B ∷ B ∷ []
 units_named shape.Mmb = M ∷ M ∷ B ∷ []
 units_named shape.Mfb = M ∷ F ∷ B ∷ []
 
--- the code of the template with this name, these stops after slots 0 and 1, and none after slot 2
-abbrev pub inner_code : Shape → Bool → Bool → Option ℕ
-inner_code shape.Mii false false = Some 0x00
-inner_code shape.Mii false true = Some 0x02
-inner_code shape.Mlx false false = Some 0x04
-inner_code shape.Mmi false false = Some 0x08
-inner_code shape.Mmi true false = Some 0x0a
-inner_code shape.Mfi false false = Some 0x0c
-inner_code shape.Mmf false false = Some 0x0e
-inner_code shape.Mib false false = Some 0x10
-inner_code shape.Mbb false false = Some 0x12
-inner_code shape.Bbb false false = Some 0x16
-inner_code shape.Mmb false false = Some 0x18
-inner_code shape.Mfb false false = Some 0x1c
-inner_code shape first second = None
+-- the slots that are marked
+abbrev pub marked_slots : Bool → Bool → Bool → List ℕ
+marked_slots first second third =
+    (if first then 0 ∷ [] else []) ++ ((if second then 1 ∷ [] else []) ++ (if third then 2 ∷ [] else []))
 
--- the template with this name and stops after the slots that are marked
-abbrev pub template_of : Shape → Bool → Bool → Bool → Option ℕ
+-- a code's template has these units, by their letters, and these are the slots that a stop follows
+abbrev pub is_shaped : List ExecutionUnit → List ℕ → ℕ → Bool
+is_shaped units stops code =
+    bytes_eq (map unit_letter (units_of code)) (map unit_letter units) && bytes_eq (stops_of code) stops
+
+-- the numbers below another
+abbrev pub below : ℕ → List ℕ
+below zero = []
+below (suc n) = n ∷ below n
+
+-- The template with this name's units and with stops after the slots that are marked, where there is one.
+unfoldable pub template_of : Shape → Bool → Bool → Bool → Option ℕ
 template_of shape first second third =
-    option_map (λ code. if third then code + 1 else code) (inner_code shape first second)
+    find (is_shaped (units_named shape) (marked_slots first second third)) (below 32)

@@ -16,7 +16,7 @@ use Rattle.asm_build.specs.declared.reason.TextError.{TextError}
 use Rattle.asm_build.specs.declared.reason.TextError.TheVariants.{Fault}
 use Rattle.asm_build.specs.Names.{name_fault, program_of, line_at}
 use Rattle.asm_build.specs.Reasons.{reason_of}
-use Rattle.asm_build.specs.Sources.{State, start, after, value_stages, AreLabelsInside}
+use Rattle.asm_build.specs.TextParts.{TextParts, start, after, value_stages, AreLabelsInside}
 
 -- the lines of a text, without the line feed, or the carriage return and line feed, that ends each
 abbrev pub text_lines : List ℕ → List (List ℕ)
@@ -34,17 +34,17 @@ SaysNothing line reason =
     ⊎ ((length line ≤ LINE_LIMIT) × (e : LineFault) × FaultOf line e × (reason ≡ reason_of e))
 
 -- A line is refused after what those before it say: by itself, or for what it says.
-abbrev pub IsRefused : State → List ℕ → Reason → Type 0
+abbrev pub IsRefused : TextParts → List ℕ → Reason → Type 0
 IsRefused s line reason =
     SaysNothing line reason ⊎ ((value : Line) × Says line value × IsFirstFault (value_stages s value) reason)
 
 -- A line says something that may follow what those before it say.
-abbrev pub IsTaken : State → List ℕ → Line → Type 0
+abbrev pub IsTaken : TextParts → List ℕ → Line → Type 0
 IsTaken s line value = Says line value × ArePassed (value_stages s value)
 
 -- What lines come to, the first of which is the n-th: what they say after those before them, or the fault of
 -- the first that is refused.
-abbrev pub ComesTo : State → ℕ → List (List ℕ) → Result State TextError → Type 0
+abbrev pub ComesTo : TextParts → ℕ → List (List ℕ) → Result TextParts TextError → Type 0
 ComesTo s n [] r = r ≡ Ok s
 ComesTo s n (line ∷ lines) r =
     ((reason : Reason) × IsRefused s line reason × (r ≡ Err (Fault n reason)))
@@ -56,7 +56,7 @@ found o = first TextError (λ e. e) (λ e. o ≡ Some e) (o ≡ None)
 
 -- What is looked for after the last line, in this order: a bundle that is open or a label without one, that
 -- there are bundles, names, and the slots of runs. `count` lines were read.
-abbrev pub end_stages : ℕ → State → List (Stage TextError)
+abbrev pub end_stages : ℕ → TextParts → List (Stage TextError)
 end_stages count s =
     unless ((s.current ≡ None) × AreLabelsInside s) (Fault (count + 1) Misplaced)
     ∷ unless (1 ≤ length s.bundles) (Fault (count + 1) Empty)
@@ -67,18 +67,18 @@ end_stages count s =
     ∷ []
 
 -- All the lines of a text are taken, and say this.
-abbrev pub AllSay : List ℕ → State → Type 0
+abbrev pub AllSay : List ℕ → TextParts → Type 0
 AllSay text s = ComesTo start 1 (text_lines text) (Ok s)
 
 -- The text reads as the program.
 pub record Reads (text : List ℕ) (p : Program) : Type 0 where
-  pub state : State
-  pub lines : AllSay text state
-  pub whole : ArePassed (end_stages (length (text_lines text)) state)
-  pub program : p ≡ program_of state
+  pub parts : TextParts
+  pub lines : AllSay text parts
+  pub whole : ArePassed (end_stages (length (text_lines text)) parts)
+  pub program : p ≡ program_of parts
 
 -- The first fault of a text: that of the first line that is refused, or else the first after the last line.
 abbrev pub HasTextFault : List ℕ → TextError → Type 0
 HasTextFault text e =
     ComesTo start 1 (text_lines text) (Err e)
-    ⊎ ((s : State) × AllSay text s × IsFirstFault (end_stages (length (text_lines text)) s) e)
+    ⊎ ((s : TextParts) × AllSay text s × IsFirstFault (end_stages (length (text_lines text)) s) e)

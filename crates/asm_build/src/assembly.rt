@@ -3,6 +3,7 @@
 ghost use Rattle.std.specs.Prelude.{◌≡◌, ◌≢◌, ◌⊎◌, ◌<◌, ◌+◌, ◌^◌, None, Some, Ok, Err, IfOk, IfErr, OnOk, length};
 ghost use Rattle.first_fault.specs.Stages.{ArePassed, IsFirstFault};
 ghost use Rattle.ia_insn.specs.declared.place.Place.{Place as PlaceOf};
+ghost use Rattle.ia_insn.specs.Bundles.{AreBundles};
 ghost use Rattle.ia_insn.specs.Places.{EachPlace, IsFirstBad};
 ghost use Rattle.ia_insn.specs.Programs.{Program as ProgramOf, AreInRange, AreEntries};
 ghost use Rattle.ia_insn.specs.Runs.{IsWithinRun};
@@ -13,31 +14,31 @@ ghost use Rattle.asm_build.specs.declared.reason.Reason.TheVariants as reason;
 ghost use Rattle.asm_build.specs.declared.reason.TextError.{TextError as ErrorOf};
 ghost use Rattle.asm_build.specs.declared.reason.TextError.TheVariants as error;
 ghost use Rattle.asm_build.specs.Names.{name_fault, program_of, padded, line_at, earlier_of};
-ghost use Rattle.asm_build.specs.Sources.{AreLabelsInside, after, start};
+ghost use Rattle.asm_build.specs.TextParts.{AreLabelsInside, after, start};
 ghost use Rattle.asm_build.specs.TextReading.{IsRefused, IsTaken, ComesTo, text_lines, Reads, HasTextFault, end_stages};
 
 use crate::draft::BundleLines;
 use crate::laws::{no_fault_where_read, one_text_fault, one_text_program};
 use crate::names::{all_declared, bundles_named};
 use crate::reason::{Reason, TextError, fault, reason_of};
-use crate::source::Source;
+use crate::text_parts::TextParts;
 use asm_text::read_line;
 use asm_words::limits::LINE_LIMIT;
 use bstr::ByteSlice;
-use ia_insn::{BundleOf, Place, Program, ProgramFault};
+use ia_insn::{BundleOf, Place, Program, long_run};
 use std::alloc::{AllocError, Global};
 use std::collections::BTreeSet;
 
 /// Takes the n-th line.
-fn take_line(source: &mut Source, n: u32, line: &[u8]) -> Result<(), TextError>
-    ensures ok { OnOk result ((value : LineValue) × IsTaken source.old line.now value × (source.new ≡ after source.old n value)) }
-    ensures err { IfErr result (λ e. (e ≡ error.Memory) ⊎ ((why : ReasonOf) × (e ≡ error.Fault n why) × IsRefused source.old line.now why)) }
+fn take_line(parts: &mut TextParts, n: u32, line: &[u8]) -> Result<(), TextError>
+    ensures ok { OnOk result ((value : LineValue) × IsTaken parts.old line.now value × (parts.new ≡ after parts.old n value)) }
+    ensures err { IfErr result (λ e. (e ≡ error.Memory) ⊎ ((why : ReasonOf) × (e ≡ error.Fault n why) × IsRefused parts.old line.now why)) }
 {
     if line.len() > LINE_LIMIT {
         return Err(fault(n, Reason::Limit));
     }
     match read_line(line) {
-        Ok(value) => source.take(n, value),
+        Ok(value) => parts.take(n, value),
         Err(why) => Err(fault(n, reason_of(why))),
     }
 }
@@ -45,23 +46,23 @@ fn take_line(source: &mut Source, n: u32, line: &[u8]) -> Result<(), TextError>
 /// What is read of a text: what its lines say, and how many there are.
 #[derive(Drop)]
 struct Lines {
-    source: Source,
+    parts: TextParts,
     count: u32,
 }
 
 /// Takes the lines of a text.
 fn take_lines(alloc: Global, text: &[u8]) -> Result<Lines, TextError>
     requires { length text.now + 1 < 2 ^ 32 }
-    ensures ok { IfOk result (λ lines. ComesTo start 1 (text_lines text.now) (Ok lines.source) × (lines.count ≡ length (text_lines text.now))) }
+    ensures ok { IfOk result (λ lines. ComesTo start 1 (text_lines text.now) (Ok lines.parts) × (lines.count ≡ length (text_lines text.now))) }
     ensures err { IfErr result (λ e. (e ≡ error.Memory) ⊎ ComesTo start 1 (text_lines text.now) (Err e)) }
 {
-    let mut source = Source::new(alloc);
+    let mut parts = TextParts::new(alloc);
     let mut count = 0;
     for line in text.lines() {
         count += 1;
-        take_line(&mut source, count, line)?;
+        take_line(&mut parts, count, line)?;
     }
-    Ok(Lines { source, count })
+    Ok(Lines { parts, count })
 }
 
 /// Of two faults of lines, that of the earlier line.
@@ -75,23 +76,24 @@ fn earlier(first: TextError, second: TextError) -> TextError
     }
 }
 
-/// Bundles and declared entries.
+/// Bundles and declared entries, with the addresses of their names.
 #[derive(Drop)]
-struct Parts {
+struct NamedParts {
     bundles: Vec<BundleOf>,
     entries: BTreeSet<u32>,
 }
 
 /// The bundles and the declared entries with the addresses of their names, or the first line's fault.
-fn named_parts(alloc: Global, source: &Source) -> Result<Parts, TextError>
-    requires { AreLabelsInside source.now }
-    ensures ok { IfOk result (λ parts. (name_fault source.now ≡ None) × (parts.bundles.items ≡ (program_of source.now).bundles) × (parts.entries.keys ≡ (program_of source.now).entries)) }
-    ensures err { IfErr result (λ e. (e ≡ error.Memory) ⊎ (name_fault source.now ≡ Some e)) }
+fn named(alloc: Global, parts: &TextParts) -> Result<NamedParts, TextError>
+    requires { AreLabelsInside parts.now }
+    ensures ok { IfOk result (λ named. (name_fault parts.now ≡ None) × (named.bundles.items ≡ (program_of parts.now).bundles) × (named.entries.keys ≡ (program_of parts.now).entries)) }
+    ensures fit { IfOk result (λ named. AreBundles named.bundles.items) }
+    ensures err { IfErr result (λ e. (e ≡ error.Memory) ⊎ (name_fault parts.now ≡ Some e)) }
 {
-    let bundles = bundles_named(alloc, &source.labels, &source.bundles);
-    let entries = all_declared(alloc, &source.labels, &source.entries);
+    let bundles = bundles_named(alloc, &parts.labels, &parts.bundles);
+    let entries = all_declared(alloc, &parts.labels, &parts.entries);
     match (bundles, entries) {
-        (Ok(bundles), Ok(entries)) => Ok(Parts { bundles, entries }),
+        (Ok(bundles), Ok(entries)) => Ok(NamedParts { bundles, entries }),
         (Err(TextError::Memory), _) | (_, Err(TextError::Memory)) => Err(TextError::Memory),
         (Err(error), Ok(_)) | (Ok(_), Err(error)) => Err(error),
         (Err(first), Err(second)) => Err(earlier(first, second)),
@@ -128,48 +130,45 @@ fn line_at(bundles: &[BundleLines], place: Place) -> u32
     }
 }
 
-/// The program of these, whose counts, entries and targets are right, or the fault of the first slot of a
-/// run that is too long, at its line.
+/// The program of these, which lack nothing but that runs end, or the fault of the first slot of a run that is too
+/// long, at its line.
 fn checked(
     lines: &[BundleLines],
     bundles: Vec<BundleOf>,
     entries: Vec<u32>,
     bytes: Vec<u8>,
 ) -> Result<Program, TextError>
+    requires fit { AreBundles bundles.items }
     requires counts { AreInRange (length bundles.items) (length entries.items) (length bytes.items) }
     requires entries { AreEntries (length bundles.items) entries.items }
     requires targets { EachPlace bundles.items (IsTargetInside bundles.items) }
     ensures ok { IfOk result (λ p. (p ≡ record { bundles = bundles.items; entries = entries.items; bytes = bytes.items }) × EachPlace bundles.items (IsWithinRun bundles.items)) }
     ensures err { IfErr result (λ e. (place : PlaceOf) × IsFirstBad bundles.items (IsWithinRun bundles.items) place × (e ≡ error.Fault (line_at lines.now place) reason.LongRun)) }
 {
-    match Program::of_checked(bundles, entries, bytes) {
-        Ok(program) => Ok(program),
-        Err(ProgramFault::LongRun { place }) => Err(TextError::Fault {
-            line: line_at(lines, place),
-            reason: Reason::LongRun,
-        }),
-        Err(_) => unreachable!(),
+    match long_run(&bundles) {
+        Some(place) => Err(fault(line_at(lines, place), Reason::LongRun)),
+        None => Ok(Program::of_parts(bundles, entries, bytes)),
     }
 }
 
 /// The program that the lines of a text say, or the first fault after the last of them.
 fn finish(alloc: Global, lines: Lines) -> Result<Program, TextError>
     requires { lines.count + 1 < 2 ^ 32 }
-    ensures ok { IfOk result (λ p. ArePassed (end_stages lines.count lines.source) × (p ≡ program_of lines.source)) }
-    ensures err { IfErr result (λ e. (e ≡ error.Memory) ⊎ IsFirstFault (end_stages lines.count lines.source) e) }
+    ensures ok { IfOk result (λ p. ArePassed (end_stages lines.count lines.parts) × (p ≡ program_of lines.parts)) }
+    ensures err { IfErr result (λ e. (e ≡ error.Memory) ⊎ IsFirstFault (end_stages lines.count lines.parts) e) }
 {
-    let Lines { source, count } = lines;
+    let Lines { parts, count } = lines;
     let end = count + 1;
-    if source.current.is_some() || !source.are_labels_inside() {
+    if parts.current.is_some() || !parts.are_labels_inside() {
         return Err(fault(end, Reason::Misplaced));
     }
-    if !source.has_bundles() {
+    if !parts.has_bundles() {
         return Err(fault(end, Reason::Empty));
     }
-    let parts = named_parts(alloc, &source)?;
-    let entries = rising(alloc, &parts.entries)?;
-    let bytes = padded(source.data)?;
-    checked(&source.bundles, parts.bundles, entries, bytes)
+    let named = named(alloc, &parts)?;
+    let entries = rising(alloc, &named.entries)?;
+    let bytes = padded(parts.data)?;
+    checked(&parts.bundles, named.bundles, entries, bytes)
 }
 
 /// The program that a text says, or its first fault.

@@ -2,14 +2,14 @@
 
 ghost use Rattle.std.specs.Prelude.{false, ◌≡◌, ◌++◌, ◌∷◌, [], ◌%◌, ◌||◌, ◌==◌, codes, length, slice_index, if◌then◌else◌, OnOk};
 ghost use Rattle.std.specs.Fmt.{digits};
-ghost use Rattle.asm_build.specs.CanonicalText.{word_of, words_of, words_text, data_text};
+ghost use Rattle.asm_build.specs.CanonicalText.{data_word, words_of, words_text, data_text};
 
 use asm_text::{push_bytes, push_hex};
 use std::alloc::AllocError;
 
 /// The word of eight bytes, the lowest first.
-fn word_of(bytes: [u8; 8]) -> u64
-    ensures { result ≡ word_of (slice_index bytes 0) (slice_index bytes 1) (slice_index bytes 2) (slice_index bytes 3) (slice_index bytes 4) (slice_index bytes 5) (slice_index bytes 6) (slice_index bytes 7) }
+fn data_word(bytes: [u8; 8]) -> u64
+    ensures { result ≡ data_word (slice_index bytes 0) (slice_index bytes 1) (slice_index bytes 2) (slice_index bytes 3) (slice_index bytes 4) (slice_index bytes 5) (slice_index bytes 6) (slice_index bytes 7) }
 {
     u64::from_le_bytes(bytes)
 }
@@ -53,7 +53,7 @@ fn push_words(out: &mut Vec<u8>, bytes: &[u8]) -> Result<(), AllocError>
     let mut k = 0;
     let mut left = bytes;
     while let [a, b, c, d, e, f, g, h, rest @ ..] = left {
-        let word = word_of([*a, *b, *c, *d, *e, *f, *g, *h]);
+        let word = data_word([*a, *b, *c, *d, *e, *f, *g, *h]);
         push_word(out, k, word, rest.is_empty())?;
         k += 1;
         left = rest;

@@ -1,15 +1,17 @@
 //! Bundles as their lines have them.
 
-ghost use Rattle.std.specs.Prelude.{◌≡◌, ◌↔◌, true, Some, MatchOption, IsTrue};
+ghost use Rattle.std.specs.Prelude.{◌≡◌, ◌↔◌, true, Some, IfSome, MatchOption, IsTrue};
 ghost use Rattle.ia_insn.specs.Bundles.{IsBundle};
+ghost use Rattle.asm_text.specs.declared.line.Shape.TheVariants as shape;
 ghost use Rattle.asm_build.specs.declared.draft.SlotLines.TheVariants as slots;
-ghost use Rattle.asm_build.specs.Drafts.{letter_of, lettered, completed, count_of, one_more, last_stopped, HasSlot, HasSlotRoom, next_unit, FitsNext, added, stopped, closed, IsWhole};
+ghost use Rattle.asm_build.specs.Drafts.{OpenBundle, AreFitting, letter_of, lettered, completed, count_of, one_more, last_stopped, HasSlot, HasSlotRoom, next_unit, FitsNext, added, stopped, closed_as, closed, IsWhole};
 ghost use Rattle.asm_build.specs.Names.{slot_line};
 
 use crate::template_name::{template_of, units_named};
 use asm_text::{Draft, Shape};
 use asm_words::Name;
 use ia_insn::{BundleOf, Insn, Op, Slots, Unit, fits};
+use std::marker::Model;
 
 /// A slot line within its bundle.
 #[derive(Drop)]
@@ -42,11 +44,20 @@ pub(crate) enum SlotLines {
     },
 }
 
-/// A bundle that is not closed yet.
+/// A bundle that is not closed yet: the name of its template, and its slot lines so far, whose instructions fit
+/// their slots.
 #[derive(Drop)]
 pub(crate) struct Open {
-    pub shape: Shape,
-    pub slots: SlotLines,
+    shape: Shape,
+    slots: SlotLines,
+}
+
+impl Model for Open {
+    ghost Value = { OpenBundle };
+
+    ghost view = { λ o. record { shape = o.shape; slots = o.slots } };
+
+    ghost invariant = { λ o. AreFitting o.shape o.slots };
 }
 
 /// What is left to be known of an instruction in its bundle: its line, for faults, and the name of its target.
@@ -217,8 +228,10 @@ impl Open {
         fits(&completed(draft, unit), unit, self.slots.count())
     }
 
-    /// The bundle with one more slot line.
+    /// The bundle with one more slot line, where there is room for its instruction, which fits.
     pub fn with(self, line: u32, draft: Draft, stop: bool) -> Self
+        requires room { HasSlotRoom self }
+        requires fit { FitsNext self draft }
         ensures { result ≡ added self line draft stop }
     {
         let insn = completed(&draft, self.next_unit());
@@ -250,46 +263,57 @@ impl Open {
     {
         let shape = self.shape;
         match self.slots {
-            SlotLines::Two { a, b } => {
-                if shape != Shape::Mlx {
-                    return None;
-                }
-                let template = template_of(shape, a.stop, false, b.stop)?;
-                let slots = Slots::Long {
-                    first: a.insn,
-                    long: b.insn,
-                };
-                let third = SlotName {
-                    line: b.line,
-                    target: None,
-                };
-                Some(BundleLines {
-                    bundle: BundleOf::new(template, slots)?,
-                    first: a.name(),
-                    second: b.name(),
-                    third,
-                })
-            }
-            SlotLines::Three { a, b, c } => {
-                let template = template_of(shape, a.stop, b.stop, c.stop)?;
-                let slots = Slots::Three {
-                    a: a.insn,
-                    b: b.insn,
-                    c: c.insn,
-                };
-                Some(BundleLines {
-                    bundle: BundleOf::new(template, slots)?,
-                    first: a.name(),
-                    second: b.name(),
-                    third: c.name(),
-                })
-            }
+            SlotLines::Two { a, b } if shape == Shape::Mlx => BundleLines::long(a, b),
+            SlotLines::Three { a, b, c } => BundleLines::three(shape, a, b, c),
             _ => None,
         }
     }
 }
 
 impl BundleLines {
+    /// The bundle of three slot lines, whose instructions fit. None where no template has their stops.
+    fn three(shape: Shape, a: SlotLine, b: SlotLine, c: SlotLine) -> Option<Self>
+        requires { AreFitting shape (slots.Three a b c) }
+        ensures value { result ≡ closed_as (slots.Three a b c) shape }
+        ensures fit { IfSome result (λ l. IsBundle l.bundle) }
+    {
+        let template = template_of(shape, a.stop, b.stop, c.stop)?;
+        let slots = Slots::Three {
+            a: a.insn,
+            b: b.insn,
+            c: c.insn,
+        };
+        Some(BundleLines {
+            bundle: BundleOf::of_fitting(template, slots),
+            first: a.name(),
+            second: b.name(),
+            third: c.name(),
+        })
+    }
+
+    /// The bundle of a slot line and a long one, whose instructions fit.
+    fn long(first: SlotLine, long: SlotLine) -> Option<Self>
+        requires { AreFitting shape.Mlx (slots.Two first long) }
+        ensures value { result ≡ closed_as (slots.Two first long) shape.Mlx }
+        ensures fit { IfSome result (λ l. IsBundle l.bundle) }
+    {
+        let template = template_of(Shape::Mlx, first.stop, false, long.stop)?;
+        let slots = Slots::Long {
+            first: first.insn,
+            long: long.insn,
+        };
+        let third = SlotName {
+            line: long.line,
+            target: None,
+        };
+        Some(BundleLines {
+            bundle: BundleOf::of_fitting(template, slots),
+            first: first.name(),
+            second: long.name(),
+            third,
+        })
+    }
+
     /// The line of slot 0, 1 or 2.
     pub fn line(&self, slot: u8) -> u32
         ensures { result ≡ slot_line slot self.now }

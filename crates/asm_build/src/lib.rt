@@ -1,6 +1,6 @@
 //! Programs as text, both ways.
 //!
-//! [`assemble`] takes the lines of a text one by one: `source` keeps what they say so far, with the bundle that
+//! [`assemble`] takes the lines of a text one by one: `text_parts` keeps what they say so far, with the bundle that
 //! is open in `draft`, and after the last line `names` puts in what labels name. It answers the program
 //! that the text says, or its first fault. [`disassemble`] gives the canonical text of a program, which reads
 //! as the program again, and [`list`] its bundles by their bytes.
@@ -17,8 +17,8 @@ mod laws;
 mod listing;
 mod names;
 mod reason;
-mod source;
 mod template_name;
+mod text_parts;
 
 pub use assembly::assemble;
 pub use disassembly::disassemble;

@@ -5,7 +5,7 @@ ghost use Rattle.ia_insn.specs.declared.limits.TheConstants.{BUNDLE_LIMIT};
 ghost use Rattle.hex.specs.Hex.{encode_lower};
 ghost use Rattle.ia_insn.specs.Templates.{units_of};
 ghost use Rattle.asm_build.specs.CanonicalText.{unit_letter};
-ghost use Rattle.asm_build.specs.Listing.{head_listed, IsListed, AreListed, IsListing, IsAppended};
+ghost use Rattle.asm_build.specs.Listing.{head_listed, IsBundleListing, AreBundleListings, IsListing, IsAppended};
 ghost use Rattle.asm_build.specs.Marks.{AreSound, AreAllSound};
 
 use crate::bundles::{push_slots, unit_letter};
@@ -57,7 +57,7 @@ fn push_head(
 /// The lines of the n-th bundle.
 fn push_bundle(out: &mut Vec<u8>, count: usize, n: u32, bundle: &BundleOf) -> Result<(), AllocError>
     requires { AreSound count n bundle.now.slots }
-    ensures { OnOk result (IsAppended out.old.items out.new.items (IsListed n bundle.now)) }
+    ensures { OnOk result (IsAppended out.old.items out.new.items (IsBundleListing n bundle.now)) }
 {
     let bytes = encode_bundle(bundle);
     push_head(out, n, bytes, bundle.template())?;
@@ -69,7 +69,7 @@ fn push_bundle(out: &mut Vec<u8>, count: usize, n: u32, bundle: &BundleOf) -> Re
 fn push_listed(out: &mut Vec<u8>, bundles: &[BundleOf]) -> Result<(), AllocError>
     requires few { length bundles.now ≤ BUNDLE_LIMIT }
     requires sound { AreAllSound (length bundles.now) bundles.now }
-    ensures { OnOk result (IsAppended out.old.items out.new.items (AreListed 0 bundles.now)) }
+    ensures { OnOk result (IsAppended out.old.items out.new.items (AreBundleListings 0 bundles.now)) }
 {
     let mut n = 0;
     while n < bundles.len() {
@@ -86,7 +86,7 @@ fn push_listed(out: &mut Vec<u8>, bundles: &[BundleOf]) -> Result<(), AllocError
 pub fn list(alloc: Global, program: &Program) -> Result<Vec<u8>, AllocError>
     ensures { IfOk result (λ text. IsListing program.now text.items) }
 {
-    let _count = program.bundle_count();
+    program.is_program();
     let mut out = Vec::new(alloc);
     push_listed(&mut out, program.bundles())?;
     Ok(out)

@@ -4,16 +4,17 @@ ghost use Rattle.std.specs.Prelude.{◌≡◌, ℕ, ◌<◌, ◌≤◌, ◌⊎�
 ghost use Rattle.std.specs.List.{AllByRecursion};
 ghost use Rattle.std.specs.Map.{values_of};
 ghost use Rattle.ia_insn.specs.declared.limits.TheConstants.{BUNDLE_LIMIT};
+ghost use Rattle.ia_insn.specs.Bundles.{IsBundle, AreBundles};
 ghost use Rattle.asm_build.specs.declared.reason.Reason.TheVariants as reason;
 ghost use Rattle.asm_build.specs.declared.reason.TextError.TheVariants as error;
 ghost use Rattle.asm_build.specs.Addresses.{IsWithin, reach};
 ghost use Rattle.asm_build.specs.Names.{named, put_in, slot_names, unnamed_among, unnamed_slot, unnamed_bundle, slots_named, bundle_named, bundles_named, bundle_at, declared, declared_by, all_declared};
-ghost use Rattle.asm_build.specs.Sources.{label_of};
+ghost use Rattle.asm_build.specs.TextParts.{address_of};
 
 use crate::address::{Address, addressed};
 use crate::draft::{BundleLines, SlotName};
 use crate::reason::{Reason, TextError, fault};
-use crate::source::EntryLine;
+use crate::text_parts::EntryLine;
 use asm_words::Name;
 use ia_insn::limits::ENTRY_LIMIT;
 use ia_insn::{BundleOf, Insn, Op, Slots};
@@ -85,6 +86,7 @@ fn bundle_named(labels: &Labels, n: u32, lines: &BundleLines) -> Result<BundleOf
     requires within { AllByRecursion IsWithin (values_of labels.now.entries) }
     ensures ok { IfOk result (λ b. (b ≡ bundle_named labels.now.entries n lines.now) × (unnamed_slot labels.now.entries n lines.now ≡ None)) }
     ensures err { IfErr result (λ e. (line : ℕ) × (e ≡ error.Fault line reason.NoLabel) × (unnamed_slot labels.now.entries n lines.now ≡ Some line)) }
+    ensures fit { IfOk result IsBundle }
 {
     let slots = slots_named(labels, n, lines.bundle.slots(), lines)?;
     Ok(BundleOf::of_fitting(lines.bundle.template(), slots))
@@ -100,6 +102,7 @@ pub(crate) fn bundles_named(
     requires within { AllByRecursion IsWithin (values_of labels.now.entries) }
     ensures ok { IfOk result (λ bundles. (bundles.items ≡ bundles_named labels.now.entries 0 lines.now) × (unnamed_bundle labels.now.entries 0 lines.now ≡ None)) }
     ensures err { IfErr result (λ e. (e ≡ error.Memory) ⊎ ((line : ℕ) × (e ≡ error.Fault line reason.NoLabel) × (unnamed_bundle labels.now.entries 0 lines.now ≡ Some line))) }
+    ensures fit { IfOk result (λ bundles. AreBundles bundles.items) }
 {
     let mut bundles = Vec::with_capacity(alloc, lines.len())?;
     let mut n = 0;
@@ -126,8 +129,8 @@ fn declare_by(
     labels: &Labels,
     line: &EntryLine,
 ) -> Result<(), TextError>
-    ensures ok { OnOk result (declared_by (bundle_at (label_of labels.now.entries line.now.name)) line.now.line entries.old.keys ≡ Ok entries.new.keys) }
-    ensures err { IfErr result (λ e. (e ≡ error.Memory) ⊎ (declared_by (bundle_at (label_of labels.now.entries line.now.name)) line.now.line entries.old.keys ≡ Err e)) }
+    ensures ok { OnOk result (declared_by (bundle_at (address_of labels.now.entries line.now.name)) line.now.line entries.old.keys ≡ Ok entries.new.keys) }
+    ensures err { IfErr result (λ e. (e ≡ error.Memory) ⊎ (declared_by (bundle_at (address_of labels.now.entries line.now.name)) line.now.line entries.old.keys ≡ Err e)) }
 {
     let Some(Address::Bundle { n }) = labels.get(&line.name) else {
         return Err(fault(line.line, Reason::NoLabel));

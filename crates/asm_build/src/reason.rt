@@ -33,10 +33,10 @@ pub enum Reason {
     Twice,
     /// No label that fits has the name.
     NoLabel,
-    /// A line over 240 bytes, a bundle past the 4,096th, data past 1,048,576 bytes, or a declared entry past
-    /// the 1,024th.
+    /// A line over [`LINE_LIMIT`](asm_words::limits::LINE_LIMIT) bytes, or a bundle, data or a declared entry past
+    /// its [limit](ia_insn::limits).
     Limit,
-    /// The 193rd slot of a run.
+    /// A slot past [`RUN_LIMIT`](ia_insn::limits::RUN_LIMIT) others of its run.
     LongRun,
     /// A line that may not stand there; or, after the last line, a bundle is open or a label of the text
     /// has no bundle.

@@ -4,8 +4,8 @@ use Rattle.asm_build.proofs.assembly.take_line.Goals as goal
 
 pub returns-in-Ok-clause-ok : goal.returns-in-Ok-clause-ok
 returns-in-Ok-clause-ok c =
-    is_taken c.args.source.now c.take.new.self c.args.n c.args.line.now c.in-Ok.value c.take.result (omega (arith, c.if-line-gt-LINE_LIMIT.false)) c.in-Ok.ensures.ok c.take.ensures.ok
+    is_taken c.args.parts.now c.take.new.self c.args.n c.args.line.now c.in-Ok.value c.take.result (omega (arith, c.if-line-gt-LINE_LIMIT.false)) c.in-Ok.ensures.ok c.take.ensures.ok
 
 pub returns-in-Ok-clause-err : goal.returns-in-Ok-clause-err
 returns-in-Ok-clause-err c =
-    is_refused c.args.source.now c.args.n c.args.line.now c.in-Ok.value c.take.result (omega (arith, c.if-line-gt-LINE_LIMIT.false)) c.in-Ok.ensures.ok c.take.ensures.err
+    is_refused c.args.parts.now c.args.n c.args.line.now c.in-Ok.value c.take.result (omega (arith, c.if-line-gt-LINE_LIMIT.false)) c.in-Ok.ensures.ok c.take.ensures.err

@@ -1,7 +1,7 @@
 use Rattle.std.proofs.Common.{arith, rules, inr, ap, length, ◌≡◌, sym}
 use Rattle.asm_build.specs.declared.reason.Reason.TheVariants.{Limit}
 use Rattle.asm_build.proofs.ValueFaults.{data_full}
-use Rattle.asm_build.proofs.source.Source.numbers.Goals as goal
+use Rattle.asm_build.proofs.text_parts.TextParts.numbers.Goals as goal
 
 pub returns-then-len-numbers-gt-DATA_LIMIT-clause-err : goal.returns-then-len-numbers-gt-DATA_LIMIT-clause-err
 returns-then-len-numbers-gt-DATA_LIMIT-clause-err c =

@@ -5,8 +5,8 @@ ghost use Rattle.first_fault.specs.Stages.{ArePassed};
 ghost use Rattle.asm_text.specs.declared.line.Line.TheVariants as line;
 ghost use Rattle.asm_build.specs.declared.reason.Reason.TheVariants as reason;
 ghost use Rattle.asm_build.specs.declared.reason.TextError.TheVariants as error;
-ghost use Rattle.asm_build.specs.Sources.{State, start, IsWithinLimits, after, value_stages, IsValueError, AreLabelsInside, here, turned, IsIn, numbers_bytes};
-ghost use Rattle.asm_build.specs.declared.source.Section.TheVariants as section;
+ghost use Rattle.asm_build.specs.TextParts.{TextParts as PartsOf, start, IsWithinLimits, after, value_stages, IsValueError, AreLabelsInside, here, turned, IsIn, numbers_bytes};
+ghost use Rattle.asm_build.specs.declared.text_parts.Section.TheVariants as section;
 
 use crate::address::Address;
 use crate::draft::{BundleLines, Open};
@@ -36,7 +36,7 @@ pub(crate) struct EntryLine {
 
 /// What the lines so far say. Contracts see its lists, and the labels in the order of their names.
 #[derive(Drop)]
-pub(crate) struct Source {
+pub(crate) struct TextParts {
     pub section: Section,
     pub current: Option<Open>,
     pub bundles: Vec<BundleLines>,
@@ -45,20 +45,20 @@ pub(crate) struct Source {
     pub data: Vec<u8>,
 }
 
-impl Model for Source {
-    ghost Value = { State };
+impl Model for TextParts {
+    ghost Value = { PartsOf };
 
     ghost view = { λ s. record { section = s.section; current = s.current; bundles = s.bundles.items; entries = s.entries.items; labels = s.labels.entries; bytes = s.data.items } };
 
     ghost invariant = { λ s. IsWithinLimits (record { section = s.section; current = s.current; bundles = s.bundles.items; entries = s.entries.items; labels = s.labels.entries; bytes = s.data.items }) };
 }
 
-impl Source {
+impl TextParts {
     /// What no lines say.
     pub fn new(alloc: Global) -> Self
         ensures { result ≡ start }
     {
-        Source {
+        TextParts {
             section: Section::Text,
             current: None,
             bundles: Vec::new(alloc),

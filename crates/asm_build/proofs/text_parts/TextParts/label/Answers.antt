@@ -2,7 +2,7 @@ use Rattle.std.proofs.Common.{rules, inr, ◌∙◌, sym}
 use Rattle.asm_build.specs.declared.reason.Reason.TheVariants.{Twice}
 use Rattle.asm_build.proofs.LabelValues.{label_added}
 use Rattle.asm_build.proofs.ValueFaults.{twice_there}
-use Rattle.asm_build.proofs.source.Source.label.Goals as goal
+use Rattle.asm_build.proofs.text_parts.TextParts.label.Goals as goal
 
 pub returns-then-contains_key-clause-err : goal.returns-then-contains_key-clause-err
 returns-then-contains_key-clause-err c =

@@ -14,17 +14,16 @@ use Rattle.asm_text.specs.declared.line.Line.TheVariants as line
 use Rattle.asm_build.specs.declared.address.Address.{Address}
 use Rattle.asm_build.specs.declared.address.Address.TheVariants.{Bundle, Byte}
 use Rattle.asm_build.specs.declared.draft.BundleLines.{BundleLines}
-use Rattle.asm_build.specs.declared.draft.Open.{Open}
 use Rattle.asm_build.specs.declared.draft.SlotLines.TheVariants as slots
-use Rattle.asm_build.specs.declared.source.EntryLine.{EntryLine}
-use Rattle.asm_build.specs.declared.source.Section.{Section}
-use Rattle.asm_build.specs.declared.source.Section.TheVariants as section
+use Rattle.asm_build.specs.declared.text_parts.EntryLine.{EntryLine}
+use Rattle.asm_build.specs.declared.text_parts.Section.{Section}
+use Rattle.asm_build.specs.declared.text_parts.Section.TheVariants as section
 use Rattle.asm_build.specs.declared.reason.Reason.{Reason}
 use Rattle.asm_build.specs.declared.reason.Reason.TheVariants.{Misplaced, Twice, Template, SlotKind, Limit}
 use Rattle.asm_build.specs.declared.reason.TextError.{TextError}
 use Rattle.asm_build.specs.declared.reason.TextError.TheVariants as error
 use Rattle.asm_build.specs.Addresses.{IsInside, IsWithin}
-use Rattle.asm_build.specs.Drafts.{HasSlot, HasSlotRoom, FitsNext, added, stopped, closed, IsWhole}
+use Rattle.asm_build.specs.Drafts.{OpenBundle, HasSlot, HasSlotRoom, FitsNext, added, stopped, closed, IsWhole}
 
 -- labels and what they name, in the order of the labels
 abbrev pub Labels : Type 0
@@ -32,60 +31,60 @@ Labels = List (List ℕ × Address)
 
 -- What the lines so far say: whether bundles or data are being written, the bundle that is open, the
 -- bundles, the declared entries, the labels, and the data.
-pub record State : Type 0 where
+pub record TextParts : Type 0 where
   pub section : Section
-  pub current : Option Open
+  pub current : Option OpenBundle
   pub bundles : List BundleLines
   pub entries : List EntryLine
   pub labels : Labels
   pub bytes : List ℕ
 
 -- what no lines say
-abbrev pub start : State
+abbrev pub start : TextParts
 start = record { section = section.Text; current = None; bundles = []; entries = []; labels = []; bytes = [] }
 
 -- what a label names
-abbrev pub label_of : Labels → List ℕ → Option Address
-label_of labels name = lookup (is_at (slice_cmp nat_cmp name)) labels
+abbrev pub address_of : Labels → List ℕ → Option Address
+address_of labels name = lookup (is_at (slice_cmp nat_cmp name)) labels
 
 -- the numbers of a data line, each in so many bytes, the lowest first
 abbrev pub numbers_bytes : ℕ → List ℕ → List ℕ
 numbers_bytes size values = flat_map (λ v. take size (to_le_bytes w64 v)) values
 
 -- the same with another section, open bundle, labels or data
-abbrev pub turned : State → Section → State
+abbrev pub turned : TextParts → Section → TextParts
 turned s section = record { section = section; current = s.current; bundles = s.bundles; entries = s.entries; labels = s.labels; bytes = s.bytes }
 
-abbrev pub with_open : State → Option Open → State
+abbrev pub with_open : TextParts → Option OpenBundle → TextParts
 with_open s bundle = record { section = s.section; current = bundle; bundles = s.bundles; entries = s.entries; labels = s.labels; bytes = s.bytes }
 
-abbrev pub with_label : State → List ℕ → Address → State
+abbrev pub with_label : TextParts → List ℕ → Address → TextParts
 with_label s name address = record { section = s.section; current = s.current; bundles = s.bundles; entries = s.entries; labels = insert_entry (slice_cmp nat_cmp) s.labels name address; bytes = s.bytes }
 
-abbrev pub with_bytes : State → List ℕ → State
+abbrev pub with_bytes : TextParts → List ℕ → TextParts
 with_bytes s more = record { section = s.section; current = s.current; bundles = s.bundles; entries = s.entries; labels = s.labels; bytes = s.bytes ++ more }
 
-abbrev pub with_entry : State → EntryLine → State
+abbrev pub with_entry : TextParts → EntryLine → TextParts
 with_entry s entry = record { section = s.section; current = s.current; bundles = s.bundles; entries = s.entries ++ entry ∷ []; labels = s.labels; bytes = s.bytes }
 
-abbrev pub with_bundle : State → Option BundleLines → State
+abbrev pub with_bundle : TextParts → Option BundleLines → TextParts
 with_bundle s None = s
 with_bundle s (Some b) = record { section = s.section; current = None; bundles = s.bundles ++ b ∷ []; entries = s.entries; labels = s.labels; bytes = s.bytes }
 
-abbrev pub closed_of : Option Open → Option BundleLines
+abbrev pub closed_of : Option OpenBundle → Option BundleLines
 closed_of None = None
 closed_of (Some o) = closed o
 
 -- what a label that stands here names: the next bundle, or the next byte of data
-abbrev pub place_in : Section → State → Address
+abbrev pub place_in : Section → TextParts → Address
 place_in section.Text s = Bundle (length s.bundles)
 place_in section.Data s = Byte (length s.bytes)
 
-abbrev pub here : State → Address
+abbrev pub here : TextParts → Address
 here s = place_in s.section s
 
 -- What the lines say after one more, the n-th.
-abbrev pub after : State → ℕ → Line → State
+abbrev pub after : TextParts → ℕ → Line → TextParts
 after s n line.Empty = s
 after s n (line.Label name) = with_label s name (here s)
 after s n line.Text = turned s section.Text
@@ -100,13 +99,13 @@ after s n line.Stop = with_open s (option_map stopped s.current)
 after s n line.Close = with_bundle s (closed_of s.current)
 
 -- outside a bundle, where bundles or data are being written
-pub record IsIn (section : Section) (s : State) : Type 0 where
+pub record IsIn (section : Section) (s : TextParts) : Type 0 where
   pub closed : s.current ≡ None
   pub same : s.section ≡ section
 
 -- A line may stand here: slots, stops and `}` within a bundle, and a stop after a slot; bundles in text,
 -- data in data, all else but blank lines outside a bundle.
-abbrev pub MayStand : State → Line → Type 0
+abbrev pub MayStand : TextParts → Line → Type 0
 MayStand s line.Empty = ⊤
 MayStand s (line.Numbers size values) = IsIn section.Data s
 MayStand s (line.Skip count) = IsIn section.Data s
@@ -117,30 +116,30 @@ MayStand s line.Close = IsSome s.current
 MayStand s value = s.current ≡ None
 
 -- a label is not there yet
-abbrev pub IsNew : State → Line → Type 0
-IsNew s (line.Label name) = label_of s.labels name ≡ None
+abbrev pub IsNew : TextParts → Line → Type 0
+IsNew s (line.Label name) = address_of s.labels name ≡ None
 IsNew s value = ⊤
 
 -- the open bundle has room for one more slot, and is whole where it is closed
-abbrev pub HasTemplate : State → Line → Type 0
+abbrev pub HasTemplate : TextParts → Line → Type 0
 HasTemplate s (line.Slot draft stop) = IfSome s.current HasSlotRoom
 HasTemplate s line.Close = IfSome s.current IsWhole
 HasTemplate s value = ⊤
 
 -- an instruction fits its slot
-abbrev pub FitsSlot : State → Line → Type 0
+abbrev pub FitsSlot : TextParts → Line → Type 0
 FitsSlot s (line.Slot draft stop) = IfSome s.current (λ o. FitsNext o draft)
 FitsSlot s value = ⊤
 
 -- there is room for a bundle and for data
-abbrev pub HasRoom : State → Line → Type 0
+abbrev pub HasRoom : TextParts → Line → Type 0
 HasRoom s (line.Open shape) = length s.bundles < BUNDLE_LIMIT
 HasRoom s (line.Numbers size values) = length s.bytes + length (numbers_bytes size values) ≤ DATA_LIMIT
 HasRoom s (line.Skip count) = length s.bytes + count ≤ DATA_LIMIT
 HasRoom s value = ⊤
 
 -- What is looked for in what a line says, after the lines before it, in this order.
-abbrev pub value_stages : State → Line → List (Stage Reason)
+abbrev pub value_stages : TextParts → Line → List (Stage Reason)
 value_stages s value =
     unless (MayStand s value) Misplaced
     ∷ unless (IsNew s value) Twice
@@ -150,16 +149,16 @@ value_stages s value =
     ∷ []
 
 -- the error of what the n-th line says: its first fault, or want of memory
-abbrev pub IsValueError : State → ℕ → Line → TextError → Type 0
+abbrev pub IsValueError : TextParts → ℕ → Line → TextError → Type 0
 IsValueError s n value e =
     (e ≡ error.Memory) ⊎ ((reason : Reason) × (e ≡ error.Fault n reason) × IsFirstFault (value_stages s value) reason)
 
 -- each label of the text has a bundle
-abbrev pub AreLabelsInside : State → Type 0
+abbrev pub AreLabelsInside : TextParts → Type 0
 AreLabelsInside s = AllByRecursion (IsInside (length s.bundles)) (values_of s.labels)
 
 -- At most as many bundles as a program may have, with the open one, and as many data, and labels of these.
-pub record IsWithinLimits (s : State) : Type 0 where
+pub record IsWithinLimits (s : TextParts) : Type 0 where
   pub current : IsSome s.current → length s.bundles < BUNDLE_LIMIT
   pub bundles : length s.bundles ≤ BUNDLE_LIMIT
   pub labels : AllByRecursion IsWithin (values_of s.labels)
