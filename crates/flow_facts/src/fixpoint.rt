@@ -58,8 +58,7 @@ fn pass(
     requires witnessed { IsWitnessed slots.now table.old.items }
     ensures { Passed slots.now (place_at from) edge table.old.items dirty.old table.new.items dirty.new }
 {
-    // This call tells that the program is one, so its edges lead to its places.
-    let _program = slots.program();
+    slots.is_program();
     let Some(to) = slot.edge_end(edge) else {
         return;
     };

@@ -97,8 +97,7 @@ pub fn check(alloc: Global, program: &Program) -> Result<Verdict, AllocError>
     ensures verdict { IfOk result (λ verdict. IsVerdict program.now verdict) }
     ensures robust { IfOk result (λ verdict. verdict ≡ Verdict.Accepted → IsRobust program.now) }
 {
-    // This call tells that it is a program.
-    let _count = program.bundle_count();
+    program.is_program();
     let table = SlotTable::open(alloc, program)?;
     check_slots(alloc, &table)
 }

@@ -1,12 +1,11 @@
 //! Where control goes on from a slot.
 
 ghost use Rattle.std.specs.Prelude.{◌≡◌, ◌^◌, ◌<◌, Some};
-ghost use Rattle.ia_meaning.specs.Landings.{target_of};
 ghost use Rattle.ia_meaning.specs.Sequence.{next_of, is_stopped};
 ghost use Rattle.predicate_rel.specs.Edges.{leaves, displacement_of, target_at};
 
 use ia_insn::{Place, Program};
-use ia_meaning::{Form, Goal};
+use ia_meaning::{Form, Goal, target_of};
 
 /// Whether it is a `br.cond`, `br.call` or `br.ret`, direct or indirect, or a `break`: where the
 /// qualifying predicate is 1, control doesn't fall through.
@@ -39,14 +38,6 @@ fn displacement(form: &Form) -> Option<i32>
         } => Some(disp),
         _ => None,
     }
-}
-
-/// The bundle that is so many from this one; where the sum is negative, the distance.
-fn target_of(bundle: u32, disp: i32) -> u32
-    requires { bundle < 2 ^ 31 }
-    ensures { result ≡ target_of bundle disp }
-{
-    (i64::from(bundle) + i64::from(disp)).unsigned_abs() as u32
 }
 
 /// Slot 0 of the target of an instruction of this form. None exactly where it has no target.

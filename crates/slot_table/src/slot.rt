@@ -31,8 +31,7 @@ impl Slot {
     pub(crate) fn at(program: &Program, place: Place) -> Option<Slot>
         ensures { result ≡ slot_at program.now.bundles place }
     {
-        // This call tells that the program is one, so it has few bundles.
-        let _count = program.bundle_count();
+        program.is_program();
         let insn = program.insn_at(place)?;
         let form = form_of(&insn.op);
         Some(Slot {

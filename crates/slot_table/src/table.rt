@@ -58,19 +58,22 @@ impl<'a> SlotTable<'a> {
     pub fn open(alloc: Global, program: &'a Program) -> Result<SlotTable<'a>, AllocError>
         ensures { IfOk result (λ table. table ≡ program.now) }
     {
-        // This call tells that the program is one.
-        let _count = program.bundle_count();
+        program.is_program();
         let slots = slots_of(alloc, program)?;
         Ok(SlotTable { program, slots })
     }
 
     /// The program.
     pub fn program(&self) -> &'a Program
-        ensures value { result.now ≡ self.now }
-        ensures program { IsProgram self.now }
+        ensures { result.now ≡ self.now }
     {
         self.program
     }
+
+    /// The law that it is the table of a program. It does nothing.
+    pub fn is_program(&self)
+        ensures { IsProgram self.now }
+    {}
 
     /// The slot at a place. None exactly where there is no such place.
     #[inline(always)]
@@ -99,8 +102,7 @@ impl<'a> SlotTable<'a> {
     pub fn edge_end(&self, from: Place, edge: Edge) -> Option<Place>
         ensures { MatchOption result ((to : Place) → HasEdge self.now from edge to → ⊥) (λ to. HasEdge self.now from edge to) }
     {
-        // This call tells that the program is one, so its targets are its bundles.
-        let _program = self.program();
+        self.is_program();
         self.at(from)?.edge_end(edge)
     }
 }
