@@ -1,5 +1,5 @@
 -- What comes along an edge.
-use Rattle.std.proofs.Common.{◌≡◌, ◌≢◌, ℕ, ◌+◌, ◌≤◌, ◌⊎◌, Bool, true, false, cond, Option, None, Some, List, length, get_or, set, length-set, refl, sym, ap, ◌∙◌, subst, arith, inl, inr}
+use Rattle.std.proofs.Common.{◌≡◌, ◌≢◌, ℕ, ◌+◌, ◌<◌, ◌≤◌, ◌⊎◌, Bool, true, false, cond, Option, None, Some, List, length, get_or, set, length-set, refl, sym, ap, ◌∙◌, subst, arith, inl, inr}
 use Rattle.std.proofs.lemmas.Bool.{true≢false}
 use Rattle.std.proofs.lemmas.Option.{same_Some}
 use Rattle.std.proofs.lemmas.List.Sums.{sum_by-set}
@@ -19,8 +19,8 @@ use Rattle.slot_table.specs.declared.slot.Slot.{Slot}
 use Rattle.slot_table.specs.Slots.{slot_at, edge_from}
 use Rattle.slot_table.proofs.SlotLaws.{slot_edges, pairs_by-slot}
 use Rattle.flow_facts.specs.Walks.{Known, known_at, Walk, begins, goes_on, EndsAt, facts_on}
-use Rattle.flow_facts.specs.Tables.{weight, place_count, IsNumbered, AtMost, Shrinks, Joined, IsWitnessed, EdgeSettled, IsSettled, Passed, IsUnderWay, is_dirty, dirty_count}
-use Rattle.flow_facts.proofs.Numbering.{is_numbered, place_at-number, value_read, cases_place, value_at-set_same, value_at-set_other}
+use Rattle.flow_facts.specs.Tables.{weight, place_count, AtMost, Shrinks, Joined, IsWitnessed, EdgeSettled, IsSettled, Passed, IsUnderWay, is_dirty, dirty_count}
+use Rattle.flow_facts.proofs.Numbering.{number_below, place_at-number, value_read, cases_place, value_at-set_same, value_at-set_other}
 
 -- more before a place is more past it
 pub past_within : (p : Program) (from : Place) (e : Edge) (f g : Pairs) → IsWithin f g → IsWithin (pairs_past p from e f) (pairs_past p from e g)
@@ -102,31 +102,35 @@ witnessed_entry p t t' bundle wit entry joined =
     (λ x y n. (begins bundle, record { walks = entry; ends = refl }, refl)) joined
 
 -- a place that isn't dirty after one was marked is another
-pub not_dirty_there : (d : List Bool) (k to : Place) → IsNumbered (length d) to → is_dirty (set d (place_number to) true) k ≡ false → k ≢ to
-not_dirty_there d k to l clean e =
-    true≢false (sym (value_at-set_same false true d to l) ∙ ap (is_dirty (set d (place_number to) true)) (sym e) ∙ clean)
+pub not_dirty_there : (d : List Bool) (n : ℕ) (k : Place) → n < length d → is_dirty (set d n true) k ≡ false → k ≢ place_at n
+not_dirty_there d n k l clean e = true≢false (sym (value_at-set_same false true d n l) ∙ ap (is_dirty (set d n true)) (sym e) ∙ clean)
+
+-- and it was not dirty before
+pub still_clean : (d : List Bool) (n : ℕ) (k : Place) → k ≢ place_at n → (b : Bool) → is_dirty (set d n b) k ≡ false → is_dirty d k ≡ false
+still_clean d n k apart b clean = sym (value_at-set_other false b d n k apart) ∙ clean
 
 -- with one place marked, at most one more is dirty
-dirty_count-set : (d : List Bool) (to : Place) → IsNumbered (length d) to → dirty_count (set d (place_number to) true) ≤ dirty_count d + 1
-dirty_count-set d to l = omega (arith, sum_by-set (λ (is : Bool). cond is 1 0) d (place_number to) true false l.below)
+dirty_count-set : (d : List Bool) (n : ℕ) → n < length d → dirty_count (set d n true) ≤ dirty_count d + 1
+dirty_count-set d n l = omega (arith, sum_by-set (λ (is : Bool). cond is 1 0) d n true false l)
 
--- What is known at a place, these rows, has come along an edge from there.
-pub record ComesAlong (p : Program) (from : Place) (e : Edge) (to : Place) (t t' : List Known) (rows : Table) : Type 0 where
-  pub edge : HasEdge p from e to
+-- What is known at a place, these rows, has come along an edge from there to the place of a number.
+pub record ComesAlong (p : Program) (from : Place) (e : Edge) (to : ℕ) (t t' : List Known) (rows : Table) : Type 0 where
+  pub edge : HasEdge p from e (place_at to)
+  pub below : to < place_count p
   pub at : known_at t from ≡ Some rows
-  pub joined : Joined t t' to (pairs_past p from e (pairs_of rows))
+  pub joined : Joined t t' (place_at to) (pairs_past p from e (pairs_of rows))
 
--- by numbers of places and the slot
-pub comes_along : (p : Program) (from : ℕ) (e : Edge) (to : Place) (n : ℕ) (slot : Slot) (t t' : List Known) (read : Known) (rows : Table) (out : Pairs) → IsProgram p → length t ≡ place_count p → slot_at p.bundles (place_at from) ≡ Some slot → Some to ≡ edge_from slot e → read ≡ get_or t from read → read ≡ Some rows → n ≡ place_number to → out ≡ pairs_by (pairs_of rows) (form_rule slot.form e slot.qp) → Joined t t' (place_at n) out → ComesAlong p (place_at from) e to t t' rows
+-- by the slot
+pub comes_along : (p : Program) (from : ℕ) (e : Edge) (to : Place) (n : ℕ) (slot : Slot) (t t' : List Known) (read : Known) (rows : Table) (out : Pairs) → IsProgram p → length t ≡ place_count p → slot_at p.bundles (place_at from) ≡ Some slot → Some to ≡ edge_from slot e → read ≡ get_or t from read → read ≡ Some rows → n ≡ place_number to → out ≡ pairs_by (pairs_of rows) (form_rule slot.form e slot.qp) → Joined t t' (place_at n) out → ComesAlong p (place_at from) e n t t' rows
 comes_along p from e to n slot t t' read rows out program sized here leads got is number made joined =
     let edge : HasEdge p (place_at from) e to = slot_edges p (place_at from) slot e (Some to) program here leads in
-    let numbered = is_numbered p (length t) (place_at from) sized edge.inside in
     let at : place_at n ≡ to = ap place_at number ∙ place_at-number to (slot_small p.bundles to edge.lands) in
     let past = made ∙ pairs_by-slot p (place_at from) slot e (pairs_of rows) here in
     record {
-      edge = edge;
-      at = value_read None t from read (Some rows) (omega (arith, numbered.below)) got is;
-      joined = subst (λ (q : Place). Joined t t' q (pairs_past p (place_at from) e (pairs_of rows))) at (subst (Joined t t' (place_at n)) past joined);
+      edge = subst (HasEdge p (place_at from) e) (sym at) edge;
+      below = omega (arith, number, number_below p (place_count p) to refl edge.lands);
+      at = value_read None t from read (Some rows) (omega (arith, number_below p (length t) (place_at from) sized edge.inside)) got is;
+      joined = subst (Joined t t' (place_at n)) past joined;
     }
 
 -- where the end of an edge knows no more than what comes along it, each edge of its sort is settled
@@ -149,28 +153,26 @@ passed_settled p from e t d wit settled = record {
 }
 
 -- so it is where what came changes nothing
-pub passed_same : (p : Program) (from : Place) (e : Edge) (to : Place) (t t' : List Known) (d : List Bool) (rows : Table) → IsWitnessed p t → ComesAlong p from e to t t' rows → t' ≡ t → Passed p from e t d t' d
+pub passed_same : (p : Program) (from : Place) (e : Edge) (to : ℕ) (t t' : List Known) (d : List Bool) (rows : Table) → IsWitnessed p t → ComesAlong p from e to t t' rows → t' ≡ t → Passed p from e t d t' d
 passed_same p from e to t t' d rows wit came same =
-    let below : AtMost t to (pairs_past p from e (pairs_of rows)) = subst (λ (u : List Known). AtMost u to (pairs_past p from e (pairs_of rows))) same came.joined.below in
-    rw same (passed_settled p from e t d wit (settled_pass p from e to t rows came.edge came.at below))
+    let below : AtMost t (place_at to) (pairs_past p from e (pairs_of rows)) = subst (λ (u : List Known). AtMost u (place_at to) (pairs_past p from e (pairs_of rows))) same came.joined.below in
+    rw same (passed_settled p from e t d wit (settled_pass p from e (place_at to) t rows came.edge came.at below))
 
 -- the end of an edge was changed and marked
-pub passed_changed : (p : Program) (from : Place) (e : Edge) (to : Place) (t t' : List Known) (d : List Bool) (rows : Table) → length d ≡ place_count p → IsWitnessed p t → ComesAlong p from e to t t' rows → weight t' + 1 ≤ weight t → Passed p from e t d t' (set d (place_number to) true)
+pub passed_changed : (p : Program) (from : Place) (e : Edge) (to : ℕ) (t t' : List Known) (d : List Bool) (rows : Table) → length d ≡ place_count p → IsWitnessed p t → ComesAlong p from e to t t' rows → weight t' + 1 ≤ weight t → Passed p from e t d t' (set d to true)
 passed_changed p from e to t t' d rows sized wit came less = record {
-  witnessed = witnessed_pass p t t' from e to rows wit came.at came.edge came.joined;
-  settled = λ clean. settled_pass p from e to t' rows came.edge (came.joined.others from (not_dirty_there d from to short clean) ∙ came.at) came.joined.below;
+  witnessed = witnessed_pass p t t' from e (place_at to) rows wit came.at came.edge came.joined;
+  settled = λ clean. settled_pass p from e (place_at to) t' rows came.edge (came.joined.others from (not_dirty_there d to from short clean) ∙ came.at) came.joined.below;
   progress = record {
     shrinks = came.joined.shrinks;
-    same_length = length-set d (place_number to) true;
-    clean = λ k c.
-        let apart = not_dirty_there d k to short c in
-        (sym (value_at-set_other false true d to k short.slot apart) ∙ c, came.joined.others k apart);
+    same_length = length-set d to true;
+    clean = λ k c. let apart = not_dirty_there d to k short c in (still_clean d to k apart true c, came.joined.others k apart);
   };
   lost = omega (arith, dirty_count-set d to short, less);
 }
   where
-    short : IsNumbered (length d) to
-    short = is_numbered p (length d) to sized came.edge.lands
+    short : to < length d
+    short = omega (arith, came.below, sized)
 
 -- what is settled stays so while its own place keeps its facts
 pub still_settled : (p : Program) (t t' : List Known) (k : Place) (e : Edge) (to : Place) → Shrinks t t' → known_at t' k ≡ known_at t k → EdgeSettled p t k e to → EdgeSettled p t' k e to
@@ -181,15 +183,18 @@ pub shrinks_twice : (a b c : List Known) → Shrinks a b → Shrinks b c → Shr
 shrinks_twice a b c f g = record { same_length = g.same_length ∙ f.same_length; keeps = λ k h m. g.keeps k h (f.keeps k h m) }
 
 -- the place is no longer dirty, and what was known there has come along both sorts of edges
-pub two_passes : (p : Program) (t t1 t2 : List Known) (d d1 d2 : List Bool) (from : Place) → IsUnderWay p t d → IsNumbered (place_count p) from → Passed p from Falls t (set d (place_number from) false) t1 d1 → Passed p from Taken t1 d1 t2 d2 → IsUnderWay p t2 d2
-two_passes p t t1 t2 d d1 d2 from u l f g = record {
+pub two_passes : (p : Program) (t t1 t2 : List Known) (d d1 d2 : List Bool) (n : ℕ) → IsUnderWay p t d → Passed p (place_at n) Falls t (set d n false) t1 d1 → Passed p (place_at n) Taken t1 d1 t2 d2 → IsUnderWay p t2 d2
+two_passes p t t1 t2 d d1 d2 n u f g = record {
   table_length = all.same_length ∙ u.table_length;
-  dirty_length = g.progress.same_length ∙ f.progress.same_length ∙ length-set d (place_number from) false ∙ u.dirty_length;
+  dirty_length = g.progress.same_length ∙ f.progress.same_length ∙ length-set d n false ∙ u.dirty_length;
   witnessed = g.witnessed;
   entries = λ bundle en. all.keeps (first_of bundle) no_pairs (u.entries bundle en);
   settled = λ k c. settled k c (cases_place k from);
 }
   where
+    from : Place
+    from = place_at n
+
     all : Shrinks t t2
     all = shrinks_twice t t1 t2 f.progress.shrinks g.progress.shrinks
 
@@ -205,5 +210,5 @@ two_passes p t t1 t2 d d1 d2 from u l f g = record {
     settled k c (inr e) =
         let c2 = g.progress.clean k c in
         let c1 = f.progress.clean k c2.0 in
-        let c0 : is_dirty d k ≡ false = sym (value_at-set_other false false d from k l.slot e) ∙ c1.0 in
+        let c0 = still_clean d n k e false c1.0 in
         record { edge = λ s to edge. still_settled p t t2 k s to all (c2.1 ∙ c1.1) ((u.settled k c0).edge s to edge) }

@@ -1,7 +1,6 @@
 -- How a table of what is known at each place changes while it is made.
 use Rattle.std.specs.Prelude.{◌≡◌, ◌≢◌, ◌<◌, ◌≤◌, ℕ, zero, suc, ◌+◌, ◌*◌, ◌/◌, Bool, true, false, if◌then◌else◌, None, Some, List, length, slice_index_or, sum_by, ◌⊎◌}
 use Rattle.ia_insn.specs.declared.place.Place.{Place}
-use Rattle.ia_insn.specs.Places.{place_number}
 use Rattle.ia_insn.specs.Programs.{Program, IsEntry}
 use Rattle.ia_meaning.specs.Sequence.{first_of}
 use Rattle.predicate_rel.specs.declared.edge.Edge.{Edge}
@@ -35,11 +34,6 @@ weight table = sum_by weight_at table
 -- how many places a program has room for: three slots a bundle
 abbrev pub place_count : Program → ℕ
 place_count p = 3 * length p.bundles
-
--- The place has a number below this.
-pub record IsNumbered (count : ℕ) (place : Place) : Type 0 where
-  pub slot : place.slot < 3
-  pub below : place_number place < count
 
 -- Something is known at the place, and it is within these pairs.
 pub record AtMost (table : List Known) (place : Place) (f : Pairs) : Type 0 where
