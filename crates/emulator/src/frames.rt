@@ -50,6 +50,7 @@ pub(crate) fn allocate(state: &MachineState, r1: Gr, sof: u8, sol: u8, sor: u8) 
 }
 
 /// An indirect branch that makes a change of registers.
+#[inline(always)]
 pub(crate) fn land(state: &MachineState, program: &Program, b2: Br, change: Change) -> SlotEffect
     requires plain { IsPlain change }
     requires may { MayChange state.now change }

@@ -91,7 +91,8 @@ impl Run {
     {
         if self.slots == 0 {
             self.groups += 1;
-            self.first = self.here();
+            self.first.bundle = self.place.bundle;
+            self.first.slot = self.place.slot;
         }
     }
 
@@ -111,7 +112,8 @@ impl Run {
         ensures { progress_of self.new ≡ arrived (progress_of self.old) (outcome_with self.old.state change.now Falls) place slots }
     {
         self.state.apply(change);
-        self.place = place;
+        self.place.bundle = place.bundle;
+        self.place.slot = place.slot;
         self.slots = slots;
     }
 

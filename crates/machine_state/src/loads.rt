@@ -16,6 +16,7 @@ use ia_meaning::{AlatEntry, Cell, update_register};
 
 impl MachineState {
     /// Writes a base to which something is added: `more`, or an immediate.
+    #[inline(always)]
     fn set_base(&mut self, r3: Gr, update: &Update, base: Cell, more: Cell)
         ensures { self.new ≡ record self.old { registers = apply (update_at (spot self.old.registers.frame r3) update.now base more) self.old.registers } }
     {
@@ -39,6 +40,7 @@ impl MachineState {
     }
 
     /// The entry of a register leaves the ALAT.
+    #[inline(always)]
     pub(crate) fn forget(&mut self, r1: Gr)
         ensures { self.new ≡ record self.old { memory = record self.old.memory { alat = forgotten_at (spot self.old.registers.frame r1) self.old.memory.alat } } }
     {
@@ -67,6 +69,7 @@ impl MachineState {
     }
 
     /// Writes the target of a load, and then its base.
+    #[inline(always)]
     pub(crate) fn load(&mut self, r1: Gr, r3: Gr, update: &Update, cell: Cell)
         ensures { self.new ≡ record self.old { registers = apply (set_at (spot self.old.registers.frame r1) cell (load_update self.old.registers r3 update.now)) self.old.registers } }
     {
@@ -77,6 +80,7 @@ impl MachineState {
     }
 
     /// Writes the base of a load whose target stays as it is.
+    #[inline(always)]
     pub(crate) fn hit(&mut self, r3: Gr, update: &Update)
         ensures { self.new ≡ record self.old { registers = apply (load_update self.old.registers r3 update.now) self.old.registers } }
     {
@@ -102,6 +106,7 @@ impl MachineState {
     }
 
     /// Stores a register to the address in a base, and writes the base.
+    #[inline(always)]
     pub(crate) fn store(&mut self, r3: Gr, cell: Cell, size: u8, spills: bool, update: &Update)
         requires { MayStore self.old.memory (held self.old.registers r3).value size spills }
         ensures { self.new ≡ left_by (outcome_with self.old (Stored r3 size spills update.now cell) Falls) self.old }

@@ -131,9 +131,8 @@ impl MachineState {
         &self.alat
     }
 
-    /// The place of a stacked register; None outside the frame. It is kept out of line: most registers
-    /// that a slot names are static.
-    #[inline(never)]
+    /// The place of a stacked register; None outside the frame.
+    #[inline(always)]
     fn stacked_spot(&self, r: Gr) -> Option<AlatKey>
         requires { 32 ≤ r }
         ensures { result ≡ spot self.now.registers.frame r }
@@ -157,9 +156,8 @@ impl MachineState {
         self.stacked_spot(r)
     }
 
-    /// What a stacked register holds; None outside the frame. It is kept out of line, as
-    /// [`MachineState::stacked_spot`] is.
-    #[inline(never)]
+    /// What a stacked register holds; None outside the frame.
+    #[inline(always)]
     fn stacked(&self, r: Gr) -> Option<Cell>
         requires { 32 ≤ r }
         ensures { result ≡ look self.now.registers r }
@@ -183,6 +181,7 @@ impl MachineState {
     }
 
     /// What a general register holds, 0 outside the frame.
+    #[inline(always)]
     pub(crate) fn held(&self, r: Gr) -> Cell
         ensures { result ≡ held self.now.registers r }
     {
