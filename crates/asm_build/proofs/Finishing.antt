@@ -140,19 +140,15 @@ bundles_inside labels count n (b ∷ bs) all none (suc k) m is =
     let one = or_none_first (unnamed_slot labels n b) (unnamed_bundle labels (n + 1) bs) none in
     bundles_inside labels count (n + 1) bs all one.1 k m (omega (arith, is))
 
+if_slot : (count n : ℕ) (here : Bool) (i : Insn) (other : Option Insn) → HasTargetInside count n i.op → IfSome other (λ i. HasTargetInside count n i.op)
+    → IfSome (if here then Some i else other) (λ i. HasTargetInside count n i.op)
+if_slot count n true i other p q = p
+if_slot count n false i other p q = q
+
 at_slot : (count n : ℕ) (slots : Slots) (slot : ℕ) → AreTargetsInside count n slots → IfSome (slot_insn slots slot) (λ i. HasTargetInside count n i.op)
-at_slot count n (Three a b c) slot h = if_slot (slot == 0) a _ h.0 (if_slot (slot == 1) b _ h.1 (if_slot (slot == 2) c None h.2 tt))
-  where
-    if_slot : (here : Bool) (i : Insn) (other : Option Insn) → HasTargetInside count n i.op → IfSome other (λ i. HasTargetInside count n i.op)
-        → IfSome (if here then Some i else other) (λ i. HasTargetInside count n i.op)
-    if_slot true i other p q = p
-    if_slot false i other p q = q
-at_slot count n (Long first long) slot h = if_slot (slot == 0) first _ h.0 (if_slot (slot == 1) long None h.1 tt)
-  where
-    if_slot : (here : Bool) (i : Insn) (other : Option Insn) → HasTargetInside count n i.op → IfSome other (λ i. HasTargetInside count n i.op)
-        → IfSome (if here then Some i else other) (λ i. HasTargetInside count n i.op)
-    if_slot true i other p q = p
-    if_slot false i other p q = q
+at_slot count n (Three a b c) slot h =
+    if_slot count n (slot == 0) a _ h.0 (if_slot count n (slot == 1) b _ h.1 (if_slot count n (slot == 2) c None h.2 tt))
+at_slot count n (Long first long) slot h = if_slot count n (slot == 0) first _ h.0 (if_slot count n (slot == 1) long None h.1 tt)
 
 at_place : (count n slot : ℕ) (o : Option Bundle) → IfSome o (λ b. AreTargetsInside count n b.slots) → IfSome (bundle_insn o slot) (λ i. HasTargetInside count n i.op)
 at_place count n slot None h = tt

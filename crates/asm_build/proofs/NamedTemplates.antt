@@ -107,25 +107,19 @@ template_is s a b c code h = same_template s a b c (template_of s a b c) (Some c
 pub units_are : (s : Shape) (a b c : Bool) (code : ℕ) → template_of s a b c ≡ Some code → units_of code ≡ units_named s
 units_are s a b c code e = let has : IsTheTemplate s a b c (Some code) = subst (IsTheTemplate s a b c) e (the_template s a b c) in has.units
 
--- stops are those after the slots that have one
-abbrev AreInOrder : List ℕ → Type 0
-AreInOrder stops = stops ≡ marked_slots (is_among stops 0) (is_among stops 1) (is_among stops 2)
-
 -- the template of a long instruction has no stop before its last slot
-abbrev pub HasLongStops : Shape → List ℕ → Type 0
-HasLongStops shape.Mlx stops = (is_among stops 0 ≡ false) × (is_among stops 1 ≡ false)
-HasLongStops s stops = Unit {0}
-
--- the stops of a template, with one after the last slot or without
-abbrev all_stops : List ℕ → Bool → List ℕ
-all_stops inner last = inner ++ (if last then 2 ∷ [] else [])
+abbrev pub HasLongStops : Shape → Bool → Bool → Type 0
+HasLongStops shape.Mlx first second = (first ≡ false) × (second ≡ false)
+HasLongStops s first second = Unit {0}
 
 -- what two codes share has a name
 record HasNameAs (t : TemplateShape) : Type 0 where
   pub name : Shape
+  pub first : Bool
+  pub second : Bool
   pub units : t.units ≡ units_named name
-  pub ordered : (last : Bool) → AreInOrder (all_stops t.inner last)
-  pub long : (last : Bool) → HasLongStops name (all_stops t.inner last)
+  pub inner : t.inner ≡ marked_slots first second false
+  pub long : HasLongStops name first second
 
 record IsNamed (o : Option TemplateShape) : Type 0 where
   pub named : is_some o ≡ true → HasNameAs (unwrap_or o no_shape)
@@ -133,73 +127,30 @@ record IsNamed (o : Option TemplateShape) : Type 0 where
 reserved : IsNamed None
 reserved = record { named = λ is. absurd cc }
 
-either : (b : Bool) (x y : Option TemplateShape) → IsNamed x → IsNamed y → IsNamed (if b then x else y)
-either true x y h k = h
-either false x y h k = k
-
-row : (s : Shape) (inner : List ℕ) → ((last : Bool) → AreInOrder (all_stops inner last)) → ((last : Bool) → HasLongStops s (all_stops inner last)) → IsNamed (Some (record { units = units_named s; inner = inner }))
-row s inner ordered long = record { named = λ _. record { name = s; units = refl; ordered = ordered; long = long } }
-
-no_inner : (last : Bool) → AreInOrder (all_stops [] last)
-no_inner true = refl
-no_inner false = refl
-
-after_first : (last : Bool) → AreInOrder (all_stops (0 ∷ []) last)
-after_first true = refl
-after_first false = refl
-
-after_second : (last : Bool) → AreInOrder (all_stops (1 ∷ []) last)
-after_second true = refl
-after_second false = refl
-
-long_stops : (last : Bool) → HasLongStops shape.Mlx (all_stops [] last)
-long_stops true = (refl, refl)
-long_stops false = (refl, refl)
+row : (s : Shape) (a b here : Bool) (other : Option TemplateShape) → HasLongStops s a b → IsNamed other → IsNamed (if here then Some (record { units = units_named s; inner = marked_slots a b false }) else other)
+row s a b true other long h = record { named = λ is. record { name = s; first = a; second = b; units = refl; inner = refl; long = long } }
+row s a b false other long h = h
 
 each_named : (pair : ℕ) → IsNamed (shape_of pair)
 each_named pair =
-    either (pair == 0x00) _ _ (row shape.Mii [] no_inner (λ _. tt))
-    (either (pair == 0x01) _ _ (row shape.Mii (1 ∷ []) after_second (λ _. tt))
-    (either (pair == 0x02) _ _ (row shape.Mlx [] no_inner long_stops)
-    (either (pair == 0x04) _ _ (row shape.Mmi [] no_inner (λ _. tt))
-    (either (pair == 0x05) _ _ (row shape.Mmi (0 ∷ []) after_first (λ _. tt))
-    (either (pair == 0x06) _ _ (row shape.Mfi [] no_inner (λ _. tt))
-    (either (pair == 0x07) _ _ (row shape.Mmf [] no_inner (λ _. tt))
-    (either (pair == 0x08) _ _ (row shape.Mib [] no_inner (λ _. tt))
-    (either (pair == 0x09) _ _ (row shape.Mbb [] no_inner (λ _. tt))
-    (either (pair == 0x0b) _ _ (row shape.Bbb [] no_inner (λ _. tt))
-    (either (pair == 0x0c) _ _ (row shape.Mmb [] no_inner (λ _. tt))
-    (either (pair == 0x0e) _ _ (row shape.Mfb [] no_inner (λ _. tt)) reserved)))))))))))
+    row shape.Mii false false (pair == 0x00) _ tt
+    (row shape.Mii false true (pair == 0x01) _ tt
+    (row shape.Mlx false false (pair == 0x02) _ (refl, refl)
+    (row shape.Mmi false false (pair == 0x04) _ tt
+    (row shape.Mmi true false (pair == 0x05) _ tt
+    (row shape.Mfi false false (pair == 0x06) _ tt
+    (row shape.Mmf false false (pair == 0x07) _ tt
+    (row shape.Mib false false (pair == 0x08) _ tt
+    (row shape.Mbb false false (pair == 0x09) _ tt
+    (row shape.Bbb false false (pair == 0x0b) _ tt
+    (row shape.Mmb false false (pair == 0x0c) _ tt
+    (row shape.Mfb false false (pair == 0x0e) _ tt reserved)))))))))))
 
--- the code is that of the template with this name and its stops
-pub record IsNamedBy (s : Shape) (code : ℕ) : Type 0 where
-  pub units : units_of code ≡ units_named s
-  pub same : template_of s (has_stop code 0) (has_stop code 1) (has_stop code 2) ≡ Some code
-  pub long : HasLongStops s (stops_of code)
-
-abbrev pub HasName : ℕ → Type 0
-HasName code = (s : Shape) × IsNamedBy s code
-
-stops_ordered : (code : ℕ) → IsTemplate code → AreInOrder (stops_of code)
-stops_ordered code is = ((each_named (code / 2)).named is).ordered (code % 2 == 1)
-
--- what fits the units of a code fits those of a template
-some_fit : (o : Option TemplateShape) (slots : Slots) → FitUnits (unwrap_or o no_shape).units slots → is_some o ≡ true
-some_fit None slots fit = absurd fit
-some_fit (Some t) slots fit = refl
-
--- The template of a bundle has a name.
-pub has_name : (code : ℕ) (slots : Slots) → FitUnits (units_of code) slots → HasName code
-has_name code slots fit =
-    let is : IsTemplate code = some_fit (shape_of (code / 2)) slots fit in
-    let named = (each_named (code / 2)).named is in
-    (named.name, record { units = named.units; same = template_is named.name _ _ _ code (record { units = named.units; stops = stops_ordered code is }); long = named.long (code % 2 == 1) })
-
-stop_test : (code slot : ℕ) (marked : Bool) → StopsAs code slot marked → has_stop code slot ≡ marked
-stop_test code slot marked h = sym (same_test marked (stops_of code) slot (h.both.1, h.both.0))
-
-stops_as : (code slot : ℕ) (marked : Bool) → has_stop code slot ≡ marked → StopsAs code slot marked
-stops_as code slot marked e = record { both = (λ is. sym e ∙ among_from (stops_of code) slot is, λ is. among_to (stops_of code) slot (e ∙ is)) }
+marked_last : (a b last : Bool) → marked_slots a b false ++ (if last then 2 ∷ [] else []) ≡ marked_slots a b last
+marked_last true true last = refl
+marked_last true false last = refl
+marked_last false true last = refl
+marked_last false false last = refl
 
 marked_at : (a b c : Bool) → (is_among (marked_slots a b c) 0 ≡ a) × (is_among (marked_slots a b c) 1 ≡ b) × (is_among (marked_slots a b c) 2 ≡ c)
 marked_at true true true = (refl, refl, refl)
@@ -211,24 +162,66 @@ marked_at false true false = (refl, refl, refl)
 marked_at false false true = (refl, refl, refl)
 marked_at false false false = (refl, refl, refl)
 
-has_shape : (units : List ExecutionUnit) (a b c : Bool) (code : ℕ) → units_of code ≡ units → stops_of code ≡ marked_slots a b c → HasShape code units (a ∷ b ∷ c ∷ [])
-has_shape units a b c code same stops =
+-- a template has a stop after the slots that are marked
+record HasStops (a b c : Bool) (code : ℕ) : Type 0 where
+  pub first : has_stop code 0 ≡ a
+  pub second : has_stop code 1 ≡ b
+  pub third : has_stop code 2 ≡ c
+
+has_stops : (a b c : Bool) (code : ℕ) → stops_of code ≡ marked_slots a b c → HasStops a b c code
+has_stops a b c code e =
     let at = marked_at a b c in
-    record {
-      same = same;
-      first = stops_as code 0 a (ap (λ xs. is_among xs 0) stops ∙ at.0);
-      second = stops_as code 1 b (ap (λ xs. is_among xs 1) stops ∙ at.1);
-      third = stops_as code 2 c (ap (λ xs. is_among xs 2) stops ∙ at.2);
-    }
+    record { first = ap (λ xs. is_among xs 0) e ∙ at.0; second = ap (λ xs. is_among xs 1) e ∙ at.1; third = ap (λ xs. is_among xs 2) e ∙ at.2 }
+
+-- the code is that of the template with this name and its stops
+pub record IsNamedBy (s : Shape) (code : ℕ) : Type 0 where
+  pub units : units_of code ≡ units_named s
+  pub stops : stops_of code ≡ marked_slots (has_stop code 0) (has_stop code 1) (has_stop code 2)
+  pub long : HasLongStops s (has_stop code 0) (has_stop code 1)
+
+abbrev pub HasName : ℕ → Type 0
+HasName code = (s : Shape) × IsNamedBy s code
+
+template_named : (code : ℕ) → IsTemplate code → HasName code
+template_named code is =
+    let named = (each_named (code / 2)).named is in
+    let last = code % 2 == 1 in
+    let stops : stops_of code ≡ marked_slots named.first named.second last = ap (λ inner. inner ++ (if last then 2 ∷ [] else [])) named.inner ∙ marked_last named.first named.second last in
+    let has = has_stops named.first named.second last code stops in
+    (named.name, record { units = named.units; stops = stops ∙ rw (has.first, has.second, has.third) refl; long = rw (has.first, has.second) named.long })
+
+-- what fits the units of a code fits those of a template
+some_fit : (o : Option TemplateShape) (slots : Slots) → FitUnits (unwrap_or o no_shape).units slots → is_some o ≡ true
+some_fit None slots fit = absurd fit
+some_fit (Some t) slots fit = refl
+
+-- The template of a bundle has a name,
+pub has_name : (code : ℕ) (slots : Slots) → FitUnits (units_of code) slots → HasName code
+has_name code slots fit = template_named code (some_fit (shape_of (code / 2)) slots fit)
+
+-- and is the one of the name and its stops.
+pub same_named : (s : Shape) (code : ℕ) → IsNamedBy s code → template_of s (has_stop code 0) (has_stop code 1) (has_stop code 2) ≡ Some code
+same_named s code named = template_is s _ _ _ code (record { units = named.units; stops = named.stops })
+
+stop_test : (code slot : ℕ) (marked : Bool) → StopsAs code slot marked → has_stop code slot ≡ marked
+stop_test code slot marked h = sym (same_test marked (stops_of code) slot (h.both.1, h.both.0))
+
+stops_as : (code slot : ℕ) (marked : Bool) → has_stop code slot ≡ marked → StopsAs code slot marked
+stops_as code slot marked e = record { both = (λ is. sym e ∙ among_from (stops_of code) slot is, λ is. among_to (stops_of code) slot (e ∙ is)) }
+
+has_shape : (s : Shape) (a b c : Bool) (code : ℕ) → IsTemplateOf s a b c code → HasShape code (units_named s) (a ∷ b ∷ c ∷ [])
+has_shape s a b c code is =
+    let has = has_stops a b c code is.stops in
+    record { same = is.units; first = stops_as code 0 a has.first; second = stops_as code 1 b has.second; third = stops_as code 2 c has.third }
 
 -- what has the shape of a name and marks is the template of the name and these stops
 pub template_found : (s : Shape) (a b c : Bool) (found : Option ℕ) → MatchOption found ((code : ℕ) → IsTemplate code → HasShape code (units_named s) (a ∷ b ∷ c ∷ []) → ⊥) (λ code. HasShape code (units_named s) (a ∷ b ∷ c ∷ []))
     → found ≡ template_of s a b c
 template_found s a b c None h =
-    same_template s a b c None (template_of s a b c) (λ code of. h code (is_named s code of.units) (has_shape (units_named s) a b c code of.units of.stops)) (the_template s a b c)
+    same_template s a b c None (template_of s a b c) (λ code is. h code (is_named s code is.units) (has_shape s a b c code is)) (the_template s a b c)
 template_found s a b c (Some code) h =
-    let ordered = stops_ordered code (is_named s code h.same) in
-    let stops : stops_of code ≡ marked_slots a b c = ordered ∙ rw (stop_test code 0 a h.first, stop_test code 1 b h.second, stop_test code 2 c h.third) refl in
+    let named = template_named code (is_named s code h.same) in
+    let stops : stops_of code ≡ marked_slots a b c = named.1.stops ∙ rw (stop_test code 0 a h.first, stop_test code 1 b h.second, stop_test code 2 c h.third) refl in
     sym (template_is s a b c code (record { units = h.same; stops = stops }))
 
 -- a template whose second unit isn't L is short

@@ -29,7 +29,7 @@ use Rattle.asm_build.specs.Marks.{AreSound}
 use Rattle.asm_build.specs.TextParts.{TextParts, Labels, with_bundle}
 use Rattle.asm_build.specs.TemplateNames.{units_named, template_of}
 use Rattle.asm_build.specs.TextReading.{Says}
-use Rattle.asm_build.proofs.NamedTemplates.{IsNamedBy, has_name, short_of, long_of}
+use Rattle.asm_build.proofs.NamedTemplates.{IsNamedBy, has_name, same_named, short_of, long_of}
 use Rattle.asm_build.proofs.PrintedLines.{head_says, end_says}
 use Rattle.asm_build.proofs.Taking.{Goes, goes_on, line_goes}
 use Rattle.asm_build.proofs.UntargetedSlots.{until_named, fits_until}
@@ -131,7 +131,7 @@ long_goes say bs es ls k n template s a b u v w units f g la lb low =
 
 at_long : (template : ℕ) → IsNamedBy shape.Mlx template → template_of shape.Mlx false false (has_stop template 2) ≡ Some template
 at_long template named =
-    ap (λ a. template_of shape.Mlx a false (has_stop template 2)) (sym named.long.0) ∙ ap (λ b. template_of shape.Mlx (has_stop template 0) b (has_stop template 2)) (sym named.long.1) ∙ named.same
+    ap (λ a. template_of shape.Mlx a false (has_stop template 2)) (sym named.long.0) ∙ ap (λ b. template_of shape.Mlx (has_stop template 0) b (has_stop template 2)) (sym named.long.1) ∙ same_named shape.Mlx template named
 
 closed_long : (s : Shape) (template : ℕ) (a b : SlotLine) → s ≡ shape.Mlx → IsNamedBy s template → a.stop ≡ false → b.stop ≡ has_stop template 2 → closed_as (lines.Two a b) s ≡ Some (long a b template)
 closed_long shape.Mlx template a b is named none last =
@@ -159,7 +159,7 @@ slots_go say bs es ls k n count template s (slots.Three a b c) low named (u ∷ 
       next = k + 1 + 1 + 1;
       read = three first second third template;
       goes = three_goes say bs es ls k n template s a b c u v w e fit.3 fit.0 fit.1 fit.2 sound.0.listed sound.1.0.listed sound.1.1.listed low;
-      whole = ap (option_map (three first second third)) named.same;
+      whole = ap (option_map (three first second third)) (same_named s template named);
       same = record { bundle = refl; names = (refl, (refl, refl)) };
     }
 slots_go say bs es ls k n count template s (slots.Long a b) low named (u ∷ v ∷ w ∷ []) e fit sound =
