@@ -1,9 +1,9 @@
 -- The examples of groups in two orders, computed.
-use Rattle.std.proofs.Common.{◌≡◌, refl, ap, inl, inr, ◌∷◌, [], arith, rules}
-use Rattle.std.proofs.lemmas.List.Elements.{All-replicate}
+use Rattle.std.proofs.Common.{◌≡◌, true, refl, ap, inl, ◌∷◌, [], arith, rules}
 use Rattle.ia_insn.specs.Places.{insn_at}
 use Rattle.ia_meaning.specs.declared.state.Cell.{Cell}
-use Rattle.ia_meaning.specs.State.{IsWord, IsStart, zero_cell}
+use Rattle.ia_meaning.specs.State.{IsStart, zero_registers}
+use Rattle.ia_meaning.specs.Writes.{SetPredicate}
 use Rattle.ia_meaning.specs.Names.{look, spot, holds, frame_place, predicate_place, predicate_spot}
 use Rattle.ia_meaning.specs.Sequence.{next_of, is_stopped}
 use Rattle.ia_meaning.specs.Landings.{is_entry, landing}
@@ -12,6 +12,8 @@ use Rattle.ia_meaning.specs.Moves.{has_reserved_zeros}
 use Rattle.ia_meaning.specs.Frames.{has_zero_bases, marked_frame, is_frame, return_fault}
 use Rattle.ia_meaning.specs.Steps.{Run, seq_step}
 use Rattle.ia_meaning.proofs.Inside.{first_is_place}
+use Rattle.ia_meaning.proofs.Starts.{zero_registers_are}
+use Rattle.state_laws.proofs.InRange.{apply_keeps}
 use Rattle.group_checker.specs.OrderExamples.{TwoOrders, TwoMoves, FirstAlloc, LateAlloc, BranchPredicate, BranchRegister, ReturnState, ParallelCompares, MemoryOrder, SpillsAndFills, static_of, cell, later_writes, with_p6, LaterWrites}
 
 pub two_orders : TwoOrders
@@ -58,24 +60,7 @@ spills_and_fills = (refl, refl, refl)
 with_p6_is_start : IsStart later_writes (with_p6 later_writes)
 with_p6_is_start = record {
   state = record {
-    registers = record {
-      static_count = refl;
-      statics = All-replicate (λ c. IsWord c.value) 32 zero_cell (omega arith);
-      zero = refl;
-      frame = record { size = omega arith; locals = omega arith; rotating = omega arith; general = inr refl; floating = omega arith; predicates = omega arith };
-      cell_count = refl;
-      most = omega arith;
-      cells = λ k d h. absurd (omega (arith, h));
-      predicate_count = refl;
-      one = refl;
-      branch_count = refl;
-      branches = All-replicate IsWord 8 0 (omega arith);
-      unat = omega arith;
-      pfs = omega arith;
-      reserved = (refl, refl);
-      lc = omega arith;
-      ec = omega arith;
-    };
+    registers = apply_keeps (SetPredicate 6 true ∷ []) zero_registers ((λ e. absurd (omega arith)), tt) zero_registers_are;
     memory = record { count = refl; bytes = λ i. omega arith; most = omega arith; entries = λ k d h. absurd (omega (arith, h)); apart = search rules };
     place = first_is_place later_writes.bundles 0 (omega arith);
   };

@@ -12,7 +12,7 @@ use Rattle.ia_meaning.proofs.GroupEnds.{zero_is_place}
 zero_frame_is : IsFrame zero_frame
 zero_frame_is = record { size = omega arith; locals = omega arith; rotating = omega arith; general = inr refl; floating = omega arith; predicates = omega arith }
 
-zero_registers_are : AreRegisters zero_registers
+pub zero_registers_are : AreRegisters zero_registers
 zero_registers_are = record {
   static_count = refl;
   statics = All-replicate (λ c. IsWord c.value) 32 zero_cell (omega arith);
