@@ -17,6 +17,7 @@ use ia_meaning::Form;
 use machine_state::{Change, MachineState};
 
 /// What an instruction does that is executed.
+#[inline(always)]
 fn act(state: &MachineState, program: &Program, bundle: u32, form: &Form) -> SlotEffect
     requires place { bundle < 2 ^ 31 }
     requires ranges { HasFormRanges form.now }
@@ -73,6 +74,7 @@ fn act(state: &MachineState, program: &Program, bundle: u32, form: &Form) -> Slo
 }
 
 /// What an instruction does whose qualifying predicate is 0: nothing but for `unc` tests and loop branches.
+#[inline(always)]
 fn skip(state: &MachineState, program: &Program, bundle: u32, form: &Form) -> SlotEffect
     requires { bundle < 2 ^ 31 }
     ensures value { outcome_of state.now result ≡ skip (site program.now bundle) form.now state.now.registers state.now.memory }
@@ -86,6 +88,7 @@ fn skip(state: &MachineState, program: &Program, bundle: u32, form: &Form) -> Sl
 }
 
 /// What an instruction of this form does under a qualifying predicate (volume 3, chapter 2).
+#[inline(always)]
 pub(crate) fn effect(
     state: &MachineState,
     program: &Program,

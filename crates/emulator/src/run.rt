@@ -107,6 +107,7 @@ impl Run {
     }
 
     /// Goes to a place, with a change, and so many slots of its group before it.
+    #[inline(always)]
     fn arrive(&mut self, change: &Change, place: Place, slots: u32)
         requires { MayChange self.old.state change.now }
         ensures { progress_of self.new ≡ arrived (progress_of self.old) (outcome_with self.old.state change.now Falls) place slots }
@@ -118,6 +119,7 @@ impl Run {
     }
 
     /// Goes on as the effect of a slot says. To fall through where there is no next place is a fault.
+    #[inline(always)]
     #[tactic(auto, using(crate::proofs::SlotSteps::falls_on, crate::proofs::SlotSteps::goes_on))]
     fn go_on(&mut self, table: &SlotTable, slot: &Slot, effect: &SlotEffect) -> Option<How>
         requires may { MayChange self.old.state effect.now.change }
@@ -167,6 +169,7 @@ impl Run {
     }
 
     /// Runs the next slot, and tells how its group ends, where it does.
+    #[inline(always)]
     fn run_slot(&mut self, table: &SlotTable) -> Option<How>
         requires program { IsProgram table.now }
         requires running { self.old.end ≡ None }
@@ -188,6 +191,7 @@ impl Run {
     }
 
     /// Runs one slot more, and tells how its group ends, where it does.
+    #[inline(always)]
     #[tactic(auto, using(ia_meaning::proofs::WholeRuns::advanced_is, ia_meaning::proofs::GroupEnds::has_few_slots))]
     fn advance(&mut self, table: &SlotTable) -> Option<How>
         requires program { IsProgram table.now }

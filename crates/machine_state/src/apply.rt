@@ -195,6 +195,7 @@ impl MachineState {
     }
 
     /// Makes a change.
+    #[inline(always)]
     #[tactic(auto, using(crate::proofs::MaskedWrites::no_frame))]
     pub fn apply(&mut self, change: &Change)
         requires { MayChange self.old change.now }

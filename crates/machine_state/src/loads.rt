@@ -40,7 +40,6 @@ impl MachineState {
     }
 
     /// The entry of a register leaves the ALAT.
-    #[inline(always)]
     pub(crate) fn forget(&mut self, r1: Gr)
         ensures { self.new ≡ record self.old { memory = record self.old.memory { alat = forgotten_at (spot self.old.registers.frame r1) self.old.memory.alat } } }
     {
@@ -80,7 +79,6 @@ impl MachineState {
     }
 
     /// Writes the base of a load whose target stays as it is.
-    #[inline(always)]
     pub(crate) fn hit(&mut self, r3: Gr, update: &Update)
         ensures { self.new ≡ record self.old { registers = apply (load_update self.old.registers r3 update.now) self.old.registers } }
     {
@@ -106,7 +104,6 @@ impl MachineState {
     }
 
     /// Stores a register to the address in a base, and writes the base.
-    #[inline(always)]
     pub(crate) fn store(&mut self, r3: Gr, cell: Cell, size: u8, spills: bool, update: &Update)
         requires { MayStore self.old.memory (held self.old.registers r3).value size spills }
         ensures { self.new ≡ left_by (outcome_with self.old (Stored r3 size spills update.now cell) Falls) self.old }

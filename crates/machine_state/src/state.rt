@@ -132,7 +132,6 @@ impl MachineState {
     }
 
     /// The place of a stacked register; None outside the frame.
-    #[inline(always)]
     fn stacked_spot(&self, r: Gr) -> Option<AlatKey>
         requires { 32 ≤ r }
         ensures { result ≡ spot self.now.registers.frame r }
@@ -157,7 +156,6 @@ impl MachineState {
     }
 
     /// What a stacked register holds; None outside the frame.
-    #[inline(always)]
     fn stacked(&self, r: Gr) -> Option<Cell>
         requires { 32 ≤ r }
         ensures { result ≡ look self.now.registers r }
@@ -181,7 +179,6 @@ impl MachineState {
     }
 
     /// What a general register holds, 0 outside the frame.
-    #[inline(always)]
     pub(crate) fn held(&self, r: Gr) -> Cell
         ensures { result ≡ held self.now.registers r }
     {
