@@ -1,5 +1,5 @@
 -- A step of the machine at a place of its program.
-use Rattle.std.proofs.Common.{◌≡◌, ◌<◌, ◌^◌, ℕ, List, refl, sym, ap, subst, ◌∙◌, arith}
+use Rattle.std.proofs.Common.{◌≡◌, ℕ, List, refl, sym, subst, arith}
 use Rattle.std.specs.Prelude.{Option, Some, None, IsSome, option_map}
 use Rattle.ia_insn.specs.declared.insn.Insn.{Insn}
 use Rattle.ia_insn.specs.declared.place.Place.{Place}
@@ -11,10 +11,8 @@ use Rattle.ia_insn.proofs.OperandRanges.{ranges_of_listed}
 use Rattle.ia_insn.proofs.ListedSlots.{listed_at}
 use Rattle.ia_meaning.specs.State.{State}
 use Rattle.ia_meaning.specs.declared.next.Next.TheVariants.{Falls, Goes}
-use Rattle.ia_meaning.specs.FormRanges.{HasFormRanges}
 use Rattle.ia_meaning.specs.Sequence.{first_of, next_of, is_stopped}
-use Rattle.ia_meaning.specs.Effects.{site, guarded}
-use Rattle.ia_meaning.specs.Steps.{how_falling, seq_step}
+use Rattle.ia_meaning.specs.Steps.{how_falling}
 use Rattle.ia_meaning.specs.Progress.{slots_after, stepped}
 use Rattle.ia_meaning.proofs.FormRanges.{form_ranges}
 use Rattle.ia_meaning.proofs.StepHere.{step_here as step_at}

@@ -1,7 +1,7 @@
 //! Frames: `alloc`, calls and returns (volume 1, chapter 4, register stack, and volume 3, chapter 2, `alloc`
 //! and `br`).
 
-ghost use Rattle.std.specs.Prelude.{◌≡◌, ◌<◌, ◌≤◌, ◌*◌, [], get_or, ◌^◌};
+ghost use Rattle.std.specs.Prelude.{◌≡◌, ◌<◌, ◌≤◌, ◌*◌, get_or, ◌^◌};
 ghost use Rattle.ia_meaning.specs.Names.{spot};
 ghost use Rattle.ia_meaning.specs.Frames.{with_sizes, allocated, lands, returned, call_writes};
 ghost use Rattle.ia_meaning.specs.Landings.{landing};

@@ -1,7 +1,7 @@
 //! Loads, stores and checks (volume 1, chapter 4, control and data speculation, and volume 3, chapter 2,
 //! `ld`, `st`, `chk` and `invala`).
 
-ghost use Rattle.std.specs.Prelude.{◌≡◌, ◌<◌, ◌||◌, ◌&&◌, not, if◌then◌else◌, List, [], Some, None, IfOk, IfErr, ◌^◌};
+ghost use Rattle.std.specs.Prelude.{◌≡◌, ◌<◌, ◌||◌, ◌&&◌, not, Some, None, IfOk, IfErr, ◌^◌};
 ghost use Rattle.ia_insn.specs.Ranges.{IsLoadSize, IsStoreSize};
 ghost use Rattle.ia_meaning.specs.declared.state.AlatEntry.{AlatEntry};
 ghost use Rattle.ia_meaning.specs.Names.{spot, look};

@@ -1,6 +1,6 @@
 //! A run under way.
 
-ghost use Rattle.std.specs.Prelude.{◌≡◌, ◌<◌, ◌≤◌, ◌%◌, ◌+◌, ◌^◌, [], length, Some, None, IfSome, IfNone, IfOk, slice_get};
+ghost use Rattle.std.specs.Prelude.{◌≡◌, ◌<◌, ◌≤◌, ◌%◌, ◌+◌, ◌^◌, [], length, Some, None, IfNone, IfOk};
 ghost use Rattle.ia_insn.specs.declared.limits.TheConstants.{DATA_LIMIT, RUN_LIMIT};
 ghost use Rattle.ia_insn.specs.Places.{IsPlaceOf};
 ghost use Rattle.ia_insn.specs.declared.ending.How.TheVariants as how;

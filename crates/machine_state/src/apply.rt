@@ -1,12 +1,11 @@
 //! Making a change.
 
-ghost use Rattle.std.specs.Prelude.{◌≡◌, ◌<◌, ◌≤◌, ◌+◌, ◌-◌, ◌^◌, [], None, IfSome};
+ghost use Rattle.std.specs.Prelude.{◌≡◌, ◌<◌, ◌≤◌, ◌+◌, ◌-◌, [], None, IfSome};
 ghost use Rattle.ia_meaning.specs.declared.next.Next.TheVariants.{Falls};
-ghost use Rattle.ia_meaning.specs.State.{HasReservedZeros, IsFrame};
 ghost use Rattle.ia_meaning.specs.Writes.{apply, put, SetPredicate, SetBranch, SetLc, SetEc, SetFrame, Renamed};
 ghost use Rattle.ia_meaning.specs.Names.{spot, predicate_place, predicate_spot, set_predicate};
 ghost use Rattle.ia_meaning.specs.Moves.{is_masked, masked_writes, predicate_writes};
-ghost use Rattle.ia_meaning.specs.Frames.{rotated, cleared, call_state, frame_marker, marked_frame, return_fault};
+ghost use Rattle.ia_meaning.specs.Frames.{rotated, cleared, call_state, marked_frame, return_fault};
 ghost use Rattle.ia_meaning.specs.Loops.{written, turn_writes};
 ghost use Rattle.machine_state.specs.Contents.{left_by};
 ghost use Rattle.machine_state.specs.declared.change.Change.TheVariants.{Allocated, Called, Returned};

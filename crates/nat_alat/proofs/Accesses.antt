@@ -1,10 +1,6 @@
 -- The places of accesses without a fault.
-use Rattle.std.proofs.Common.{◌≡◌, ℕ, ◌+◌, ◌-◌, ◌*◌, ◌%◌, ◌^◌, ◌<◌, ◌≤◌, ◌⊎◌, inl, inr, Bool, true, false, List, [], ◌++◌, length, take, drop, get_or, Option, Some, None, refl, sym, ap, ◌∙◌, arith}
-use Rattle.std.specs.Prelude.{◌==◌, ◌&&◌, nat_le, not, if◌then◌else◌}
+use Rattle.std.proofs.Common.{◌≡◌, ℕ, ◌+◌, ◌-◌, ◌*◌, ◌%◌, ◌^◌, ◌<◌, ◌≤◌, ◌⊎◌, inl, inr, List, [], ◌++◌, length, take, drop, get_or, None, sym, ap, ◌∙◌, arith}
 use Rattle.std.proofs.lemmas.List.{append-nil, drop_all, take_all}
-use Rattle.std.proofs.lemmas.Bool.Decides.{nat_tests}
-use Rattle.ia_insn.specs.declared.ending.FaultKind.{FaultKind}
-use Rattle.ia_insn.specs.declared.ending.FaultKind.TheVariants.{Unaligned, BadAddress}
 use Rattle.ia_insn.specs.Addresses.{data_base}
 use Rattle.ia_meaning.specs.Loads.{access_fault, loaded, stored, bytes_at, with_bytes}
 use Rattle.ia_meaning.proofs.DataAccesses.{is_access, length-with_bytes}

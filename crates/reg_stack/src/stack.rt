@@ -1,6 +1,6 @@
 //! The register stack.
 
-ghost use Rattle.std.specs.Prelude.{◌≡◌, ◌+◌, ◌*◌, ◌<◌, ◌≤◌, ◌^◌, Some, None, MatchOption, IfOk, OnOk, OnErr, IsOk, IsTrue, ◌↔◌, vec_capacity};
+ghost use Rattle.std.specs.Prelude.{◌≡◌, ◌+◌, ◌*◌, ◌<◌, ◌≤◌, ◌^◌, Some, None, MatchOption, IfOk, OnOk, OnErr, vec_capacity};
 ghost use Rattle.ia_meaning.specs.declared.state.AlatKey.TheVariants.{Stacked};
 ghost use Rattle.std.specs.Result.{result_err};
 ghost use Rattle.ia_meaning.specs.declared.limits.TheConstants.{STACK_LIMIT};

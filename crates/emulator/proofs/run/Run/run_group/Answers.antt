@@ -1,5 +1,4 @@
-use Rattle.std.proofs.Common.{◌≡◌, ◌-◌, ◌<◌, sym, ◌∙◌, arith}
-use Rattle.ia_insn.specs.declared.limits.TheConstants.{RUN_LIMIT}
+use Rattle.std.proofs.Common.{sym, ◌∙◌, arith}
 use Rattle.emulator.specs.Progress.{progress_of}
 use Rattle.emulator.proofs.Groups.{is_over, is_within}
 use Rattle.emulator.proofs.run.Run.run_group.Goals as goal

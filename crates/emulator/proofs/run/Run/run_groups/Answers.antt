@@ -1,5 +1,4 @@
-use Rattle.std.proofs.Common.{◌≡◌, ◌<◌, Bool, true, false, None, sym, ◌∙◌, arith}
-use Rattle.std.specs.Option.{is_some}
+use Rattle.std.proofs.Common.{◌∙◌, arith}
 use Rattle.ia_meaning.specs.Steps.{seq_step}
 use Rattle.emulator.specs.Progress.{state_of, progress_of}
 use Rattle.emulator.proofs.Groups.{none_of, some_of, is_over, is_within, has_room, over_groups, within_groups}
