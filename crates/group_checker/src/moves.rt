@@ -1,6 +1,6 @@
 //! The step from the slot under way to the next one.
 
-ghost use Rattle.std.specs.Prelude.{◌≡◌, ◌≤◌, ◌<◌, length, Some, OnOk, ℕ, not, ◌&&◌};
+ghost use Rattle.std.specs.Prelude.{◌≡◌, ◌<◌, length, Some, OnOk, ◌&&◌};
 ghost use Rattle.ia_insn.specs.declared.place.Place.{Place};
 ghost use Rattle.ia_insn.specs.Programs.{Program};
 ghost use Rattle.ia_meaning.specs.Sequence.{next_of};

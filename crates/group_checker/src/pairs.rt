@@ -1,6 +1,6 @@
 //! What two slots of one group break.
 
-ghost use Rattle.std.specs.Prelude.{◌≡◌, ◌+◌, ◌*◌, ◌≤◌, ◌<◌, true, false, [], length, IfOk, OnOk, ◌&&◌};
+ghost use Rattle.std.specs.Prelude.{◌≡◌, ◌+◌, ◌*◌, ◌≤◌, ◌<◌, true, [], length, IfOk, OnOk, ◌&&◌};
 ghost use Rattle.ia_insn.specs.declared.place.Place.{Place};
 ghost use Rattle.ia_insn.specs.Programs.{Program};
 ghost use Rattle.ia_meaning.specs.Actions.{is_alloc};

@@ -1,6 +1,6 @@
 //! What is printed.
 
-ghost use Rattle.std.specs.Prelude.{◌≡◌, ◌++◌, IfOk, Some, string_bytes};
+ghost use Rattle.std.specs.Prelude.{◌≡◌, IfOk, Some, string_bytes};
 ghost use Rattle.ia64_top.specs.Texts.{rule_text, resource_text, violation_text, verdict_text, slot_text, fault_text, refusal_text, text_fault_text, text_refusal_text};
 ghost use Rattle.group_checker.specs.declared.report.Verdict.TheVariants.{Violations};
 ghost use Rattle.asm_build.specs.declared.reason.TextError.TheVariants as error;

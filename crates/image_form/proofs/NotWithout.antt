@@ -1,5 +1,5 @@
 -- Bytes that are the image or the bare bundles of no program are not without a fault.
-use Rattle.std.proofs.Common.{◌≡◌, inl, inr, ℕ, ◌+◌, ◌*◌, ◌/◌, ◌%◌, ◌<◌, ◌≤◌, List, [], ◌∷◌, length, take, drop, refl, sym, ap, ◌∙◌, subst, arith}
+use Rattle.std.proofs.Common.{◌≡◌, inl, inr, ℕ, ◌+◌, ◌*◌, ◌/◌, ◌%◌, ◌<◌, ◌≤◌, List, [], ◌∷◌, length, take, drop, refl, subst, arith}
 use Rattle.std.proofs.lemmas.List.{take_all, length-take, length-drop}
 use Rattle.bundle_bits.specs.RawBundle.{AreBytes as AreSixteen}
 use Rattle.first_fault.specs.Stages.{Stage, unless, IsFirstFault, ArePassed}
@@ -9,17 +9,17 @@ use Rattle.ia_insn.specs.Bundles.{Bundle}
 use Rattle.ia_insn.specs.Places.{place_number, place_at, IsPlaceOf, IsBefore, EachPlace, IsFirstBad}
 use Rattle.ia_insn.specs.Runs.{IsWithinRun}
 use Rattle.ia_insn.specs.Targets.{IsTargetInside}
-use Rattle.ia_insn.specs.Programs.{Program, AreEntries, IsEntryAt, IsProgram, AreBytes}
+use Rattle.ia_insn.specs.Programs.{Program, IsEntryAt, IsProgram, AreBytes}
 use Rattle.ia_insn.proofs.InOrder.{slot_small, bundle_small}
 use Rattle.insn_codec.specs.Laws as codec
 use Rattle.image_form.specs.declared.fault.ImageFault.{ImageFault}
 use Rattle.image_form.specs.declared.fault.ImageFault.TheVariants.{Short, Magic, Counts, Length, Target, LongRun}
 use Rattle.image_form.specs.Images.{magic, AreSpelled, Spells, RawSpells}
-use Rattle.image_form.specs.Parts.{bundle_count, entry_count, entries_of, after_entries, bundle_bytes, data_of, image_length, AreCounts, HasHead, AreImageCounts}
+use Rattle.image_form.specs.Parts.{bundle_count, entry_count, entries_of, after_entries, bundle_bytes, data_of, image_length, AreCounts, AreImageCounts}
 use Rattle.image_form.specs.Faults.{chunk, IsBundleBytes, entry_stage, spelling_stage, place_stage, bundle_stages, image_stages, raw_stages}
 use Rattle.image_form.specs.Laws.{FaultWhereNoneSpelled, FaultWhereNoneRaw}
 use Rattle.image_form.proofs.NumberBytes.{bytes_take, bytes_drop}
-use Rattle.image_form.proofs.Spelled.{spelled_length, same_bundles, all_spelled, spelled_fit}
+use Rattle.image_form.proofs.Spelled.{same_bundles, all_spelled, spelled_fit}
 use Rattle.image_form.proofs.Wholes.{ArePartsOf, length-bundle_bytes, counts_right, entries_right, spells_of_parts, raw_counts}
 
 -- a stage isn't without a fault unless it is passed

@@ -2,7 +2,7 @@
 use Rattle.std.proofs.Common.{◌≡◌, ℕ, ◌/◌, ◌%◌, List, ◌++◌, length, refl, sym, ap, ◌∙◌, subst, arith}
 use Rattle.first_fault.specs.Stages.{ArePassed}
 use Rattle.first_fault.proofs.Laws.{no_fault}
-use Rattle.ia_insn.specs.Programs.{Program, IsProgram, AreInRange, AreEntries}
+use Rattle.ia_insn.specs.Programs.{Program, AreInRange, AreEntries}
 use Rattle.insn_codec.specs.Laws as codec
 use Rattle.image_form.specs.Images.{number_bytes, head_bytes, Spells, RawSpells}
 use Rattle.image_form.specs.Parts.{bundle_count, bundle_bytes, entries_of, AreImageCounts}

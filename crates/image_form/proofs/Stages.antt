@@ -1,5 +1,5 @@
 -- What the searches for the first fault of an image and of bare bundles find.
-use Rattle.std.proofs.Common.{◌≡◌, inl, inr, ℕ, ◌+◌, ◌*◌, ◌/◌, ◌%◌, ◌<◌, ◌≤◌, List, [], ◌∷◌, length, take, drop, refl, sym, ap, subst, arith}
+use Rattle.std.proofs.Common.{◌≡◌, inl, inr, ℕ, ◌/◌, ◌%◌, ◌≤◌, List, [], ◌∷◌, length, take, subst, arith}
 use Rattle.std.proofs.lemmas.List.{append-nil}
 use Rattle.first_fault.specs.Stages.{IsFirstFault}
 use Rattle.first_fault.proofs.Laws.{IsSound, AreSound, unless_sound}
@@ -11,13 +11,12 @@ use Rattle.ia_insn.specs.Runs.{IsWithinRun}
 use Rattle.ia_insn.specs.Targets.{IsTargetInside}
 use Rattle.ia_insn.specs.Programs.{AreEntries}
 use Rattle.ia_insn.proofs.ProgramFaults.{one_first_bad, misplaced_sound}
-use Rattle.insn_codec.specs.declared.bundle.SlotFault.{SlotFault}
 use Rattle.insn_codec.specs.Spelling.{IsSpelled}
 use Rattle.insn_codec.specs.SlotFaults.{HasSlotFault}
 use Rattle.insn_codec.specs.Laws as codec
 use Rattle.image_form.specs.declared.fault.ImageFault.{ImageFault}
 use Rattle.image_form.specs.declared.fault.ImageFault.TheVariants.{Short, Magic, Counts, Length, Entry, Target, LongRun}
-use Rattle.image_form.specs.Images.{magic, AreSpelled}
+use Rattle.image_form.specs.Images.{magic}
 use Rattle.image_form.specs.Parts.{bundle_count, image_length, entries_of, bundle_bytes, AreCounts, HasHead, AreImageCounts}
 use Rattle.image_form.specs.Faults.{chunk, IsBundleBytes, entry_stage, spelling_stage, place_stage, bundle_stages, image_stages, HasImageFault, raw_stages}
 use Rattle.image_form.proofs.Spelled.{spelled_length, same_bundles, spelled_chunk}

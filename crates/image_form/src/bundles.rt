@@ -1,6 +1,6 @@
 //! Bundles in sixteen bytes each.
 
-ghost use Rattle.std.specs.Prelude.{◌≡◌, ◌≢◌, ◌+◌, ◌*◌, ◌%◌, ◌<◌, ◌^◌, ℕ, List, [], ◌∷◌, ◌++◌, length, vec_len, vec_capacity, IfOk, IfErr, OnOk};
+ghost use Rattle.std.specs.Prelude.{◌≡◌, ◌≢◌, ◌+◌, ◌%◌, ◌<◌, ◌^◌, ℕ, List, [], ◌∷◌, ◌++◌, length, vec_len, vec_capacity, IfOk, IfErr, OnOk};
 ghost use Rattle.first_fault.specs.Stages.{IsFirstFault};
 ghost use Rattle.image_form.specs.Images.{AreSpelled};
 ghost use Rattle.image_form.specs.Faults.{bundle_stages};

@@ -1,7 +1,7 @@
 //! Sums, differences and bitwise operations (volume 3, chapter 2: `add`, `sub`, `addp4`, `and`, `andcm`,
 //! `or`, `xor`, `shladd` and `shladdp4`).
 
-ghost use Rattle.std.specs.Prelude.{◌≡◌, ◌+◌, ◌*◌, ◌^◌, ◌≤◌};
+ghost use Rattle.std.specs.Prelude.{◌≡◌, ◌^◌, ◌≤◌};
 ghost use Rattle.ia_meaning.specs.Arithmetic.{immediate, pointer, alu, shift_add};
 
 use ia_insn::AluFn;

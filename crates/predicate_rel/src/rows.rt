@@ -1,6 +1,6 @@
 //! What an instruction leaves of the pairs of one predicate.
 
-ghost use Rattle.std.specs.Prelude.{◌≡◌, ◌≢◌, ℕ, ◌-◌, ◌<◌, ◌&&◌, ◌||◌, ◌==◌, Bool, nat_lt, if◌then◌else◌, true, false};
+ghost use Rattle.std.specs.Prelude.{◌≡◌, ◌≢◌, ℕ, ◌-◌, ◌<◌, ◌||◌, ◌==◌, Bool, if◌then◌else◌, true, false};
 ghost use Rattle.ia_insn.specs.declared.choices.CmpKind.TheVariants.{Normal, Unc, OrAndcm};
 ghost use Rattle.predicate_rel.specs.Pairs.{has_bit, pairs_of};
 ghost use Rattle.predicate_rel.specs.Rules.{PairRule, always, never, is_met, kept_rule, written_rule, raised_rule, is_target, test_rule, is_moved, falls_rule, static_rule, name_before, rotated_rule, loop_rule, form_rule};

@@ -3,8 +3,6 @@
 ghost use Rattle.std.specs.Prelude.{◌≡◌, ◌+◌, ◌-◌, ◌≤◌, ◌<◌, ◌++◌, ◌∷◌, true, length};
 ghost use Rattle.arrayvec.specs.ArrayVec.{array_vec_len};
 ghost use Rattle.ia_meaning.specs.Actions.{form_of};
-ghost use Rattle.ia_meaning.specs.Moves.{is_masked};
-ghost use Rattle.ia_meaning.specs.Names.{is_stacked, is_rotating};
 ghost use Rattle.resource_sets.specs.Rows.{gr, always, listed};
 ghost use Rattle.resource_sets.specs.declared.access.Resource.TheVariants as spec;
 ghost use Rattle.resource_sets.specs.declared.access.Kind.TheVariants.{Read, Write};
