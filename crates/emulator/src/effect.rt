@@ -7,13 +7,12 @@ ghost use Rattle.machine_state.specs.Changes.{MayChange};
 ghost use Rattle.emulator.specs.Outcomes.{outcome_of};
 
 use crate::frames::{allocate, call, land, ret};
-use crate::landings::target;
 use crate::loads::{check_alat, check_nat, forget, load, store};
 use crate::loops::turn;
 use crate::moves::{compute, fetch, skip_test, test, to_application, to_branch, to_predicates};
 use crate::slot_effect::SlotEffect;
 use ia_insn::{Pr, Program};
-use ia_meaning::Form;
+use ia_meaning::{Form, target_of};
 use machine_state::{Change, MachineState};
 
 /// What an instruction does that is executed.
@@ -62,9 +61,9 @@ fn act(state: &MachineState, program: &Program, bundle: u32, form: &Form) -> Slo
         Form::ForgetAll => SlotEffect::falls(Change::AllForgotten),
         Form::Forget { r1 } => forget(state, r1),
         Form::Allocate { r1, sof, sol, sor } => allocate(state, r1, sof, sol, sor),
-        Form::Jump { disp } => SlotEffect::goes(Change::Nothing, target(bundle, disp)),
+        Form::Jump { disp } => SlotEffect::goes(Change::Nothing, target_of(bundle, disp)),
         Form::JumpIndirect { b2 } => land(state, program, b2, Change::Nothing),
-        Form::Loop { kind, disp } => turn(state, kind, true, target(bundle, disp)),
+        Form::Loop { kind, disp } => turn(state, kind, true, target_of(bundle, disp)),
         Form::Call { b1, goal } => call(state, program, bundle, b1, goal),
         Form::Return { b2 } => ret(state, program, b2),
         Form::ClearBases { pred_only } => SlotEffect::falls(Change::Cleared { pred_only }),
@@ -82,7 +81,7 @@ fn skip(state: &MachineState, program: &Program, bundle: u32, form: &Form) -> Sl
 {
     match *form {
         Form::Test { kind, p1, p2, .. } => skip_test(kind, p1, p2),
-        Form::Loop { kind, disp } => turn(state, kind, false, target(bundle, disp)),
+        Form::Loop { kind, disp } => turn(state, kind, false, target_of(bundle, disp)),
         _ => SlotEffect::falls(Change::Nothing),
     }
 }

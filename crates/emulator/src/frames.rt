@@ -10,10 +10,10 @@ ghost use Rattle.reg_stack.specs.Stacks.{kind_of};
 ghost use Rattle.machine_state.specs.Changes.{writes_of, MayChange};
 ghost use Rattle.emulator.specs.Outcomes.{outcome_of, IsPlain};
 
-use crate::landings::{landing, target};
+use crate::landings::landing;
 use crate::slot_effect::SlotEffect;
 use ia_insn::{Br, FaultKind, Gr, Program, bundle_address};
-use ia_meaning::Goal;
+use ia_meaning::{Goal, target_of};
 use machine_state::{Change, MachineState};
 use reg_stack::StackFault;
 
@@ -80,7 +80,7 @@ pub(crate) fn call(
         address: bundle_address(bundle + 1),
     };
     match goal {
-        Goal::Direct(disp) => SlotEffect::goes(change, target(bundle, disp)),
+        Goal::Direct(disp) => SlotEffect::goes(change, target_of(bundle, disp)),
         Goal::Indirect(b2) => land(state, program, b2, change),
     }
 }

@@ -11,11 +11,10 @@ ghost use Rattle.nat_alat.specs.Faults.{fault_of};
 ghost use Rattle.machine_state.specs.Changes.{load_update, MayChange};
 ghost use Rattle.emulator.specs.Outcomes.{outcome_of, IsLoadOf};
 
-use crate::landings::target;
 use crate::operands::operands;
 use crate::slot_effect::SlotEffect;
 use ia_insn::{Ar, FaultKind, Gr, LoadKind, StoreKind, Update};
-use ia_meaning::{AlatEntry, Cell, update_register};
+use ia_meaning::{AlatEntry, Cell, target_of, update_register};
 use machine_state::{Change, MachineState};
 use nat_alat::MemFault;
 
@@ -250,7 +249,7 @@ pub(crate) fn check_nat(state: &MachineState, bundle: u32, r2: Gr, disp: i32) ->
 {
     match state.general(r2) {
         None => SlotEffect::faults(FaultKind::OutOfFrame),
-        Some(a) if a.nat => SlotEffect::goes(Change::Nothing, target(bundle, disp)),
+        Some(a) if a.nat => SlotEffect::goes(Change::Nothing, target_of(bundle, disp)),
         Some(_) => SlotEffect::falls(Change::Nothing),
     }
 }
@@ -271,7 +270,7 @@ pub(crate) fn check_alat(
         return SlotEffect::faults(FaultKind::OutOfFrame);
     };
     if !state.alat().has(key) {
-        return SlotEffect::goes(Change::Nothing, target(bundle, disp));
+        return SlotEffect::goes(Change::Nothing, target_of(bundle, disp));
     }
     SlotEffect::falls(if clear {
         Change::Forgotten { r1 }

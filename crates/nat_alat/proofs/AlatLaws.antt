@@ -5,6 +5,7 @@ use Rattle.std.specs.List.{list_any}
 use Rattle.std.proofs.lemmas.Bool.Decides.{nat_tests}
 use Rattle.std.proofs.lemmas.List.Folds.{list_any-append}
 use Rattle.std.proofs.lemmas.Map.Views.{any-filter_same}
+use Rattle.ia_meaning.specs.declared.limits.TheConstants.{ALAT_LIMIT}
 use Rattle.ia_meaning.specs.declared.state.AlatKey.{AlatKey}
 use Rattle.ia_meaning.specs.declared.state.AlatKey.TheVariants.{Static, Stacked}
 use Rattle.ia_meaning.specs.declared.state.AlatEntry.{AlatEntry}
@@ -53,8 +54,8 @@ pub entered_is_hit : EnteredIsHit
 unfolding entered
 entered_is_hit es e =
     let left = forgotten es e.key in (
-      found_last (drop (length left - 31) left) e,
-      omega (arith, length-append (drop (length left - 31) left) (e ∷ []), length-drop (length left - 31) left),
+      found_last (drop (length left - (ALAT_LIMIT - 1)) left) e,
+      omega (arith, length-append (drop (length left - (ALAT_LIMIT - 1)) left) (e ∷ []), length-drop (length left - (ALAT_LIMIT - 1)) left),
     )
 
 pub forgotten_is_gone : ForgottenIsGone

@@ -3,6 +3,7 @@ use Rattle.std.proofs.Common.{◌≡◌, ◌-◌, ◌≤◌, Bool, true, false, 
 use Rattle.std.specs.Prelude.{◌==◌, ◌&&◌}
 use Rattle.std.proofs.lemmas.Bool.Decides.{nat_tests}
 use Rattle.std.specs.List.{list_any}
+use Rattle.ia_meaning.specs.declared.limits.TheConstants.{ALAT_LIMIT}
 use Rattle.ia_meaning.specs.declared.state.AlatKey.{AlatKey}
 use Rattle.ia_meaning.specs.declared.state.AlatEntry.{AlatEntry}
 use Rattle.ia_meaning.specs.Loads.{is_spot, forgotten, entered, has_hit, has_entry}
@@ -21,15 +22,15 @@ unfolding has_entry
 entry_is_any [] key = refl
 entry_is_any (e ∷ es) key = simp (entry_is_any es key)
 
--- With 32 left the oldest goes.
-pub entered_when_full : (left es : List AlatEntry) (e : AlatEntry) → left ≡ forgotten es e.key → (length left == 32) ≡ true → drop 1 left ++ e ∷ [] ≡ entered es e
+-- With as many as its limit left the oldest goes.
+pub entered_when_full : (left es : List AlatEntry) (e : AlatEntry) → left ≡ forgotten es e.key → (length left == ALAT_LIMIT) ≡ true → drop 1 left ++ e ∷ [] ≡ entered es e
 unfolding entered
 entered_when_full left es e is full =
-    let one : length left - 31 ≡ 1 = grind (arith, nat_tests) in
+    let one : length left - (ALAT_LIMIT - 1) ≡ 1 = grind (arith, nat_tests) in
     rw (← is, one) refl
 
-pub entered_with_room : (left es : List AlatEntry) (e : AlatEntry) → left ≡ forgotten es e.key → length left ≤ 32 → (length left == 32) ≡ false → left ++ e ∷ [] ≡ entered es e
+pub entered_with_room : (left es : List AlatEntry) (e : AlatEntry) → left ≡ forgotten es e.key → length left ≤ ALAT_LIMIT → (length left == ALAT_LIMIT) ≡ false → left ++ e ∷ [] ≡ entered es e
 unfolding entered
 entered_with_room left es e is most room =
-    let none : length left - 31 ≡ 0 = grind (arith, nat_tests) in
+    let none : length left - (ALAT_LIMIT - 1) ≡ 0 = grind (arith, nat_tests) in
     rw (← is, none) refl

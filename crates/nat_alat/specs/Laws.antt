@@ -1,5 +1,6 @@
 -- Laws of loads and stores, and of the ALAT.
 use Rattle.std.specs.Prelude.{◌≡◌, ◌⊎◌, ℕ, ◌+◌, ◌*◌, ◌%◌, ◌^◌, ◌<◌, ◌≤◌, true, not, ◌&&◌, List, length, get_or, None}
+use Rattle.ia_meaning.specs.declared.limits.TheConstants.{ALAT_LIMIT}
 use Rattle.ia_meaning.specs.declared.state.AlatKey.{AlatKey}
 use Rattle.ia_meaning.specs.declared.state.AlatEntry.{AlatEntry}
 use Rattle.ia_insn.specs.Addresses.{data_base}
@@ -19,9 +20,9 @@ OthersStay =
     × ((place : ℕ) → (data_base + place < address) ⊎ (address + size ≤ data_base + place)
     → get_or (stored bytes address size value) place 0 ≡ get_or bytes place 0)
 
--- An entry that was entered is hit, and no more than 32 are there.
+-- An entry that was entered is hit, and no more than its limit are there.
 abbrev pub EnteredIsHit : Type 0
-EnteredIsHit = (es : List AlatEntry) (e : AlatEntry) → (has_hit (entered es e) e ≡ true) × (length (entered es e) ≤ 32)
+EnteredIsHit = (es : List AlatEntry) (e : AlatEntry) → (has_hit (entered es e) e ≡ true) × (length (entered es e) ≤ ALAT_LIMIT)
 
 -- A register that was forgotten has no entry, and each other has one if it had one.
 abbrev pub ForgottenIsGone : Type 0

@@ -1,9 +1,11 @@
 //! The ALAT.
 
 ghost use Rattle.std.specs.Prelude.{◌≡◌, ◌+◌, ◌≤◌, [], length, nat_le};
+ghost use Rattle.ia_meaning.specs.declared.limits.TheConstants.{ALAT_LIMIT};
 ghost use Rattle.ia_meaning.specs.Loads.{is_apart, forgotten, entered, untouched, has_hit, has_entry};
 
 use arrayvec::ArrayVec;
+use ia_meaning::limits::ALAT_LIMIT;
 use ia_meaning::{AlatEntry, AlatKey};
 use std::marker::Model;
 
@@ -21,11 +23,11 @@ fn is_apart(entry: AlatEntry, address: u64, size: u8) -> bool
     ends_by(entry.address, entry.size, address) || ends_by(address, size, entry.address)
 }
 
-/// The entries of the ALAT, the advanced load address table, at most 32 (volume 1, chapter 4, data
+/// The entries of the ALAT, the advanced load address table, at most [`ALAT_LIMIT`] (volume 1, chapter 4, data
 /// speculation). Contracts see the list of them, the oldest first.
 #[derive(Debug, Drop)]
 pub struct Alat {
-    entries: ArrayVec<AlatEntry, 32>,
+    entries: ArrayVec<AlatEntry, ALAT_LIMIT>,
 }
 
 impl Model for Alat {
@@ -50,13 +52,13 @@ impl Alat {
     /// The entries, the oldest first.
     pub fn entries(&self) -> &[AlatEntry]
         ensures value { result.now ≡ self.now }
-        ensures most { length result.now ≤ 32 }
+        ensures most { length result.now ≤ ALAT_LIMIT }
     {
         self.entries.as_slice()
     }
 
     /// Enters what an advanced load has loaded (volume 3, chapter 2, `ld`). An entry of the same
-    /// register goes first, and then, where 32 are left, the oldest.
+    /// register goes first, and then, where as many as its limit are left, the oldest.
     pub fn enter(&mut self, entry: AlatEntry)
         ensures { self.new ≡ entered self.old entry }
     {

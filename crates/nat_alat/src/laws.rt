@@ -12,7 +12,7 @@ pub fn others_stay()
     ensures { OthersStay }
 {}
 
-/// An entry that was entered in the ALAT is hit, and no more than 32 are there.
+/// An entry that was entered in the ALAT is hit, and no more than its limit are there.
 pub fn entered_is_hit()
     ensures { EnteredIsHit }
 {}
