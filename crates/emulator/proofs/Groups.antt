@@ -34,7 +34,6 @@ has_room p m next left running is room between =
 pub record IsOver (p : Program) (m next : Progress) (how : How) : Type 0 where
   pub group : next ≡ group_further p m
   pub event : record { number = next.groups; first = next.first; last = m.state.place; slots = m.slots + 1; how = how } ≡ event_further p m
-  pub slots : next.slots ≡ 0
 
 told : (most : ℕ) (p : Program) (m next : Progress) (how : How) → m.end ≡ None → next ≡ advanced p m → (seq_step p m.state).how ≡ Some how
     → record { number = next.groups; first = next.first; last = m.state.place; slots = m.slots + 1; how = how } ≡ event_to_end (suc most) p m
@@ -52,7 +51,6 @@ is_over p m next how running is e =
     record {
       group = is ∙ sym (rest_none (advanced p m).slots (advanced p m) (to_group_end (RUN_LIMIT - 1) p (advanced p m)) none);
       event = told (RUN_LIMIT - 1) p m next how running is e;
-      slots = ap (λ n. n.slots) is ∙ none;
     }
 
 -- And else its rest comes to the same.
