@@ -221,7 +221,8 @@ impl Run {
         }
     }
 
-    /// Runs the group under way to its end, or the next one, and tells of it. It has at most 192 slots.
+    /// Runs the group under way to its end, or the next one, and tells of it. It has at most
+    /// [`RUN_LIMIT`](ia_insn::limits::RUN_LIMIT) slots.
     pub fn run_group(&mut self, table: &SlotTable) -> GroupEvent
         requires program { IsProgram table.now }
         requires running { self.old.end ≡ None }
