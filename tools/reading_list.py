@@ -28,7 +28,7 @@ def counted(path):
 
 def imported(path):
     """The files of definitions of this repository that a file imports, as the page names them."""
-    found = re.findall(r"^(?:ghost )?use Rattle\.(\w+)\.specs\.(?!declared\b)(\w+)", path.read_text(), re.M)
+    found = re.findall(r"^(?:ghost )?use Rattle\.(\w+)\.specs\.(?!declared\b|contracts\b)(\w+)", path.read_text(), re.M)
     return {f"{crate}/specs/{name}" for crate, name in found if (ROOT / "crates" / crate).is_dir()}
 
 
