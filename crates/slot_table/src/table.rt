@@ -73,7 +73,9 @@ impl<'a> SlotTable<'a> {
     /// The law that it is the table of a program. It does nothing.
     pub fn is_program(&self)
         ensures { IsProgram self.now }
-    {}
+    {
+        let _ = &self.program;
+    }
 
     /// The slot at a place. None exactly where there is no such place.
     #[inline(always)]
