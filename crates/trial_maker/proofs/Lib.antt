@@ -1,0 +1,3 @@
+mod Examples
+pub mod Closed
+pub mod TrialPrograms
