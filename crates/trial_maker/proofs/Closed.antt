@@ -1,5 +1,6 @@
 -- Bundles that don't reach one another make a program.
 use Rattle.std.proofs.Common.{◌≡◌, ◌⊎◌, ℕ, ◌+◌, ◌<◌, ◌≤◌, inl, inr, List, [], ◌∷◌, length, Option, Some, None, subst, sym, refl, arith}
+use Rattle.std.proofs.lemmas.Bool.{cases_lt}
 use Rattle.std.specs.Prelude.{IfSome, IsSomeAnd, slice_get}
 use Rattle.ia_insn.specs.declared.limits.TheConstants.{BUNDLE_LIMIT}
 use Rattle.ia_insn.specs.declared.insn.Insn.{Insn}
@@ -36,11 +37,8 @@ ends_at_2 bundles closed place is h =
 
 -- so the slot after one that doesn't end a run is of the same bundle
 same_bundle : (bundles : List Bundle) → AreClosed bundles → (place next : Place) → IsPlaceOf bundles place → ¬ EndsRun bundles place → IsNext bundles place next → place.slot < next.slot
-same_bundle bundles closed place next is on follows = of (split place.slot) follows.after
+same_bundle bundles closed place next is on follows = of (cases_lt place.slot 2) follows.after
   where
-    split : (slot : ℕ) → (slot < 2) ⊎ (2 ≤ slot)
-    split slot = grind arith
-
     of : (place.slot < 2) ⊎ (2 ≤ place.slot) → IsBefore place next → place.slot < next.slot
     of (inr last) before = absurd (on (ends_at_2 bundles closed place is last))
     of (inl less) (inr same) = same.1
@@ -75,7 +73,7 @@ none_inside bundles closed place is = of_bundle (slice_get bundles place.bundle)
 
 pub closed_program : (bundles : List Bundle) → AreClosed bundles → 1 ≤ length bundles → length bundles ≤ BUNDLE_LIMIT → IsProgram (record { bundles = bundles; entries = []; bytes = [] })
 closed_program bundles closed some most = record {
-  fit = fit;
+  fit = λ n. fit (slice_get bundles n) (closed n);
   counts = record { some = some; bundles = most; entries = omega arith; bytes = omega arith; words = refl };
   entries = λ n h. absurd (omega arith);
   targets = none_inside bundles closed;
@@ -83,9 +81,6 @@ closed_program bundles closed some most = record {
   bytes = λ i. omega arith;
 }
   where
-    fits : (o : Option Bundle) → IfSome o IsClosed → IfSome o IsBundle
-    fits None c = tt
-    fits (Some b) c = c.fit
-
-    fit : (n : ℕ) → IfSome (slice_get bundles n) IsBundle
-    fit n = fits (slice_get bundles n) (closed n)
+    fit : (o : Option Bundle) → IfSome o IsClosed → IfSome o IsBundle
+    fit None c = tt
+    fit (Some b) c = c.fit

@@ -1,6 +1,7 @@
 -- The stated programs are programs.
-use Rattle.std.proofs.Common.{◌≡◌, ℕ, zero, suc, ◌+◌, ◌-◌, ◌≤◌, [], ◌∷◌, ◌++◌, length, map, Bool, true, false, Option, Some, None, refl, arith, rules, length-append, add-one}
-use Rattle.std.specs.Prelude.{IfSome, ◌==◌, ◌%◌, if◌then◌else◌}
+use Rattle.std.proofs.Common.{◌≡◌, ℕ, zero, suc, ◌+◌, ◌-◌, ◌≤◌, [], ◌∷◌, ◌++◌, length, map, Bool, true, false, None, refl, arith, rules, length-append, add-one}
+use Rattle.std.specs.Prelude.{◌==◌, ◌%◌, if◌then◌else◌}
+use Rattle.std.proofs.lemmas.Bool.Decides.{nat_tests}
 use Rattle.std.specs.List.{range_with_len}
 use Rattle.std.proofs.lemmas.List.FromFn.{length-map-range_with_len, map-range_with_len_more}
 use Rattle.ia_insn.specs.declared.limits.TheConstants.{BUNDLE_LIMIT}
@@ -13,25 +14,18 @@ use Rattle.trial_maker.specs.Draws.{third_state, state_before, draws_of}
 use Rattle.trial_maker.specs.Trials.{mii, bundle_of, last_bundle, first_bundles, trial_program}
 use Rattle.trial_maker.proofs.Closed.{IsClosed, AreClosed, closed_program}
 
-chosen : {A : Type 0} (P : A → Type 0) (here : Bool) (x y : A) → P x → P y → P (if here then x else y)
-chosen P true x y p q = p
-chosen P false x y p q = q
-
 -- a bundle of M, I and I with a stop at its end is closed, if its instructions fit and have no target
 mii_closed : (a b c : Insn) → IsBundle (mii a b c) → displacement a.op ≡ None → displacement b.op ≡ None → displacement c.op ≡ None → IsClosed (mii a b c)
-mii_closed a b c fit free_a free_b free_c = record {
-  fit = fit;
-  three = refl;
-  stop = search rules;
-  free = λ slot. free (slot == 0) a _ free_a (free (slot == 1) b _ free_b (free (slot == 2) c None free_c tt));
-}
-  where
-    free : (here : Bool) (i : Insn) (other : Option Insn) → displacement i.op ≡ None → IfSome other (λ i. displacement i.op ≡ None) → IfSome (if here then Some i else other) (λ i. displacement i.op ≡ None)
-    free here i other = chosen (λ (o : Option Insn). IfSome o (λ i. displacement i.op ≡ None)) here (Some i) other
+mii_closed a b c fit free_a free_b free_c =
+    record { fit = fit; three = refl; stop = search rules; free = λ slot. grind (arith, nat_tests) }
+
+either : (here : Bool) (x y : Bundle) → IsClosed x → IsClosed y → IsClosed (if here then x else y)
+either true x y p q = p
+either false x y p q = q
 
 bundle_closed : (number : ℕ) (draws : Trio) → IsClosed (bundle_of number draws)
 bundle_closed number draws =
-    chosen IsClosed (number % 4 == 0) _ _ (mii_closed _ _ _ (search rules) refl refl refl) (mii_closed _ _ _ (search rules) refl refl refl)
+    either (number % 4 == 0) _ _ (mii_closed _ _ _ (search rules) refl refl refl) (mii_closed _ _ _ (search rules) refl refl refl)
 
 last_closed : IsClosed last_bundle
 last_closed = mii_closed _ _ _ (search rules) refl refl refl
