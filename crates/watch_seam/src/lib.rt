@@ -1,0 +1,16 @@
+//! Watchers: each sees the instruction groups that a run executes, and reports at the end.
+//!
+//! Contracts see a watcher as what it has seen, `WatchState` of `specs/Watchers`.
+#![tactic(auto)]
+
+mod counter;
+pub mod limits;
+mod tracer;
+mod watch;
+
+pub use counter::Counter;
+pub use tracer::Tracer;
+pub use watch::{Keep, Watch, a_line_a_group};
+
+#[cfg(test)]
+mod tests;
