@@ -50,6 +50,7 @@ impl<'a> Machine<'a> {
         ensures { IfOk result (λ m. m ≡ record { program = program.now; progress = begun (zero_state program.now) }) }
     {
         let slots = SlotTable::open(alloc, program)?;
+        slots.is_program();
         let run = Run::begin(alloc, slots.program().data())?;
         Ok(Machine { slots, run })
     }

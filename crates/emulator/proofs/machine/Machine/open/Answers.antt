@@ -9,7 +9,7 @@ use Rattle.emulator.proofs.machine.Machine.open.Goals as goal
 pub invariant_of-result : goal.invariant_of-result
 invariant_of-result c =
     let p = c.in_ok-slots.slots in
-    let is = c.program.ensures.program in
+    let is = c.is_program.ensures in
     let told = c.in_ok-run.ensures in
-    let e : progress_of c.in_ok-run.run' ≡ begun (zero_state p) = rw (c.data.ensures, c.program.ensures.value) at told in
+    let e : progress_of c.in_ok-run.run' ≡ begun (zero_state p) = rw (c.data.ensures, c.program.ensures) at told in
     record { program = is; under_way = subst (IsUnderWay p) (sym e) (begins_under_way p is) }
