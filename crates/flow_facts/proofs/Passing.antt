@@ -13,7 +13,7 @@ use Rattle.predicate_rel.specs.declared.edge.Edge.{Edge}
 use Rattle.predicate_rel.specs.declared.edge.Edge.TheVariants.{Falls, Taken}
 use Rattle.predicate_rel.specs.Pairs.{Table, Pairs, pairs_of, no_pairs, IsWithin}
 use Rattle.predicate_rel.specs.Rules.{form_rule, pairs_by}
-use Rattle.predicate_rel.specs.RuleLaws.{WhyMissing, whatever, since, why_missing, pairs_after-within}
+use Rattle.predicate_rel.proofs.RuleLaws.{WhyMissing, whatever, since, why_missing, pairs_after-within}
 use Rattle.predicate_rel.specs.Edges.{HasEdge, pairs_past, pairs_past_insn}
 use Rattle.slot_table.specs.declared.slot.Slot.{Slot}
 use Rattle.slot_table.specs.Slots.{slot_at, edge_from}

@@ -11,7 +11,7 @@ use Rattle.ia_meaning.specs.declared.form.Form.TheVariants as form
 use Rattle.predicate_rel.specs.declared.edge.Edge.TheVariants.{Falls}
 use Rattle.predicate_rel.specs.Pairs.{Table, Pairs, pairs_of, in_range, truth, IsWithin}
 use Rattle.predicate_rel.specs.Rules.{PairRule, one, is_met, form_rule, pairs_by, pairs_after}
-use Rattle.predicate_rel.specs.RuleLaws.{WhyMissing, whatever, since, why_missing, pairs_after-within}
+use Rattle.predicate_rel.proofs.RuleLaws.{WhyMissing, whatever, since, why_missing, pairs_after-within}
 use Rattle.predicate_rel.specs.Edges.{pairs_past, pairs_past_insn}
 use Rattle.flow_facts.specs.Walks.{Walk, EndsAt, facts_on, IsMeet}
 use Rattle.group_checker.specs.Windows.{IsMeetOf, changes_facts}

@@ -4,6 +4,8 @@ pub mod Literals
 pub mod OrAndcm
 mod Examples
 pub mod EdgeEnds
+pub mod RuleLaws
+pub mod Unordered
 pub mod RuleTruth
 pub mod TestTruth
 pub mod AfterWrites

@@ -16,7 +16,7 @@ mod rows;
 
 pub use edge::Edge;
 pub use facts::Facts;
-pub use laws::law_facts;
+pub use laws::{law_facts, law_unordered};
 
 #[cfg(test)]
 mod tests;

@@ -1,17 +1,15 @@
 //! The table of the slots of a program.
 
-ghost use Rattle.std.specs.Prelude.{◌≡◌, ◌*◌, ◌<◌, ℕ, None, IfOk, MatchOption, length, slice_index_or};
+ghost use Rattle.std.specs.Prelude.{◌≡◌, ◌*◌, ◌<◌, ℕ, None, IfOk, length, slice_index_or};
 ghost use Rattle.std.specs.Option.{option_copied};
 ghost use Rattle.ia_insn.specs.declared.place.Place.{Place};
 ghost use Rattle.ia_insn.specs.Places.{place_at};
 ghost use Rattle.ia_insn.specs.Programs.{IsProgram};
-ghost use Rattle.predicate_rel.specs.Edges.{HasEdge};
 ghost use Rattle.slot_table.specs.Slots.{slot_at};
 
 use crate::places::{place_at, place_number};
 use crate::slot::Slot;
 use ia_insn::{Place, Program};
-use predicate_rel::Edge;
 use std::alloc::{AllocError, Global};
 use std::marker::Model;
 
@@ -94,17 +92,5 @@ impl<'a> SlotTable<'a> {
         ensures { option_copied result ≡ slot_at self.now.bundles (place_at number) }
     {
         self.slots.get(number)?.as_ref()
-    }
-
-    /// The place to which the edge of this sort leads from a place: a fall to the next place, a taken
-    /// direct branch or check to slot 0 of its target (volume 1, chapter 3, instruction sequencing). None
-    /// exactly where the place has no such edge: where the program has no such place or none after it, from
-    /// a branch or `break` under p0, but for loop branches, to the next place, and from an indirect branch to
-    /// where it goes.
-    pub fn edge_end(&self, from: Place, edge: Edge) -> Option<Place>
-        ensures { MatchOption result ((to : Place) → HasEdge self.now from edge to → ⊥) (λ to. HasEdge self.now from edge to) }
-    {
-        self.is_program();
-        self.at(from)?.edge_end(edge)
     }
 }

@@ -173,25 +173,25 @@ form_keeps (form.Loop kind disp) edge g f un = loop_keeps kind edge f un
 form_keeps a edge g f un = one_keeps f un
 
 -- the law
-pub pairs_after-unordered : (f : Pairs) (i : Insn) (e : Edge) → IsUnordered f → IsUnordered (pairs_after f i e)
+pub after_unordered : (f : Pairs) (i : Insn) (e : Edge) → IsUnordered f → IsUnordered (pairs_after f i e)
 unfolding pairs_after rule_of in_range
-pairs_after-unordered f i e un = let k = form_keeps (form_of i.op) e i.qp f un in record {
+after_unordered f i e un = let k = form_keeps (form_of i.op) e i.qp f un in record {
   swaps = λ x y. ap (λ (b : Bool). b && is_met (rule_of i e x y) f) (and_comm (nat_lt x 64) (nat_lt y 64)) ∙ ap (λ (b : Bool). (nat_lt y 64 && nat_lt x 64) && b) (k.swaps x y);
   alone = λ x. ap (λ (b : Bool). (nat_lt x 64 && nat_lt x 64) && b) (k.alone x) ∙ ap (λ (b : Bool). b && is_met (rule_of i e x 0) f) (twice (nat_lt x 64));
 }
 
 -- the sets without a pair and with all pairs, a meet, and a set with one pair more
-pub no_pairs-unordered : IsUnordered no_pairs
+pub none_unordered : IsUnordered no_pairs
 unfolding no_pairs
-no_pairs-unordered = record { swaps = λ x y. refl; alone = λ x. refl }
+none_unordered = record { swaps = λ x y. refl; alone = λ x. refl }
 
-pub all_pairs-unordered : IsUnordered all_pairs
+pub all_unordered : IsUnordered all_pairs
 unfolding all_pairs in_range
-all_pairs-unordered = record { swaps = λ x y. and_comm (nat_lt x 64) (nat_lt y 64); alone = λ x. twice (nat_lt x 64) }
+all_unordered = record { swaps = λ x y. and_comm (nat_lt x 64) (nat_lt y 64); alone = λ x. twice (nat_lt x 64) }
 
-pub common-unordered : (f g : Pairs) → IsUnordered f → IsUnordered g → IsUnordered (common f g)
+pub common_unordered : (f g : Pairs) → IsUnordered f → IsUnordered g → IsUnordered (common f g)
 unfolding common
-common-unordered f g u v = record {
+common_unordered f g u v = record {
   swaps = λ x y. ap (λ (b : Bool). b && g x y) (u.swaps x y) ∙ ap (λ (b : Bool). f y x && b) (v.swaps x y);
   alone = λ x. ap (λ (b : Bool). b && g x x) (u.alone x) ∙ ap (λ (b : Bool). f x 0 && b) (v.alone x);
 }
@@ -209,9 +209,9 @@ other_same x = rw (eq-eqb x x refl) (by_bool (eqb x 0))
     by_bool true = refl
     by_bool false = refl
 
-pub with_pair-unordered : (f : Pairs) (a b : ℕ) → IsUnordered f → IsUnordered (with_pair f a b)
+pub plus_unordered : (f : Pairs) (a b : ℕ) → IsUnordered f → IsUnordered (with_pair f a b)
 unfolding with_pair
-with_pair-unordered f a b un = record {
+plus_unordered f a b un = record {
   swaps = λ x y. ap (λ (c : Bool). c || is_same_pair a (other_of a b) x (other_of x y)) (un.swaps x y) ∙ ap (λ (c : Bool). f y x || c) (pair_swaps x y);
   alone = λ x. ap (λ (c : Bool). c || is_same_pair a (other_of a b) x (other_of x x)) (un.alone x) ∙ ap (λ (k : ℕ). f x 0 || is_same_pair a (other_of a b) x k) (other_same x);
 }
