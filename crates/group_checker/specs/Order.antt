@@ -1,30 +1,47 @@
 -- The order of violations, and lists that rise in it.
-use Rattle.std.specs.Prelude.{◌≡◌, ◌⊎◌, List, Contains}
+use Rattle.std.specs.Prelude.{◌≡◌, ◌⊎◌, ℕ, refl, List, Contains}
 use Rattle.std.specs.declared.cmp.Ordering.{Ordering}
 use Rattle.std.specs.declared.cmp.Ordering.TheVariants.{Less}
 use Rattle.std.specs.List.Sorted.{IsStrictlySortedBy}
-use Rattle.std.specs.Ordering.{ordering_then}
+use Rattle.std.specs.Ordering.{ordering_then, nat_cmp}
 use Rattle.ia_insn.specs.declared.place.Place.{Place}
 use Rattle.ia_insn.specs.contracts.place.PlaceOrd.TheImpl as places
 use Rattle.resource_sets.specs.declared.access.Resource.{Resource}
+use Rattle.resource_sets.specs.declared.access.Resource.TheVariants.{Gr, Pr, Br, Unat, Pfs, Lc, Ec, Cfm}
 use Rattle.resource_sets.specs.contracts.access.ResourceOrd.TheImpl as resources
 use Rattle.resource_sets.specs.declared.clashes.Rule.{Rule}
+use Rattle.resource_sets.specs.declared.clashes.Rule.TheVariants.{Raw, Waw, War63, AllocFirst, ClearLast}
 use Rattle.resource_sets.specs.contracts.clashes.RuleOrd.TheImpl as rules
 use Rattle.group_checker.specs.declared.violation.Violation.{Violation}
 
--- places are in order of the bundle, then of the slot
+-- The orders that places, rules and resources derive, which are these: places are in order of the bundle, then of the slot,
 abbrev pub place_cmp : Place → Place → Ordering
 place_cmp = (places.ghosts).cmp
 
--- rules are in the order in which they are declared
+pub places_in_order : (a b : Place) → place_cmp a b ≡ ordering_then (nat_cmp a.bundle b.bundle) (nat_cmp a.slot b.slot)
+places_in_order a b = refl
+
+-- rules from RAW to CLEAR,
 abbrev pub rule_cmp : Rule → Rule → Ordering
 rule_cmp = (rules.ghosts).cmp
 
--- and so are resources, those of one sort in the order of their numbers
+pub rules_in_order : (rule_cmp Raw Waw ≡ Less) × (rule_cmp Waw War63 ≡ Less) × (rule_cmp War63 AllocFirst ≡ Less) × (rule_cmp AllocFirst ClearLast ≡ Less)
+rules_in_order = (refl, refl, refl, refl)
+
+-- and resources from the general registers to the frame marker, those of one sort in the order of their numbers.
 abbrev pub resource_cmp : Resource → Resource → Ordering
 resource_cmp = (resources.ghosts).cmp
 
--- Violations are in order of the second slot, the first, the rule and the resource: it is the order that they derive.
+pub sorts_in_order : (m n : ℕ)
+    → (resource_cmp (Gr m) (Pr n) ≡ Less) × (resource_cmp (Pr m) (Br n) ≡ Less) × (resource_cmp (Br m) Unat ≡ Less)
+    × (resource_cmp Unat Pfs ≡ Less) × (resource_cmp Pfs Lc ≡ Less) × (resource_cmp Lc Ec ≡ Less) × (resource_cmp Ec Cfm ≡ Less)
+sorts_in_order m n = (refl, refl, refl, refl, refl, refl, refl)
+
+pub numbers_in_order : (m n : ℕ)
+    → (resource_cmp (Gr m) (Gr n) ≡ nat_cmp m n) × (resource_cmp (Pr m) (Pr n) ≡ nat_cmp m n) × (resource_cmp (Br m) (Br n) ≡ nat_cmp m n)
+numbers_in_order m n = (refl, refl, refl)
+
+-- Violations are in order of the second slot, the first, the rule and the resource.
 abbrev pub compare : Violation → Violation → Ordering
 compare v w =
     ordering_then (place_cmp v.second w.second) (ordering_then (place_cmp v.first w.first)
