@@ -60,6 +60,20 @@ fn push_frame(out: &mut String, frame: FrameShape) -> Result<(), AllocError>
     writeln!(out, " rrb {general} {floating} {predicates}")
 }
 
+/// Appends the first two lines of the state of a machine: how its run ended, and how many groups began.
+///
+/// # Errors
+///
+/// Want of memory.
+pub fn push_outcome(out: &mut String, machine: &Machine<'_>, end: &End) -> Result<(), AllocError>
+    ensures { OnOk result (string_bytes out.new ≡ string_bytes out.old ++ line (end_text end.now) ++ line (codes "groups " ++ decimal machine.now.progress.groups)) }
+{
+    let shown_end = EndText { end: *end };
+    let groups = machine.groups();
+    writeln!(out, "{shown_end}")?;
+    writeln!(out, "groups {groups}")
+}
+
 /// How the run ended, how many groups began, the frame and the resident range.
 pub(crate) fn push_head(
     out: &mut String,
@@ -68,13 +82,10 @@ pub(crate) fn push_head(
 ) -> Result<(), AllocError>
     ensures { OnOk result (string_bytes out.new ≡ string_bytes out.old ++ line (end_text end.now) ++ line (codes "groups " ++ decimal machine.now.progress.groups) ++ line (frame_text machine.now.progress.state.registers.frame) ++ line (range_text machine.now.progress.range)) }
 {
-    let shown_end = EndText { end: *end };
-    let groups = machine.groups();
     let shown_range = RangeText {
         range: machine.stack().rse(),
     };
-    writeln!(out, "{shown_end}")?;
-    writeln!(out, "groups {groups}")?;
+    push_outcome(out, machine, end)?;
     push_frame(out, machine.stack().shape())?;
     writeln!(out, "{shown_range}")
 }

@@ -22,8 +22,10 @@ use crate::general_registers::push_general_registers;
 use crate::head::push_head;
 use crate::other_registers::{push_applications, push_branches, push_predicates};
 use emulator::Machine;
+pub use head::push_outcome;
 use ia_insn::End;
 use std::alloc::{AllocError, Global};
+pub use word::WordText;
 
 /// The state of a machine as it is printed, a line for each part that there is to tell: how the run
 /// ended, how many groups began, the frame, the resident range, r1 to r31 and the registers of the

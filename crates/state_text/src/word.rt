@@ -7,7 +7,7 @@ use std::fmt;
 
 /// A word of 64 bits, as it is printed.
 #[derive(Clone, Copy, Debug)]
-pub(crate) struct WordText {
+pub struct WordText {
     /// The word.
     pub word: u64,
 }
