@@ -5,4 +5,6 @@ mod Outputs
 mod Judging
 mod Running
 mod Answering
+mod Trying
+mod Sums
 mod Ordering

@@ -16,3 +16,7 @@ grows {X} f xs items i d front old new same short grown before =
     let s : i < length items = subst (λ (l : List X). i < length l) same short in
     let g : new ≡ old ++ f (get_or items i d) = subst (λ (l : List X). new ≡ old ++ f (get_or l i d)) same grown in
     g ∙ ap (λ l. l ++ f (get_or items i d)) before ∙ append_assoc front (flat_map f (take i items)) (f (get_or items i d)) ∙ ap (λ l. front ++ l) (sym (line_more f items i d s))
+
+-- a text of four pieces
+pub four_pieces : (first second third fourth one two new whole : List ℕ) → one ≡ first → two ≡ (one ++ second) ++ third → new ≡ two ++ fourth → ((first ++ second) ++ third) ++ fourth ≡ whole → new ≡ whole
+four_pieces first second third fourth one two new whole a b c e = c ∙ ap (λ l. l ++ fourth) (b ∙ ap (λ l. (l ++ second) ++ third) a) ∙ e

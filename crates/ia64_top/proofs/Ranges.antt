@@ -1,42 +1,58 @@
--- The groups of a command are in range.
-use Rattle.std.proofs.Common.{◌≡◌, ℕ, Bool, true, false, List, [], ◌∷◌, Option, Some, None, refl, subst}
-use Rattle.std.specs.Prelude.{if◌then◌else◌, codes, bytes_eq}
+-- The numbers of a command are in range.
+use Rattle.std.proofs.Common.{◌≡◌, ℕ, Bool, true, false, List, [], ◌∷◌, Option, Some, None, refl, subst, ◌^◌, ◌-◌}
+use Rattle.std.specs.Prelude.{if◌then◌else◌, codes, bytes_eq, IfSome}
+use Rattle.ia_insn.specs.declared.limits.TheConstants.{BUNDLE_LIMIT}
+use Rattle.ia64_top.specs.declared.limits.TheConstants.{GROUP_LIMIT}
 use Rattle.ia64_top.specs.declared.words.Command.{Command}
-use Rattle.ia64_top.specs.declared.words.Command.TheVariants.{Build, Show, List as Listing, Wrap, Check, Run}
-use Rattle.ia64_top.specs.GroupCounts.{group_count}
-use Rattle.ia64_top.specs.Words.{run_command, command_of, HasGroupsInRange}
-use Rattle.ia64_top.proofs.Numerals.{numeral_of_count}
+use Rattle.ia64_top.specs.declared.words.Command.TheVariants.{Build, Show, List as Listing, Wrap, Check}
+use Rattle.ia64_top.specs.Numbers.{number_between}
+use Rattle.ia64_top.specs.Words.{run_command, trial_command, command_of, HasNumbersInRange}
+use Rattle.ia64_top.proofs.Numerals.{IsNumeralOf, numeral_of_number}
 
--- no word alone is a run
-word_alone : (a b c d e : Bool) (groups : ℕ) → (if a then Some Build else if b then Some Show else if c then Some Listing else if d then Some Wrap else if e then Some Check else None) ≡ Some (Run groups) → ⊥
-word_alone true b c d e groups is = cc
-word_alone false true c d e groups is = cc
-word_alone false false true d e groups is = cc
-word_alone false false false true e groups is = cc
-word_alone false false false false true groups is = cc
-word_alone false false false false false groups is = cc
+-- what a number that was found in a range is
+abbrev IsFound : ℕ → ℕ → List ℕ → Option ℕ → Type 0
+IsFound least most word found = IfSome found (IsNumeralOf least most word)
 
-run_of_count : (number : List ℕ) (count : Option ℕ) (groups : ℕ) → group_count number ≡ count → run_command count ≡ Some (Run groups) → HasGroupsInRange (Run groups)
-run_of_count number None groups is run = cc
-run_of_count number (Some n) groups is run =
-    let same : n ≡ groups = cc in
-    let h = numeral_of_count number n is in
-    subst (λ k. HasGroupsInRange (Run k)) same (h.0, h.1)
+found_is : (least most : ℕ) (word : List ℕ) (found : Option ℕ) → number_between least most word ≡ found → IsFound least most word found
+found_is least most word None e = tt
+found_is least most word (Some n) e = numeral_of_number least most word n e
 
-run_if : (named : Bool) (number : List ℕ) (groups : ℕ) → (if named then run_command (group_count number) else None) ≡ Some (Run groups) → HasGroupsInRange (Run groups)
-run_if true number groups is = run_of_count number (group_count number) groups refl is
-run_if false number groups is = cc
+abbrev InRange : Option Command → Type 0
+InRange found = IfSome found HasNumbersInRange
 
-run_in_range : (words : List (List ℕ)) (groups : ℕ) → command_of words ≡ Some (Run groups) → HasGroupsInRange (Run groups)
-run_in_range [] groups is = cc
-run_in_range (word ∷ []) groups is = absurd (word_alone (bytes_eq word (codes "build")) (bytes_eq word (codes "show")) (bytes_eq word (codes "list")) (bytes_eq word (codes "wrap")) (bytes_eq word (codes "check")) groups is)
-run_in_range (word ∷ number ∷ []) groups is = run_if (bytes_eq word (codes "run")) number groups is
-run_in_range (word ∷ number ∷ other ∷ words) groups is = cc
+-- no word alone has a number
+word_alone : (a b c d e : Bool) → InRange (if a then Some Build else if b then Some Show else if c then Some Listing else if d then Some Wrap else if e then Some Check else None)
+word_alone true b c d e = tt
+word_alone false true c d e = tt
+word_alone false false true d e = tt
+word_alone false false false true e = tt
+word_alone false false false false true = tt
+word_alone false false false false false = tt
 
-pub in_range : (words : List (List ℕ)) (command : Command) → command_of words ≡ Some command → HasGroupsInRange command
-in_range words Build is = tt
-in_range words Show is = tt
-in_range words Listing is = tt
-in_range words Wrap is = tt
-in_range words Check is = tt
-in_range words (Run groups) is = run_in_range words groups is
+run_of : (groups : List ℕ) (found : Option ℕ) → IsFound 1 GROUP_LIMIT groups found → InRange (run_command found)
+run_of groups None is = tt
+run_of groups (Some n) is = (is.0, is.1)
+
+run_if : (named : Bool) (groups : List ℕ) → InRange (if named then run_command (number_between 1 GROUP_LIMIT groups) else None)
+run_if true groups = run_of groups (number_between 1 GROUP_LIMIT groups) (found_is 1 GROUP_LIMIT groups _ refl)
+run_if false groups = tt
+
+trial_of : (bundles : List ℕ) (seed found : Option ℕ) → IsFound 1 BUNDLE_LIMIT bundles found → InRange (trial_command seed found)
+trial_of bundles None found is = tt
+trial_of bundles (Some s) None is = tt
+trial_of bundles (Some s) (Some n) is = (is.0, is.1)
+
+trial_if : (named : Bool) (seed bundles : List ℕ) → InRange (if named then trial_command (number_between 0 (2 ^ 64 - 1) seed) (number_between 1 BUNDLE_LIMIT bundles) else None)
+trial_if true seed bundles =
+    trial_of bundles (number_between 0 (2 ^ 64 - 1) seed) (number_between 1 BUNDLE_LIMIT bundles) (found_is 1 BUNDLE_LIMIT bundles _ refl)
+trial_if false seed bundles = tt
+
+words_in_range : (words : List (List ℕ)) → InRange (command_of words)
+words_in_range [] = tt
+words_in_range (word ∷ []) = word_alone (bytes_eq word (codes "build")) (bytes_eq word (codes "show")) (bytes_eq word (codes "list")) (bytes_eq word (codes "wrap")) (bytes_eq word (codes "check"))
+words_in_range (word ∷ groups ∷ []) = run_if (bytes_eq word (codes "run")) groups
+words_in_range (word ∷ seed ∷ bundles ∷ []) = trial_if (bytes_eq word (codes "trial")) seed bundles
+words_in_range (word ∷ seed ∷ bundles ∷ other ∷ words) = tt
+
+pub in_range : (words : List (List ℕ)) (command : Command) → command_of words ≡ Some command → HasNumbersInRange command
+in_range words command is = subst InRange is (words_in_range words)

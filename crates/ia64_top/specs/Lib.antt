@@ -1,9 +1,11 @@
-pub mod GroupCounts
+pub mod Numbers
 pub mod Words
 pub mod Statuses
 pub mod Texts
 pub mod Judgements
+pub mod Inputs
 pub mod Readings
 pub mod Runs
+pub mod Trials
 pub mod Output
 pub mod NamedAddresses

@@ -1,5 +1,5 @@
 -- The stated output: what the words and the input give. Each command has a table of its own, a row for each status.
-use Rattle.std.specs.Prelude.{◌≡◌, ℕ, ◌<◌, ◌≤◌, nat_lt, List, [], length, take, Option, MatchOption, MatchBool}
+use Rattle.std.specs.Prelude.{◌≡◌, ℕ, ◌<◌, ◌≤◌, nat_lt, Bool, false, List, [], length, take, Option, MatchOption, MatchBool}
 use Rattle.std.specs.Io.KnownBytes.{Appends}
 use Rattle.ia64_top.specs.declared.limits.TheConstants.{INPUT_LIMIT}
 use Rattle.ia64_top.specs.declared.words.Command.{Command}
@@ -12,7 +12,9 @@ use Rattle.asm_build.specs.CanonicalText.{canonical_text}
 use Rattle.asm_build.specs.Listing.{IsListing}
 use Rattle.ia64_top.specs.Words.{command_of}
 use Rattle.ia64_top.specs.Judgements.{IsJudgement}
+use Rattle.trial_maker.specs.Trials.{trial_program}
 use Rattle.ia64_top.specs.Runs.{IsRunOf, IsRunOfEveryOrder}
+use Rattle.ia64_top.specs.Trials.{IsTrialOutput}
 use Rattle.ia64_top.specs.Readings.{Reading, BeginsAsImage, as_image, as_bundles, as_text, as_either}
 
 -- An input that isn't too long. An image is never longer than the limit.
@@ -54,12 +56,17 @@ IsRunAs groups reading input bytes Faulted =
 IsRunAs groups reading input bytes Refused = reading.Refuses input bytes
 IsRunAs groups reading input bytes status = ⊥
 
+-- The program that a command judges: the stated one of `trial`, and else the one that the input is read as.
+abbrev pub IsJudgedBy : Command → List ℕ → Program → Type 0
+IsJudgedBy (command.Trial seed bundles) input program = program ≡ trial_program seed bundles
+IsJudgedBy command input program = as_either.Gives input program
+
 -- a status that prints nothing
 abbrev pub IsSilent : Status → List ℕ → Status → Type 0
 IsSilent status bytes answer = (bytes ≡ []) × (answer ≡ status)
 
 -- `build` and `wrap` make the image of a program, `show` its canonical text, and `list` its listing. `check` and `run`
--- take an image or a text.
+-- take an image or a text, and `trial` takes no input.
 abbrev pub IsCommandOutput : Command → List ℕ → List ℕ → Status → Type 0
 IsCommandOutput command.Build input bytes status = IsMadeOutput as_text Spells input bytes status
 IsCommandOutput command.Show input bytes status =
@@ -68,11 +75,17 @@ IsCommandOutput command.List input bytes status = IsMadeOutput as_image IsListin
 IsCommandOutput command.Wrap input bytes status = IsMadeOutput as_bundles Spells input bytes status
 IsCommandOutput command.Check input bytes status = IsCheckedAs as_either input bytes status
 IsCommandOutput (command.Run groups) input bytes status = IsRunAs groups as_either input bytes status
+IsCommandOutput (command.Trial seed bundles) input bytes status = IsTrialOutput seed bundles bytes status
+
+-- No input is too long for `trial`.
+abbrev pub is_too_long : Command → List ℕ → Bool
+is_too_long (command.Trial seed bundles) input = false
+is_too_long command input = nat_lt INPUT_LIMIT (length input)
 
 -- The bytes that are written and the status that is answered, for these words and this input.
 abbrev pub IsOutput : List (List ℕ) → List ℕ → List ℕ → Status → Type 0
 IsOutput words input bytes status = MatchOption (command_of words) (IsSilent Words bytes status)
-    (λ command. MatchBool (nat_lt INPUT_LIMIT (length input)) (IsSilent TooLong bytes status)
+    (λ command. MatchBool (is_too_long command input) (IsSilent TooLong bytes status)
     (IsCommandOutput command input bytes status))
 
 -- The sink got the bytes of the output of this status.

@@ -5,17 +5,20 @@ ghost use Rattle.ia_insn.specs.Programs.{Program as Parts};
 ghost use Rattle.image_form.specs.Images.{Spells};
 ghost use Rattle.asm_build.specs.Listing.{IsListing};
 ghost use Rattle.ia64_top.specs.declared.limits.TheConstants.{GROUP_LIMIT, INPUT_LIMIT};
-ghost use Rattle.ia64_top.specs.Words.{HasGroupsInRange, Judges};
+ghost use Rattle.ia64_top.specs.Words.{HasNumbersInRange, Judges};
 ghost use Rattle.group_checker.specs.Reports.{IsFree};
 ghost use Rattle.ia64_top.specs.Judgements.{IsJudgement, IsJudgedViolated, verdict_status};
 ghost use Rattle.ia64_top.specs.Output.{IsCanonical, IsMadeOutput, IsCheckedAs, IsRunAs, IsCommandOutput};
 ghost use Rattle.ia64_top.specs.Readings.{as_image, as_bundles, as_text, as_either, IsRefusal};
 ghost use Rattle.ia64_top.specs.Runs.{run_of, end_status, IsRunOf};
+ghost use Rattle.trial_maker.specs.Trials.{trial_program};
+ghost use Rattle.ia64_top.specs.Trials.{register_sum, IsTrialOf, IsTrialOutput, trial_text};
+ghost use Rattle.ia_insn.specs.declared.limits.TheConstants.{BUNDLE_LIMIT};
 ghost use Rattle.ia64_top.specs.Texts.{refusal_text, text_refusal_text, verdict_text};
 ghost use Rattle.ia64_top.specs.declared.status.Status.{Status};
 
 use crate::status::Status;
-use crate::text::{refusal, text_refusal, verdict_text};
+use crate::text::{refusal, text_refusal, trial_text, verdict_text};
 use crate::words::Command;
 use asm_build::{TextError, assemble, disassemble, list, no_fault_where_read, one_text_program};
 use emulator::Machine;
@@ -28,6 +31,7 @@ use image_form::{
 };
 use state_text::state_text;
 use std::alloc::{AllocError, Global};
+use trial_maker::make;
 
 /// What is written, and how the call ends.
 #[derive(Debug, Drop)]
@@ -287,9 +291,49 @@ fn run_input(alloc: Global, groups: u64, input: &[u8]) -> Result<Answer, AllocEr
     run_either(alloc, groups, input)
 }
 
+/// The answer of `trial` to its program, where it is accepted: however the run ends, the trial is done.
+fn try_accepted(
+    alloc: Global,
+    seed: u64,
+    bundles: u32,
+    program: &Program,
+) -> Result<Answer, AllocError>
+    requires some { 1 ≤ bundles }
+    requires few { bundles ≤ BUNDLE_LIMIT }
+    requires made { program.now ≡ trial_program seed bundles }
+    requires free { IsFree program.now }
+    ensures { IfOk result (λ answer. IsTrialOf seed bundles answer.bytes.items × (answer.status ≡ Status.Done)) }
+{
+    progress_is_run();
+    law_orders();
+    program.bundle_count();
+    let mut machine = Machine::open(alloc, program)?;
+    let end = machine.run(u64::from(bundles));
+    Ok(Answer {
+        bytes: trial_text(alloc, seed, bundles, &machine, &end)?.into_bytes(),
+        status: Status::Done,
+    })
+}
+
+/// The answer of `trial`: its program is made and checked, and run where it is accepted.
+fn try_program(alloc: Global, seed: u64, bundles: u32) -> Result<Answer, AllocError>
+    requires some { 1 ≤ bundles }
+    requires few { bundles ≤ BUNDLE_LIMIT }
+    ensures { IfOk result (λ answer. IsTrialOutput seed bundles answer.bytes.items answer.status) }
+{
+    let program = make(alloc, seed, bundles)?;
+    // This call tells that the program is one.
+    program.bundle_count();
+    let judged = check(alloc, &program)?;
+    match &judged {
+        Verdict::Accepted => try_accepted(alloc, seed, bundles, &program),
+        Verdict::Violations(_) => judge(alloc, &judged),
+    }
+}
+
 /// The answer of a command to an input within the limit.
 pub(crate) fn respond(alloc: Global, command: Command, input: &[u8]) -> Result<Answer, AllocError>
-    requires command { HasGroupsInRange command }
+    requires command { HasNumbersInRange command }
     requires within { length input.now ≤ INPUT_LIMIT }
     ensures output { IfOk result (λ answer. IsCommandOutput command input.now answer.bytes.items answer.status) }
     ensures only { IfOk result (λ answer. (bytes : List ℕ) (status : Status) → IsCommandOutput command input.now bytes status → status ≡ answer.status) }
@@ -304,5 +348,6 @@ pub(crate) fn respond(alloc: Global, command: Command, input: &[u8]) -> Result<A
         Command::Wrap => wrap_input(alloc, input),
         Command::Check => check_input(alloc, input),
         Command::Run { groups } => run_input(alloc, groups, input),
+        Command::Trial { seed, bundles } => try_program(alloc, seed, bundles),
     }
 }

@@ -425,6 +425,18 @@ fn runs_have_their_output(rt: HostRuntime) -> Result<(), Fail> {
             text("violations 1\nWAW r14 0.0 0.1\n"),
         ),
         ("run 1", text(""), 3, text("line 1: empty\n")),
+        (
+            "trial 1 1",
+            text(""),
+            0,
+            text("trial 1 1\naccepted\nend break 0x0 at 0.2\ngroups 1\nsum 0000000000000000\n"),
+        ),
+        (
+            "trial 0 3",
+            text(""),
+            0,
+            text("trial 0 3\naccepted\nend break 0x0 at 2.2\ngroups 3\nsum 0000000000000000\n"),
+        ),
     ];
     for (command, input, status, output) in rows {
         answers(&rt, alloc, command, &input, status, &output)?;
@@ -507,6 +519,7 @@ fn other_words_leave_the_source(rt: HostRuntime) -> Result<(), Fail> {
         "run 5x",
         "run 10000001",
         "run 5 6",
+        "trial 1 4097",
         "check now",
         "Check",
         "",

@@ -1,18 +1,22 @@
 //! The top call.
 
-ghost use Rattle.std.specs.Prelude.{◌≡◌, ◌≢◌, ◌≤◌, ◌+◌, ◌↔◌, ◌⊎◌, ℕ, List, None, Some, IsSome, IfSome};
+ghost use Rattle.std.specs.Prelude.{◌≡◌, ◌≢◌, ◌≤◌, ◌+◌, ◌↔◌, ◌⊎◌, ℕ, List, None, Some, IsSome, IfSome, IfOk, IfErr, OnOk};
+ghost use Rattle.std.specs.Prelude.{vec_len, IsErrOf};
 ghost use Rattle.std.specs.Io.KnownBytes.{IsAtEnd};
+ghost use Rattle.io_seam.specs.declared.whole.ReadError.{ReadError};
 ghost use Rattle.io_seam.specs.Faults.{Rose};
 ghost use Rattle.io_seam.specs.Bytes.{LosesFirst, LosesAtMost};
 ghost use Rattle.ia64_top.specs.declared.limits.TheConstants.{INPUT_LIMIT};
-ghost use Rattle.ia64_top.specs.Words.{command_of, Judges};
-ghost use Rattle.ia64_top.specs.Statuses.{IsAnswer, TellsAccepted};
+ghost use Rattle.ia64_top.specs.Words.{command_of, Judges, IsTrial};
+ghost use Rattle.ia64_top.specs.Statuses.{IsAnswer, TellsAccepted, EndsTrial};
+ghost use Rattle.ia64_top.specs.Inputs.{IsReadOf};
 ghost use Rattle.ia_insn.specs.Programs.{Program};
 ghost use Rattle.ia_meaning.specs.OrderIndependence.{IsRobust};
 ghost use Rattle.group_checker.specs.Reports.{IsFree};
 ghost use Rattle.ia64_top.specs.Runs.{run_of, end_status};
 ghost use Rattle.ia64_top.specs.Readings.{as_either};
-ghost use Rattle.ia64_top.specs.Output.{IsWithinLimit, IsOutput, GivesOutput, GivesPart, GivesRunOfEveryOrder};
+ghost use Rattle.trial_maker.specs.Trials.{trial_program};
+ghost use Rattle.ia64_top.specs.Output.{IsWithinLimit, IsJudgedBy, IsOutput, GivesOutput, GivesPart, GivesRunOfEveryOrder};
 
 use crate::answer::respond;
 use crate::limits::INPUT_LIMIT;
@@ -25,7 +29,37 @@ use image_form::{image_size, one_program};
 use io_seam::{ReadError, Sink, Source, read_all, write_all};
 use std::alloc::Global;
 
-/// Does what the words say: reads the whole source, and writes the whole answer to the sink.
+/// The input of a command: all that the source has left, and nothing for `trial`, which doesn't read.
+///
+/// # Errors
+///
+/// Those of [`read_all`](io_seam::read_all).
+fn read_input<S: Source>(
+    alloc: Global,
+    command: Command,
+    source: &mut S,
+) -> Result<Vec<u8>, ReadError>
+    ensures whole { IfOk result (λ bytes. IfSome (S.left source.old) (IsReadOf command bytes.items)) }
+    ensures within { IfOk result (λ bytes. vec_len bytes ≤ INPUT_LIMIT) }
+    ensures end { OnOk result (¬ IsTrial (Some command) → IsAtEnd (S.left source.new)) }
+    ensures untouched { IsTrial (Some command) → (S.left source.new ≡ S.left source.old) × (S.faults source.new ≡ S.faults source.old) }
+    ensures reads { IfErr result (λ error. ¬ IsTrial (Some command)) }
+    ensures too_long { IfSome (S.left source.old) (λ left.
+        IsErrOf result ReadError.TooLong ↔ LosesFirst (INPUT_LIMIT + 1) left (S.left source.new)) }
+    ensures fault { IsErrOf result ReadError.ReadFault → Rose (S.faults source.old) (S.faults source.new) }
+    ensures taken { IfSome (S.left source.old) (λ left. LosesAtMost (INPUT_LIMIT + 1) left (S.left source.new)) }
+    ensures told { IsSome (S.left source.old) ↔ IsSome (S.left source.new) }
+    ensures quiet { OnOk result (S.faults source.new ≡ S.faults source.old) }
+    ensures quiet_refusal { IfErr result (λ error. error ≢ ReadError.ReadFault → S.faults source.new ≡ S.faults source.old) }
+    ensures never_falls { S.faults source.old ≤ S.faults source.new }
+{
+    match command {
+        Command::Trial { .. } => Ok(Vec::new(alloc)),
+        _ => read_all(alloc, source, INPUT_LIMIT),
+    }
+}
+
+/// Does what the words say: reads the whole source, but for `trial`, and writes the whole answer to the sink.
 pub fn ia64<S: Source, K: Sink>(
     alloc: Global,
     words: &Words,
@@ -45,11 +79,11 @@ pub fn ia64<S: Source, K: Sink>(
         command_of words.now ≡ Some Command.Check → IsWithinLimit input → (program : Program) → as_either.Gives input program →
         ((result ≡ Status.Done) ↔ IsFree program)) }
 
-    // What `accepted` promises. Where `check` is done, or `run` prints a state, the program is order independent: from every
+    // What `accepted` promises. Where `check` or `trial` is done, or `run` prints a state, the program is order independent: from every
     // state at an entry, for every number of groups and every order of the writes in each group, groups at once leave
     // what slots one by one leave.
     ensures robust { IsAnswer result → IfSome (S.left source.old) (λ input. (command : Command) →
-        command_of words.now ≡ Some command → TellsAccepted result command → (program : Program) → as_either.Gives input program → IsRobust program) }
+        command_of words.now ≡ Some command → TellsAccepted result command → (program : Program) → IsJudgedBy command input program → IsRobust program) }
 
     // So the state that `run` prints is the one of groups at once from the zero state, whatever the order of their writes.
     ensures ordered { IsAnswer result → IfSome (S.left source.old) (λ input. (groups : ℕ) →
@@ -67,9 +101,16 @@ pub fn ia64<S: Source, K: Sink>(
         command_of words.now ≡ Some (Command.Run groups) → IsWithinLimit input → (program : Program) → as_either.Gives input program → IsFree program →
         result ≡ end_status (run_of program groups).end) }
 
-    // An answer leaves the counts of faults as they were, and the source read to its end.
+    // `trial` is done exactly where its program has no violations, and answers with them exactly where it has some.
+    ensures tried { IsAnswer result → (seed bundles : ℕ) → command_of words.now ≡ Some (Command.Trial seed bundles) →
+        ((result ≡ Status.Done) ↔ IsFree (trial_program seed bundles)) × ((result ≡ Status.Violated) ↔ (¬ IsFree (trial_program seed bundles))) }
+
+    // However it ends, it leaves the source as it was, and its end is never one of reading.
+    ensures reads_nothing { IsTrial (command_of words.now) → (S.left source.new ≡ S.left source.old) × (S.faults source.new ≡ S.faults source.old) × EndsTrial result }
+
+    // An answer leaves the counts of faults as they were, and, but for `trial`, the source read to its end.
     ensures counts { IsAnswer result → (S.faults source.new ≡ S.faults source.old) × (K.faults sink.new ≡ K.faults sink.old) }
-    ensures read { IsAnswer result → result ≢ Status.Words → result ≢ Status.TooLong → IsAtEnd (S.left source.new) }
+    ensures read { IsAnswer result → result ≢ Status.Words → result ≢ Status.TooLong → ¬ IsTrial (command_of words.now) → IsAtEnd (S.left source.new) }
 
     // Words that are no command: nothing is read, and nothing written.
     ensures words { (result ≡ Status.Words) ↔ (command_of words.now ≡ None) }
@@ -82,7 +123,7 @@ pub fn ia64<S: Source, K: Sink>(
     ensures read_fault { result ≡ Status.ReadFault → Rose (S.faults source.old) (S.faults source.new) }
     ensures unwritten { (result ≡ Status.ReadFault) ⊎ (result ≡ Status.NoMemory) → (K.given sink.new ≡ K.given sink.old) × (K.faults sink.new ≡ K.faults sink.old) }
     ensures write_fault { result ≡ Status.WriteFault → Rose (K.faults sink.old) (K.faults sink.new) }
-    ensures written_part { result ≡ Status.WriteFault → IsAtEnd (S.left source.new) × (S.faults source.new ≡ S.faults source.old) × IfSome (S.left source.old) (λ input.
+    ensures written_part { result ≡ Status.WriteFault → (¬ IsTrial (command_of words.now) → IsAtEnd (S.left source.new)) × (S.faults source.new ≡ S.faults source.old) × IfSome (S.left source.old) (λ input.
         GivesPart words.now input (K.given sink.old) (K.given sink.new)) }
     ensures no_memory { result ≡ Status.NoMemory → S.faults source.new ≡ S.faults source.old }
 
@@ -107,7 +148,7 @@ pub fn ia64<S: Source, K: Sink>(
     let Some(command) = words.command() else {
         return Status::Words;
     };
-    let input = match read_all(alloc, source, INPUT_LIMIT) {
+    let input = match read_input(alloc, command, source) {
         Ok(input) => input,
         Err(ReadError::ReadFault) => return Status::ReadFault,
         Err(ReadError::TooLong) => return Status::TooLong,

@@ -1,10 +1,12 @@
 //! The words that a call is given, and the table of commands.
 
-ghost use Rattle.std.specs.Prelude.{◌≡◌, ◌↔◌, IsTrue, [], ◌∷◌, ◌++◌, List, ℕ, OnOk, OnErr};
-ghost use Rattle.ia64_top.specs.GroupCounts.{BeginsAsNumeral, group_count, OneNumeral};
-ghost use Rattle.ia64_top.specs.Words.{command_of};
+ghost use Rattle.std.specs.Prelude.{◌≡◌, ◌↔◌, ◌-◌, ◌^◌, IsTrue, [], ◌∷◌, ◌++◌, List, ℕ, OnOk, OnErr};
+ghost use Rattle.ia_insn.specs.declared.limits.TheConstants.{BUNDLE_LIMIT};
+ghost use Rattle.ia64_top.specs.Numbers.{BeginsAsNumeral, number_between, OneNumeral};
+ghost use Rattle.ia64_top.specs.Words.{trial_command, command_of};
 
 use crate::limits::GROUP_LIMIT;
+use ia_insn::limits::BUNDLE_LIMIT;
 use std::alloc::{AllocError, Global};
 use std::marker::Model;
 
@@ -26,24 +28,31 @@ pub enum Command {
         /// How many groups it may have, 1 to 10,000,000.
         groups: u64,
     },
+    /// Checks the stated program of a seed, and runs it where it is accepted. No input is read.
+    Trial {
+        /// The seed.
+        seed: u64,
+        /// How many bundles the program has, 1 to 4,096, and how many groups the run may have.
+        bundles: u32,
+    },
 }
 
-/// A word is a number of groups exactly where it is the number's decimal text, and so it is at most one number.
+/// A word is a number in a range of 64 bits exactly where it is the number's decimal text, and so it is at most one number.
 pub fn one_numeral()
     ensures { OneNumeral }
 {}
 
-/// Whether a word begins with a digit other than 0.
+/// Whether a word is `0`, or begins with another digit.
 fn begins_as_numeral(word: &[u8]) -> bool
     ensures { IsTrue result ↔ BeginsAsNumeral word.now }
 {
-    matches!(word, [b'1'..=b'9', ..])
+    matches!(word, [b'0'] | [b'1'..=b'9', ..])
 }
 
-/// The number of groups that a word is: 1 to 10,000,000 in decimal, with neither a sign nor a leading zero.
+/// The number that a word is: `least` to `most` in decimal, with neither a sign nor a leading zero.
 #[tactic(auto, using(crate::proofs::Numerals::no_first_digit, crate::proofs::Numerals::no_text))]
-fn group_count(word: &[u8]) -> Option<u64>
-    ensures { result ≡ group_count word.now }
+fn number_between(least: u64, most: u64, word: &[u8]) -> Option<u64>
+    ensures { result ≡ number_between least most word.now }
 {
     if !begins_as_numeral(word) {
         return None;
@@ -51,14 +60,28 @@ fn group_count(word: &[u8]) -> Option<u64>
     let Ok(text) = str::from_utf8(word) else {
         return None;
     };
-    let Ok(groups) = text.parse::<u64>() else {
+    let Ok(number) = text.parse::<u64>() else {
         return None;
     };
-    if groups <= GROUP_LIMIT {
-        Some(groups)
-    } else {
-        None
+    if number < least {
+        return None;
     }
+    if most < number {
+        return None;
+    }
+    Some(number)
+}
+
+/// The trial of a seed and a number of bundles, where the words are such numbers.
+fn trial_command(seed: &[u8], bundles: &[u8]) -> Option<Command>
+    ensures { result ≡ trial_command (number_between 0 (2 ^ 64 - 1) seed.now) (number_between 1 BUNDLE_LIMIT bundles.now) }
+{
+    let seed = number_between(0, u64::MAX, seed)?;
+    let bundles = number_between(1, BUNDLE_LIMIT as u64, bundles)?;
+    Some(Command::Trial {
+        seed,
+        bundles: bundles as u32,
+    })
 }
 
 /// The words of a call, in order, without the program's own name. Contracts see a list of byte lists.
@@ -95,8 +118,8 @@ impl Words {
         Ok(())
     }
 
-    /// The command that the words are, by the table: `build`, `show`, `list`, `wrap` or `check` alone, or `run`
-    /// and a number of groups, in lower case.
+    /// The command that the words are, by the table: `build`, `show`, `list`, `wrap` or `check` alone, `run` and a
+    /// number of groups, or `trial`, a seed and a number of bundles, in lower case.
     pub fn command(&self) -> Option<Command>
         ensures { result ≡ command_of self.now }
     {
@@ -106,10 +129,17 @@ impl Words {
             [word] if word.as_slice() == b"list".as_slice() => Some(Command::List),
             [word] if word.as_slice() == b"wrap".as_slice() => Some(Command::Wrap),
             [word] if word.as_slice() == b"check".as_slice() => Some(Command::Check),
-            [word, number] if word.as_slice() == b"run".as_slice() => match group_count(number) {
+            [word, number] if word.as_slice() == b"run".as_slice() => match number_between(
+                1,
+                GROUP_LIMIT,
+                number,
+            ) {
                 Some(groups) => Some(Command::Run { groups }),
                 None => None,
             },
+            [word, seed, bundles] if word.as_slice() == b"trial".as_slice() => {
+                trial_command(seed, bundles)
+            }
             _ => None,
         }
     }

@@ -1,0 +1,93 @@
+-- What is stated of `trial`.
+use Rattle.std.proofs.Common.{◌≡◌, ℕ, List, length, refl, sym, ◌∙◌, subst}
+use Rattle.std.specs.Prelude.{◌↔◌, Option, Some}
+use Rattle.ia_insn.specs.declared.ending.End.{End}
+use Rattle.ia_insn.specs.Programs.{Program, IsProgram}
+use Rattle.ia_meaning.specs.State.{State, zero_state}
+use Rattle.ia_meaning.specs.Progress.{Progress, begun, groups_further, end_of}
+use Rattle.ia_meaning.specs.Runs.{HasRun, ProgressIsRun}
+use Rattle.ia_meaning.proofs.GroupEnds.{zero_is_place}
+use Rattle.group_checker.specs.declared.report.Verdict.{Verdict}
+use Rattle.group_checker.specs.Reports.{IsFree, IsVerdict}
+use Rattle.group_checker.specs.OrderLaws.{FreeIsRobust}
+use Rattle.trial_maker.specs.Trials.{trial_program}
+use Rattle.ia64_top.specs.declared.words.Command.{Command}
+use Rattle.ia64_top.specs.declared.words.Command.TheVariants.{Trial}
+use Rattle.ia64_top.specs.declared.status.Status.{Status}
+use Rattle.ia64_top.specs.declared.status.Status.TheVariants.{Done, Violated}
+use Rattle.ia64_top.specs.Words.{command_of, IsTrial}
+use Rattle.ia64_top.specs.Statuses.{EndsTrial}
+use Rattle.ia64_top.specs.Texts.{verdict_text}
+use Rattle.ia64_top.specs.Judgements.{verdict_status, IsJudgement}
+use Rattle.ia64_top.specs.Runs.{run_of}
+use Rattle.ia64_top.specs.Trials.{trial_text, IsTrialOf, IsTrialOutput}
+use Rattle.ia64_top.specs.Output.{IsCommandOutput}
+use Rattle.ia64_top.proofs.Judging.{judgement_of, violated_of_judgement}
+use Rattle.ia64_top.proofs.Answering.{same_command}
+
+-- `Done` is the answer exactly where the program is free, and `Violated` where it isn't
+done_of_trial : (seed bundles : ℕ) (bytes : List ℕ) (status : Status) → IsTrialOutput seed bundles bytes status → ((status ≡ Done) ↔ IsFree (trial_program seed bundles))
+done_of_trial seed bundles bytes Done o = (λ e. o.free, λ f. refl)
+done_of_trial seed bundles bytes Violated o = (λ e. cc, λ f. absurd ((violated_of_judgement (trial_program seed bundles) bytes Violated o).0 refl f))
+done_of_trial seed bundles bytes status o = absurd o
+
+violated_of_trial : (seed bundles : ℕ) (bytes : List ℕ) (status : Status) → IsTrialOutput seed bundles bytes status → ((status ≡ Violated) ↔ (¬ IsFree (trial_program seed bundles)))
+violated_of_trial seed bundles bytes Done o = (λ e. cc, λ n. absurd (n o.free))
+violated_of_trial seed bundles bytes Violated o = violated_of_judgement (trial_program seed bundles) bytes Violated o
+violated_of_trial seed bundles bytes status o = absurd o
+
+-- no other status is stated
+pub only_trial : (seed bundles : ℕ) (mine : List ℕ) (status : Status) → IsTrialOutput seed bundles mine status
+    → (bytes : List ℕ) (other : Status) → IsTrialOutput seed bundles bytes other → other ≡ status
+only_trial seed bundles mine Done m bytes other o = (done_of_trial seed bundles bytes other o).1 m.free
+only_trial seed bundles mine Violated m bytes other o = (violated_of_trial seed bundles bytes other o).1 ((violated_of_judgement (trial_program seed bundles) mine Violated m).0 refl)
+only_trial seed bundles mine status m bytes other o = absurd m
+
+ends_of_trial : (seed bundles : ℕ) (bytes : List ℕ) (status : Status) → IsTrialOutput seed bundles bytes status → EndsTrial status
+ends_of_trial seed bundles bytes Done o = tt
+ends_of_trial seed bundles bytes Violated o = tt
+ends_of_trial seed bundles bytes status o = absurd o
+
+-- a verdict with violations on the program
+pub judged_trial : (seed bundles : ℕ) (p : Program) (v : Verdict) (bytes : List ℕ) (status : Status) → p ≡ trial_program seed bundles → IsProgram p → IsVerdict p v → verdict_status v ≡ Violated
+    → (bytes ≡ verdict_text v) × (status ≡ verdict_status v) → IsTrialOutput seed bundles bytes status
+judged_trial seed bundles p v bytes status made program exact violated told =
+    let j : IsJudgement (trial_program seed bundles) bytes status = subst (λ q. IsJudgement q bytes status) made (judgement_of p v bytes status program exact told) in
+    let is : status ≡ Violated = told.1 ∙ violated in
+    subst (IsTrialOutput seed bundles bytes) (sym is) (subst (IsJudgement (trial_program seed bundles) bytes) is j)
+
+pub tried_trial : (seed bundles : ℕ) (bytes : List ℕ) (status : Status) → IsTrialOf seed bundles bytes × (status ≡ Done) → IsTrialOutput seed bundles bytes status
+tried_trial seed bundles bytes status o = subst (IsTrialOutput seed bundles bytes) (sym o.1) o.0
+
+-- A run under way that has come so far prints the trial.
+same_text : (seed bundles : ℕ) (e f : End) (g h : ℕ) (s t : State) → e ≡ f → g ≡ h → s ≡ t → trial_text seed bundles e g s.registers ≡ trial_text seed bundles f h t.registers
+same_text seed bundles e f g h s t ef gh st = rw (ef, gh, st) refl
+
+pub trial_of_progress : FreeIsRobust → ProgressIsRun → (seed bundles : ℕ) (p : Program) (m : Progress) (e : End) (bytes : List ℕ) → p ≡ trial_program seed bundles → IsProgram p → IsFree p
+    → m ≡ groups_further bundles p (begun (zero_state p)) → e ≡ end_of m → bytes ≡ trial_text seed bundles e m.groups m.state.registers → IsTrialOf seed bundles bytes
+trial_of_progress law run seed bundles p m e bytes made program free came ends printed =
+    let has : HasRun m (run_of p bundles) = subst (λ x. HasRun x (run_of p bundles)) (sym came) (run bundles p (zero_state p) program (zero_is_place p program)) in
+    let text = printed ∙ same_text seed bundles _ _ _ _ _ _ (ends ∙ has.end) has.groups has.state in
+    let its_program = subst IsProgram made program in
+    let its_free = subst IsFree made free in
+    record {
+      program = its_program;
+      free = its_free;
+      robust = law (trial_program seed bundles) its_program its_free;
+      printed = subst (λ q. bytes ≡ trial_text seed bundles (run_of q bundles).end (length (run_of q bundles).events) (run_of q bundles).state.registers) made text;
+    }
+
+-- what is told of the words and the answer
+pub tried : (words : List (List ℕ)) (command : Command) (input bytes : List ℕ) (status : Status) → command_of words ≡ Some command → IsCommandOutput command input bytes status
+    → (seed bundles : ℕ) → command_of words ≡ Some (Trial seed bundles) → ((status ≡ Done) ↔ IsFree (trial_program seed bundles)) × ((status ≡ Violated) ↔ (¬ IsFree (trial_program seed bundles)))
+tried words command input bytes status e o seed bundles f =
+    let its : IsTrialOutput seed bundles bytes status = subst (λ c. IsCommandOutput c input bytes status) (same_command words command (Trial seed bundles) e f) o in
+    (done_of_trial seed bundles bytes status its, violated_of_trial seed bundles bytes status its)
+
+-- a command that isn't `trial` tells nothing of one
+pub untried : (words : List (List ℕ)) (command : Command) → command_of words ≡ Some command → ¬ IsTrial (Some command) → (seed bundles : ℕ) → command_of words ≡ Some (Trial seed bundles) → ⊥
+untried words command e other seed bundles f = other (subst (λ c. IsTrial (Some c)) (same_command words (Trial seed bundles) command f e) tt)
+
+pub ends_trial : (command : Command) (input bytes : List ℕ) (status : Status) → IsTrial (Some command) → IsCommandOutput command input bytes status → EndsTrial status
+ends_trial (Trial seed bundles) input bytes status is o = ends_of_trial seed bundles bytes status o
+ends_trial command input bytes status is o = absurd is
