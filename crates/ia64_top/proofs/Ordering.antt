@@ -20,7 +20,6 @@ use Rattle.ia64_top.specs.Readings.{as_either}
 use Rattle.ia64_top.specs.Output.{IsJudgedBy, IsCommandOutput, GivesRunOfEveryOrder}
 use Rattle.ia64_top.proofs.Outputs.{GivesOne}
 use Rattle.ia64_top.proofs.Answering.{same_command}
-use Rattle.trial_maker.specs.Trials.{trial_program}
 use Rattle.ia64_top.specs.Inputs.{IsReadOf}
 use Rattle.ia64_top.proofs.Judging.{done_of_judgement}
 

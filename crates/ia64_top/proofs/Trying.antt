@@ -1,6 +1,6 @@
 -- What is stated of `trial`.
 use Rattle.std.proofs.Common.{◌≡◌, ℕ, List, length, refl, sym, ◌∙◌, subst}
-use Rattle.std.specs.Prelude.{◌↔◌, Option, Some}
+use Rattle.std.specs.Prelude.{◌↔◌, Some}
 use Rattle.ia_insn.specs.declared.ending.End.{End}
 use Rattle.ia_insn.specs.Programs.{Program, IsProgram}
 use Rattle.ia_meaning.specs.State.{State, zero_state}

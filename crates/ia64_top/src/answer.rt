@@ -12,7 +12,7 @@ ghost use Rattle.ia64_top.specs.Output.{IsCanonical, IsMadeOutput, IsCheckedAs, 
 ghost use Rattle.ia64_top.specs.Readings.{as_image, as_bundles, as_text, as_either, IsRefusal};
 ghost use Rattle.ia64_top.specs.Runs.{run_of, end_status, IsRunOf};
 ghost use Rattle.trial_maker.specs.Trials.{trial_program};
-ghost use Rattle.ia64_top.specs.Trials.{register_sum, IsTrialOf, IsTrialOutput, trial_text};
+ghost use Rattle.ia64_top.specs.Trials.{IsTrialOf, IsTrialOutput, trial_text};
 ghost use Rattle.ia_insn.specs.declared.limits.TheConstants.{BUNDLE_LIMIT};
 ghost use Rattle.ia64_top.specs.Texts.{refusal_text, text_refusal_text, verdict_text};
 ghost use Rattle.ia64_top.specs.declared.status.Status.{Status};
@@ -151,8 +151,7 @@ fn judge(alloc: Global, verdict: &Verdict) -> Result<Answer, AllocError>
 fn check_program(alloc: Global, program: &Program) -> Result<Answer, AllocError>
     ensures { IfOk result (λ answer. IsJudgement program.now answer.bytes.items answer.status) }
 {
-    // This call tells that the program is one.
-    program.bundle_count();
+    program.is_program();
     let verdict = check(alloc, program)?;
     judge(alloc, &verdict)
 }
@@ -237,7 +236,7 @@ fn run_accepted(alloc: Global, groups: u64, program: &Program) -> Result<Answer,
 {
     progress_is_run();
     law_orders();
-    program.bundle_count();
+    program.is_program();
     let mut machine = Machine::open(alloc, program)?;
     let end = machine.run(groups);
     Ok(Answer {
@@ -252,8 +251,7 @@ fn run_program(alloc: Global, groups: u64, program: &Program) -> Result<Answer, 
     requires few { groups ≤ GROUP_LIMIT }
     ensures { IfOk result (λ answer. IsRunOf program.now groups answer.bytes.items answer.status ⊎ IsJudgedViolated program.now answer.bytes.items answer.status) }
 {
-    // This call tells that the program is one.
-    program.bundle_count();
+    program.is_program();
     let verdict = check(alloc, program)?;
     match &verdict {
         Verdict::Accepted => run_accepted(alloc, groups, program),
@@ -306,7 +304,7 @@ fn try_accepted(
 {
     progress_is_run();
     law_orders();
-    program.bundle_count();
+    program.is_program();
     let mut machine = Machine::open(alloc, program)?;
     let end = machine.run(u64::from(bundles));
     Ok(Answer {
@@ -322,8 +320,7 @@ fn try_program(alloc: Global, seed: u64, bundles: u32) -> Result<Answer, AllocEr
     ensures { IfOk result (λ answer. IsTrialOutput seed bundles answer.bytes.items answer.status) }
 {
     let program = make(alloc, seed, bundles)?;
-    // This call tells that the program is one.
-    program.bundle_count();
+    program.is_program();
     let judged = check(alloc, &program)?;
     match &judged {
         Verdict::Accepted => try_accepted(alloc, seed, bundles, &program),

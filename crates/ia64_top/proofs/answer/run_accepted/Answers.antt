@@ -9,4 +9,4 @@ returns c =
     let p = c.args.program.now in
     let m = c.run-end.new.self.progress in
     let came : m ≡ groups_further c.args.groups p (begun (zero_state p)) = search rules in
-    run_of_progress c.law_orders.ensures.run c.progress_is_run.ensures.run c.args.groups p m c.run-end.result _ _ c.bundle_count.ensures.program c.requires.free came c.run-end.ensures.end c.in_ok-state_text.ensures c.end_status.ensures
+    run_of_progress c.law_orders.ensures.run c.progress_is_run.ensures.run c.args.groups p m c.run-end.result _ _ c.is_program.ensures c.requires.free came c.run-end.ensures.end c.in_ok-state_text.ensures c.end_status.ensures

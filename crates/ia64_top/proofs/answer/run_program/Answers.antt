@@ -9,4 +9,4 @@ pub returns : goal.returns
 returns c =
     let violated : verdict_status c.in_ok-verdict.verdict ≡ Violated = ap verdict_status c.in-Violations.is in
     if_ok c.judge.result c.judge.ensures
-    (λ x a. inr (judgement_of c.args.program.now c.in_ok-verdict.verdict x.bytes.items x.status c.bundle_count.ensures.program c.in_ok-verdict.ensures.verdict a, a.1 ∙ violated))
+    (λ x a. inr (judgement_of c.args.program.now c.in_ok-verdict.verdict x.bytes.items x.status c.is_program.ensures c.in_ok-verdict.ensures.verdict a, a.1 ∙ violated))

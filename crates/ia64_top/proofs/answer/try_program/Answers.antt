@@ -12,4 +12,4 @@ pub returns : goal.returns
 returns c =
     let violated : verdict_status c.in_ok-judged.judged ≡ Violated = ap verdict_status c.in-Violations.is in
     if_ok c.judge.result c.judge.ensures
-    (λ x a. judged_trial c.args.seed c.args.bundles c.in_ok-program.program c.in_ok-judged.judged x.bytes.items x.status c.in_ok-program.ensures c.bundle_count.ensures.program c.in_ok-judged.ensures.verdict violated a)
+    (λ x a. judged_trial c.args.seed c.args.bundles c.in_ok-program.program c.in_ok-judged.judged x.bytes.items x.status c.in_ok-program.ensures c.is_program.ensures c.in_ok-judged.ensures.verdict violated a)
