@@ -104,6 +104,25 @@ try run_of_nothing 3 "$dir/empty" /dev/null run 1
 for word in 0 01 +5 10000001 5x; do try "run $word" 2 "$dir/nothing" examples/count.s run "$word"; done
 try run_alone 2 "$dir/nothing" examples/count.s run
 
+# Trials, which read nothing, not even a folder. Every program of these seeds is accepted.
+trial() { printf 'trial %s\naccepted\nend break 0x0 at %s.2\ngroups %s\nsum %s\n' "$1" "$(($2 - 1))" "$2" "$3"; }
+trial '1 1' 1 0000000000000000 > "$dir/trial"
+try 'trial 1 1' 0 "$dir/trial" "$dir" trial 1 1
+trial '0 3' 3 0000000000000000 > "$dir/trial"
+try 'trial 0 3' 0 "$dir/trial" "$dir" trial 0 3
+for seed in 1 18446744073709551615; do
+  "$program" trial "$seed" 4096 > "$dir/trial" < "$dir"
+  head -n 4 "$dir/trial" > "$dir/trial_head"
+  trial "$seed 4096" 4096 '' | head -n 4 | cmp -s - "$dir/trial_head" && tail -n 1 "$dir/trial" | grep -qE '^sum [0-9a-f]{16}$'
+  note $? "trial $seed 4096"
+  try "trial $seed 4096 again" 0 "$dir/trial" /dev/null trial "$seed" 4096
+done
+for seed in {2..40}; do "$program" trial "$seed" 256 < /dev/null | grep -q '^accepted$'; note $? "trial $seed 256"; done
+for words in '1 4097' '1 0' '1 01' '-1 1' '01 1' '18446744073709551616 1' '1' '1 1 1'; do
+  # shellcheck disable=SC2086
+  try "trial $words" 2 "$dir/nothing" /dev/null trial $words
+done
+
 # The examples that are right: accepted, as text and as image. Built, shown and built again they give one image.
 for name in count predicated counted_loop pipelined_loop call speculation; do
   try "$name" 0 "$dir/accepted" "examples/$name.s" check

@@ -64,11 +64,12 @@ try 'a file as a word' 2 "$dir/nothing" 'standard input: ia64 check < examples/c
 try 'run without a number' 2 "$dir/nothing" 'ia64 run 100 < INPUT' /dev/null ./ia64 run
 try 'run of a file' 2 "$dir/nothing" 'ia64 run 7 < examples/count.s' /dev/null ./ia64 run 7 examples/count.s
 try 'run of too many groups' 2 "$dir/nothing" 'ia64 run 10000000 < INPUT' /dev/null ./ia64 run 99999999999999999999
+try 'a trial without bundles' 2 "$dir/nothing" 'ia64 trial 1 100' /dev/null ./ia64 trial 7 0
 try 'upper case' 2 "$dir/nothing" 'perhaps: ia64 check < examples/count.s' /dev/null ./ia64 Check examples/count.s
 try 'an unknown word' 2 "$dir/nothing" "no command 'assemble'" /dev/null ./ia64 assemble
 ./ia64 --help > "$dir/help"
 try 'help' 0 "$dir/help" '' /dev/null ./ia64 --help
-for command in check 'run N' build show list wrap; do grep -q "^  $command " "$dir/help"; note $? "--help has no $command"; done
+for command in check 'run N' build show list wrap 'trial SEED'; do grep -q "^  $command " "$dir/help"; note $? "--help has no $command"; done
 try 'a refusal' 3 "$dir/magic" "'list' refused its input; the reason went to standard output" examples/call.s ./ia64 list
 head -c 4194305 /dev/zero > "$dir/too_long"
 try 'a long input' 4 "$dir/nothing" 'longer than 4,194,304 bytes' "$dir/too_long" ./ia64 check
