@@ -82,7 +82,7 @@ try 'a symbolic link' 0 "$dir/accepted" '' examples/count.s "$dir/links/ia64" ch
 
 # The outline: the crates' folders, with a source in each, and a stand-in for `rt` that notes when each call begins and ends.
 outline=$dir/outline
-export CALLS=$dir/calls BUILT=$program FAILS='' ANSWERS=ended
+export CALLS=$dir/calls BUILT=$program FAILS='' ANSWERS=ended NAP=0
 mkdir "$outline" "$dir/bin"
 cp -r ia64 build crates.txt examples "$outline"
 for crate in crates/*/; do mkdir -p "$outline/${crate}src" && : > "$outline/${crate}src/lib.rt"; done
@@ -91,6 +91,7 @@ cat > "$dir/bin/rt" <<'END'
 crate=$(basename "$PWD")
 echo "begin $crate $*" >> "$CALLS"
 if [ "$crate" = "$FAILS" ]; then echo "rt: $crate is not proved"; exit 1; fi
+sleep "$NAP"
 case $1 in
   run) mkdir -p out && cp "$BUILT" out/ ;;
   try) shift 2; "$BUILT" "$@"; echo "run=$ANSWERS status=$? runners=1 proved=no" >&2 ;;
@@ -119,14 +120,24 @@ note $? 'the log of a crate that fails'
 ! grep -Eq 'begin (group_checker|ia64_top|ia64_cli) ' "$CALLS" && [ ! -e "$outline/crates/ia64_cli/out/ia64_cli" ]
 note $? 'a crate began that stands on one that failed'
 
-# All crates: each begins when those that it stands on have ended, and those that the program doesn't need never begin.
+# All crates: each begins in a copy when those that it stands on have ended, and then in the repository; those that the
+# program doesn't need never begin.
 : > "$CALLS"
 try 'build' 0 "$dir/nothing" 'the program is proved and built' /dev/null "$outline/build"
 awk 'FILENAME == ARGV[1] { if (/^[a-z]/) { split($0, parts, ":"); below[parts[1]] = parts[2] } next }
   $1 == "end" { ended[$2] = 1 }
   $1 == "begin" { began[$2]++; n = split(below[$2], low, " "); for (i = 1; i <= n; i++) if (low[i] in below && !(low[i] in ended)) { print $2 " before " low[i]; bad = 1 } }
-  END { exit bad || began["ia64_cli"] != 1 || began["first_fault"] != 1 || began["vectors"] }' crates.txt "$CALLS"
+  END { exit bad || began["ia64_cli"] != 1 || began["first_fault"] != 2 || began["vectors"] }' crates.txt "$CALLS"
 note $? 'the order in which build proves'
+# A call that is stopped leaves neither a copy nor a proof that goes on.
+for signal in TERM HUP; do
+  NAP=30 "$outline/build" > /dev/null 2>&1 &
+  sleep 1
+  kill -s "$signal" $!
+  wait $!
+  [ $? = 1 ] && ! pgrep -f "$dir/bin/rt" > /dev/null && [ -z "$(ls "$TMPDIR")" ]
+  note $? "build, stopped by $signal"
+done
 try 'a built program' 0 "$dir/accepted" '' examples/count.s "$outline/ia64" check
 mkdir "$outline/crates/rotation/specs" "$outline/crates/rotation/proofs"
 for source in src/lib.rt specs/Lib.antt proofs/Lib.antt ../../crates.txt; do
