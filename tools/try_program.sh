@@ -110,13 +110,11 @@ trial '1 1' 1 0000000000000000 > "$dir/trial"
 try 'trial 1 1' 0 "$dir/trial" "$dir" trial 1 1
 trial '0 3' 3 0000000000000000 > "$dir/trial"
 try 'trial 0 3' 0 "$dir/trial" "$dir" trial 0 3
-for seed in 1 18446744073709551615; do
-  "$program" trial "$seed" 4096 > "$dir/trial" < "$dir"
-  head -n 4 "$dir/trial" > "$dir/trial_head"
-  trial "$seed 4096" 4096 '' | head -n 4 | cmp -s - "$dir/trial_head" && tail -n 1 "$dir/trial" | grep -qE '^sum [0-9a-f]{16}$'
-  note $? "trial $seed 4096"
-  try "trial $seed 4096 again" 0 "$dir/trial" /dev/null trial "$seed" 4096
-done
+# The sums are those of a model that was written apart.
+trial '1 4096' 4096 9ffff3d2bf694f98 > "$dir/trial"
+try 'trial 1 4096' 0 "$dir/trial" /dev/null trial 1 4096
+trial '18446744073709551615 4096' 4096 80001c0a6adf165c > "$dir/trial"
+try 'trial of the last seed' 0 "$dir/trial" /dev/null trial 18446744073709551615 4096
 for seed in {2..40}; do "$program" trial "$seed" 256 < /dev/null | grep -q '^accepted$'; note $? "trial $seed 256"; done
 for words in '1 4097' '1 0' '1 01' '-1 1' '01 1' '18446744073709551616 1' '1' '1 1 1'; do
   # shellcheck disable=SC2086
