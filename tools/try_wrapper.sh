@@ -44,6 +44,8 @@ try 'build' 0 examples/read_after_write.image '' examples/read_after_write.s ./i
 try 'wrap' 0 examples/three_nops.image '' examples/three_nops.bundles ./ia64 wrap
 [ "$(./ia64 build < examples/call.s | ./ia64 list | grep -c '^[0-9]')" = 6 ]
 note $? 'a text as a listing'
+[ "$(./ia64 trial 1 4096 | sed -n 2p)" = accepted ]
+note $? 'a trial'
 ./ia64 build < examples/call.s | ./ia64 show | grep -q 'br.call.sptk.few b0=L3 ;;'
 note $? 'a text as its canonical text'
 
