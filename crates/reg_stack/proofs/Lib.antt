@@ -1,4 +1,9 @@
 pub mod Allocs
+pub mod Held
+pub mod Places
 pub mod Resizing
 pub mod Returns
+pub mod Stays
+pub mod Steps
+pub mod Whole
 mod Examples

@@ -1,5 +1,5 @@
 -- The fault of a return.
-use Rattle.std.proofs.Common.{◌≡◌, ℕ, ◌+◌, ◌-◌, Bool, true, false, not, if◌then◌else◌, nat_lt, Some, None, refl}
+use Rattle.std.proofs.Common.{◌≡◌, ℕ, ◌+◌, ◌-◌, ◌≤◌, Bool, true, false, not, if◌then◌else◌, nat_lt, Some, None, refl, arith}
 use Rattle.std.specs.Option.{option_map}
 use Rattle.ia_meaning.specs.declared.limits.TheConstants.{STACK_LIMIT}
 use Rattle.ia_insn.specs.declared.ending.FaultKind.TheVariants as kind
@@ -26,3 +26,7 @@ may_return limit base f e = unrefused BadFrame Underflow StackLimit limit base f
 pub end_of : (base pfs : ℕ) → (returned_frame base pfs).base + (returned_frame base pfs).sof ≡ base - (marked_frame base pfs).sol + (marked_frame base pfs).sof
 unfolding marked_frame
 end_of base pfs = refl
+
+pub base_falls : (base pfs : ℕ) → (returned_frame base pfs).base ≤ base
+unfolding marked_frame
+base_falls base pfs = omega arith

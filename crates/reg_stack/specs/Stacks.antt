@@ -15,6 +15,7 @@ use Rattle.ia_meaning.specs.Names.{set_spot}
 use Rattle.ia_meaning.specs.Outcomes.{Outcome, falls, faults}
 use Rattle.ia_meaning.specs.Frames.{allocated, has_zero_bases, is_frame, marked_frame, return_fault}
 use Rattle.ia_meaning.specs.ResidentRange.{zero_range, range_after}
+use Rattle.reg_stack.specs.Layout.{cells_of, region_words, IsFreeFrom}
 use Rattle.reg_stack.specs.declared.StackFault.{StackFault}
 use Rattle.reg_stack.specs.declared.StackFault.TheVariants.{OutOfFrame, BadFrame, Underflow, StackLimit, ReservedField}
 
@@ -37,6 +38,20 @@ pub record IsStack (s : StackState) : Type 0 where
   pub least : 96 ≤ s.limit
   pub most : s.limit ≤ STACK_LIMIT
   pub cells : AreCells s.cells
+
+-- what a ring, a region and the rest hold
+abbrev pub held_stack : List Cell → List ℕ → FrameShape → Rse → ℕ → StackState
+held_stack ring region shape rse limit = record { cells = cells_of ring region rse.low rse.high; frame = shape; range = rse; limit = limit }
+
+-- Ring and region hold a register stack. The cells from `low` to `high` are in the ring alone: in the region their
+-- words and bits are 0, and so is all that belongs to no cell.
+pub record IsHeld (ring : List Cell) (region : List ℕ) (shape : FrameShape) (rse : Rse) (limit : ℕ) : Type 0 where
+  pub stack : IsStack (held_stack ring region shape rse limit)
+  pub high : rse.high ≡ shape.base + shape.sof
+  pub low : rse.low ≤ shape.base
+  pub resident : rse.high ≤ rse.low + 96
+  pub words : length region ≡ region_words limit
+  pub free : IsFreeFrom region rse.low
 
 -- the cell at the place of a stacked register, which never is that of a static one
 abbrev pub cell_or_fault : List Cell → Option Spot → Result Cell StackFault

@@ -19,7 +19,7 @@ pub(crate) fn cell_of(frame: &FrameShape, r: Gr) -> Option<u32>
     requires frame { IsFrame frame.now }
     requires within { frame.now.base + frame.now.sof ≤ STACK_LIMIT }
     requires stacked { 32 ≤ r }
-    ensures { MatchOption result (spot frame.now r ≡ None) (λ n. (spot frame.now r ≡ Some (Stacked n)) × (n < frame.now.base + frame.now.sof)) }
+    ensures { MatchOption result (spot frame.now r ≡ None) (λ n. (spot frame.now r ≡ Some (Stacked n)) × (frame.now.base ≤ n) × (n < frame.now.base + frame.now.sof)) }
 {
     let k = r.number() - 32;
     if k < frame.sof {

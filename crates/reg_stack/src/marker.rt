@@ -82,7 +82,7 @@ fn return_fault(limit: u32, base: u32, frame: &FrameShape) -> Option<StackFault>
 pub(crate) fn returned(limit: u32, base: u32, pfs: u64) -> Result<FrameShape, StackFault>
     requires { base ≤ STACK_LIMIT }
     ensures fault { result_err result ≡ return_fault_within limit base (marked_frame base pfs) }
-    ensures frame { IfOk result (λ f. (f ≡ returned_frame base pfs) × IsFrame f × (f.base + f.sof ≤ limit)) }
+    ensures frame { IfOk result (λ f. (f ≡ returned_frame base pfs) × IsFrame f × (f.base + f.sof ≤ limit) × (f.base ≤ base)) }
 {
     let marked = marked_frame(base, pfs);
     match return_fault(limit, base, &marked) {

@@ -1,6 +1,6 @@
 //! The register stack.
 
-ghost use Rattle.std.specs.Prelude.{◌≡◌, ◌+◌, ◌*◌, ◌<◌, ◌≤◌, ◌^◌, Some, None, MatchOption, IfOk, OnOk, OnErr, vec_capacity};
+ghost use Rattle.std.specs.Prelude.{◌≡◌, ◌+◌, ◌*◌, ◌<◌, ◌≤◌, ◌^◌, Some, None, MatchOption, IfOk, OnOk, OnErr};
 ghost use Rattle.ia_meaning.specs.declared.state.AlatKey.TheVariants.{Stacked};
 ghost use Rattle.std.specs.Result.{result_err};
 ghost use Rattle.ia_meaning.specs.declared.limits.TheConstants.{STACK_LIMIT};
@@ -10,9 +10,9 @@ ghost use Rattle.ia_meaning.specs.Frames.{with_sizes, rotated, cleared, call_fra
 ghost use Rattle.reg_stack.specs.Stacks.{empty_stack, IsStack, cell_or_fault, place_fault, with_cell, entered, alloc_fault_within, return_fault_within, returned_frame};
 
 use crate::StackFault;
-use crate::cells::resize;
 use crate::frames::{allocated, called, cell_of, cleared, rotated, zero_frame};
 use crate::marker::returned;
+use crate::moves::{move_cells, zero_ring};
 use crate::range::{range_after, zero_range};
 use ia_insn::Gr;
 use ia_meaning::{Cell, FrameShape, Rse};
@@ -23,21 +23,21 @@ use std::marker::Model;
 /// resident range, and the most cells that there may be.
 #[derive(Debug, Drop)]
 pub struct Stack {
-    cells: Vec<Cell>,
-    frame: FrameShape,
-    range: Rse,
+    ring: [Cell; 96],
+    region: Vec<u64>,
+    shape: FrameShape,
+    rse: Rse,
     limit: u32,
 }
 
 impl Model for Stack {
-    ghost use Rattle.std.specs.Prelude.{◌≤◌, vec_capacity};
-    ghost use Rattle.reg_stack.specs.Stacks.{StackState, IsStack};
+    ghost use Rattle.reg_stack.specs.Stacks.{StackState, held_stack, IsHeld};
 
     ghost Value = { StackState };
 
-    ghost view = { λ s. record { cells = s.cells.items; frame = s.frame; range = s.range; limit = s.limit } };
+    ghost view = { λ s. held_stack s.ring s.region.items s.shape s.rse s.limit };
 
-    ghost invariant = { λ s. IsStack (record { cells = s.cells.items; frame = s.frame; range = s.range; limit = s.limit }) × (s.limit ≤ vec_capacity s.cells) };
+    ghost invariant = { λ s. IsHeld s.ring s.region.items s.shape s.rse s.limit };
 }
 
 impl Stack {
@@ -51,11 +51,13 @@ impl Stack {
         requires most { limit ≤ STACK_LIMIT }
         ensures { IfOk result (λ s. s ≡ empty_stack limit) }
     {
-        let cells = Vec::with_capacity(alloc, limit as usize)?;
+        let words = 64 * ((limit - 1) / 63 + 1);
+        let region = vec![in alloc; 0; words as usize]?;
         Ok(Stack {
-            cells,
-            frame: zero_frame(),
-            range: zero_range(),
+            ring: zero_ring(),
+            region,
+            shape: zero_frame(),
+            rse: zero_range(),
             limit,
         })
     }
@@ -65,14 +67,14 @@ impl Stack {
         ensures value { result ≡ self.now.frame }
         ensures stack { IsStack self.now }
     {
-        self.frame
+        self.shape
     }
 
     /// The resident range.
     pub fn rse(&self) -> Rse
         ensures { result ≡ self.now.range }
     {
-        self.range
+        self.rse
     }
 
     /// The number of the cell of a stacked register, r32 to r127; None exactly outside the frame.
@@ -80,7 +82,7 @@ impl Stack {
         requires { 32 ≤ r }
         ensures { MatchOption result (spot self.now.frame r ≡ None) (λ n. spot self.now.frame r ≡ Some (Stacked n)) }
     {
-        cell_of(&self.frame, r)
+        cell_of(&self.shape, r)
     }
 
     /// What a stacked register holds, r32 to r127.
@@ -92,8 +94,8 @@ impl Stack {
         requires { 32 ≤ r }
         ensures { result ≡ cell_or_fault self.now.cells (spot self.now.frame r) }
     {
-        match cell_of(&self.frame, r) {
-            Some(n) => Ok(self.cells[n as usize]),
+        match cell_of(&self.shape, r) {
+            Some(n) => Ok(self.ring[(n % 96) as usize]),
             None => Err(StackFault::OutOfFrame),
         }
     }
@@ -108,26 +110,28 @@ impl Stack {
         ensures fault { result_err result ≡ place_fault (spot self.old.frame r) }
         ensures after { self.new ≡ record self.old { cells = with_cell self.old.cells (spot self.old.frame r) cell } }
     {
-        match cell_of(&self.frame, r) {
+        match cell_of(&self.shape, r) {
             Some(n) => {
-                self.cells[n as usize] = cell;
+                self.ring[(n % 96) as usize] = cell;
                 Ok(())
             }
             None => Err(StackFault::OutOfFrame),
         }
     }
 
-    // Goes to another frame.
+    // Goes to another frame, which begins at most at the end of this one.
     fn enter(&mut self, frame: FrameShape)
         requires frame { IsFrame frame }
         requires within { frame.base + frame.sof ≤ self.old.limit }
+        requires reach { frame.base ≤ self.old.frame.base + self.old.frame.sof }
         ensures { self.new ≡ entered self.old frame }
     {
-        let cells = &mut self.cells;
+        let old = self.rse;
         let end = frame.base + u32::from(frame.sof);
-        resize(cells, end);
-        self.range = range_after(self.range, frame.base, end);
-        self.frame = frame;
+        let rse = range_after(old, frame.base, end);
+        move_cells(&mut self.ring, &mut self.region, old, rse);
+        self.rse = rse;
+        self.shape = frame;
     }
 
     /// Gives the frame other sizes: `sof` registers, at most 96, of which the first `sol` are local and
@@ -145,7 +149,7 @@ impl Stack {
         ensures done { OnOk result (self.new ≡ entered self.old (with_sizes self.old.frame sof sol sor)) }
         ensures refused { OnErr result (self.new ≡ self.old) }
     {
-        match allocated(self.limit, &self.frame, sof, sol, sor) {
+        match allocated(self.limit, &self.shape, sof, sol, sor) {
             Ok(frame) => {
                 self.enter(frame);
                 Ok(())
@@ -165,7 +169,7 @@ impl Stack {
         requires rotating { 8 * sor ≤ sof }
         ensures { result_err result ≡ alloc_fault_within self.now.limit self.now.frame (with_sizes self.now.frame sof sol sor) }
     {
-        match allocated(self.limit, &self.frame, sof, sol, sor) {
+        match allocated(self.limit, &self.shape, sof, sol, sor) {
             Ok(_) => Ok(()),
             Err(fault) => Err(fault),
         }
@@ -175,7 +179,7 @@ impl Stack {
     pub fn call(&mut self)
         ensures { self.new ≡ entered self.old (call_frame self.old.frame) }
     {
-        let frame = called(&self.frame);
+        let frame = called(&self.shape);
         self.enter(frame);
     }
 
@@ -191,7 +195,7 @@ impl Stack {
         ensures done { OnOk result (self.new ≡ entered self.old (returned_frame self.old.frame.base pfm)) }
         ensures refused { OnErr result (self.new ≡ self.old) }
     {
-        match returned(self.limit, self.frame.base, pfm) {
+        match returned(self.limit, self.shape.base, pfm) {
             Ok(frame) => {
                 self.enter(frame);
                 Ok(())
@@ -209,7 +213,7 @@ impl Stack {
         requires { pfm < 2 ^ 38 }
         ensures { result_err result ≡ return_fault_within self.now.limit self.now.frame.base (marked_frame self.now.frame.base pfm) }
     {
-        match returned(self.limit, self.frame.base, pfm) {
+        match returned(self.limit, self.shape.base, pfm) {
             Ok(_) => Ok(()),
             Err(fault) => Err(fault),
         }
@@ -220,13 +224,82 @@ impl Stack {
     pub fn rotate(&mut self)
         ensures { self.new ≡ record self.old { frame = rotated self.old.frame } }
     {
-        self.frame = rotated(&self.frame);
+        self.shape = rotated(&self.shape);
     }
 
     /// Makes all rename bases 0, or that of the predicates alone.
     pub fn clear(&mut self, pred_only: bool)
         ensures { self.new ≡ record self.old { frame = cleared pred_only self.old.frame } }
     {
-        self.frame = cleared(&self.frame, pred_only);
+        self.shape = cleared(&self.shape, pred_only);
+    }
+}
+
+#[cfg(test)]
+mod tests {
+    use super::{Cell, FrameShape, Gr, Rse, Stack};
+    use std::test::Fail;
+
+    /// Cells go out of the ring and come back, one of them with the last NaT bit of a word.
+    #[test]
+    fn cells_go_and_come_back(rt: HostRuntime) -> Result<(), Fail> {
+        let mut stack = Stack::open(rt.alloc(), 65_536)?;
+        let last = Gr::of_field(94);
+        let cell = Cell {
+            value: 7,
+            nat: true,
+        };
+        stack.alloc_frame(96, 90, 0)?;
+        stack.set(last, cell)?;
+        stack.call();
+        stack.alloc_frame(96, 90, 0)?;
+        let out = Rse {
+            low: 90,
+            high: 186,
+            spilled: 90,
+            filled: 0,
+        };
+        assert_eq!(rt; stack.rse(), out);
+        assert_eq!(rt; stack.region.len(), 66_624);
+        assert_eq!(rt; stack.region[62], 7);
+        assert_eq!(rt; stack.region[63], 1 << 62);
+        // 96 registers, of which 90 are local
+        stack.ret(11_616)?;
+        let back = Rse {
+            low: 0,
+            high: 96,
+            spilled: 90,
+            filled: 90,
+        };
+        assert_eq!(rt; stack.rse(), back);
+        assert_eq!(rt; stack.get(last)?, cell);
+        assert_eq!(rt; stack.region.len(), 66_624);
+        assert_eq!(rt; stack.region[62], 0);
+        assert_eq!(rt; stack.region[63], 0);
+        Ok(())
+    }
+
+    /// A stack has these five fields and no other.
+    #[test]
+    fn there_are_five_fields(rt: HostRuntime) -> Result<(), Fail> {
+        let stack = Stack::open(rt.alloc(), 96)?;
+        let Stack {
+            ring,
+            region,
+            shape,
+            rse,
+            limit,
+        } = &stack;
+        let ring: &[Cell; 96] = ring;
+        let region: &Vec<u64> = region;
+        let shape: &FrameShape = shape;
+        let rse: &Rse = rse;
+        let limit: &u32 = limit;
+        assert_eq!(rt; ring.len(), 96);
+        assert_eq!(rt; region.len(), 128);
+        assert_eq!(rt; shape.sof, 0);
+        assert_eq!(rt; rse.high, 0);
+        assert_eq!(rt; *limit, 96);
+        Ok(())
     }
 }

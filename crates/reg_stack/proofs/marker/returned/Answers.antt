@@ -2,7 +2,7 @@ use Rattle.std.proofs.Common.{◌≡◌, ◌-◌, ap, arith, ◌∙◌, None}
 use Rattle.ia_meaning.specs.Frames.{marked_frame}
 use Rattle.reg_stack.specs.Stacks.{return_fault_within, returned_frame}
 use Rattle.ia_meaning.proofs.ReturnFrames.{moved_frame}
-use Rattle.reg_stack.proofs.Returns.{may_return, end_of}
+use Rattle.reg_stack.proofs.Returns.{may_return, end_of, base_falls}
 use Rattle.reg_stack.proofs.marker.returned.Goals as goal
 
 pub overflow_sub-base : goal.overflow_sub-base
@@ -21,4 +21,4 @@ returns-in-None-clause-frame c =
     let below : c.from.result ≡ (marked_frame base pfs).sol = cc in
     let same : c.marked_frame.result ≡ returned_frame base pfs = c.marked_frame.ensures ∙ ap (λ x. marked_frame (base - x) pfs) below in
     let within = may.within in
-    (same, rw same (moved_frame base (base - (marked_frame base pfs).sol) pfs may.frame), rw same (rw (end_of base pfs) within))
+    (same, rw same (moved_frame base (base - (marked_frame base pfs).sol) pfs may.frame), rw same (rw (end_of base pfs) within), rw same (base_falls base pfs))
