@@ -32,6 +32,10 @@ bit_below c = omega arith
 pub word_within : (c : ℕ) (region : List ℕ) → c < room region → nat_word c < length region
 word_within c region h = omega arith
 
+-- the place of a cell whose turn round the ring is known
+pub place_in_turn : (c first : ℕ) → c / 96 ≡ first / 96 → c - 96 * (first / 96) ≡ c % 96
+place_in_turn c first h = omega arith
+
 -- two cells less than 96 apart have different places in the ring
 pub ring_ne_ring : (c d : ℕ) → c < d → d < c + 96 → d % 96 ≢ c % 96
 ring_ne_ring c d h k = omega arith

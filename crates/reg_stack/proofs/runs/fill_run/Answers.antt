@@ -3,7 +3,7 @@ use Rattle.std.proofs.lemmas.List.{length-set}
 use Rattle.ia_meaning.specs.declared.state.Cell.{Cell}
 use Rattle.ia_meaning.specs.State.{zero_cell}
 use Rattle.reg_stack.specs.Layout.{spilled_cell, held_cell, IsFreeFrom}
-use Rattle.reg_stack.proofs.Places.{IsBitPut, IsPut, with_nats, in_run, spilled_there, put_there}
+use Rattle.reg_stack.proofs.Places.{IsBitPut, IsPut, with_nats, in_run, place_in_turn, spilled_there, put_there}
 use Rattle.reg_stack.proofs.Steps.{fill_free, fill_cell}
 use Rattle.reg_stack.proofs.runs.fill_run.Goals as goal
 
@@ -14,7 +14,7 @@ loop-low-preserved c =
     let last = c.args.to in
     let low = c.loop-low.low - 1 in
     let word = low + last / 63 in
-    let place = c.place_before-place.result in
+    let place = low - 96 * (last / 96) in
     let cell : Cell = record { value = get_or region word 0; nat = c.nat_of.result } in
     let nats : IsBitPut c.loop-low.nats c.with_nat-nats.result (low - 63 * (last / 63)) zero_cell.nat =
     record { this = c.with_nat-nats.ensures.this; others = c.with_nat-nats.ensures.others } in
@@ -23,14 +23,13 @@ loop-low-preserved c =
     let at = in_run last low (omega arith) in
     let put : IsPut old new low zero_cell = put_there region zero_cell c.loop-low.nats c.with_nat-nats.result at (omega arith) nats in
     let next : low + 1 ≡ c.loop-low.low = omega arith in
-    let place_is : place ≡ low % 96 = omega arith in
+    let place_is : place ≡ low % 96 = place_in_turn low last (omega arith) in
     let seen : cell ≡ spilled_cell old low = rw c.nat_of.ensures (spilled_there region c.loop-low.nats at (omega arith)) in
     let filled : set ring place cell ≡ set ring (low % 96) (spilled_cell old low) = ap (λ p. set ring p cell) place_is ∙ ap (λ x. set ring (low % 96) x) seen in
     let free : IsFreeFrom old (low + 1) = rw next c.loop-low.invariant.free in
     record {
       order = omega arith;
       within = omega arith;
-      place = place_is;
       size = length-set ring place cell ∙ c.loop-low.invariant.size;
       count = length-set region word 0 ∙ c.loop-low.invariant.count;
       cells = λ d h. ap (λ x. held_cell x new low d) filled

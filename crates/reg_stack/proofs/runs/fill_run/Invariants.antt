@@ -1,4 +1,4 @@
-use Rattle.std.proofs.Common.{◌≡◌, ℕ, ◌-◌, ◌%◌, ◌<◌, ◌≤◌, length}
+use Rattle.std.proofs.Common.{◌≡◌, ℕ, ◌-◌, ◌<◌, ◌≤◌, length}
 use Rattle.reg_stack.specs.Layout.{held_cell, IsFreeFrom}
 use Rattle.reg_stack.proofs.Places.{with_nats}
 use Rattle.reg_stack.proofs.runs.fill_run.Given as goal
@@ -7,7 +7,6 @@ abbrev pub invariant-loop-low : goal.invariant-loop-low
 invariant-loop-low l = record {
   order : l.to ≤ l.low;
   within : l.low ≤ l.fn.from;
-  place : l.place ≡ l.low % 96;
   size : length l.ring ≡ 96;
   count : length l.region ≡ length l.fn.region;
   cells : (d : ℕ) → d < l.end → held_cell l.ring (with_nats l.region l.to l.nats) l.low d ≡ held_cell l.fn.ring l.fn.region l.fn.from d;
