@@ -14,7 +14,9 @@ mod runs;
 mod stack;
 
 pub use ia_meaning::{Cell, FrameShape, Rrbs, Rse};
-pub use laws::{alloc_fault_is_that, region_is_its_cells, return_fault_is_that};
+pub use laws::{
+    alloc_fault_is_that, caller_finds_its_registers, region_is_its_cells, return_fault_is_that,
+};
 pub use marker::frame_marker;
 pub use stack::Stack;
 

@@ -19,6 +19,14 @@ pub(crate) fn zero_cell() -> Cell
     }
 }
 
+/// The word of the region that has the NaT bit of a cell.
+fn nat_word(c: usize) -> usize
+    requires { c ≤ STACK_LIMIT }
+    ensures { result ≡ nat_word c }
+{
+    64 * (c / 63) + 63
+}
+
 /// The NaT collection with another NaT bit in place of one of its 63.
 fn with_nat(nats: u64, bit: usize, nat: bool) -> u64
     requires { bit < 63 }
@@ -50,7 +58,7 @@ pub(crate) fn spill_run(ring: &[Cell; 96], region: &mut [u64], from: usize, to: 
     ensures free { IsFreeFrom region.new to }
 {
     let (row, turn) = (from / 63, from / 96);
-    let collection = 64 * row + 63;
+    let collection = nat_word(from);
     let mut nats = region[collection];
     for c in from..to {
         let cell = ring[c - 96 * turn];
@@ -80,7 +88,7 @@ pub(crate) fn fill_run(
     ensures free { IsFreeFrom region.new to }
 {
     let (row, turn) = (to / 63, to / 96);
-    let collection = 64 * row + 63;
+    let collection = nat_word(to);
     let mut nats = region[collection];
     let mut low = from;
     while to < low {

@@ -23,7 +23,9 @@ use std::marker::Model;
 /// resident range, and the most cells that there may be.
 #[derive(Debug, Drop)]
 pub struct Stack {
+    // the cells of the resident range, each at its number modulo 96
     ring: [Cell; 96],
+    // the backing store: the cells below the resident range, and 0 elsewhere
     region: Vec<u64>,
     shape: FrameShape,
     rse: Rse,
@@ -276,6 +278,45 @@ mod tests {
         assert_eq!(rt; stack.region.len(), 66_624);
         assert_eq!(rt; stack.region[62], 0);
         assert_eq!(rt; stack.region[63], 0);
+        Ok(())
+    }
+
+    /// Functions call each other to a depth of 200, each with 40 local registers, of which one holds a NaT.
+    #[test]
+    fn registers_come_back_from_a_depth_of_200(rt: HostRuntime) -> Result<(), Fail> {
+        let mut stack = Stack::open(rt.alloc(), 65_536)?;
+        let (marked, counted) = (Gr::of_field(34), Gr::of_field(35));
+        for depth in 0..200 {
+            stack.call();
+            stack.alloc_frame(40, 40, 0)?;
+            let nat = Cell {
+                value: 0,
+                nat: true,
+            };
+            stack.set(marked, nat)?;
+            let count = Cell {
+                value: depth,
+                nat: false,
+            };
+            stack.set(counted, count)?;
+        }
+        let mut sum: u64 = 0;
+        let mut nats: u64 = 0;
+        for returned in 0..200 {
+            sum = sum.wrapping_add(stack.get(counted)?.value);
+            nats = nats.wrapping_add(u64::from(stack.get(marked)?.nat));
+            // 40 registers, all local, but for the last, which goes back to the empty frame
+            stack.ret(if returned < 199 { 5_160 } else { 0 })?;
+        }
+        let range = Rse {
+            low: 0,
+            high: 0,
+            spilled: 7_904,
+            filled: 7_904,
+        };
+        assert_eq!(rt; stack.rse(), range);
+        assert_eq!(rt; sum, 19_900);
+        assert_eq!(rt; nats, 200);
         Ok(())
     }
 
