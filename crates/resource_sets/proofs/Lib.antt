@@ -7,3 +7,6 @@ pub mod AllocWrites
 pub mod Locations
 pub mod Regularity
 pub mod Examples
+pub mod BitWords
+pub mod AccessColumns
+pub mod BitLists

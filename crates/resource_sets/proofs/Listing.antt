@@ -1,6 +1,8 @@
 -- The accesses of rows, one part after another.
-use Rattle.std.proofs.Common.{◌≡◌, ℕ, Bool, true, false, List, [], ◌∷◌, ◌++◌, if◌then◌else◌, refl, sym, ap, ◌∙◌, append_assoc, inl, inr, zero, suc, ◌+◌, ◌<◌, ◌≤◌, arith}
-use Rattle.std.proofs.lemmas.Bool.{cases_eq}
+use Rattle.std.proofs.Common.{◌≡◌, ℕ, Bool, true, false, List, [], ◌∷◌, ◌++◌, if◌then◌else◌, refl, sym, ap, ◌∙◌, append_assoc, inl, inr, zero, suc, ◌+◌, ◌-◌, ◌<◌, ◌≤◌, add-one, arith}
+use Rattle.std.specs.Prelude.{min}
+use Rattle.std.proofs.lemmas.Bool.{cases_eq, cases_lt, lt-ltb, le-ltb}
+use Rattle.ia_meaning.specs.Arithmetic.{bit}
 use Rattle.ia_meaning.specs.Moves.{is_masked}
 use Rattle.resource_sets.specs.declared.access.Resource.TheVariants.{Pr}
 use Rattle.resource_sets.specs.declared.access.Kind.{Kind}
@@ -35,7 +37,7 @@ pub mask_row : (qp p mask : ℕ) (kind : Kind) → 1 ≤ p → p < 64 → is_mas
 unfolding mask_rows
 mask_row qp p mask kind i j e = place_row qp 63 1 p mask kind i j e
 
-listed_append : (qp : ℕ) (xs ys : List Row) → listed qp (xs ++ ys) ≡ listed qp xs ++ listed qp ys
+pub listed_append : (qp : ℕ) (xs ys : List Row) → listed qp (xs ++ ys) ≡ listed qp xs ++ listed qp ys
 listed_append qp [] ys = refl
 listed_append qp (x ∷ xs) ys = by_row x.there (listed_append qp xs ys)
   where
@@ -53,3 +55,17 @@ in_parts qp f =
     (listed_append qp (frame_row qp f ∷ []) (qp_rows qp f ++ own_rows f)
     ∙ ap (λ x. listed qp (frame_row qp f ∷ []) ++ x) (listed_append qp (qp_rows qp f) (own_rows f))
     ∙ sym (append_assoc (listed qp (frame_row qp f ∷ [])) (listed qp (qp_rows qp f)) (listed qp (own_rows f))))
+
+-- the row of the n-th predicate, and those of the later ones
+pub place_step : (old : List Row) (n mask : ℕ) (kind : Kind) (row : Row) → n < 64
+    → row ≡ record { there = bit mask (min n 16); guarded = true; resource = Pr n; kind = kind }
+    → old ++ place_rows (64 - n) n mask kind ≡ (old ++ row ∷ []) ++ place_rows (64 - (n + 1)) (n + 1) mask kind
+place_step old n mask kind row l is =
+    let e : 64 - n ≡ suc (64 - (n + 1)) = omega arith in
+    rw (e, is, masked_at, add-one n) (sym (append_assoc old (record { there = is_masked mask n; guarded = true; resource = Pr n; kind = kind } ∷ []) (place_rows (64 - suc n) (suc n) mask kind)))
+  where
+    masked_at : bit mask (min n 16) ≡ is_masked mask n
+    masked_at = elim (cases_lt n 16) [
+      | inl l ↦ rw (lt-ltb n 16 l) (ap (λ (k : ℕ). bit mask k) (let k : min n 16 ≡ n = omega arith in k))
+      | inr l ↦ rw (le-ltb n 16 l) (ap (λ (k : ℕ). bit mask k) (let k : min n 16 ≡ 16 = omega arith in k))
+    ]

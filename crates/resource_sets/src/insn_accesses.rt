@@ -3,7 +3,8 @@
 ghost use Rattle.std.specs.Prelude.{◌≡◌, ◌+◌, ◌-◌, ◌≤◌, ◌<◌, ◌++◌, ◌∷◌, true, length};
 ghost use Rattle.arrayvec.specs.ArrayVec.{array_vec_len};
 ghost use Rattle.ia_meaning.specs.Actions.{form_of};
-ghost use Rattle.resource_sets.specs.Rows.{gr, always, listed};
+ghost use Rattle.resource_sets.specs.Rows.{gr, always};
+ghost use Rattle.resource_sets.specs.Bits.{AreWithin};
 ghost use Rattle.resource_sets.specs.declared.access.Resource.TheVariants as spec;
 ghost use Rattle.resource_sets.specs.declared.access.Kind.TheVariants.{Read, Write};
 ghost use Rattle.resource_sets.specs.Accesses.{test_rows, base_row, own_rows, other_name, application, source_rows, unat_row, loop_rows, call_rows, place_rows, mask_rows, placed_rows, reads_plainly, reads_as_branch, qp_rows, is_framed, any_framed, frame_row, accesses_of, accesses};
@@ -16,12 +17,14 @@ use ia_meaning::{Form, Goal, Source, form_of, update_register};
 use integer_ops::bit;
 
 /// At most eight rows.
-type Rows = ArrayVec<Row, 8>;
+pub(crate) type Rows = ArrayVec<Row, 8>;
 
 /// The rows of a slice.
 fn list(rows: &[Row]) -> Rows
-    requires { length rows.now ≤ 8 }
-    ensures { result.items ≡ rows.now }
+    requires few { length rows.now ≤ 8 }
+    requires within { AreWithin rows.now }
+    ensures rows { result.items ≡ rows.now }
+    ensures within { AreWithin result.items }
 {
     let mut out = ArrayVec::new();
     if out.try_extend_from_slice(rows).is_err() {
@@ -32,7 +35,8 @@ fn list(rows: &[Row]) -> Rows
 
 /// The two targets of a test.
 fn test_rows(kind: CmpKind, p1: Pr, p2: Pr) -> [Row; 2]
-    ensures { result ≡ test_rows kind p1 p2 }
+    ensures rows { result ≡ test_rows kind p1 p2 }
+    ensures within { AreWithin result }
 {
     match kind {
         CmpKind::Normal => [pr(true, p1, Kind::Write), pr(true, p2, Kind::Write)],
@@ -45,7 +49,8 @@ fn test_rows(kind: CmpKind, p1: Pr, p2: Pr) -> [Row; 2]
 
 /// The base of a load or a store, which may be updated.
 fn base_row(update: &Update, r3: Gr) -> Row
-    ensures { result ≡ base_row update.now r3 }
+    ensures row { result ≡ base_row update.now r3 }
+    ensures within { r3 < 128 }
 {
     let mut row = gr(r3, Kind::Write);
     if *update == Update::None {
@@ -78,14 +83,16 @@ fn application(ar: Ar) -> Resource
 
 /// A branch register under the qualifying predicate.
 fn br(b: Br, kind: Kind) -> Row
-    ensures { result ≡ always true (spec.Br b) kind }
+    ensures row { result ≡ always true (spec.Br b) kind }
+    ensures within { b < 8 }
 {
     always(true, Resource::Br(b.number()), kind)
 }
 
 /// A copy into a general register.
 fn fetch_rows(r1: Gr, source: Source) -> Rows
-    ensures { result.items ≡ gr r1 Write ∷ source_rows source }
+    ensures rows { result.items ≡ gr r1 Write ∷ source_rows source }
+    ensures within { AreWithin result.items }
 {
     let target = gr(r1, Kind::Write);
     match source {
@@ -106,7 +113,8 @@ fn unat_row(there: bool, kind: Kind) -> Row
 
 /// What a loop branch accesses.
 fn loop_rows(kind: BranchKind) -> Rows
-    ensures { result.items ≡ loop_rows kind }
+    ensures rows { result.items ≡ loop_rows kind }
+    ensures within { AreWithin result.items }
 {
     let fixed = |resource, kind| always(false, resource, kind);
     match kind {
@@ -136,7 +144,8 @@ fn loop_rows(kind: BranchKind) -> Rows
 
 /// What a call accesses.
 fn call_rows(b1: Br, goal: Goal) -> Rows
-    ensures { result.items ≡ call_rows b1 goal }
+    ensures rows { result.items ≡ call_rows b1 goal }
+    ensures within { AreWithin result.items }
 {
     let own = |resource, kind| always(true, resource, kind);
     let b2 = match goal {
@@ -154,8 +163,9 @@ fn call_rows(b1: Br, goal: Goal) -> Rows
 }
 
 /// The rows of an instruction, but for those of its qualifying predicate and of predicates by place.
-fn own_rows(form: &Form) -> Rows
-    ensures { result.items ≡ own_rows form.now }
+pub(crate) fn own_rows(form: &Form) -> Rows
+    ensures rows { result.items ≡ own_rows form.now }
+    ensures within { AreWithin result.items }
 {
     let own = |resource, kind| always(true, resource, kind);
     match *form {
@@ -257,8 +267,9 @@ fn reads_as_branch(form: &Form) -> bool
 }
 
 /// The reads of the qualifying predicate.
-fn qp_rows(qp: Pr, form: &Form) -> [Row; 2]
-    ensures { result ≡ qp_rows qp form.now }
+pub(crate) fn qp_rows(qp: Pr, form: &Form) -> [Row; 2]
+    ensures rows { result ≡ qp_rows qp form.now }
+    ensures within { AreWithin result }
 {
     let mut plain = pr(false, qp, Kind::Read);
     plain.there = plain.there && reads_plainly(form);
@@ -286,7 +297,7 @@ fn any_framed(rows: &[Row]) -> bool
 }
 
 /// The read of the frame by names that depend on it.
-fn frame_row(qp: Pr, form: &Form, own: &[Row]) -> Row
+pub(crate) fn frame_row(qp: Pr, form: &Form, own: &[Row]) -> Row
     requires { own.now ≡ own_rows form.now }
     ensures { result ≡ frame_row qp form.now }
 {
@@ -295,42 +306,45 @@ fn frame_row(qp: Pr, form: &Form, own: &[Row]) -> Row
     row
 }
 
-/// Appends an access of the n-th predicate, where a mask has it.
-fn push_place(out: &mut ArrayVec<Access, ACCESS_LIMIT>, qp: Pr, mask: u64, kind: Kind, n: u64)
-    requires room { array_vec_len out.old < ACCESS_LIMIT }
+/// The rows of predicates by place, at most 63.
+type PlacedRows = ArrayVec<Row, 63>;
+
+/// Appends the row of the n-th predicate, which is there where a mask has it.
+fn push_place(out: &mut PlacedRows, mask: u64, kind: Kind, n: u64)
     requires some { 1 ≤ n }
     requires most { n < 64 }
-    ensures items { out.old.items ++ listed qp (place_rows (64 - n) n mask kind) ≡ out.new.items ++ listed qp (place_rows (64 - (n + 1)) (n + 1) mask kind) }
-    ensures len { array_vec_len out.new ≤ array_vec_len out.old + 1 }
+    requires len { array_vec_len out.old + 1 ≡ n }
+    ensures items { out.old.items ++ place_rows (64 - n) n mask kind ≡ out.new.items ++ place_rows (64 - (n + 1)) (n + 1) mask kind }
+    ensures len { array_vec_len out.new ≡ n }
 {
     let mut row = pr(true, Pr::of_field(n), kind);
     row.there = bit(mask, n.min(16) as u8);
-    push(out, qp, row);
+    out.push(row);
 }
 
-/// Appends accesses of the predicates that a mask has.
+/// The rows of the predicates p1 to p63, where a mask has them.
 #[tactic(auto, unfolding(crate::specs::Accesses::mask_rows))]
-fn push_mask(out: &mut ArrayVec<Access, ACCESS_LIMIT>, qp: Pr, mask: u64, kind: Kind)
-    requires { array_vec_len out.old + 63 ≤ ACCESS_LIMIT }
-    ensures { out.new.items ≡ out.old.items ++ listed qp (mask_rows mask kind) }
+fn mask_rows(mask: u64, kind: Kind) -> PlacedRows
+    ensures { result.items ≡ mask_rows mask kind }
 {
+    let mut out = ArrayVec::new();
     for n in 1..64 {
-        push_place(out, qp, mask, kind, n);
+        push_place(&mut out, mask, kind, n);
     }
+    out
 }
 
-/// Appends the accesses of predicates by place.
-fn push_placed(out: &mut ArrayVec<Access, ACCESS_LIMIT>, qp: Pr, form: &Form)
-    requires { array_vec_len out.old + 63 ≤ ACCESS_LIMIT }
-    ensures { out.new.items ≡ out.old.items ++ listed qp (placed_rows form.now) }
+/// The rows of predicates by place. All of them are read: the mask has all bits.
+pub(crate) fn placed_rows(form: &Form) -> PlacedRows
+    ensures { result.items ≡ placed_rows form.now }
 {
     match *form {
         Form::Fetch {
             source: Source::Predicates,
             ..
-        } => push_mask(out, qp, 0x1ffff, Kind::Read),
-        Form::ToPredicates { mask, .. } => push_mask(out, qp, u64::from(mask), Kind::Write),
-        _ => {}
+        } => mask_rows(0x1ffff, Kind::Read),
+        Form::ToPredicates { mask, .. } => mask_rows(u64::from(mask), Kind::Write),
+        _ => ArrayVec::new(),
     }
 }
 
@@ -345,7 +359,7 @@ pub fn accesses_of(qp: Pr, form: &Form) -> ArrayVec<Access, ACCESS_LIMIT>
     push(&mut out, qp, frame_row(qp, form, own.as_slice()));
     push_all(&mut out, qp, &qp_rows(qp, form));
     push_all(&mut out, qp, own.as_slice());
-    push_placed(&mut out, qp, form);
+    push_all(&mut out, qp, placed_rows(form).as_slice());
     out
 }
 

@@ -8,12 +8,17 @@
 #![tactic(auto)]
 
 mod access;
+mod bits;
 mod clashes;
 mod insn_accesses;
+mod insn_masks;
 mod laws;
+mod masking;
 mod row;
 
 pub use access::{ACCESS_LIMIT, Access, Kind, Resource};
 pub use clashes::{Rule, clash};
 pub use insn_accesses::{accesses, accesses_of};
+pub use insn_masks::masks;
 pub use laws::{accesses_are_regular, accesses_clash, depends_on_accesses, writes_are_accesses};
+pub use masking::{Masks, masks_of, may_clash};

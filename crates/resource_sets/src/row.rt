@@ -41,7 +41,8 @@ impl Default for Row {
 
 /// A general register under the qualifying predicate. r0 is no resource.
 pub(crate) fn gr(r: Gr, kind: Kind) -> Row
-    ensures { result ≡ gr r kind }
+    ensures row { result ≡ gr r kind }
+    ensures within { r < 128 }
 {
     Row {
         there: !r.is_zero(),
@@ -53,7 +54,8 @@ pub(crate) fn gr(r: Gr, kind: Kind) -> Row
 
 /// A predicate. p0 is no resource.
 pub(crate) fn pr(guarded: bool, p: Pr, kind: Kind) -> Row
-    ensures { result ≡ pr guarded p kind }
+    ensures row { result ≡ pr guarded p kind }
+    ensures within { p < 64 }
 {
     Row {
         there: !p.is_zero(),

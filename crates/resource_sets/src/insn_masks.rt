@@ -1,0 +1,15 @@
+//! The masks of an instruction.
+
+ghost use Rattle.std.specs.Prelude.{◌≡◌};
+ghost use Rattle.resource_sets.specs.Accesses.{accesses};
+
+use crate::masking::{Masks, masks_of};
+use ia_insn::Insn;
+use ia_meaning::form_of;
+
+/// The masks of an instruction.
+pub fn masks(insn: &Insn) -> Masks
+    ensures { result ≡ accesses insn.now }
+{
+    masks_of(insn.qp, &form_of(&insn.op))
+}

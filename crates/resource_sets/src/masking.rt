@@ -1,0 +1,102 @@
+//! Which instructions may clash, told by bits.
+
+ghost use Rattle.std.specs.Prelude.{◌≡◌, ◌++◌, ◌∷◌, [], ℕ, true, List};
+ghost use Rattle.resource_sets.specs.declared.access.Access.{Access};
+ghost use Rattle.resource_sets.specs.Rows.{listed};
+ghost use Rattle.resource_sets.specs.Accesses.{accesses_of};
+ghost use Rattle.resource_sets.specs.Masks.{may_clash};
+ghost use Rattle.resource_sets.specs.Bits.{IsWithin, AreWithin, fits, all_fit, AreBits};
+
+use crate::access::{ACCESS_LIMIT, Access, Kind, Resource};
+use crate::bits::AccessBits;
+use crate::insn_accesses::{accesses_of, frame_row, own_rows, placed_rows, qp_rows};
+use crate::row::Row;
+use arrayvec::ArrayVec;
+use ia_insn::Pr;
+use ia_meaning::Form;
+use std::marker::Model;
+
+/// The accesses of an instruction, with the bits by which it is soon seen that another one can't clash with it.
+/// Contracts see the list of the accesses.
+#[derive(Debug, Drop)]
+pub struct Masks {
+    qp: Pr,
+    form: Form,
+    /// The accesses themselves.
+    made: AccessBits,
+    /// What a later slot of the group may not access.
+    barred: AccessBits,
+}
+
+impl Model for Masks {
+    ghost use Rattle.std.specs.Prelude.{List};
+    ghost use Rattle.resource_sets.specs.declared.access.Access.{Access};
+    ghost use Rattle.resource_sets.specs.Accesses.{accesses_of};
+    ghost use Rattle.resource_sets.specs.Bits.{AreBits};
+
+    ghost Value = { List Access };
+
+    ghost view = { λ m. accesses_of m.qp m.form };
+
+    ghost invariant = { λ m. AreBits (accesses_of m.qp m.form) m.made m.barred };
+}
+
+impl Masks {
+    /// The accesses, as `accesses_of` gives them.
+    pub fn accesses(&self) -> ArrayVec<Access, ACCESS_LIMIT>
+        ensures { result.items ≡ self.now }
+    {
+        accesses_of(self.qp, &self.form)
+    }
+}
+
+/// Takes in one more row.
+fn take_row(made: &mut AccessBits, barred: &mut AccessBits, row: Row)
+    requires within { IsWithin row.resource }
+    requires fits { fits row.resource row.kind ≡ true }
+    ensures { (qp : ℕ) (earlier : List Access) → AreBits earlier made.old barred.old → AreBits (earlier ++ listed qp (row ∷ [])) made.new barred.new }
+{
+    if !row.there {
+        return;
+    }
+    made.make(row.resource, row.kind);
+    barred.bar(row.resource, row.kind);
+}
+
+/// Takes in more rows.
+fn take_rows(made: &mut AccessBits, barred: &mut AccessBits, rows: &[Row])
+    requires within { AreWithin rows.now }
+    requires fits { all_fit rows.now ≡ true }
+    ensures { (qp : ℕ) (earlier : List Access) → AreBits earlier made.old barred.old → AreBits (earlier ++ listed qp rows.now) made.new barred.new }
+{
+    for n in 0..rows.len() {
+        take_row(made, barred, rows[n]);
+    }
+}
+
+/// The masks of an instruction by its qualifying predicate and its form.
+pub fn masks_of(qp: Pr, form: &Form) -> Masks
+    ensures { result ≡ accesses_of qp form.now }
+{
+    let own = own_rows(form);
+    let mut made = AccessBits::NONE;
+    let mut barred = AccessBits::NONE;
+    take_row(&mut made, &mut barred, frame_row(qp, form, own.as_slice()));
+    take_rows(&mut made, &mut barred, &qp_rows(qp, form));
+    take_rows(&mut made, &mut barred, own.as_slice());
+    take_rows(&mut made, &mut barred, placed_rows(form).as_slice());
+    Masks {
+        qp,
+        form: *form,
+        made,
+        barred,
+    }
+}
+
+/// Whether some access of the first clashes with some access of the second, if the first stands in an earlier slot
+/// of the group. False exactly where `clash` names no rule for any two of them.
+pub fn may_clash(first: &Masks, second: &Masks) -> bool
+    ensures { result ≡ may_clash first.now second.now }
+{
+    first.barred.share_bits(&second.made)
+}
