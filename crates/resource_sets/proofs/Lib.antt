@@ -10,3 +10,4 @@ pub mod Examples
 pub mod BitWords
 pub mod AccessColumns
 pub mod BitLists
+pub mod WrittenGuards

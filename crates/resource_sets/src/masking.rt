@@ -1,9 +1,11 @@
 //! Which instructions may clash, told by bits.
 
-ghost use Rattle.std.specs.Prelude.{◌≡◌, ◌++◌, ◌∷◌, [], ℕ, true, List};
+ghost use Rattle.std.specs.Prelude.{◌≡◌, ◌<◌, ◌++◌, ◌∷◌, [], ℕ, true, List};
 ghost use Rattle.resource_sets.specs.declared.access.Access.{Access};
 ghost use Rattle.resource_sets.specs.Rows.{listed};
 ghost use Rattle.resource_sets.specs.Accesses.{accesses_of};
+ghost use Rattle.ia_meaning.specs.Arithmetic.{bit};
+ghost use Rattle.resource_sets.specs.Clashes.{may_write_guard};
 ghost use Rattle.resource_sets.specs.Masks.{may_clash};
 ghost use Rattle.resource_sets.specs.Bits.{IsWithin, AreWithin, fits, all_fit, AreBits};
 
@@ -14,7 +16,14 @@ use crate::row::Row;
 use arrayvec::ArrayVec;
 use ia_insn::Pr;
 use ia_meaning::Form;
+use integer_ops::bit;
 use std::marker::Model;
+
+/// The bits of p16 to p63.
+const ROTATING: u64 = 0xffff_ffff_ffff_0000;
+
+/// The place among other bits of a read of the frame.
+const FRAME: u8 = 5;
 
 /// The accesses of an instruction, with the bits by which it is soon seen that another one can't clash with it.
 /// Contracts see the list of the accesses.
@@ -47,6 +56,18 @@ impl Masks {
         ensures { result.items ≡ self.now }
     {
         accesses_of(self.qp, &self.form)
+    }
+
+    /// The predicates that the instruction may write, by their names: those that it writes, and from p16 on all if it
+    /// writes the frame, but not as `alloc` does. Bit g is that of the predicate g.
+    pub fn written_predicates(&self) -> u64
+        ensures { (g : ℕ) → g < 64 → bit result g ≡ may_write_guard g self.now }
+    {
+        if bit(self.barred.others, FRAME) {
+            self.barred.predicates | ROTATING
+        } else {
+            self.barred.predicates
+        }
     }
 }
 
