@@ -1,6 +1,9 @@
 -- Lists that gain what has a property.
 use Rattle.std.proofs.Common.{◌≡◌, ℕ, ◌+◌, ◌<◌, ◌⊎◌, Bool, true, false, ◌&&◌, List, [], ◌∷◌, ◌++◌, length, get_or, take, refl, sym, ap, ◌∙◌, subst, Some, inl, inr}
 use Rattle.std.specs.Prelude.{Contains}
+use Rattle.std.specs.Option.{is_some}
+use Rattle.std.specs.List.{list_any}
+use Rattle.std.proofs.lemmas.Bool.{or_left, or_right, true≢false}
 use Rattle.std.proofs.lemmas.List.{take_more}
 use Rattle.std.proofs.lemmas.List.Elements.{Contains-append_left, Contains-push, Contains-push_cases}
 use Rattle.ia_insn.specs.declared.place.Place.{Place}
@@ -11,11 +14,13 @@ use Rattle.resource_sets.specs.declared.access.Access.{Access}
 use Rattle.resource_sets.specs.declared.clashes.Rule.{Rule}
 use Rattle.resource_sets.specs.declared.clashes.Rule.TheVariants.{AllocFirst, ClearLast}
 use Rattle.resource_sets.specs.Clashes.{clash}
+use Rattle.resource_sets.specs.Masks.{may_clash}
 use Rattle.slot_table.specs.declared.slot.Slot.{Slot}
 use Rattle.group_checker.specs.declared.violation.Violation.{Violation}
 use Rattle.group_checker.specs.declared.window.EarlierSlot.{EarlierSlot}
-use Rattle.group_checker.specs.Findings.{IsPair, FindsBy, may_be_excused, excused_by, IsSlotRule}
+use Rattle.group_checker.specs.Findings.{IsPair, FindsBy, FindsIn, may_be_excused, excused_by, IsSlotRule}
 use Rattle.group_checker.specs.Order.{Adds}
+use Rattle.group_checker.proofs.Members.{not_in_none, cases_in}
 
 -- the same of a property that says the same
 pub adds_like : (xs ys : List Violation) (P Q : Violation → Type 0) → ((v : Violation) → P v → Q v) → ((v : Violation) → Q v → P v) → Adds xs ys P → Adds xs ys Q
@@ -76,6 +81,19 @@ one_found e j a b rule same broken stays xs ys adds =
     whole v h =
         let r : v.rule ≡ rule = (let q : Some v.rule ≡ Some rule = sym h.1.clash ∙ broken in cc) in
         made v j e.place rule a.resource h.0.1 h.0.0 r (sym h.1.first_on)
+
+any_holds : (p : Access → Bool) (xs : List Access) (x : Access) → Contains xs x → p x ≡ true → list_any p xs ≡ true
+any_holds p [] x c h = absurd (not_in_none x c)
+any_holds p (y ∷ ys) x c h = elim (cases_in y x ys c) [
+  | inl e ↦ or_left (p y) (list_any p ys) (subst (λ (z : Access). p z ≡ true) (sym e) h)
+  | inr d ↦ or_right (p y) (list_any p ys) (any_holds p ys x d h)
+]
+
+-- of slots that can't clash nothing is found
+pub apart_finds : (e : EarlierSlot) (firsts seconds : List Access) (v : Violation) → may_clash firsts seconds ≡ false → FindsIn e firsts seconds v → ⊥
+apart_finds e firsts seconds v apart (a, of_first, (b, of_second, found)) =
+    let second : list_any (λ y. is_some (clash a y)) seconds ≡ true = any_holds (λ y. is_some (clash a y)) seconds b of_second (ap is_some found.clash) in
+    true≢false (sym (any_holds (λ x. list_any (λ y. is_some (clash x y)) seconds) firsts a of_first second) ∙ apart)
 
 -- where no rule is broken nothing is found
 pub none_found : (e : EarlierSlot) (j : Place) (a b : Access) (xs : List Violation) → ((v : Violation) → FindsBy e a b v → ⊥) → Adds xs xs (λ v. IsPair e.place j v × FindsBy e a b v)

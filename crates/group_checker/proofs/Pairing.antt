@@ -115,7 +115,7 @@ unexcused p es j n e rule g h win at fails = elim (and_cases (may_be_excused rul
 ]
 
 -- what is found is broken on a walk
-pub found_violates : (p : Program) (es : List EarlierSlot) (j : Place) (n : ℕ) (e : EarlierSlot) (v : Violation) → IsWindow p es j → IsAt es n e → IsPair e.place j v → FindsIn e e.accesses.items (accesses_at p j) v → Violates p v
+pub found_violates : (p : Program) (es : List EarlierSlot) (j : Place) (n : ℕ) (e : EarlierSlot) (v : Violation) → IsWindow p es j → IsAt es n e → IsPair e.place j v → FindsIn e e.masks (accesses_at p j) v → Violates p v
 found_violates p es j n e v win at is (a, of_first, (b, of_second, found)) =
     let o = unexcused p es j n e v.rule a.guard b.guard win at found.stays in
     let carried = win.carried n e at in
@@ -172,7 +172,7 @@ slot_violates p es j s n e v win here_at at end is rule =
     broken w through here (inr r) = of w ClearLast r.rule r.resource (sym (win.carried n e at).clears ∙ r.clears, here, refl)
 
 -- a clash on a walk is found
-finds_clash : (p : Program) (es : List EarlierSlot) (j : Place) (n : ℕ) (e : EarlierSlot) (v : Violation) (w : Walk) → IsWindow p es j → IsAt es n e → IsThrough p e.place j w → (c : Clashes p e.place (end_of w) v.rule v.resource) → (may_be_excused v.rule && excused_by e c.first.guard c.second.guard) ≡ false → FindsIn e e.accesses.items (accesses_at p j) v
+finds_clash : (p : Program) (es : List EarlierSlot) (j : Place) (n : ℕ) (e : EarlierSlot) (v : Violation) (w : Walk) → IsWindow p es j → IsAt es n e → IsThrough p e.place j w → (c : Clashes p e.place (end_of w) v.rule v.resource) → (may_be_excused v.rule && excused_by e c.first.guard c.second.guard) ≡ false → FindsIn e e.masks (accesses_at p j) v
 finds_clash p es j n e v w win at through c stays =
     let carried = win.carried n e at in (
       c.first,
@@ -185,7 +185,7 @@ finds_clash p es j n e v w win at through c stays =
     )
 
 -- what is broken on a walk is found
-pub violation_found : (p : Program) (es : List EarlierSlot) (j : Place) (s : Slot) (n : ℕ) (e : EarlierSlot) (v : Violation) → IsWindow p es j → slot_at p.bundles j ≡ Some s → IsAt es n e → IsPair e.place j v → Violates p v → FindsIn e e.accesses.items (accesses_at p j) v ⊎ ((n + 1 ≡ length es) × IsSlotRule e s v)
+pub violation_found : (p : Program) (es : List EarlierSlot) (j : Place) (s : Slot) (n : ℕ) (e : EarlierSlot) (v : Violation) → IsWindow p es j → slot_at p.bundles j ≡ Some s → IsAt es n e → IsPair e.place j v → Violates p v → FindsIn e e.masks (accesses_at p j) v ⊎ ((n + 1 ≡ length es) × IsSlotRule e s v)
 violation_found p es j s n e v win here_at at is x = let b = broken_on p e.place j v is x in by_rule b.walk b.through v.rule refl b.breaks
   where
     unexcused_stays : (w : Walk) → IsThrough p e.place j w → (may : Bool) (g h : ℕ) → ¬ IsExcused p w e.place g h → (may && excused_by e g h) ≡ false
@@ -195,13 +195,13 @@ violation_found p es j s n e v win here_at at is x = let b = broken_on p e.place
       | inr f ↦ f
     ]
 
-    by_clash : (w : Walk) (rule : Rule) → v.rule ≡ rule → IsThrough p e.place j w → (c : Clashes p e.place (end_of w) rule v.resource) → (may_be_excused rule && excused_by e c.first.guard c.second.guard) ≡ false → FindsIn e e.accesses.items (accesses_at p j) v
+    by_clash : (w : Walk) (rule : Rule) → v.rule ≡ rule → IsThrough p e.place j w → (c : Clashes p e.place (end_of w) rule v.resource) → (may_be_excused rule && excused_by e c.first.guard c.second.guard) ≡ false → FindsIn e e.masks (accesses_at p j) v
     by_clash w rule same through c stays =
         finds_clash p es j n e v w win at through
         (record { first = c.first; second = c.second; of_first = c.of_first; of_second = c.of_second; first_on = c.first_on; second_on = c.second_on; clash = c.clash ∙ ap Some (sym same) })
         (ap (λ (r : Rule). may_be_excused r && excused_by e c.first.guard c.second.guard) same ∙ stays)
 
-    by_rule : (w : Walk) → IsThrough p e.place j w → (rule : Rule) → v.rule ≡ rule → Breaks p w e.place rule v.resource → FindsIn e e.accesses.items (accesses_at p j) v ⊎ ((n + 1 ≡ length es) × IsSlotRule e s v)
+    by_rule : (w : Walk) → IsThrough p e.place j w → (rule : Rule) → v.rule ≡ rule → Breaks p w e.place rule v.resource → FindsIn e e.masks (accesses_at p j) v ⊎ ((n + 1 ≡ length es) × IsSlotRule e s v)
     by_rule w through Raw same b = inl (by_clash w Raw same through b.clashes (unexcused_stays w through true b.clashes.first.guard b.clashes.second.guard b.stays))
     by_rule w through Waw same b = inl (by_clash w Waw same through b.clashes (unexcused_stays w through true b.clashes.first.guard b.clashes.second.guard b.stays))
     by_rule w through War63 same b = inl (by_clash w War63 same through b refl)
@@ -210,7 +210,7 @@ violation_found p es j s n e v win here_at at is x = let b = broken_on p e.place
 
 -- the violations of a pair of slots are those that its accesses break, and if the slots follow each other, those of the
 -- rules on slots
-pub pair_all : (p : Program) (es : List EarlierSlot) (j : Place) (s : Slot) (seconds : List Access) (n : ℕ) (e : EarlierSlot) (xs ys zs : List Violation) → IsUnderWay p es j s seconds → IsAt es n e → xs ≡ [] → Adds xs ys (λ v. IsPair e.place j v × FindsIn e e.accesses.items seconds v) → Adds ys zs (λ v. (n + 1 ≡ length es) × (IsPair e.place j v × IsSlotRule e s v)) → Adds [] zs (λ v. IsNthPair es n j v × Violates p v)
+pub pair_all : (p : Program) (es : List EarlierSlot) (j : Place) (s : Slot) (seconds : List Access) (n : ℕ) (e : EarlierSlot) (xs ys zs : List Violation) → IsUnderWay p es j s seconds → IsAt es n e → xs ≡ [] → Adds xs ys (λ v. IsPair e.place j v × FindsIn e e.masks seconds v) → Adds ys zs (λ v. (n + 1 ≡ length es) × (IsPair e.place j v × IsSlotRule e s v)) → Adds [] zs (λ v. IsNthPair es n j v × Violates p v)
 pair_all p es j s seconds n e xs ys zs u at none a b = record {
   keeps = λ v c. absurd (not_in_none v c);
   has = λ v (nth, x).

@@ -104,6 +104,21 @@ pair_reported p old new es j n bound found win r up all few total shown = record
       | inr q ↦ inl (x, inr (e.0, record { has = e.1.has; below = omega (arith, e.1.below) }))
     ]
 
+-- and of one that breaks no rule
+pub pair_apart : (p : Program) (r : Report) (es : List EarlierSlot) (j : Place) (n bound : ℕ) → ((v : Violation) → IsNthPair es n j v → ¬ Violates p v) → HasReported p r (IsEarlierPair es j n) bound → HasReported p r (IsEarlierPair es j (n + 1)) (bound + pair_bound)
+pair_apart p r es j n bound none u = retold p r (IsEarlierPair es j n) (IsEarlierPair es j (n + 1)) bound (bound + pair_bound) (omega arith) wider less u
+  where
+    wider : (v : Violation) → Violates p v → IsEarlierPair es j n v → IsEarlierPair es j (n + 1) v
+    wider v x (inl l) = inl l
+    wider v x (inr e) = inr (e.0, record { has = e.1.has; below = omega (arith, e.1.below) })
+
+    less : (v : Violation) → Violates p v → IsEarlierPair es j (n + 1) v → IsEarlierPair es j n v
+    less v x (inl l) = inl l
+    less v x (inr e) = elim (cases_eq e.1.has.index n) [
+      | inl q ↦ absurd (none v (record { slot = e.1.has.slot; at = subst (λ (m : ℕ). IsAt es m e.1.has.slot) q e.1.has.at; pair = (sym e.1.has.is, e.0) }) x)
+      | inr q ↦ inr (e.0, record { has = e.1.has; below = omega (arith, e.1.below) })
+    ]
+
 -- at the first slot of the window
 pub none_of_second : (p : Program) (r : Report) (es : List EarlierSlot) (j : Place) (bound : ℕ) → HasReported p r (IsEarlier j) bound → HasReported p r (IsEarlierPair es j 0) bound
 none_of_second p r es j bound u = retold p r (IsEarlier j) (IsEarlierPair es j 0) bound bound (omega arith) (λ v x h. inl h) (λ v x h. of v h) u

@@ -146,7 +146,7 @@ new_walks p j next join = record {
 pub record IsSlotOf (p : Program) (j : Place) (f : Pairs) (mask : ℕ) (e : EarlierSlot) : Type 0 where
   pub place : e.place ≡ j
   pub clears : e.clears ≡ clears_at p j
-  pub accesses : e.accesses.items ≡ accesses_at p j
+  pub accesses : e.masks ≡ accesses_at p j
   pub known : pairs_of e.known ≡ pairs_past p j Falls f
   pub written : e.written ≡ mask
 
@@ -165,7 +165,7 @@ which p j mask old new e m b adv h = elim (at_push new e m b h) [
 carried_old : (p : Program) (j next : Place) (mask : ℕ) (a b : EarlierSlot) → Joins p j next → IsCarried p j a → GoesOn p j mask a b → IsCarried p next b
 carried_old p j next mask a b join old on = record {
   clears = on.clears ∙ old.clears ∙ ap (clears_at p) (sym on.place);
-  accesses = ap (λ x. x.items) on.accesses ∙ old.accesses ∙ ap (accesses_at p) (sym on.place);
+  accesses = on.accesses ∙ old.accesses ∙ ap (accesses_at p) (sym on.place);
   known = (let P : Place → Pairs → Type 0 = λ k f. IsMeetOf p (IsThrough p k next) f in
       subst (λ (k : Place). P k (pairs_of b.known)) (sym on.place) (subst (λ (f : Pairs). P a.place f) (sym on.known)
       (meet_past p j (IsThrough p a.place j) (IsThrough p a.place next) (pairs_of a.known) (old_walks p j next a.place join old.below) old.known)));

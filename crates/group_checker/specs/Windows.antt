@@ -36,7 +36,7 @@ pub record IsAt (window : List EarlierSlot) (m : ℕ) (e : EarlierSlot) : Type 0
 -- At j the slot is earlier in the group: it has what all walks through it know at j.
 pub record IsCarried (p : Program) (j : Place) (e : EarlierSlot) : Type 0 where
   pub clears : e.clears ≡ clears_at p e.place
-  pub accesses : e.accesses.items ≡ accesses_at p e.place
+  pub accesses : e.masks ≡ accesses_at p e.place
   pub known : IsMeetOf p (IsThrough p e.place j) (pairs_of e.known)
   pub below : IsBefore e.place j
 
@@ -91,7 +91,7 @@ IsGuardMask mask accesses = (g : ℕ) → g < 64 → has_bit mask g ≡ may_writ
 pub record GoesOn (p : Program) (j : Place) (mask : ℕ) (old new : EarlierSlot) : Type 0 where
   pub place : new.place ≡ old.place
   pub clears : new.clears ≡ old.clears
-  pub accesses : new.accesses ≡ old.accesses
+  pub accesses : new.masks ≡ old.masks
   pub known : pairs_of new.known ≡ pairs_past p j Falls (pairs_of old.known)
   pub written : new.written ≡ bit_or old.written mask
 

@@ -1,25 +1,55 @@
 //! The check of a program.
 
-ghost use Rattle.std.specs.Prelude.{◌≡◌, ◌+◌, ◌*◌, ◌≤◌, ◌<◌, length, IfOk, OnOk};
+ghost use Rattle.std.specs.Prelude.{◌≡◌, ℕ, ◌+◌, ◌*◌, ◌^◌, ◌≤◌, ◌<◌, length, IfOk, OnOk};
 ghost use Rattle.ia_insn.specs.Places.{place_number};
 ghost use Rattle.ia_insn.specs.Programs.{Program, IsProgram};
 ghost use Rattle.ia_meaning.specs.OrderIndependence.{IsRobust};
 ghost use Rattle.group_checker.specs.Reports.{IsVerdict, OneVerdict};
 ghost use Rattle.group_checker.specs.Windows.{IsUnderWay};
-ghost use Rattle.group_checker.specs.Progress.{HasReported, IsEarlier, IsUpTo, pair_bound, place_bound, second_bound};
+ghost use Rattle.group_checker.specs.Progress.{HasReported, IsEarlier, IsEarlierPair, IsUpTo, pair_bound, place_bound, second_bound};
 
 use crate::moves::move_on;
-use crate::pairs::pair_violations;
+use crate::pairs::{are_apart, pair_violations};
 use crate::report::{Report, SHOWN_LIMIT, Verdict};
 use crate::window::EarlierSlot;
 use flow_facts::solve;
 use ia_insn::{Place, Program};
-use resource_sets::{ACCESS_LIMIT, Access, accesses_of};
+use resource_sets::{Masks, masks_of};
 use slot_table::{Slot, SlotTable};
 use std::alloc::{AllocError, Global};
 
+/// Reports what is broken by the n-th slot of the window and the second slot, if all that is broken with earlier ones
+/// is reported.
+///
+/// # Errors
+///
+/// Want of memory.
+fn check_pair(
+    alloc: Global,
+    window: &[EarlierSlot],
+    n: usize,
+    second: Place,
+    slot: &Slot,
+    seconds: &Masks,
+    report: &mut Report,
+) -> Result<(), AllocError>
+    requires inside { n < length window.now }
+    requires room { report.old.total + pair_bound < 2 ^ 64 }
+    requires shown { length report.old.shown ≤ SHOWN_LIMIT }
+    ensures total { OnOk result (report.new.total ≤ report.old.total + pair_bound) }
+    ensures shown { OnOk result (length report.new.shown ≤ SHOWN_LIMIT) }
+    ensures reports { OnOk result ((p : Program) (bound : ℕ) → IsUnderWay p window.now second slot.now seconds.now → HasReported p report.old (IsEarlierPair window.now second n) bound → HasReported p report.new (IsEarlierPair window.now second (n + 1)) (bound + pair_bound)) }
+{
+    if are_apart(window, n, seconds) {
+        return Ok(());
+    }
+    let found = pair_violations(alloc, window, n, second, slot, seconds)?;
+    report.add_all(&found)?;
+    Ok(())
+}
+
 /// Reports what is broken with this second slot, if all that is broken with earlier ones is reported. `seconds`
-/// are its accesses, `window` are the slots that are earlier in its group.
+/// has its accesses, `window` are the slots that are earlier in its group.
 ///
 /// # Errors
 ///
@@ -29,19 +59,17 @@ fn check_second(
     window: &[EarlierSlot],
     second: Place,
     slot: &Slot,
-    seconds: &[Access],
+    seconds: &Masks,
     report: &mut Report,
 ) -> Result<(), AllocError>
     requires place { place_number second < place_bound }
-    requires few { length seconds.now ≤ ACCESS_LIMIT }
     requires window { length window.now ≤ place_number second }
     requires total { report.old.total ≤ second_bound * place_number second }
     requires shown { length report.old.shown ≤ SHOWN_LIMIT }
     ensures { OnOk result ((p : Program) → IsUnderWay p window.now second slot.now seconds.now → HasReported p report.old (IsEarlier second) (second_bound * place_number second) → HasReported p report.new (IsUpTo second) (second_bound * place_number second + pair_bound * length window.now)) }
 {
     for n in 0..window.len() {
-        let found = pair_violations(alloc, window, n, second, slot, seconds)?;
-        report.add_all(&found)?;
+        check_pair(alloc, window, n, second, slot, seconds, report)?;
     }
     Ok(())
 }
@@ -64,7 +92,7 @@ fn check_slots(alloc: Global, table: &SlotTable) -> Result<Verdict, AllocError>
         let Some(slot) = table.at(second) else {
             unreachable!();
         };
-        let seconds = accesses_of(slot.qp, &slot.form);
+        let seconds = masks_of(slot.qp, &slot.form);
         check_second(alloc, &window, second, slot, &seconds, &mut report)?;
         move_on(&facts, &mut window, second, slot, seconds)?;
         let Some(after) = slot.next else {

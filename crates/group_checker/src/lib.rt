@@ -15,7 +15,6 @@
 #![tactic(auto)]
 
 mod checker;
-mod guards;
 mod laws;
 mod moves;
 mod pairs;

@@ -9,14 +9,12 @@ ghost use Rattle.flow_facts.specs.Walks.{IsSolution};
 ghost use Rattle.group_checker.specs.Violations.{clears};
 ghost use Rattle.group_checker.specs.Windows.{IsWindow, IsUnderWay, GoesOn, HasAdvanced, changes_facts, joins};
 
-use crate::guards::guard_mask;
 use crate::window::EarlierSlot;
-use arrayvec::ArrayVec;
 use flow_facts::InFacts;
 use ia_insn::Place;
 use ia_meaning::Form;
 use predicate_rel::Edge;
-use resource_sets::{ACCESS_LIMIT, Access};
+use resource_sets::Masks;
 use slot_table::Slot;
 use std::alloc::AllocError;
 
@@ -85,9 +83,9 @@ pub(crate) fn move_on(
     window: &mut Vec<EarlierSlot>,
     place: Place,
     slot: &Slot,
-    accesses: ArrayVec<Access, ACCESS_LIMIT>,
+    masks: Masks,
 ) -> Result<(), AllocError>
-    ensures { OnOk result ((p : Program) (next : Place) → IsSolution p facts.now → IsUnderWay p window.old.items place slot.now accesses.items → next_of p.bundles place ≡ Some next → IsWindow p window.new.items next) }
+    ensures { OnOk result ((p : Program) (next : Place) → IsSolution p facts.now → IsUnderWay p window.old.items place slot.now masks → next_of p.bundles place ≡ Some next → IsWindow p window.new.items next) }
 {
     let Some(here) = facts.at(place) else {
         window.clear();
@@ -97,14 +95,14 @@ pub(crate) fn move_on(
         window.clear();
         return Ok(());
     }
-    let written = guard_mask(&accesses);
+    let written = masks.written_predicates();
     advance(window, slot, written);
     window.push(EarlierSlot {
         place,
         clears: clears(&slot.form),
         known: here.after_form(&slot.form, slot.qp, Edge::Falls),
         written,
-        accesses,
+        masks,
     })?;
     Ok(())
 }

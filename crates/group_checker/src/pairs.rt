@@ -4,18 +4,20 @@ ghost use Rattle.std.specs.Prelude.{◌≡◌, ◌+◌, ◌*◌, ◌≤◌, ◌<
 ghost use Rattle.ia_insn.specs.declared.place.Place.{Place};
 ghost use Rattle.ia_insn.specs.Programs.{Program};
 ghost use Rattle.ia_meaning.specs.Actions.{is_alloc};
+ghost use Rattle.predicate_rel.specs.Pairs.{has_bit};
+ghost use Rattle.slot_table.specs.declared.slot.Slot.{Slot};
+ghost use Rattle.group_checker.specs.declared.violation.Violation.{Violation};
 ghost use Rattle.group_checker.specs.Order.{Adds};
 ghost use Rattle.group_checker.specs.Violations.{Violates};
 ghost use Rattle.group_checker.specs.Windows.{IsUnderWay};
 ghost use Rattle.group_checker.specs.Progress.{pair_bound};
 ghost use Rattle.group_checker.specs.Findings.{IsNthPair, may_be_excused, excused_by, FindsBy, FindsWith, FindsIn, IsPair, IsSlotRule};
 
-use crate::guards::has_predicate;
 use crate::violation::Violation;
 use crate::window::EarlierSlot;
 use ia_insn::{Place, Pr};
 use ia_meaning::Form;
-use resource_sets::{ACCESS_LIMIT, Access, Resource, Rule, clash};
+use resource_sets::{ACCESS_LIMIT, Access, Masks, Resource, Rule, clash, may_clash};
 use slot_table::Slot;
 use std::alloc::{AllocError, Global};
 use std::collections::BTreeSet;
@@ -34,6 +36,14 @@ fn may_be_excused(rule: Rule) -> bool
     ensures { result ≡ may_be_excused rule }
 {
     matches!(rule, Rule::Raw | Rule::Waw)
+}
+
+/// Whether the word has the bit of the predicate.
+#[tactic(auto, using(predicate_rel::proofs::BitLemmas::has_bit_test))]
+fn has_predicate(word: u64, guard: Pr) -> bool
+    ensures { result ≡ has_bit word guard }
+{
+    (word >> guard.number()) & 1 == 1
 }
 
 /// Whether each walk through the first slot excuses accesses under these guards, if the rule is one that may
@@ -88,20 +98,41 @@ fn clashes_with(
     Ok(())
 }
 
+/// Notes the rules that some accesses of the first slot break with those of the second.
+fn clashes_of(
+    first: &EarlierSlot,
+    second: Place,
+    firsts: &[Access],
+    seconds: &[Access],
+    found: &mut BTreeSet<Violation>,
+) -> Result<(), AllocError>
+    requires few { length firsts.now ≤ ACCESS_LIMIT }
+    requires few_seconds { length seconds.now ≤ ACCESS_LIMIT }
+    ensures length { OnOk result (length found.new.keys ≤ length found.old.keys + ACCESS_LIMIT * ACCESS_LIMIT) }
+    ensures adds { OnOk result (Adds found.old.keys found.new.keys (λ v. IsPair first.now.place second v × FindsIn first.now firsts.now seconds.now v)) }
+{
+    for a in firsts {
+        clashes_with(first, second, a, seconds, found)?;
+    }
+    Ok(())
+}
+
 /// Notes the rules that the accesses of two slots break.
 fn clashes(
     first: &EarlierSlot,
     second: Place,
-    seconds: &[Access],
+    seconds: &Masks,
     found: &mut BTreeSet<Violation>,
 ) -> Result<(), AllocError>
-    requires few { length seconds.now ≤ ACCESS_LIMIT }
     ensures length { OnOk result (length found.new.keys ≤ length found.old.keys + ACCESS_LIMIT * ACCESS_LIMIT) }
-    ensures adds { OnOk result (Adds found.old.keys found.new.keys (λ v. IsPair first.now.place second v × FindsIn first.now first.now.accesses.items seconds.now v)) }
+    ensures adds { OnOk result (Adds found.old.keys found.new.keys (λ v. IsPair first.now.place second v × FindsIn first.now first.now.masks seconds.now v)) }
 {
-    for a in first.accesses.as_slice() {
-        clashes_with(first, second, a, seconds, found)?;
+    if !may_clash(&first.masks, seconds) {
+        return Ok(());
     }
+    let firsts = first.masks.accesses();
+    let seconds = seconds.accesses();
+    clashes_of(first, second, firsts.as_slice(), seconds.as_slice(), found)?;
     Ok(())
 }
 
@@ -143,8 +174,17 @@ fn slot_rules(
     Ok(())
 }
 
+/// Whether no access of the n-th slot of the window clashes with one of the slot under way, which doesn't come just
+/// after it: the two break no rule.
+pub(crate) fn are_apart(window: &[EarlierSlot], n: usize, seconds: &Masks) -> bool
+    requires inside { n < length window.now }
+    ensures { result ≡ true → (p : Program) (j : Place) (s : Slot) (v : Violation) → IsUnderWay p window.now j s seconds.now → IsNthPair window.now n j v → ¬ Violates p v }
+{
+    n + 1 < window.len() && !may_clash(&window[n].masks, seconds)
+}
+
 /// What the n-th slot of the window and the slot under way break on some walk: each rule and resource once, in
-/// order. `seconds` are the accesses of the slot under way.
+/// order. `seconds` has the accesses of the slot under way.
 ///
 /// # Errors
 ///
@@ -155,10 +195,9 @@ pub(crate) fn pair_violations(
     n: usize,
     second: Place,
     slot: &Slot,
-    seconds: &[Access],
+    seconds: &Masks,
 ) -> Result<BTreeSet<Violation>, AllocError>
     requires inside { n < length window.now }
-    requires few { length seconds.now ≤ ACCESS_LIMIT }
     ensures all { IfOk result (λ found. (p : Program) → IsUnderWay p window.now second slot.now seconds.now → Adds [] found.keys (λ v. IsNthPair window.now n second v × Violates p v)) }
     ensures few { IfOk result (λ found. length found.keys ≤ pair_bound) }
 {

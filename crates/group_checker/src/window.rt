@@ -1,9 +1,8 @@
 //! What is known, at the slot under way, of the earlier slots of its group.
 
-use arrayvec::ArrayVec;
 use ia_insn::Place;
 use predicate_rel::Facts;
-use resource_sets::{ACCESS_LIMIT, Access};
+use resource_sets::Masks;
 
 /// A slot that is earlier in the group of the slot under way.
 #[derive(Drop)]
@@ -18,5 +17,5 @@ pub(crate) struct EarlierSlot {
     /// is that of the predicate g.
     pub written: u64,
     /// What it accesses.
-    pub accesses: ArrayVec<Access, ACCESS_LIMIT>,
+    pub masks: Masks,
 }

@@ -12,16 +12,15 @@ loop-n-init c = record {
   reports = λ p u before. bounded p c.args.report.now (IsEarlierPair c.args.window.now c.args.second 0) _ _ (omega arith) (none_of_second p c.args.report.now c.args.window.now c.args.second _ before);
 }
 
-pub add_all-requires-clause-room : goal.add_all-requires-clause-room
-add_all-requires-clause-room c = omega (arith, c.loop-n.invariant.total, c.in_ok-found.ensures.few, c.requires.window, c.requires.place)
+pub check_pair-requires-clause-room : goal.check_pair-requires-clause-room
+check_pair-requires-clause-room c = omega (arith, c.loop-n.invariant.total, c.requires.window, c.requires.place)
 
 pub loop-n-preserved : goal.loop-n-preserved
 loop-n-preserved c = record {
-  total = omega (arith, c.loop-n.invariant.total, c.in_ok-add_all.ensures.total, c.in_ok-found.ensures.few);
-  shown = shown_short SHOWN_LIMIT _ _ c.in_ok-add_all.ensures.shown;
-  reports = λ p u before. bounded p c.add_all.new.self (IsEarlierPair c.args.window.now c.args.second (c.loop-n.n + 1)) _ _ (omega arith)
-      (pair_reported p c.loop-n.report c.add_all.new.self c.args.window.now c.args.second c.loop-n.n _ c.in_ok-found.found.keys u.window (c.loop-n.invariant.reports p u before)
-      c.in_ok-add_all.ensures.rises (c.in_ok-found.ensures.all p u) c.in_ok-found.ensures.few c.in_ok-add_all.ensures.total c.in_ok-add_all.ensures.shown);
+  total = omega (arith, c.loop-n.invariant.total, c.in_ok-check_pair.ensures.total);
+  shown = c.in_ok-check_pair.ensures.shown;
+  reports = λ p u before. bounded p c.check_pair.new.report (IsEarlierPair c.args.window.now c.args.second (c.loop-n.n + 1)) _ _ (omega arith)
+      (c.in_ok-check_pair.ensures.reports p _ u (c.loop-n.invariant.reports p u before));
 }
 
 pub returns : goal.returns

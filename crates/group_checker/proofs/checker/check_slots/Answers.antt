@@ -60,9 +60,9 @@ slots-preserved c =
     record {
       place = next_place p j next follows;
       window = c.in_ok-move_on.ensures p next c.in_ok-facts.ensures
-          (under_way p j s at c.slots.window.items c.accesses_of-seconds.result.items c.requires c.accesses_of-seconds.ensures c.slots.invariant.window) follows;
+          (under_way p j s at c.slots.window.items c.masks_of-seconds.result c.requires c.masks_of-seconds.ensures c.slots.invariant.window) follows;
       reports = next_reported p c.check_second.new.report j next _ (second_bound * place_number next) follows (omega (arith, c.slots.invariant.window.size, c.deref.ensures.len, ap (length {A = EarlierSlot}) c.deref.ensures.value))
-          (c.in_ok-check_second.ensures p (under_way p j s at c.deref.result.now c.deref-in-slots.result.now c.requires (c.deref-in-slots.ensures.0 ∙ c.accesses_of-seconds.ensures) (rw c.deref.ensures.value c.slots.invariant.window)) c.slots.invariant.reports);
+          (c.in_ok-check_second.ensures p (under_way p j s at c.deref.result.now c.masks_of-seconds.result c.requires c.masks_of-seconds.ensures (rw c.deref.ensures.value c.slots.invariant.window)) c.slots.invariant.reports);
     }
 
 pub returns-in_default-next-clause-verdict : goal.returns-in_default-next-clause-verdict
@@ -72,7 +72,7 @@ returns-in_default-next-clause-verdict c =
     let s = c.in-Some.slot.now in
     let at = sym c.in-Some.ensures in
     rw c.verdict.ensures (verdict_reported p c.check_second.new.report j _ (sym (slot_next p j s at) ∙ c.in_default-next.is)
-    (c.in_ok-check_second.ensures p (under_way p j s at c.deref.result.now c.deref-in-slots.result.now c.requires (c.deref-in-slots.ensures.0 ∙ c.accesses_of-seconds.ensures) (rw c.deref.ensures.value c.slots.invariant.window)) c.slots.invariant.reports))
+    (c.in_ok-check_second.ensures p (under_way p j s at c.deref.result.now c.masks_of-seconds.result c.requires c.masks_of-seconds.ensures (rw c.deref.ensures.value c.slots.invariant.window)) c.slots.invariant.reports))
 
 pub returns-in_default-next-clause-robust : goal.returns-in_default-next-clause-robust
 returns-in_default-next-clause-robust c = accepted_robust c.args.table.now c.requires c.verdict.result (returns-in_default-next-clause-verdict c)

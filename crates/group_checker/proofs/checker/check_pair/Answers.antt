@@ -1,0 +1,23 @@
+use Rattle.std.proofs.Common.{arith}
+use Rattle.group_checker.specs.declared.report.TheConstants.{SHOWN_LIMIT}
+use Rattle.group_checker.proofs.Reporting.{pair_reported, pair_apart, shown_short}
+use Rattle.group_checker.proofs.checker.check_pair.Goals as goal
+
+pub add_all-requires-clause-room : goal.add_all-requires-clause-room
+add_all-requires-clause-room c = omega (arith, c.in_ok-found.ensures.few)
+
+pub returns-clause-total : goal.returns-clause-total
+returns-clause-total c = omega (arith, c.in_ok-add_all.ensures.total, c.in_ok-found.ensures.few)
+
+pub returns-clause-shown : goal.returns-clause-shown
+returns-clause-shown c = shown_short SHOWN_LIMIT _ _ c.in_ok-add_all.ensures.shown
+
+pub returns-clause-reports : goal.returns-clause-reports
+returns-clause-reports c p bound u before =
+    pair_reported p c.args.report.now c.add_all.new.self c.args.window.now c.args.second c.args.n bound c.in_ok-found.found.keys u.window before
+    c.in_ok-add_all.ensures.rises (c.in_ok-found.ensures.all p u) c.in_ok-found.ensures.few c.in_ok-add_all.ensures.total c.in_ok-add_all.ensures.shown
+
+pub returns-then-are_apart-clause-reports : goal.returns-then-are_apart-clause-reports
+returns-then-are_apart-clause-reports c p bound u before =
+    pair_apart p c.args.report.now c.args.window.now c.args.second c.args.n bound
+    (λ v nth. c.are_apart.ensures c.if-are_apart.true p c.args.second c.args.slot.now v u nth) before
