@@ -82,7 +82,7 @@ module _ (accesses : List Access) (made barred : AccessBits) (h : AreBits access
   written : may_write_guard g accesses ≡ (bit barred.predicates g || (is_rotating g && bit barred.others 5))
   written =
       spread (λ a. bars a.resource a.kind (Pr g) Read) (λ a. bars a.resource a.kind Cfm Read) (λ a. writes_guard g a.resource a.kind) (is_rotating g) (λ a. fits a.resource a.kind) accesses
-          (λ a f. writes_bars g a.resource a.kind f) h.fit
+      (λ a f. writes_bars g a.resource a.kind f) h.fit
       ∙ (rw (h.of_barred (Pr g) Read refl, h.of_barred Cfm Read refl) refl)
 
   -- with those of the frame

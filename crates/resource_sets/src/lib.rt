@@ -22,3 +22,6 @@ pub use insn_accesses::{accesses, accesses_of};
 pub use insn_masks::masks;
 pub use laws::{accesses_are_regular, accesses_clash, depends_on_accesses, writes_are_accesses};
 pub use masking::{Masks, masks_of, may_clash};
+
+#[cfg(test)]
+mod tests;

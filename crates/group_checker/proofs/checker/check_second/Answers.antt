@@ -1,8 +1,7 @@
 use Rattle.std.proofs.Common.{◌≡◌, ◌+◌, ◌*◌, ℕ, length, subst, arith}
 use Rattle.ia_insn.specs.Places.{place_number}
-use Rattle.group_checker.specs.declared.report.TheConstants.{SHOWN_LIMIT}
 use Rattle.group_checker.specs.Progress.{HasReported, IsEarlierPair, IsUpTo, pair_bound, second_bound}
-use Rattle.group_checker.proofs.Reporting.{none_of_second, pair_reported, second_reported, shown_short, bounded}
+use Rattle.group_checker.proofs.Reporting.{none_of_second, second_reported, bounded}
 use Rattle.group_checker.proofs.checker.check_second.Goals as goal
 
 pub loop-n-init : goal.loop-n-init
