@@ -63,40 +63,54 @@ fn clash_some(first: &Insn, second: &Insn) -> bool {
         .any(|b| clash(a, b).is_some()))
 }
 
+/// `ld8.fill r10=[r11]`.
+fn fill() -> Insn {
+    let op = Op::Load {
+        size: 8,
+        kind: LoadKind::Fill,
+        hint: 0,
+        r1: Gr::of_field(10),
+        r3: Gr::of_field(11),
+        update: Update::None,
+    };
+    insn(0, op)
+}
+
+/// `st8.spill [r12]=r13`.
+fn spill() -> Insn {
+    let op = Op::Store {
+        size: 8,
+        kind: StoreKind::Spill,
+        hint: 0,
+        r3: Gr::of_field(12),
+        r2: Gr::of_field(13),
+        update: Update::None,
+    };
+    insn(0, op)
+}
+
+/// A branch under p63.
+fn branch() -> Insn {
+    insn(63, branch_of(BranchKind::Cond))
+}
+
+/// A loop branch that rotates.
+fn rotation() -> Insn {
+    insn(0, branch_of(BranchKind::Ctop))
+}
+
+/// `nop.b 0` under p63.
+fn nop() -> Insn {
+    let op = Op::Nop {
+        unit: Unit::B,
+        imm: 0,
+    };
+    insn(63, op)
+}
+
 /// The masks answer as the accesses do, one by one.
 #[test]
 fn masks_answer_as_accesses(rt: HostRuntime) {
-    let fill = insn(
-        0,
-        Op::Load {
-            size: 8,
-            kind: LoadKind::Fill,
-            hint: 0,
-            r1: Gr::of_field(10),
-            r3: Gr::of_field(11),
-            update: Update::None,
-        },
-    );
-    let spill = insn(
-        0,
-        Op::Store {
-            size: 8,
-            kind: StoreKind::Spill,
-            hint: 0,
-            r3: Gr::of_field(12),
-            r2: Gr::of_field(13),
-            update: Update::None,
-        },
-    );
-    let branch = insn(63, branch_of(BranchKind::Cond));
-    let rotation = insn(0, branch_of(BranchKind::Ctop));
-    let nop = insn(
-        63,
-        Op::Nop {
-            unit: Unit::B,
-            imm: 0,
-        },
-    );
     for (first, second, expected) in [
         (addition(0, 8, 9), addition(0, 10, 8), true),
         (addition(0, 127, 9), addition(0, 127, 9), true),
@@ -106,12 +120,12 @@ fn masks_answer_as_accesses(rt: HostRuntime) {
         (compare(CmpKind::Or), compare(CmpKind::Or), false),
         (compare(CmpKind::Or), compare(CmpKind::And), true),
         (compare(CmpKind::Normal), addition(6, 8, 9), true),
-        (spill, fill, false),
-        (spill, spill, false),
-        (branch, rotation, true),
-        (rotation, branch, true),
-        (nop, rotation, true),
-        (rotation, nop, true),
+        (spill(), fill(), false),
+        (spill(), spill(), false),
+        (branch(), rotation(), true),
+        (rotation(), branch(), true),
+        (nop(), rotation(), true),
+        (rotation(), nop(), true),
     ] {
         assert_eq!(rt;
             may_clash(&masks(&first), &masks(&second)),
