@@ -1,11 +1,17 @@
 //! The program `ia64`: its words, standard input and standard output, handed to the top call.
 #![tactic(auto)]
 
+use ia64_top::limits::GROUP_LIMIT;
 use ia64_top::{Status, Words, ia64};
 use io_seam::{StdSink, StdSource};
+use std::alloc::AllocError;
 use std::env;
 use std::io::ErrorKind;
 use std::process::ExitCode;
+use watch_seam::{Counter, Tracer, Watch};
+
+/// How many groups the tracer of `watch` keeps a line of.
+const TRACED_GROUPS: u64 = 8;
 
 /// Ends with the status of the top call. Words that are no text are no command.
 fn main(rt: HostRuntime) -> ExitCode {
@@ -25,7 +31,17 @@ fn run(rt: &HostRuntime) -> Status {
         Err(error) if error.kind() == ErrorKind::OutOfMemory => return Status::NoMemory,
         Err(_) => return Status::Words,
     }
+    call(rt, &words).unwrap_or(Status::NoMemory)
+}
+
+/// The top call on standard input and standard output. The watchers are a tracer of the first groups, and a counter that
+/// sees all that a run may have.
+fn call(rt: &HostRuntime, words: &Words) -> Result<Status, AllocError> {
+    let alloc = rt.alloc();
+    let mut watchers: Vec<Box<dyn Watch>> = Vec::new(alloc);
+    watchers.push(Box::new(alloc, Tracer::new(alloc, TRACED_GROUPS))?)?;
+    watchers.push(Box::new(alloc, Counter::new(GROUP_LIMIT + 1))?)?;
     let mut source = StdSource::new(rt.stdin());
     let mut sink = StdSink::new(rt.stdout());
-    ia64(rt.alloc(), &words, &mut source, &mut sink)
+    Ok(ia64(alloc, words, &mut watchers, &mut source, &mut sink))
 }

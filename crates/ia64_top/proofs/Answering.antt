@@ -8,18 +8,22 @@ use Rattle.ia64_top.specs.declared.limits.TheConstants.{INPUT_LIMIT}
 use Rattle.io_seam.specs.Bytes.{LosesFirst}
 use Rattle.ia64_top.specs.declared.words.Command.{Command}
 use Rattle.ia64_top.specs.declared.words.Command.TheVariants as command
-use Rattle.ia64_top.specs.declared.words.Command.TheVariants.{Check, Run, Trial}
+use Rattle.ia64_top.specs.declared.words.Command.TheVariants.{Check, Run, Watch, Trial}
 use Rattle.ia64_top.specs.declared.status.Status.{Status}
-use Rattle.ia64_top.specs.declared.status.Status.TheVariants.{Done, Violated, Words, TooLong}
-use Rattle.ia64_top.specs.Words.{command_of, Judges, IsTrial}
+use Rattle.ia64_top.specs.declared.status.Status.TheVariants.{Done, Violated, Refused, TooLong, Limit, Faulted}
+use Rattle.ia64_top.specs.Words.{command_of, Judges, groups_of, IsTrial, IsWatch}
 use Rattle.ia64_top.specs.Inputs.{IsReadOf}
+use Rattle.ia64_top.specs.Watching.{RanNothing, IsNotRun, HaveWatched, HaveWatchedPart}
+use Rattle.watch_seam.specs.Watchers.{WatchState}
+use Rattle.watch_seam.specs.Watching.{staying}
+use Rattle.ia_meaning.specs.Steps.{Run as WholeRun}
 use Rattle.ia_insn.specs.Programs.{Program}
 use Rattle.image_form.specs.Images.{Spells}
 use Rattle.image_form.specs.Laws.{ImageSize}
 use Rattle.group_checker.specs.Reports.{IsFree}
-use Rattle.ia64_top.specs.Runs.{run_of, end_status}
+use Rattle.ia64_top.specs.Runs.{run_of, end_status, watch_text}
 use Rattle.ia64_top.specs.Readings.{as_either, BeginsAsImage}
-use Rattle.ia64_top.specs.Output.{is_too_long, IsSilent, IsCommandOutput, IsOutput, GivesOutput, GivesPart}
+use Rattle.ia64_top.specs.Output.{is_too_long, IsSilent, IsRunAs, IsCommandOutput, IsOutput, GivesOutput, GivesPart}
 
 -- words are one command
 pub same_command : (words : List (List ℕ)) (c d : Command) → command_of words ≡ Some c → command_of words ≡ Some d → c ≡ d
@@ -36,43 +40,43 @@ read_none_of seed bundles None = tt
 read_none_of seed bundles (Some l) = refl
 
 -- what a command writes of what it reads is the output for all that there is
-output_within : (command : Command) (all read bytes : List ℕ) (status : Status) → IsReadOf command read all → length read ≤ INPUT_LIMIT → IsCommandOutput command read bytes status
-    → MatchBool (is_too_long command all) (IsSilent TooLong bytes status) (IsCommandOutput command all bytes status)
-output_within (Trial seed bundles) all read bytes status is within o = o
-output_within command all read bytes status is within o =
-    subst (λ i. MatchBool (is_too_long command i) (IsSilent TooLong bytes status) (IsCommandOutput command i bytes status)) is (rw (le-ltb INPUT_LIMIT (length read) within) o)
+output_within : (command : Command) (ws : List WatchState) (all read bytes : List ℕ) (status : Status) → IsReadOf command read all → length read ≤ INPUT_LIMIT → IsCommandOutput command ws read bytes status
+    → MatchBool (is_too_long command all) (IsSilent TooLong bytes status) (IsCommandOutput command ws all bytes status)
+output_within (Trial seed bundles) ws all read bytes status is within o = o
+output_within command ws all read bytes status is within o =
+    subst (λ i. MatchBool (is_too_long command i) (IsSilent TooLong bytes status) (IsCommandOutput command ws i bytes status)) is (rw (le-ltb INPUT_LIMIT (length read) within) o)
 
-output_of : (words : List (List ℕ)) (command : Command) (all read bytes : List ℕ) (status : Status) → command_of words ≡ Some command → IsReadOf command read all → length read ≤ INPUT_LIMIT → IsCommandOutput command read bytes status → IsOutput words all bytes status
-output_of words command all read bytes status e is within o = rw e (output_within command all read bytes status is within o)
+output_of : (words : List (List ℕ)) (command : Command) (ws : List WatchState) (all read bytes : List ℕ) (status : Status) → command_of words ≡ Some command → IsReadOf command read all → length read ≤ INPUT_LIMIT → IsCommandOutput command ws read bytes status → IsOutput words ws all bytes status
+output_of words command ws all read bytes status e is within o = rw e (output_within command ws all read bytes status is within o)
 
 -- and back
-within_back : (command : Command) (all read bytes : List ℕ) (status : Status) → IsReadOf command read all → length read ≤ INPUT_LIMIT
-    → MatchBool (is_too_long command all) (IsSilent TooLong bytes status) (IsCommandOutput command all bytes status) → IsCommandOutput command read bytes status
-within_back (Trial seed bundles) all read bytes status is within o = o
-within_back command all read bytes status is within o =
-    let whole = subst (λ i. MatchBool (is_too_long command i) (IsSilent TooLong bytes status) (IsCommandOutput command i bytes status)) (sym is) o in
+within_back : (command : Command) (ws : List WatchState) (all read bytes : List ℕ) (status : Status) → IsReadOf command read all → length read ≤ INPUT_LIMIT
+    → MatchBool (is_too_long command all) (IsSilent TooLong bytes status) (IsCommandOutput command ws all bytes status) → IsCommandOutput command ws read bytes status
+within_back (Trial seed bundles) ws all read bytes status is within o = o
+within_back command ws all read bytes status is within o =
+    let whole = subst (λ i. MatchBool (is_too_long command i) (IsSilent TooLong bytes status) (IsCommandOutput command ws i bytes status)) (sym is) o in
     rw (le-ltb INPUT_LIMIT (length read) within) at whole
 
 -- A longer input is too long, where it is read.
-beyond_within : (command : Command) (input : List ℕ) → ¬ IsTrial (Some command) → INPUT_LIMIT < length input
-    → MatchBool (is_too_long command input) (IsSilent TooLong [] TooLong) (IsCommandOutput command input [] TooLong)
-beyond_within (Trial seed bundles) input reads beyond = absurd (reads tt)
-beyond_within command input reads beyond = rw (lt-ltb INPUT_LIMIT (length input) beyond) (refl, refl)
+beyond_within : (command : Command) (ws : List WatchState) (input : List ℕ) → ¬ IsTrial (Some command) → INPUT_LIMIT < length input
+    → MatchBool (is_too_long command input) (IsSilent TooLong [] TooLong) (IsCommandOutput command ws input [] TooLong)
+beyond_within (Trial seed bundles) ws input reads beyond = absurd (reads tt)
+beyond_within command ws input reads beyond = rw (lt-ltb INPUT_LIMIT (length input) beyond) (refl, refl)
 
-output_beyond : (words : List (List ℕ)) (command : Command) (input : List ℕ) → command_of words ≡ Some command → ¬ IsTrial (Some command) → INPUT_LIMIT < length input → IsOutput words input [] TooLong
-output_beyond words command input e reads beyond = rw e (beyond_within command input reads beyond)
+output_beyond : (words : List (List ℕ)) (command : Command) (ws : List WatchState) (input : List ℕ) → command_of words ≡ Some command → ¬ IsTrial (Some command) → INPUT_LIMIT < length input → IsOutput words ws input [] TooLong
+output_beyond words command ws input e reads beyond = rw e (beyond_within command ws input reads beyond)
 
-pub too_long : (words : List (List ℕ)) (command : Command) (left given : Option (List ℕ)) → command_of words ≡ Some command → ¬ IsTrial (Some command) → IfSome left (λ l. INPUT_LIMIT < length l) → IfSome left (λ input. GivesOutput words input given given TooLong)
-too_long words command None given e reads h = tt
-too_long words command (Some input) given e reads h = ([], output_beyond words command input e reads h, Appends-nil given)
+pub too_long : (words : List (List ℕ)) (command : Command) (ws : List WatchState) (left given : Option (List ℕ)) → command_of words ≡ Some command → ¬ IsTrial (Some command) → IfSome left (λ l. INPUT_LIMIT < length l) → IfSome left (λ input. GivesOutput words ws input given given TooLong)
+too_long words command ws None given e reads h = tt
+too_long words command ws (Some input) given e reads h = ([], output_beyond words command ws input e reads h, Appends-nil given)
 
-pub answered : (words : List (List ℕ)) (command : Command) (left given new : Option (List ℕ)) (input bytes : List ℕ) (status : Status) → command_of words ≡ Some command → IfSome left (IsReadOf command input) → length input ≤ INPUT_LIMIT → IsCommandOutput command input bytes status → Appends given new bytes → IfSome left (λ i. GivesOutput words i given new status)
-answered words command None given new input bytes status e whole within o appended = tt
-answered words command (Some l) given new input bytes status e whole within o appended = (bytes, output_of words command l input bytes status e whole within o, appended)
+pub answered : (words : List (List ℕ)) (command : Command) (ws : List WatchState) (left given new : Option (List ℕ)) (input bytes : List ℕ) (status : Status) → command_of words ≡ Some command → IfSome left (IsReadOf command input) → length input ≤ INPUT_LIMIT → IsCommandOutput command ws input bytes status → Appends given new bytes → IfSome left (λ i. GivesOutput words ws i given new status)
+answered words command ws None given new input bytes status e whole within o appended = tt
+answered words command ws (Some l) given new input bytes status e whole within o appended = (bytes, output_of words command ws l input bytes status e whole within o, appended)
 
-pub given_in_part : (words : List (List ℕ)) (command : Command) (left given new : Option (List ℕ)) (input bytes : List ℕ) (status : Status) → command_of words ≡ Some command → IfSome left (IsReadOf command input) → length input ≤ INPUT_LIMIT → IsCommandOutput command input bytes status → ((count : ℕ) × (count < length bytes) × Appends given new (take count bytes)) → IfSome left (λ i. GivesPart words i given new)
-given_in_part words command None given new input bytes status e whole within o part = tt
-given_in_part words command (Some l) given new input bytes status e whole within o part = (bytes, status, output_of words command l input bytes status e whole within o, part)
+pub given_in_part : (words : List (List ℕ)) (command : Command) (ws : List WatchState) (left given new : Option (List ℕ)) (input bytes : List ℕ) (status : Status) → command_of words ≡ Some command → IfSome left (IsReadOf command input) → length input ≤ INPUT_LIMIT → IsCommandOutput command ws input bytes status → ((count : ℕ) × (count < length bytes) × Appends given new (take count bytes)) → IfSome left (λ i. GivesPart words ws i given new)
+given_in_part words command ws None given new input bytes status e whole within o part = tt
+given_in_part words command ws (Some l) given new input bytes status e whole within o part = (bytes, status, output_of words command ws l input bytes status e whole within o, part)
 
 -- a slice of what was read is what was read
 pub same_read : (command : Command) (left : Option (List ℕ)) (slice input : List ℕ) → slice ≡ input → IfSome left (IsReadOf command input) → IfSome left (IsReadOf command slice)
@@ -124,6 +128,7 @@ judged_beyond size words (Some input) h = λ command e judges. none_beyond size 
 judged_whole : (command : Command) (input l : List ℕ) → Judges command → IsReadOf command input l → input ≡ l
 judged_whole Check input l judges is = is
 judged_whole (Run groups) input l judges is = is
+judged_whole (Watch groups) input l judges is = is
 judged_whole command input l judges is = absurd judges
 
 pub judged_within : (words : List (List ℕ)) (command : Command) (left : Option (List ℕ)) (input : List ℕ) (status : Status) → command_of words ≡ Some command → IfSome left (IsReadOf command input)
@@ -135,31 +140,80 @@ judged_within words command (Some l) input status e whole h =
     of_whole (λ p. (status ≡ Violated) ↔ (¬ IsFree p)) l input (judged_whole command input l mine whole) (h mine)
 
 -- no other status is stated for the words and the input than the command's
-output_back : (words : List (List ℕ)) (command : Command) (all read bytes : List ℕ) (status : Status) → command_of words ≡ Some command → IsReadOf command read all → length read ≤ INPUT_LIMIT → IsOutput words all bytes status → IsCommandOutput command read bytes status
-output_back words command all read bytes status e is within o = within_back command all read bytes status is within (rw e at o)
+output_back : (words : List (List ℕ)) (command : Command) (ws : List WatchState) (all read bytes : List ℕ) (status : Status) → command_of words ≡ Some command → IsReadOf command read all → length read ≤ INPUT_LIMIT → IsOutput words ws all bytes status → IsCommandOutput command ws read bytes status
+output_back words command ws all read bytes status e is within o = within_back command ws all read bytes status is within (rw e at o)
 
-pub only_within : (words : List (List ℕ)) (command : Command) (left : Option (List ℕ)) (input : List ℕ) (status : Status) → command_of words ≡ Some command → IfSome left (IsReadOf command input) → length input ≤ INPUT_LIMIT
-    → ((bytes : List ℕ) (other : Status) → IsCommandOutput command input bytes other → other ≡ status) → IfSome left (λ i. (bytes : List ℕ) (other : Status) → IsOutput words i bytes other → other ≡ status)
-only_within words command None input status e whole within only = tt
-only_within words command (Some l) input status e whole within only =
-    λ bytes other o. only bytes other (output_back words command l input bytes other e whole within o)
+pub only_within : (words : List (List ℕ)) (command : Command) (ws : List WatchState) (left : Option (List ℕ)) (input : List ℕ) (status : Status) → command_of words ≡ Some command → IfSome left (IsReadOf command input) → length input ≤ INPUT_LIMIT
+    → ((bytes : List ℕ) (other : Status) → IsCommandOutput command ws input bytes other → other ≡ status) → IfSome left (λ i. (bytes : List ℕ) (other : Status) → IsOutput words ws i bytes other → other ≡ status)
+only_within words command ws None input status e whole within only = tt
+only_within words command ws (Some l) input status e whole within only =
+    λ bytes other o. only bytes other (output_back words command ws l input bytes other e whole within o)
 
 -- What is run: the end of the run tells the status.
 abbrev TellsEnd : List (List ℕ) → Status → List ℕ → Type 0
 TellsEnd words status input =
-    (groups : ℕ) → command_of words ≡ Some (Run groups) → OfProgram (λ p. IsFree p → status ≡ end_status (run_of p groups).end) input
+    (command : Command) (groups : ℕ) → command_of words ≡ Some command → groups_of command ≡ Some groups → OfProgram (λ p. IsFree p → status ≡ end_status (run_of p groups).end) input
 
 pub ended_beyond : ImageSize → (words : List (List ℕ)) (left : Option (List ℕ)) → IfSome left (λ l. INPUT_LIMIT < length l) → IfSome left (TellsEnd words TooLong)
 ended_beyond size words None h = tt
-ended_beyond size words (Some input) h = λ groups e. none_beyond size (λ p. IsFree p → TooLong ≡ end_status (run_of p groups).end) input h
+ended_beyond size words (Some input) h = λ command groups e runs. none_beyond size (λ p. IsFree p → TooLong ≡ end_status (run_of p groups).end) input h
+
+-- what is run is read whole
+pub run_whole : (command : Command) (groups : ℕ) (input l : List ℕ) → groups_of command ≡ Some groups → IsReadOf command input l → input ≡ l
+run_whole (Run n) groups input l runs read = read
+run_whole (Watch n) groups input l runs read = read
+run_whole command groups input l runs read = cc
 
 pub ended_within : (words : List (List ℕ)) (command : Command) (left : Option (List ℕ)) (input : List ℕ) (status : Status) → command_of words ≡ Some command → IfSome left (IsReadOf command input)
-    → ((groups : ℕ) → command ≡ Run groups → (p : Program) → as_either.Gives input p → IsFree p → status ≡ end_status (run_of p groups).end) → IfSome left (TellsEnd words status)
+    → ((groups : ℕ) → groups_of command ≡ Some groups → (p : Program) → as_either.Gives input p → IsFree p → status ≡ end_status (run_of p groups).end) → IfSome left (TellsEnd words status)
 ended_within words command None input status e whole h = tt
 ended_within words command (Some l) input status e whole h =
+    λ other groups f runs.
+    let mine : groups_of command ≡ Some groups = subst (λ k. groups_of k ≡ Some groups) (same_command words other command f e) runs in
+    of_whole (λ p. IsFree p → status ≡ end_status (run_of p groups).end) l input (run_whole command groups input l mine whole) (h groups mine)
+
+-- What the watchers of `watch` have seen.
+abbrev WatchesProgram : List (List ℕ) → (old now : List WatchState) → List ℕ → Type 0
+WatchesProgram words old now input =
+    (groups : ℕ) → command_of words ≡ Some (Watch groups) → OfProgram (λ p. IsFree p → now ≡ staying (run_of p groups).events old) input
+
+pub watched_beyond : ImageSize → (words : List (List ℕ)) (left : Option (List ℕ)) (old now : List WatchState) → IfSome left (λ l. INPUT_LIMIT < length l) → IfSome left (WatchesProgram words old now)
+watched_beyond size words None old now h = tt
+watched_beyond size words (Some input) old now h = λ groups e. none_beyond size (λ p. IsFree p → now ≡ staying (run_of p groups).events old) input h
+
+pub watched_within : (words : List (List ℕ)) (command : Command) (left : Option (List ℕ)) (old now : List WatchState) (input : List ℕ) → command_of words ≡ Some command → IfSome left (IsReadOf command input)
+    → ((groups : ℕ) → command ≡ Watch groups → HaveWatched groups input old now) → IfSome left (WatchesProgram words old now)
+watched_within words command None old now input e whole h = tt
+watched_within words command (Some l) old now input e whole h =
     λ groups f.
-    let is = same_command words command (Run groups) e f in
-    of_whole (λ p. IsFree p → status ≡ end_status (run_of p groups).end) l input (subst (λ k. IsReadOf k input l) is whole) (h groups is)
+    let is = same_command words command (Watch groups) e f in
+    of_whole (λ p. IsFree p → now ≡ staying (run_of p groups).events old) l input (subst (λ k. IsReadOf k input l) is whole) (h groups is)
+
+pub cut_within : (words : List (List ℕ)) (command : Command) (left : Option (List ℕ)) (old now : List WatchState) (input : List ℕ) → command_of words ≡ Some command → IfSome left (IsReadOf command input)
+    → ((groups : ℕ) → command ≡ Watch groups → HaveWatchedPart groups input old now) → IfSome left (λ l. (groups : ℕ) → command_of words ≡ Some (Watch groups) → HaveWatchedPart groups l old now)
+cut_within words command None old now input e whole h = tt
+cut_within words command (Some l) old now input e whole h =
+    λ groups f.
+    let is = same_command words command (Watch groups) e f in
+    let read : input ≡ l = subst (λ k. IsReadOf k input l) is whole in
+    subst (λ i. HaveWatchedPart groups i old now) read (h groups is)
+
+-- Where no accepted program was read nothing was run.
+ran_nothing : (text : WholeRun → List ℕ) (groups : ℕ) (input bytes : List ℕ) (status : Status) → IsRunAs text groups as_either input bytes status → IsNotRun input → RanNothing status
+ran_nothing text groups input bytes Done o none = absurd (none o.0 o.1 (o.2).free)
+ran_nothing text groups input bytes Violated o none = tt
+ran_nothing text groups input bytes Limit o none = absurd (none o.0 o.1 (o.2).free)
+ran_nothing text groups input bytes Faulted o none = absurd (none o.0 o.1 (o.2).free)
+ran_nothing text groups input bytes Refused o none = tt
+ran_nothing text groups input bytes status o none = absurd o
+
+-- A list that stays as it was under every command but `watch`, and where nothing was run, stays so where no accepted program was read.
+pub not_run_within : {L : Type 0} (command : Command) (left : Option (List ℕ)) (ws : List WatchState) (old now : L) (input bytes : List ℕ) (status : Status) → IfSome left (IsReadOf command input) → IsCommandOutput command ws input bytes status
+    → (¬ IsWatch (Some command) → now ≡ old) → (RanNothing status → now ≡ old) → IfSome left (λ l. IsNotRun l → now ≡ old)
+not_run_within command None ws old now input bytes status whole o other not_run = tt
+not_run_within (Watch groups) (Some l) ws old now input bytes status whole o other not_run =
+    λ none. not_run (ran_nothing (watch_text ws) groups input bytes status o (λ p g. none p (subst (λ i. as_either.Gives i p) whole g)))
+not_run_within command (Some l) ws old now input bytes status whole o other not_run = λ none. other (λ watch. watch)
 
 -- more bytes than the limit were there where more were taken
 pub beyond : (P : Type 0) (left new : Option (List ℕ)) → P → IfSome left (λ l. P ↔ LosesFirst (INPUT_LIMIT + 1) l new) → IfSome left (λ l. INPUT_LIMIT < length l)
@@ -172,15 +226,16 @@ untouched P None other = tt
 untouched P (Some l) other = (λ p. absurd (other p), λ loses. let e : l ≡ drop (INPUT_LIMIT + 1) l = cc in absurd (omega (arith, loses.0, ap length e, length-drop (INPUT_LIMIT + 1) l)))
 
 -- what a command answers to an input within the limit is never that it is too long
-not_too_long : (command : Command) (input bytes : List ℕ) → IsCommandOutput command input bytes TooLong → ⊥
-not_too_long command.Build input bytes o = o
-not_too_long command.Show input bytes o = o
-not_too_long command.List input bytes o = o
-not_too_long command.Wrap input bytes o = o
-not_too_long Check input bytes o = o
-not_too_long (Run groups) input bytes o = o
-not_too_long (Trial seed bundles) input bytes o = o
+not_too_long : (command : Command) (ws : List WatchState) (input bytes : List ℕ) → IsCommandOutput command ws input bytes TooLong → ⊥
+not_too_long command.Build ws input bytes o = o
+not_too_long command.Show ws input bytes o = o
+not_too_long command.List ws input bytes o = o
+not_too_long command.Wrap ws input bytes o = o
+not_too_long Check ws input bytes o = o
+not_too_long (Run groups) ws input bytes o = o
+not_too_long (Watch groups) ws input bytes o = o
+not_too_long (Trial seed bundles) ws input bytes o = o
 
-pub read_whole : (P : Type 0) (command : Command) (left new : Option (List ℕ)) (input bytes : List ℕ) (status : Status) → ¬ P → IfSome left (λ l. P ↔ LosesFirst (INPUT_LIMIT + 1) l new) → IsCommandOutput command input bytes status → IfSome left (λ l. (status ≡ TooLong) ↔ LosesFirst (INPUT_LIMIT + 1) l new)
-read_whole P command None new input bytes status whole loses o = tt
-read_whole P command (Some l) new input bytes status whole loses o = (λ e. absurd (not_too_long command input bytes (subst (IsCommandOutput command input bytes) e o)), λ gone. absurd (whole (loses.1 gone)))
+pub read_whole : (P : Type 0) (command : Command) (ws : List WatchState) (left new : Option (List ℕ)) (input bytes : List ℕ) (status : Status) → ¬ P → IfSome left (λ l. P ↔ LosesFirst (INPUT_LIMIT + 1) l new) → IsCommandOutput command ws input bytes status → IfSome left (λ l. (status ≡ TooLong) ↔ LosesFirst (INPUT_LIMIT + 1) l new)
+read_whole P command ws None new input bytes status whole loses o = tt
+read_whole P command ws (Some l) new input bytes status whole loses o = (λ e. absurd (not_too_long command ws input bytes (subst (IsCommandOutput command ws input bytes) e o)), λ gone. absurd (whole (loses.1 gone)))

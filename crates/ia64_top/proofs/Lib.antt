@@ -8,3 +8,4 @@ mod Answering
 mod Trying
 mod Sums
 mod Ordering
+mod WatchedRuns

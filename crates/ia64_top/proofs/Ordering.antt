@@ -10,16 +10,17 @@ use Rattle.ia_meaning.specs.OrderIndependence.{IsRobust}
 use Rattle.group_checker.specs.Reports.{IsFree}
 use Rattle.group_checker.specs.OrderLaws.{FreeIsRobust}
 use Rattle.ia64_top.specs.declared.words.Command.{Command}
-use Rattle.ia64_top.specs.declared.words.Command.TheVariants.{Check, Run, Trial}
+use Rattle.ia64_top.specs.declared.words.Command.TheVariants.{Check, Run, Watch, Trial}
 use Rattle.ia64_top.specs.declared.status.Status.{Status}
 use Rattle.ia64_top.specs.declared.status.Status.TheVariants.{Done, TooLong, Limit, Faulted}
-use Rattle.ia64_top.specs.Words.{command_of}
+use Rattle.ia64_top.specs.Words.{command_of, groups_of}
 use Rattle.ia64_top.specs.Statuses.{TellsAccepted}
-use Rattle.ia64_top.specs.Runs.{run_of, end_status, IsRunOf, ordered_run_of, IsRunOfEveryOrder}
+use Rattle.ia64_top.specs.Runs.{run_of, end_status, watch_text, IsRunOf, ordered_run_of, IsRunOfEveryOrder}
 use Rattle.ia64_top.specs.Readings.{as_either}
-use Rattle.ia64_top.specs.Output.{IsJudgedBy, IsCommandOutput, GivesRunOfEveryOrder}
+use Rattle.ia64_top.specs.Output.{IsJudgedBy, IsRunAs, printed_run, IsCommandOutput, GivesRunOfEveryOrder}
+use Rattle.watch_seam.specs.Watchers.{WatchState}
 use Rattle.ia64_top.proofs.Outputs.{GivesOne}
-use Rattle.ia64_top.proofs.Answering.{same_command}
+use Rattle.ia64_top.proofs.Answering.{same_command, run_whole}
 use Rattle.ia64_top.specs.Inputs.{IsReadOf}
 use Rattle.ia64_top.proofs.Judging.{done_of_judgement}
 
@@ -30,78 +31,112 @@ record Accepts (input : List ℕ) (p : Program) : Type 0 where
   free : IsFree p
 
 -- what a run answers of an accepted program
-record RunsAccepted (groups : ℕ) (input bytes : List ℕ) (status : Status) (p : Program) : Type 0 where
+record RunsAccepted (text : WholeRun → List ℕ) (groups : ℕ) (input bytes : List ℕ) (status : Status) (p : Program) : Type 0 where
   accepts : Accepts input p
-  runs : IsRunOf p groups bytes status
+  runs : IsRunOf text p groups bytes status
 
-of_run : (groups : ℕ) (input bytes : List ℕ) (status : Status) (p : Program) → as_either.Gives input p → IsRunOf p groups bytes status → RunsAccepted groups input bytes status p
-of_run groups input bytes status p g o = record { accepts = record { gives = g; program = o.program; free = o.free }; runs = o }
+of_run : (text : WholeRun → List ℕ) (groups : ℕ) (input bytes : List ℕ) (status : Status) (p : Program) → as_either.Gives input p → IsRunOf text p groups bytes status → RunsAccepted text groups input bytes status p
+of_run text groups input bytes status p g o = record { accepts = record { gives = g; program = o.program; free = o.free }; runs = o }
 
-accepted_run : (groups : ℕ) (input bytes : List ℕ) (status : Status) → TellsAccepted status (Run groups) → IsCommandOutput (Run groups) input bytes status → (p : Program) × RunsAccepted groups input bytes status p
-accepted_run groups input bytes Done t o = (o.0, of_run groups input bytes Done o.0 o.1 o.2)
-accepted_run groups input bytes Limit t o = (o.0, of_run groups input bytes Limit o.0 o.1 o.2)
-accepted_run groups input bytes Faulted t o = (o.0, of_run groups input bytes Faulted o.0 o.1 o.2)
-accepted_run groups input bytes status t o = absurd t
+-- a state was printed
+abbrev Ran : Status → Type 0
+Ran Done = Unit {0}
+Ran Limit = Unit {0}
+Ran Faulted = Unit {0}
+Ran status = ⊥
+
+accepted_run : (text : WholeRun → List ℕ) (groups : ℕ) (input bytes : List ℕ) (status : Status) → Ran status → IsRunAs text groups as_either input bytes status → (p : Program) × RunsAccepted text groups input bytes status p
+accepted_run text groups input bytes Done t o = (o.0, of_run text groups input bytes Done o.0 o.1 o.2)
+accepted_run text groups input bytes Limit t o = (o.0, of_run text groups input bytes Limit o.0 o.1 o.2)
+accepted_run text groups input bytes Faulted t o = (o.0, of_run text groups input bytes Faulted o.0 o.1 o.2)
+accepted_run text groups input bytes status t o = absurd t
+
+-- where `run` or `watch` tells that the program is accepted
+run_ran : (groups : ℕ) (status : Status) → TellsAccepted status (Run groups) → Ran status
+run_ran groups Done t = t
+run_ran groups Limit t = t
+run_ran groups Faulted t = t
+run_ran groups status t = absurd t
+
+watch_ran : (groups : ℕ) (status : Status) → TellsAccepted status (Watch groups) → Ran status
+watch_ran groups Done t = t
+watch_ran groups Limit t = t
+watch_ran groups Faulted t = t
+watch_ran groups status t = absurd t
 
 -- a program that is free is order independent, and what is read is one program
 robust_given : FreeIsRobust → GivesOne as_either → (input : List ℕ) (q : Program) → as_either.Gives input q → IsProgram q → IsFree q → (p : Program) → as_either.Gives input p → IsRobust p
 robust_given law one input q gives program free p g = subst IsRobust (one input q p gives g) (law q program free)
 
-robust_program : FreeIsRobust → GivesOne as_either → (status : Status) (c : Command) (all input bytes : List ℕ) → TellsAccepted status c → IsReadOf c input all → IsCommandOutput c input bytes status
+robust_run : FreeIsRobust → GivesOne as_either → (text : WholeRun → List ℕ) (groups : ℕ) (input bytes : List ℕ) (status : Status) → Ran status → IsRunAs text groups as_either input bytes status → (p : Program) → as_either.Gives input p → IsRobust p
+robust_run law one text groups input bytes status ran o p g =
+    let a = accepted_run text groups input bytes status ran o in
+    let at = a.1.accepts in
+    robust_given law one input a.0 at.gives at.program at.free p g
+
+robust_program : FreeIsRobust → GivesOne as_either → (status : Status) (c : Command) (ws : List WatchState) (all input bytes : List ℕ) → TellsAccepted status c → IsReadOf c input all → IsCommandOutput c ws input bytes status
     → (p : Program) → IsJudgedBy c all p → IsRobust p
-robust_program law one Done Check all input bytes t is o p g =
+robust_program law one Done Check ws all input bytes t is o p g =
     let j = o.2 in
     let done = done_of_judgement o.0 bytes Done o.2 in
     robust_given law one input o.0 o.1 j.program (done.0 refl) p (subst (λ i. as_either.Gives i p) (sym is) g)
-robust_program law one Done (Trial seed bundles) all input bytes t is o p g = subst IsRobust (sym g) o.robust
-robust_program law one status (Run groups) all input bytes t is o p g =
-    let a = accepted_run groups input bytes status t o in
+robust_program law one Done (Trial seed bundles) ws all input bytes t is o p g = subst IsRobust (sym g) o.robust
+robust_program law one status (Run groups) ws all input bytes t is o p g = robust_run law one run_text groups input bytes status (run_ran groups status t) o p (subst (λ i. as_either.Gives i p) (sym is) g)
+robust_program law one status (Watch groups) ws all input bytes t is o p g = robust_run law one (watch_text ws) groups input bytes status (watch_ran groups status t) o p (subst (λ i. as_either.Gives i p) (sym is) g)
+robust_program law one status c ws all input bytes t is o p g = absurd t
+
+same_run : (text : WholeRun → List ℕ) (groups : ℕ) (p : Program) (codes : List (List ℕ)) → ordered_run_of p groups codes ≡ run_of p groups → (bytes : List ℕ) (status : Status) → IsRunOf text p groups bytes status
+    → (bytes ≡ text (ordered_run_of p groups codes)) × (status ≡ end_status (ordered_run_of p groups codes).end)
+same_run text groups p codes same bytes status o =
+    (o.printed ∙ sym (ap text same), o.ends ∙ sym (ap (λ (r : WholeRun). end_status r.end) same))
+
+each_order : FreeIsRobust → ZeroIsStart → GivesOne as_either → (text : WholeRun → List ℕ) (groups : ℕ) (input bytes : List ℕ) (status : Status) → Ran status → IsRunAs text groups as_either input bytes status
+    → (p : Program) → as_either.Gives input p → IsRunOfEveryOrder text p groups bytes status
+each_order law zero one text groups input bytes status ran o p g =
+    let a = accepted_run text groups input bytes status ran o in
     let k = a.1 in
     let at = k.accepts in
-    robust_given law one input a.0 at.gives at.program at.free p (subst (λ i. as_either.Gives i p) (sym is) g)
-robust_program law one status c all input bytes t is o p g = absurd t
+    subst (λ q. IsRunOfEveryOrder text q groups bytes status) (one input a.0 p at.gives g)
+    (λ codes. same_run text groups a.0 codes (law a.0 at.program at.free groups codes (zero_state a.0) (zero a.0 at.program)) bytes status k.runs)
 
-same_run : (groups : ℕ) (p : Program) (codes : List (List ℕ)) → ordered_run_of p groups codes ≡ run_of p groups → (bytes : List ℕ) (status : Status) → IsRunOf p groups bytes status
-    → (bytes ≡ run_text (ordered_run_of p groups codes)) × (status ≡ end_status (ordered_run_of p groups codes).end)
-same_run groups p codes same bytes status o =
-    (o.printed ∙ sym (ap run_text same), o.ends ∙ sym (ap (λ (r : WholeRun). end_status r.end) same))
-
-each_order : FreeIsRobust → ZeroIsStart → GivesOne as_either → (groups : ℕ) (input bytes : List ℕ) (status : Status) → TellsAccepted status (Run groups) → IsCommandOutput (Run groups) input bytes status
-    → (p : Program) → as_either.Gives input p → IsRunOfEveryOrder p groups bytes status
-each_order law zero one groups input bytes status t o p g =
-    let a = accepted_run groups input bytes status t o in
-    let k = a.1 in
-    let at = k.accepts in
-    subst (λ q. IsRunOfEveryOrder q groups bytes status) (one input a.0 p at.gives g)
-    (λ codes. same_run groups a.0 codes (law a.0 at.program at.free groups codes (zero_state a.0) (zero a.0 at.program)) bytes status k.runs)
+-- The command runs so many groups of what it reads.
+each_order_of : FreeIsRobust → ZeroIsStart → GivesOne as_either → (c : Command) (groups : ℕ) (ws : List WatchState) (input bytes : List ℕ) (status : Status) → groups_of c ≡ Some groups → TellsAccepted status c → IsCommandOutput c ws input bytes status
+    → (p : Program) → as_either.Gives input p → IsRunOfEveryOrder (printed_run c ws) p groups bytes status
+each_order_of law zero one (Run n) groups ws input bytes status is t o p g =
+    let same : n ≡ groups = cc in
+    subst (λ k. IsRunOfEveryOrder run_text p k bytes status) same (each_order law zero one run_text n input bytes status (run_ran n status t) o p g)
+each_order_of law zero one (Watch n) groups ws input bytes status is t o p g =
+    let same : n ≡ groups = cc in
+    subst (λ k. IsRunOfEveryOrder (watch_text ws) p k bytes status) same (each_order law zero one (watch_text ws) n input bytes status (watch_ran n status t) o p g)
+each_order_of law zero one c groups ws input bytes status is t o p g = cc
 
 -- The promise, of words and an input.
 abbrev pub Promises : List (List ℕ) → Status → List ℕ → Type 0
 Promises words status input =
     (c : Command) → command_of words ≡ Some c → TellsAccepted status c → (p : Program) → IsJudgedBy c input p → IsRobust p
 
-abbrev pub RunsInEachOrder : List (List ℕ) → Option (List ℕ) → Option (List ℕ) → Status → List ℕ → Type 0
-RunsInEachOrder words old new status input =
-    (groups : ℕ) → command_of words ≡ Some (Run groups) → TellsAccepted status (Run groups) → (p : Program) → as_either.Gives input p → GivesRunOfEveryOrder p groups old new status
+abbrev pub RunsInEachOrder : List (List ℕ) → List WatchState → Option (List ℕ) → Option (List ℕ) → Status → List ℕ → Type 0
+RunsInEachOrder words ws old new status input =
+    (c : Command) (groups : ℕ) → command_of words ≡ Some c → groups_of c ≡ Some groups → TellsAccepted status c → (p : Program) → as_either.Gives input p → GivesRunOfEveryOrder (printed_run c ws) p groups old new status
 
-pub promised : FreeIsRobust → GivesOne as_either → (words : List (List ℕ)) (c : Command) (left : Option (List ℕ)) (input bytes : List ℕ) (status : Status) → command_of words ≡ Some c → IfSome left (IsReadOf c input)
-    → IsCommandOutput c input bytes status → IfSome left (Promises words status)
-promised law one words c None input bytes status e whole o = tt
-promised law one words c (Some l) input bytes status e whole o =
+pub promised : FreeIsRobust → GivesOne as_either → (words : List (List ℕ)) (c : Command) (ws : List WatchState) (left : Option (List ℕ)) (input bytes : List ℕ) (status : Status) → command_of words ≡ Some c → IfSome left (IsReadOf c input)
+    → IsCommandOutput c ws input bytes status → IfSome left (Promises words status)
+promised law one words c ws None input bytes status e whole o = tt
+promised law one words c ws (Some l) input bytes status e whole o =
     λ d f t p g.
     let is = same_command words d c f e in
-    robust_program law one status c l input bytes (subst (TellsAccepted status) is t) whole o p (subst (λ k. IsJudgedBy k l p) is g)
+    robust_program law one status c ws l input bytes (subst (TellsAccepted status) is t) whole o p (subst (λ k. IsJudgedBy k l p) is g)
 
-pub run_in_each_order : FreeIsRobust → ZeroIsStart → GivesOne as_either → (words : List (List ℕ)) (c : Command) (left old new : Option (List ℕ)) (input bytes : List ℕ) (status : Status) → command_of words ≡ Some c → IfSome left (IsReadOf c input)
-    → IsCommandOutput c input bytes status → Appends old new bytes → IfSome left (RunsInEachOrder words old new status)
-run_in_each_order law zero one words c None old new input bytes status e whole o appended = tt
-run_in_each_order law zero one words c (Some l) old new input bytes status e whole o appended =
-    λ groups f t p g. (
+pub run_in_each_order : FreeIsRobust → ZeroIsStart → GivesOne as_either → (words : List (List ℕ)) (c : Command) (ws : List WatchState) (left old new : Option (List ℕ)) (input bytes : List ℕ) (status : Status) → command_of words ≡ Some c → IfSome left (IsReadOf c input)
+    → IsCommandOutput c ws input bytes status → Appends old new bytes → IfSome left (RunsInEachOrder words ws old new status)
+run_in_each_order law zero one words c ws None old new input bytes status e whole o appended = tt
+run_in_each_order law zero one words c ws (Some l) old new input bytes status e whole o appended =
+    λ d groups f runs t p g. (
       bytes,
       appended,
-      let is = same_command words c (Run groups) e f in
-          let read : input ≡ l = subst (λ k. IsReadOf k input l) is whole in
-          each_order law zero one groups input bytes status t (subst (λ k. IsCommandOutput k input bytes status) is o) p (subst (λ i. as_either.Gives i p) (sym read) g),
+      let is = same_command words c d e f in
+          let read : input ≡ l = run_whole d groups input l runs (subst (λ k. IsReadOf k input l) is whole) in
+          each_order_of law zero one d groups ws input bytes status runs t (subst (λ k. IsCommandOutput k ws input bytes status) is o) p (subst (λ i. as_either.Gives i p) (sym read) g),
     )
 
 -- an input that is too long tells nothing of its program
@@ -109,6 +144,6 @@ pub promised_beyond : (words : List (List ℕ)) (left : Option (List ℕ)) → I
 promised_beyond words None = tt
 promised_beyond words (Some l) = λ c f t p g. absurd t
 
-pub runs_beyond : (words : List (List ℕ)) (left old new : Option (List ℕ)) → IfSome left (RunsInEachOrder words old new TooLong)
-runs_beyond words None old new = tt
-runs_beyond words (Some l) old new = λ groups f t p g. absurd t
+pub runs_beyond : (words : List (List ℕ)) (ws : List WatchState) (left old new : Option (List ℕ)) → IfSome left (RunsInEachOrder words ws old new TooLong)
+runs_beyond words ws None old new = tt
+runs_beyond words ws (Some l) old new = λ c groups f runs t p g. absurd t

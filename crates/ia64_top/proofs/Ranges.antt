@@ -1,12 +1,12 @@
 -- The numbers of a command are in range.
 use Rattle.std.proofs.Common.{◌≡◌, ℕ, Bool, true, false, List, [], ◌∷◌, Option, Some, None, refl, subst, ◌^◌, ◌-◌}
-use Rattle.std.specs.Prelude.{if◌then◌else◌, codes, bytes_eq, IfSome}
+use Rattle.std.specs.Prelude.{if◌then◌else◌, codes, bytes_eq, option_map, IfSome}
 use Rattle.ia_insn.specs.declared.limits.TheConstants.{BUNDLE_LIMIT}
 use Rattle.ia64_top.specs.declared.limits.TheConstants.{GROUP_LIMIT}
 use Rattle.ia64_top.specs.declared.words.Command.{Command}
-use Rattle.ia64_top.specs.declared.words.Command.TheVariants.{Build, Show, List as Listing, Wrap, Check}
+use Rattle.ia64_top.specs.declared.words.Command.TheVariants.{Build, Show, List as Listing, Wrap, Check, Run, Watch}
 use Rattle.ia64_top.specs.Numbers.{number_between}
-use Rattle.ia64_top.specs.Words.{run_command, trial_command, command_of, HasNumbersInRange}
+use Rattle.ia64_top.specs.Words.{trial_command, command_of, HasNumbersInRange}
 use Rattle.ia64_top.proofs.Numerals.{IsNumeralOf, numeral_of_number}
 
 -- what a number that was found in a range is
@@ -29,13 +29,19 @@ word_alone false false false true e = tt
 word_alone false false false false true = tt
 word_alone false false false false false = tt
 
-run_of : (groups : List ℕ) (found : Option ℕ) → IsFound 1 GROUP_LIMIT groups found → InRange (run_command found)
+run_of : (groups : List ℕ) (found : Option ℕ) → IsFound 1 GROUP_LIMIT groups found → InRange (option_map Run found)
 run_of groups None is = tt
 run_of groups (Some n) is = (is.0, is.1)
 
-run_if : (named : Bool) (groups : List ℕ) → InRange (if named then run_command (number_between 1 GROUP_LIMIT groups) else None)
-run_if true groups = run_of groups (number_between 1 GROUP_LIMIT groups) (found_is 1 GROUP_LIMIT groups _ refl)
-run_if false groups = tt
+watch_of : (groups : List ℕ) (found : Option ℕ) → IsFound 1 GROUP_LIMIT groups found → InRange (option_map Watch found)
+watch_of groups None is = tt
+watch_of groups (Some n) is = (is.0, is.1)
+
+run_if : (run watch : Bool) (groups : List ℕ)
+    → InRange (if run then option_map Run (number_between 1 GROUP_LIMIT groups) else if watch then option_map Watch (number_between 1 GROUP_LIMIT groups) else None)
+run_if true watch groups = run_of groups (number_between 1 GROUP_LIMIT groups) (found_is 1 GROUP_LIMIT groups _ refl)
+run_if false true groups = watch_of groups (number_between 1 GROUP_LIMIT groups) (found_is 1 GROUP_LIMIT groups _ refl)
+run_if false false groups = tt
 
 trial_of : (bundles : List ℕ) (seed found : Option ℕ) → IsFound 1 BUNDLE_LIMIT bundles found → InRange (trial_command seed found)
 trial_of bundles None found is = tt
@@ -50,7 +56,7 @@ trial_if false seed bundles = tt
 words_in_range : (words : List (List ℕ)) → InRange (command_of words)
 words_in_range [] = tt
 words_in_range (word ∷ []) = word_alone (bytes_eq word (codes "build")) (bytes_eq word (codes "show")) (bytes_eq word (codes "list")) (bytes_eq word (codes "wrap")) (bytes_eq word (codes "check"))
-words_in_range (word ∷ groups ∷ []) = run_if (bytes_eq word (codes "run")) groups
+words_in_range (word ∷ groups ∷ []) = run_if (bytes_eq word (codes "run")) (bytes_eq word (codes "watch")) groups
 words_in_range (word ∷ seed ∷ bundles ∷ []) = trial_if (bytes_eq word (codes "trial")) seed bundles
 words_in_range (word ∷ seed ∷ bundles ∷ other ∷ words) = tt
 

@@ -1,4 +1,4 @@
--- What is stated of `run`.
+-- What is stated of `run` and `watch`.
 use Rattle.std.proofs.Common.{◌≡◌, ℕ, inl, inr, List, refl, sym, ap, ◌∙◌, subst}
 use Rattle.std.specs.Prelude.{◌↔◌, ◌⊎◌}
 use Rattle.ia_insn.specs.Programs.{Program}
@@ -8,7 +8,8 @@ use Rattle.ia_insn.specs.Programs.{IsProgram}
 use Rattle.ia_meaning.specs.declared.state.Rse.{Rse}
 use Rattle.ia_meaning.specs.State.{State, zero_state}
 use Rattle.ia_meaning.specs.Progress.{Progress, begun, groups_further, end_of}
-use Rattle.ia_meaning.specs.Runs.{HasRun, ProgressIsRun}
+use Rattle.ia_meaning.specs.Steps.{Run}
+use Rattle.ia_meaning.specs.Runs.{HasRun, ProgressIsRun, run_text}
 use Rattle.ia_meaning.specs.StateText.{state_text}
 use Rattle.ia_meaning.proofs.GroupEnds.{zero_is_place}
 use Rattle.group_checker.specs.Reports.{IsFree}
@@ -16,38 +17,45 @@ use Rattle.group_checker.specs.OrderLaws.{FreeIsRobust}
 use Rattle.ia64_top.specs.declared.status.Status.{Status}
 use Rattle.ia64_top.specs.declared.status.Status.TheVariants.{Done, Violated, Limit, Faulted, Refused}
 use Rattle.ia64_top.specs.Judgements.{IsJudgement, IsJudgedViolated}
-use Rattle.ia64_top.specs.Runs.{run_of, end_status, IsRunOf}
-use Rattle.ia64_top.specs.Readings.{Reading, IsRefusal}
-use Rattle.ia64_top.specs.Output.{IsRunAs}
+use Rattle.ia64_top.specs.Runs.{run_of, end_status, watch_text, IsRunOf}
+use Rattle.watch_seam.specs.Watchers.{WatchState}
+use Rattle.watch_seam.specs.Watching.{staying}
+use Rattle.ia64_top.specs.Watching.{IsNotRun, HaveWatched}
+use Rattle.ia64_top.specs.Readings.{Reading, IsRefusal, as_either}
+use Rattle.std.specs.Prelude.{Some}
+use Rattle.ia64_top.specs.declared.words.Command.{Command}
+use Rattle.ia64_top.specs.declared.words.Command.TheVariants as command
+use Rattle.ia64_top.specs.Words.{groups_of}
+use Rattle.ia64_top.specs.Output.{IsAcceptedAs, IsUnrunAs, IsRunAs, IsCommandOutput}
 use Rattle.ia64_top.proofs.Outputs.{GivesOne, RefusesNone, IsTold, TellsOne, holds_where_told, only_told}
 use Rattle.ia64_top.proofs.Judging.{violated_of_judgement}
 
 -- What is answered of a program: its run, or its verdict where it has violations.
-abbrev IsRunAnswer : ℕ → Program → List ℕ → Status → Type 0
-IsRunAnswer groups p bytes status = IsRunOf p groups bytes status ⊎ IsJudgedViolated p bytes status
+abbrev IsRunAnswer : (Run → List ℕ) → ℕ → Program → List ℕ → Status → Type 0
+IsRunAnswer text groups p bytes status = IsRunOf text p groups bytes status ⊎ IsJudgedViolated p bytes status
 
-pub is_run_refusal : (groups : ℕ) (r : Reading) (input bytes : List ℕ) (status : Status) → IsRefusal r input bytes status → IsRunAs groups r input bytes status
-is_run_refusal groups r input bytes status refused = subst (IsRunAs groups r input bytes) (sym refused.1) refused.0
+pub is_run_refusal : (text : Run → List ℕ) (groups : ℕ) (r : Reading) (input bytes : List ℕ) (status : Status) → IsRefusal r input bytes status → IsRunAs text groups r input bytes status
+is_run_refusal text groups r input bytes status refused = subst (IsRunAs text groups r input bytes) (sym refused.1) refused.0
 
 -- the end of the run tells the row of its status
-by_end : (groups : ℕ) (r : Reading) (input : List ℕ) (p : Program) (bytes : List ℕ) (status : Status) (e : End) → r.Gives input p → status ≡ end_status e → IsRunOf p groups bytes status → IsRunAs groups r input bytes status
-by_end groups r input p bytes status (end.Break imm place) g is = subst (λ s. IsRunOf p groups bytes s → IsRunAs groups r input bytes s) (sym is) (λ o. (p, g, o))
-by_end groups r input p bytes status (end.Limit place) g is = subst (λ s. IsRunOf p groups bytes s → IsRunAs groups r input bytes s) (sym is) (λ o. (p, g, o))
-by_end groups r input p bytes status (end.Fault kind place) g is = subst (λ s. IsRunOf p groups bytes s → IsRunAs groups r input bytes s) (sym is) (λ o. (p, g, o))
+by_end : (text : Run → List ℕ) (groups : ℕ) (r : Reading) (input : List ℕ) (p : Program) (bytes : List ℕ) (status : Status) (e : End) → r.Gives input p → status ≡ end_status e → IsRunOf text p groups bytes status → IsRunAs text groups r input bytes status
+by_end text groups r input p bytes status (end.Break imm place) g is = subst (λ s. IsRunOf text p groups bytes s → IsRunAs text groups r input bytes s) (sym is) (λ o. (p, g, o))
+by_end text groups r input p bytes status (end.Limit place) g is = subst (λ s. IsRunOf text p groups bytes s → IsRunAs text groups r input bytes s) (sym is) (λ o. (p, g, o))
+by_end text groups r input p bytes status (end.Fault kind place) g is = subst (λ s. IsRunOf text p groups bytes s → IsRunAs text groups r input bytes s) (sym is) (λ o. (p, g, o))
 
 -- the answer of the program that an input is read as is that of the input
-pub run_of_program : (groups : ℕ) (r : Reading) (input : List ℕ) (p : Program) (bytes : List ℕ) (status : Status) → r.Gives input p → IsRunOf p groups bytes status ⊎ IsJudgedViolated p bytes status → IsRunAs groups r input bytes status
-run_of_program groups r input p bytes status g (inl o) = by_end groups r input p bytes status (run_of p groups).end g o.ends o
-run_of_program groups r input p bytes status g (inr o) = subst (λ s. IsJudgement p bytes s → IsRunAs groups r input bytes s) (sym o.1) (λ j. (p, g, j)) o.0
+pub run_of_program : (text : Run → List ℕ) (groups : ℕ) (r : Reading) (input : List ℕ) (p : Program) (bytes : List ℕ) (status : Status) → r.Gives input p → IsRunOf text p groups bytes status ⊎ IsJudgedViolated p bytes status → IsRunAs text groups r input bytes status
+run_of_program text groups r input p bytes status g (inl o) = by_end text groups r input p bytes status (run_of p groups).end g o.ends o
+run_of_program text groups r input p bytes status g (inr o) = subst (λ s. IsJudgement p bytes s → IsRunAs text groups r input bytes s) (sym o.1) (λ j. (p, g, j)) o.0
 
 -- each row tells the answer of the program, or the refusal
-told_of_run : (groups : ℕ) (r : Reading) (input bytes : List ℕ) (status : Status) → IsRunAs groups r input bytes status → IsTold r (IsRunAnswer groups) input bytes status
-told_of_run groups r input bytes Done o = inl (o.0, o.1, inl o.2)
-told_of_run groups r input bytes Violated o = inl (o.0, o.1, inr (o.2, refl))
-told_of_run groups r input bytes Limit o = inl (o.0, o.1, inl o.2)
-told_of_run groups r input bytes Faulted o = inl (o.0, o.1, inl o.2)
-told_of_run groups r input bytes Refused o = inr (o, refl)
-told_of_run groups r input bytes status o = absurd o
+told_of_run : (text : Run → List ℕ) (groups : ℕ) (r : Reading) (input bytes : List ℕ) (status : Status) → IsRunAs text groups r input bytes status → IsTold r (IsRunAnswer text groups) input bytes status
+told_of_run text groups r input bytes Done o = inl (o.0, o.1, inl o.2)
+told_of_run text groups r input bytes Violated o = inl (o.0, o.1, inr (o.2, refl))
+told_of_run text groups r input bytes Limit o = inl (o.0, o.1, inl o.2)
+told_of_run text groups r input bytes Faulted o = inl (o.0, o.1, inl o.2)
+told_of_run text groups r input bytes Refused o = inr (o, refl)
+told_of_run text groups r input bytes status o = absurd o
 
 -- a run has no violations
 not_violated : (e : End) → end_status e ≡ Violated → ⊥
@@ -55,43 +63,93 @@ not_violated (end.Break imm place) is = cc
 not_violated (end.Limit place) is = cc
 not_violated (end.Fault kind place) is = cc
 
-violated_of_answer : (groups : ℕ) (p : Program) (bytes : List ℕ) (status : Status) → IsRunAnswer groups p bytes status → ((status ≡ Violated) ↔ (¬ IsFree p))
-violated_of_answer groups p bytes status (inl o) = (λ e. absurd (not_violated (run_of p groups).end (sym o.ends ∙ e)), λ n. absurd (n o.free))
-violated_of_answer groups p bytes status (inr o) = violated_of_judgement p bytes status o.0
+violated_of_answer : (text : Run → List ℕ) (groups : ℕ) (p : Program) (bytes : List ℕ) (status : Status) → IsRunAnswer text groups p bytes status → ((status ≡ Violated) ↔ (¬ IsFree p))
+violated_of_answer text groups p bytes status (inl o) = (λ e. absurd (not_violated (run_of p groups).end (sym o.ends ∙ e)), λ n. absurd (n o.free))
+violated_of_answer text groups p bytes status (inr o) = violated_of_judgement p bytes status o.0
 
 -- The end of the run tells the status of a program that is free.
-end_of_answer : (groups : ℕ) (p : Program) (bytes : List ℕ) (status : Status) → IsRunAnswer groups p bytes status → IsFree p → status ≡ end_status (run_of p groups).end
-end_of_answer groups p bytes status (inl o) free = o.ends
-end_of_answer groups p bytes status (inr o) free = absurd ((violated_of_judgement p bytes status o.0).0 o.1 free)
+end_of_answer : (text : Run → List ℕ) (groups : ℕ) (p : Program) (bytes : List ℕ) (status : Status) → IsRunAnswer text groups p bytes status → IsFree p → status ≡ end_status (run_of p groups).end
+end_of_answer text groups p bytes status (inl o) free = o.ends
+end_of_answer text groups p bytes status (inr o) free = absurd ((violated_of_judgement p bytes status o.0).0 o.1 free)
 
-one_answer : (groups : ℕ) → TellsOne (IsRunAnswer groups)
-one_answer groups p mine bytes status other (inl m) o = end_of_answer groups p bytes other o m.free ∙ sym m.ends
-one_answer groups p mine bytes status other (inr m) o = (violated_of_answer groups p bytes other o).1 ((violated_of_judgement p mine status m.0).0 m.1) ∙ sym m.1
+one_answer : (text : Run → List ℕ) (groups : ℕ) → TellsOne (IsRunAnswer text groups)
+one_answer text groups p mine bytes status other (inl m) o = end_of_answer text groups p bytes other o m.free ∙ sym m.ends
+one_answer text groups p mine bytes status other (inr m) o = (violated_of_answer text groups p bytes other o).1 ((violated_of_judgement p mine status m.0).0 m.1) ∙ sym m.1
 
-pub status_of_run : (groups : ℕ) (r : Reading) → GivesOne r → RefusesNone r → (input bytes : List ℕ) (status : Status) → IsRunAs groups r input bytes status
+pub status_of_run : (text : Run → List ℕ) (groups : ℕ) (r : Reading) → GivesOne r → RefusesNone r → (input bytes : List ℕ) (status : Status) → IsRunAs text groups r input bytes status
     → (p : Program) → r.Gives input p → IsFree p → status ≡ end_status (run_of p groups).end
-status_of_run groups r one none input bytes status o =
-    holds_where_told r (IsRunAnswer groups) (λ p s. IsFree p → s ≡ end_status (run_of p groups).end) (end_of_answer groups) one none input bytes status (told_of_run groups r input bytes status o)
+status_of_run text groups r one none input bytes status o =
+    holds_where_told r (IsRunAnswer text groups) (λ p s. IsFree p → s ≡ end_status (run_of p groups).end) (end_of_answer text groups) one none input bytes status (told_of_run text groups r input bytes status o)
 
 -- `Violated` is the answer exactly where the program isn't free
-pub run_violated_where_not_free : (groups : ℕ) (r : Reading) → GivesOne r → RefusesNone r → (input bytes : List ℕ) (status : Status) → IsRunAs groups r input bytes status
+pub run_violated_where_not_free : (text : Run → List ℕ) (groups : ℕ) (r : Reading) → GivesOne r → RefusesNone r → (input bytes : List ℕ) (status : Status) → IsRunAs text groups r input bytes status
     → (p : Program) → r.Gives input p → ((status ≡ Violated) ↔ (¬ IsFree p))
-run_violated_where_not_free groups r one none input bytes status o =
-    holds_where_told r (IsRunAnswer groups) (λ p s. (s ≡ Violated) ↔ (¬ IsFree p)) (violated_of_answer groups) one none input bytes status (told_of_run groups r input bytes status o)
+run_violated_where_not_free text groups r one none input bytes status o =
+    holds_where_told r (IsRunAnswer text groups) (λ p s. (s ≡ Violated) ↔ (¬ IsFree p)) (violated_of_answer text groups) one none input bytes status (told_of_run text groups r input bytes status o)
 
 -- no other status is stated for what is run
-pub only_run : (groups : ℕ) (r : Reading) → GivesOne r → RefusesNone r → (input mine : List ℕ) (status : Status) → IsRunAs groups r input mine status
-    → (bytes : List ℕ) (other : Status) → IsRunAs groups r input bytes other → other ≡ status
-only_run groups r one none input mine status m bytes other o =
-    only_told r (IsRunAnswer groups) (one_answer groups) one none input mine bytes status other (told_of_run groups r input mine status m) (told_of_run groups r input bytes other o)
+pub only_run : (text : Run → List ℕ) (groups : ℕ) (r : Reading) → GivesOne r → RefusesNone r → (input mine : List ℕ) (status : Status) → IsRunAs text groups r input mine status
+    → (bytes : List ℕ) (other : Status) → IsRunAs text groups r input bytes other → other ≡ status
+only_run text groups r one none input mine status m bytes other o =
+    only_told r (IsRunAnswer text groups) (one_answer text groups) one none input mine bytes status other (told_of_run text groups r input mine status m) (told_of_run text groups r input bytes other o)
+
+-- What is answered to an input that isn't run, and of the accepted program that is.
+pub unrun_is : (text : Run → List ℕ) (groups : ℕ) (r : Reading) (input bytes : List ℕ) (status : Status) → IsUnrunAs r input bytes status → IsRunAs text groups r input bytes status
+unrun_is text groups r input bytes status (inl refused) = is_run_refusal text groups r input bytes status refused
+unrun_is text groups r input bytes status (inr o) = run_of_program text groups r input o.0 bytes status o.1 (inr o.2)
+
+pub run_is : (text : Run → List ℕ) (groups : ℕ) (r : Reading) (input : List ℕ) (p : Program) (bytes : List ℕ) (status : Status) → IsAcceptedAs r input p → IsRunOf text p groups bytes status → IsRunAs text groups r input bytes status
+run_is text groups r input p bytes status accepted o = run_of_program text groups r input p bytes status accepted.0 (inl o)
 
 -- A run under way that has come so far prints the run, and ends as it does.
 same_text : (e f : End) (g h : ℕ) (r q : Rse) (s t : State) → e ≡ f → g ≡ h → r ≡ q → s ≡ t → state_text e g r s ≡ state_text f h q t
 same_text e f g h r q s t ef gh rq st = rw (ef, gh, rq, st) refl
 
-pub run_of_progress : FreeIsRobust → ProgressIsRun → (groups : ℕ) (p : Program) (m : Progress) (e : End) (bytes : List ℕ) (status : Status) → IsProgram p → IsFree p → m ≡ groups_further groups p (begun (zero_state p)) → e ≡ end_of m
-    → bytes ≡ state_text e m.groups m.range m.state → status ≡ end_status e → IsRunOf p groups bytes status
-run_of_progress law run groups p m e bytes status program free came ends printed answered =
-    let has : HasRun m (run_of p groups) = subst (λ x. HasRun x (run_of p groups)) (sym came) (run groups p (zero_state p) program (zero_is_place p program)) in
-    let end : e ≡ (run_of p groups).end = ends ∙ has.end in
-    record { program = program; free = free; robust = law p program free; printed = printed ∙ same_text _ _ _ _ _ _ _ _ end has.groups has.range has.state; ends = answered ∙ ap end_status end }
+has_run : ProgressIsRun → (groups : ℕ) (p : Program) (m : Progress) → IsProgram p → m ≡ groups_further groups p (begun (zero_state p)) → HasRun m (run_of p groups)
+has_run run groups p m program came = subst (λ x. HasRun x (run_of p groups)) (sym came) (run groups p (zero_state p) program (zero_is_place p program))
+
+pub text_of_progress : ProgressIsRun → (groups : ℕ) (p : Program) (m : Progress) (e : End) → IsProgram p → m ≡ groups_further groups p (begun (zero_state p)) → e ≡ end_of m
+    → state_text e m.groups m.range m.state ≡ run_text (run_of p groups)
+text_of_progress run groups p m e program came ends =
+    let has = has_run run groups p m program came in same_text _ _ _ _ _ _ _ _ (ends ∙ has.end) has.groups has.range has.state
+
+pub run_of_progress : FreeIsRobust → ProgressIsRun → (text : Run → List ℕ) (groups : ℕ) (p : Program) (m : Progress) (e : End) (bytes : List ℕ) (status : Status) → IsProgram p → IsFree p → m ≡ groups_further groups p (begun (zero_state p)) → e ≡ end_of m
+    → bytes ≡ text (run_of p groups) → status ≡ end_status e → IsRunOf text p groups bytes status
+run_of_progress law run text groups p m e bytes status program free came ends printed answered =
+    let has = has_run run groups p m program came in
+    record { program = program; free = free; robust = law p program free; printed = printed; ends = answered ∙ ap end_status (ends ∙ has.end) }
+
+-- Of the program that was read the watchers have seen the run, and no other program is read.
+pub have_watched : GivesOne as_either → (groups : ℕ) (input : List ℕ) (p : Program) (old now : List WatchState) → as_either.Gives input p → now ≡ staying (run_of p groups).events old → HaveWatched groups input old now
+have_watched one groups input p old now gives is q given free = subst (λ x. now ≡ staying (run_of x groups).events old) (one input p q gives given) is
+
+-- What isn't run is read as no accepted program.
+pub not_accepted : GivesOne as_either → RefusesNone as_either → (input bytes : List ℕ) (status : Status) → IsUnrunAs as_either input bytes status → IsNotRun input
+not_accepted one none input bytes status (inl refused) p gives free = none input p bytes gives refused.0
+not_accepted one none input bytes status (inr o) p gives free =
+    let violated = o.2 in (violated_of_judgement o.0 bytes status violated.0).0 violated.1 (subst IsFree (one input p o.0 gives o.1) free)
+
+-- What is answered to a command that is `run`, or `watch`.
+pub run_only : GivesOne as_either → RefusesNone as_either → (groups : ℕ) (c : Command) (ws : List WatchState) (input mine : List ℕ) (status : Status) → c ≡ command.Run groups → IsRunAs run_text groups as_either input mine status
+    → (bytes : List ℕ) (other : Status) → IsCommandOutput c ws input bytes other → other ≡ status
+run_only one none groups c ws input mine status is m bytes other o =
+    only_run run_text groups as_either one none input mine status m bytes other (subst (λ k. IsCommandOutput k ws input bytes other) is o)
+
+pub watch_only : GivesOne as_either → RefusesNone as_either → (groups : ℕ) (c : Command) (ws : List WatchState) (input mine : List ℕ) (status : Status) → c ≡ command.Watch groups → IsRunAs (watch_text ws) groups as_either input mine status
+    → (bytes : List ℕ) (other : Status) → IsCommandOutput c ws input bytes other → other ≡ status
+watch_only one none groups c ws input mine status is m bytes other o =
+    only_run (watch_text ws) groups as_either one none input mine status m bytes other (subst (λ k. IsCommandOutput k ws input bytes other) is o)
+
+pub ended_so : GivesOne as_either → RefusesNone as_either → (text : Run → List ℕ) (groups : ℕ) (c : Command) (input bytes : List ℕ) (status : Status) → groups_of c ≡ Some groups → IsRunAs text groups as_either input bytes status
+    → (k : ℕ) → groups_of c ≡ Some k → (p : Program) → as_either.Gives input p → IsFree p → status ≡ end_status (run_of p k).end
+ended_so one none text groups c input bytes status mine o k its p gives free =
+    let some : Some groups ≡ Some k = sym mine ∙ its in
+    let same : groups ≡ k = cc in
+    status_of_run text groups as_either one none input bytes status o p gives free ∙ ap (λ n. end_status (run_of p n).end) same
+
+-- One number of groups is that of `watch`.
+pub of_watch : (P : ℕ → Type 0) (groups : ℕ) (c : Command) → c ≡ command.Watch groups → P groups → (k : ℕ) → c ≡ command.Watch k → P k
+of_watch P groups c mine held k its =
+    let watch : command.Watch groups ≡ command.Watch k = sym mine ∙ its in
+    let same : groups ≡ k = cc in
+    subst P same held

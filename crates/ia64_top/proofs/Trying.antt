@@ -1,6 +1,7 @@
 -- What is stated of `trial`.
 use Rattle.std.proofs.Common.{◌≡◌, ℕ, List, length, refl, sym, ◌∙◌, subst}
-use Rattle.std.specs.Prelude.{◌↔◌, Some}
+use Rattle.std.specs.Prelude.{◌↔◌, Option, Some}
+use Rattle.std.specs.Io.KnownBytes.{Appends}
 use Rattle.ia_insn.specs.declared.ending.End.{End}
 use Rattle.ia_insn.specs.Programs.{Program, IsProgram}
 use Rattle.ia_meaning.specs.State.{State, zero_state}
@@ -11,6 +12,7 @@ use Rattle.group_checker.specs.declared.report.Verdict.{Verdict}
 use Rattle.group_checker.specs.Reports.{IsFree, IsVerdict}
 use Rattle.group_checker.specs.OrderLaws.{FreeIsRobust}
 use Rattle.trial_maker.specs.Trials.{trial_program}
+use Rattle.watch_seam.specs.Watchers.{WatchState}
 use Rattle.ia64_top.specs.declared.words.Command.{Command}
 use Rattle.ia64_top.specs.declared.words.Command.TheVariants.{Trial}
 use Rattle.ia64_top.specs.declared.status.Status.{Status}
@@ -21,7 +23,7 @@ use Rattle.ia64_top.specs.Texts.{verdict_text}
 use Rattle.ia64_top.specs.Judgements.{verdict_status, IsJudgement}
 use Rattle.ia64_top.specs.Runs.{run_of}
 use Rattle.ia64_top.specs.Trials.{trial_text, IsTrialOf, IsTrialOutput}
-use Rattle.ia64_top.specs.Output.{IsCommandOutput}
+use Rattle.ia64_top.specs.Output.{IsCommandOutput, GivesTrial}
 use Rattle.ia64_top.proofs.Judging.{judgement_of, violated_of_judgement}
 use Rattle.ia64_top.proofs.Answering.{same_command}
 
@@ -37,11 +39,16 @@ violated_of_trial seed bundles bytes Violated o = violated_of_judgement (trial_p
 violated_of_trial seed bundles bytes status o = absurd o
 
 -- no other status is stated
-pub only_trial : (seed bundles : ℕ) (mine : List ℕ) (status : Status) → IsTrialOutput seed bundles mine status
+only_trial : (seed bundles : ℕ) (mine : List ℕ) (status : Status) → IsTrialOutput seed bundles mine status
     → (bytes : List ℕ) (other : Status) → IsTrialOutput seed bundles bytes other → other ≡ status
 only_trial seed bundles mine Done m bytes other o = (done_of_trial seed bundles bytes other o).1 m.free
 only_trial seed bundles mine Violated m bytes other o = (violated_of_trial seed bundles bytes other o).1 ((violated_of_judgement (trial_program seed bundles) mine Violated m).0 refl)
 only_trial seed bundles mine status m bytes other o = absurd m
+
+pub trial_only : (seed bundles : ℕ) (c : Command) (ws : List WatchState) (input mine : List ℕ) (status : Status) → c ≡ Trial seed bundles → IsTrialOutput seed bundles mine status
+    → (bytes : List ℕ) (other : Status) → IsCommandOutput c ws input bytes other → other ≡ status
+trial_only seed bundles c ws input mine status is m bytes other o =
+    only_trial seed bundles mine status m bytes other (subst (λ k. IsCommandOutput k ws input bytes other) is o)
 
 ends_of_trial : (seed bundles : ℕ) (bytes : List ℕ) (status : Status) → IsTrialOutput seed bundles bytes status → EndsTrial status
 ends_of_trial seed bundles bytes Done o = tt
@@ -78,16 +85,24 @@ trial_of_progress law run seed bundles p m e bytes made program free came ends p
     }
 
 -- what is told of the words and the answer
-pub tried : (words : List (List ℕ)) (command : Command) (input bytes : List ℕ) (status : Status) → command_of words ≡ Some command → IsCommandOutput command input bytes status
+pub tried : (words : List (List ℕ)) (command : Command) (ws : List WatchState) (input bytes : List ℕ) (status : Status) → command_of words ≡ Some command → IsCommandOutput command ws input bytes status
     → (seed bundles : ℕ) → command_of words ≡ Some (Trial seed bundles) → ((status ≡ Done) ↔ IsFree (trial_program seed bundles)) × ((status ≡ Violated) ↔ (¬ IsFree (trial_program seed bundles)))
-tried words command input bytes status e o seed bundles f =
-    let its : IsTrialOutput seed bundles bytes status = subst (λ c. IsCommandOutput c input bytes status) (same_command words command (Trial seed bundles) e f) o in
+tried words command ws input bytes status e o seed bundles f =
+    let its : IsTrialOutput seed bundles bytes status = subst (λ c. IsCommandOutput c ws input bytes status) (same_command words command (Trial seed bundles) e f) o in
     (done_of_trial seed bundles bytes status its, violated_of_trial seed bundles bytes status its)
+
+pub gives_trial : (words : List (List ℕ)) (command : Command) (ws : List WatchState) (input bytes : List ℕ) (status : Status) (old new : Option (List ℕ)) → command_of words ≡ Some command → IsCommandOutput command ws input bytes status → Appends old new bytes
+    → (seed bundles : ℕ) → command_of words ≡ Some (Trial seed bundles) → GivesTrial seed bundles old new status
+gives_trial words command ws input bytes status old new e o appended seed bundles f = (
+  bytes,
+  subst (λ c. IsCommandOutput c ws input bytes status) (same_command words command (Trial seed bundles) e f) o,
+  appended,
+)
 
 -- a command that isn't `trial` tells nothing of one
 pub untried : (words : List (List ℕ)) (command : Command) → command_of words ≡ Some command → ¬ IsTrial (Some command) → (seed bundles : ℕ) → command_of words ≡ Some (Trial seed bundles) → ⊥
 untried words command e other seed bundles f = other (subst (λ c. IsTrial (Some c)) (same_command words (Trial seed bundles) command f e) tt)
 
-pub ends_trial : (command : Command) (input bytes : List ℕ) (status : Status) → IsTrial (Some command) → IsCommandOutput command input bytes status → EndsTrial status
-ends_trial (Trial seed bundles) input bytes status is o = ends_of_trial seed bundles bytes status o
-ends_trial command input bytes status is o = absurd is
+pub ends_trial : (command : Command) (ws : List WatchState) (input bytes : List ℕ) (status : Status) → IsTrial (Some command) → IsCommandOutput command ws input bytes status → EndsTrial status
+ends_trial (Trial seed bundles) ws input bytes status is o = ends_of_trial seed bundles bytes status o
+ends_trial command ws input bytes status is o = absurd is

@@ -8,4 +8,5 @@ pub mod Readings
 pub mod Runs
 pub mod Trials
 pub mod Output
+pub mod Watching
 pub mod NamedAddresses

@@ -1,5 +1,5 @@
 -- The stated output: what the words and the input give. Each command has a table of its own, a row for each status.
-use Rattle.std.specs.Prelude.{◌≡◌, ℕ, ◌<◌, ◌≤◌, nat_lt, Bool, false, List, [], length, take, Option, MatchOption, MatchBool}
+use Rattle.std.specs.Prelude.{◌≡◌, ◌⊎◌, ℕ, ◌<◌, ◌≤◌, nat_lt, Bool, false, List, [], length, take, Option, MatchOption, MatchBool}
 use Rattle.std.specs.Io.KnownBytes.{Appends}
 use Rattle.ia64_top.specs.declared.limits.TheConstants.{INPUT_LIMIT}
 use Rattle.ia64_top.specs.declared.words.Command.{Command}
@@ -11,11 +11,15 @@ use Rattle.image_form.specs.Images.{Spells}
 use Rattle.asm_build.specs.CanonicalText.{canonical_text}
 use Rattle.asm_build.specs.Listing.{IsListing}
 use Rattle.ia64_top.specs.Words.{command_of}
-use Rattle.ia64_top.specs.Judgements.{IsJudgement}
+use Rattle.ia64_top.specs.Judgements.{IsJudgement, IsJudgedViolated}
 use Rattle.trial_maker.specs.Trials.{trial_program}
-use Rattle.ia64_top.specs.Runs.{IsRunOf, IsRunOfEveryOrder}
+use Rattle.ia_meaning.specs.Steps.{Run}
+use Rattle.ia_meaning.specs.Runs.{run_text}
+use Rattle.watch_seam.specs.Watchers.{WatchState}
+use Rattle.ia64_top.specs.Runs.{watch_text, IsRunOf, IsRunOfEveryOrder}
 use Rattle.ia64_top.specs.Trials.{IsTrialOutput}
-use Rattle.ia64_top.specs.Readings.{Reading, BeginsAsImage, as_image, as_bundles, as_text, as_either}
+use Rattle.group_checker.specs.Reports.{IsFree}
+use Rattle.ia64_top.specs.Readings.{Reading, IsRefusal, BeginsAsImage, as_image, as_bundles, as_text, as_either}
 
 -- An input that isn't too long. An image is never longer than the limit.
 abbrev pub IsWithinLimit : List ℕ → Type 0
@@ -42,19 +46,29 @@ IsCheckedAs reading input bytes Violated =
 IsCheckedAs reading input bytes Refused = reading.Refuses input bytes
 IsCheckedAs reading input bytes status = ⊥
 
--- What `run` writes and answers of an input that is read in a way. A program with violations isn't run: it gets the
--- verdict that `check` gives it.
-abbrev pub IsRunAs : ℕ → Reading → List ℕ → List ℕ → Status → Type 0
-IsRunAs groups reading input bytes Done =
-    (program : Program) × reading.Gives input program × IsRunOf program groups bytes Done
-IsRunAs groups reading input bytes Violated =
+-- The input is read as this program, and it is accepted.
+abbrev pub IsAcceptedAs : Reading → List ℕ → Program → Type 0
+IsAcceptedAs reading input program = reading.Gives input program × IsFree program
+
+-- What is answered to an input that isn't run: its fault, or the verdict on a program with violations.
+abbrev pub IsUnrunAs : Reading → List ℕ → List ℕ → Status → Type 0
+IsUnrunAs reading input bytes status =
+    IsRefusal reading input bytes status
+    ⊎ ((program : Program) × reading.Gives input program × IsJudgedViolated program bytes status)
+
+-- What is written and answered of an input that is read in a way, where so many groups of its program are run and this is
+-- printed of a run. A program with violations isn't run: it gets the verdict that `check` gives it.
+abbrev pub IsRunAs : (Run → List ℕ) → ℕ → Reading → List ℕ → List ℕ → Status → Type 0
+IsRunAs text groups reading input bytes Done =
+    (program : Program) × reading.Gives input program × IsRunOf text program groups bytes Done
+IsRunAs text groups reading input bytes Violated =
     (program : Program) × reading.Gives input program × IsJudgement program bytes Violated
-IsRunAs groups reading input bytes Limit =
-    (program : Program) × reading.Gives input program × IsRunOf program groups bytes Limit
-IsRunAs groups reading input bytes Faulted =
-    (program : Program) × reading.Gives input program × IsRunOf program groups bytes Faulted
-IsRunAs groups reading input bytes Refused = reading.Refuses input bytes
-IsRunAs groups reading input bytes status = ⊥
+IsRunAs text groups reading input bytes Limit =
+    (program : Program) × reading.Gives input program × IsRunOf text program groups bytes Limit
+IsRunAs text groups reading input bytes Faulted =
+    (program : Program) × reading.Gives input program × IsRunOf text program groups bytes Faulted
+IsRunAs text groups reading input bytes Refused = reading.Refuses input bytes
+IsRunAs text groups reading input bytes status = ⊥
 
 -- The program that a command judges: the stated one of `trial`, and else the one that the input is read as.
 abbrev pub IsJudgedBy : Command → List ℕ → Program → Type 0
@@ -65,40 +79,58 @@ IsJudgedBy command input program = as_either.Gives input program
 abbrev pub IsSilent : Status → List ℕ → Status → Type 0
 IsSilent status bytes answer = (bytes ≡ []) × (answer ≡ status)
 
--- `build` and `wrap` make the image of a program, `show` its canonical text, and `list` its listing. `check` and `run`
--- take an image or a text, and `trial` takes no input.
-abbrev pub IsCommandOutput : Command → List ℕ → List ℕ → Status → Type 0
-IsCommandOutput command.Build input bytes status = IsMadeOutput as_text Spells input bytes status
-IsCommandOutput command.Show input bytes status =
+-- What is printed of a run where a command runs something: `watch` has the reports of the watchers before it.
+abbrev pub printed_run : Command → List WatchState → Run → List ℕ
+printed_run (command.Watch groups) watchers run = watch_text watchers run
+printed_run command watchers run = run_text run
+
+-- `build` and `wrap` make the image of a program, `show` its canonical text, and `list` its listing. `check`, `run` and
+-- `watch` take an image or a text, and `trial` takes no input.
+abbrev pub IsCommandOutput : Command → List WatchState → List ℕ → List ℕ → Status → Type 0
+IsCommandOutput command.Build watchers input bytes status =
+    IsMadeOutput as_text Spells input bytes status
+IsCommandOutput command.Show watchers input bytes status =
     IsMadeOutput as_image IsCanonical input bytes status
-IsCommandOutput command.List input bytes status = IsMadeOutput as_image IsListing input bytes status
-IsCommandOutput command.Wrap input bytes status = IsMadeOutput as_bundles Spells input bytes status
-IsCommandOutput command.Check input bytes status = IsCheckedAs as_either input bytes status
-IsCommandOutput (command.Run groups) input bytes status = IsRunAs groups as_either input bytes status
-IsCommandOutput (command.Trial seed bundles) input bytes status = IsTrialOutput seed bundles bytes status
+IsCommandOutput command.List watchers input bytes status =
+    IsMadeOutput as_image IsListing input bytes status
+IsCommandOutput command.Wrap watchers input bytes status =
+    IsMadeOutput as_bundles Spells input bytes status
+IsCommandOutput command.Check watchers input bytes status = IsCheckedAs as_either input bytes status
+IsCommandOutput (command.Run groups) watchers input bytes status =
+    IsRunAs run_text groups as_either input bytes status
+IsCommandOutput (command.Watch groups) watchers input bytes status =
+    IsRunAs (watch_text watchers) groups as_either input bytes status
+IsCommandOutput (command.Trial seed bundles) watchers input bytes status =
+    IsTrialOutput seed bundles bytes status
 
 -- No input is too long for `trial`.
 abbrev pub is_too_long : Command → List ℕ → Bool
 is_too_long (command.Trial seed bundles) input = false
 is_too_long command input = nat_lt INPUT_LIMIT (length input)
 
--- The bytes that are written and the status that is answered, for these words and this input.
-abbrev pub IsOutput : List (List ℕ) → List ℕ → List ℕ → Status → Type 0
-IsOutput words input bytes status = MatchOption (command_of words) (IsSilent Words bytes status)
+-- The bytes that are written and the status that is answered, for these words, these watchers and this input.
+abbrev pub IsOutput : List (List ℕ) → List WatchState → List ℕ → List ℕ → Status → Type 0
+IsOutput words watchers input bytes status = MatchOption (command_of words) (IsSilent Words bytes status)
     (λ command. MatchBool (is_too_long command input) (IsSilent TooLong bytes status)
-    (IsCommandOutput command input bytes status))
+    (IsCommandOutput command watchers input bytes status))
 
 -- The sink got the bytes of the output of this status.
-abbrev pub GivesOutput : List (List ℕ) → List ℕ → Option (List ℕ) → Option (List ℕ) → Status → Type 0
-GivesOutput words input old new status = (bytes : List ℕ) × IsOutput words input bytes status × Appends old new bytes
+abbrev pub GivesOutput : List (List ℕ) → List WatchState → List ℕ → Option (List ℕ) → Option (List ℕ) → Status → Type 0
+GivesOutput words watchers input old new status =
+    (bytes : List ℕ) × IsOutput words watchers input bytes status × Appends old new bytes
+
+-- The sink got the bytes of a trial of this status, whatever the input is.
+abbrev pub GivesTrial : ℕ → ℕ → Option (List ℕ) → Option (List ℕ) → Status → Type 0
+GivesTrial seed bundles old new status =
+    (bytes : List ℕ) × IsTrialOutput seed bundles bytes status × Appends old new bytes
 
 -- The sink got a proper prefix of the bytes of some output.
-abbrev pub GivesPart : List (List ℕ) → List ℕ → Option (List ℕ) → Option (List ℕ) → Type 0
-GivesPart words input old new =
-    (bytes : List ℕ) × (status : Status) × IsOutput words input bytes status
+abbrev pub GivesPart : List (List ℕ) → List WatchState → List ℕ → Option (List ℕ) → Option (List ℕ) → Type 0
+GivesPart words watchers input old new =
+    (bytes : List ℕ) × (status : Status) × IsOutput words watchers input bytes status
     × ((count : ℕ) × (count < length bytes) × Appends old new (take count bytes))
 
--- The sink got the bytes of the run of a program, which are those of every order of the writes in its groups.
-abbrev pub GivesRunOfEveryOrder : Program → ℕ → Option (List ℕ) → Option (List ℕ) → Status → Type 0
-GivesRunOfEveryOrder program groups old new status =
-    (bytes : List ℕ) × Appends old new bytes × IsRunOfEveryOrder program groups bytes status
+-- The sink got what is printed of the run of a program, which is that of every order of the writes in its groups.
+abbrev pub GivesRunOfEveryOrder : (Run → List ℕ) → Program → ℕ → Option (List ℕ) → Option (List ℕ) → Status → Type 0
+GivesRunOfEveryOrder text program groups old new status =
+    (bytes : List ℕ) × Appends old new bytes × IsRunOfEveryOrder text program groups bytes status

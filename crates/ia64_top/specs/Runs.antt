@@ -1,5 +1,5 @@
--- What `run` prints and answers of a program that it runs.
-use Rattle.std.specs.Prelude.{◌≡◌, ℕ, List}
+-- What `run` and `watch` print and answer of a program that they run.
+use Rattle.std.specs.Prelude.{◌≡◌, ℕ, List, ◌++◌}
 use Rattle.ia_insn.specs.declared.ending.End.{End}
 use Rattle.ia_insn.specs.declared.ending.End.TheVariants as end
 use Rattle.ia_insn.specs.Programs.{Program, IsProgram}
@@ -9,6 +9,8 @@ use Rattle.ia_meaning.specs.ParallelGroups.{par_run}
 use Rattle.ia_meaning.specs.OrderIndependence.{IsRobust}
 use Rattle.ia_meaning.specs.Runs.{run_text}
 use Rattle.group_checker.specs.Reports.{IsFree}
+use Rattle.watch_seam.specs.Watchers.{WatchState}
+use Rattle.watch_seam.specs.Watching.{numbered, reports}
 use Rattle.ia64_top.specs.declared.status.Status.{Status}
 use Rattle.ia64_top.specs.declared.status.Status.TheVariants.{Done, Limit, Faulted}
 
@@ -22,13 +24,17 @@ end_status (end.Break imm place) = Done
 end_status (end.Limit place) = Limit
 end_status (end.Fault kind place) = Faulted
 
--- The bytes and the status of the run of a program. Only a program without violations is run, and so one that is order
--- independent.
-pub record IsRunOf (p : Program) (groups : ℕ) (bytes : List ℕ) (status : Status) : Type 0 where
+-- What `watch` prints of a run: what these watchers report of its groups, and then the state, as `run` prints it.
+abbrev pub watch_text : List WatchState → Run → List ℕ
+watch_text watchers run = reports run.events (numbered watchers) ++ run_text run
+
+-- The bytes and the status of the run of a program, where this is printed of a run. Only a program without violations is
+-- run, and so one that is order independent.
+pub record IsRunOf (text : Run → List ℕ) (p : Program) (groups : ℕ) (bytes : List ℕ) (status : Status) : Type 0 where
   pub program : IsProgram p
   pub free : IsFree p
   pub robust : IsRobust p
-  pub printed : bytes ≡ run_text (run_of p groups)
+  pub printed : bytes ≡ text (run_of p groups)
   pub ends : status ≡ end_status (run_of p groups).end
 
 -- the run of a program from the zero state, of at most so many groups, each all at once and its writes in the order of a code
@@ -36,7 +42,7 @@ abbrev pub ordered_run_of : Program → ℕ → List (List ℕ) → Run
 ordered_run_of p groups codes = par_run p groups codes (zero_state p)
 
 -- Whatever the order of the writes in each group, these bytes are what is printed of that run, and its end tells the status.
-abbrev pub IsRunOfEveryOrder : Program → ℕ → List ℕ → Status → Type 0
-IsRunOfEveryOrder p groups bytes status =
+abbrev pub IsRunOfEveryOrder : (Run → List ℕ) → Program → ℕ → List ℕ → Status → Type 0
+IsRunOfEveryOrder text p groups bytes status =
     (codes : List (List ℕ))
-    → (bytes ≡ run_text (ordered_run_of p groups codes)) × (status ≡ end_status (ordered_run_of p groups codes).end)
+    → (bytes ≡ text (ordered_run_of p groups codes)) × (status ≡ end_status (ordered_run_of p groups codes).end)

@@ -26,13 +26,16 @@ IsAnswer WriteFault = ⊥
 IsAnswer NoMemory = ⊥
 IsAnswer status = Unit {0}
 
--- The status of a command tells that the program is accepted: `check` or `trial` is done, or `run` printed a state.
+-- The status of a command tells that the program is accepted: `check` or `trial` is done, or `run` or `watch` printed a state.
 abbrev pub TellsAccepted : Status → Command → Type 0
 TellsAccepted Done command.Check = Unit {0}
 TellsAccepted Done (command.Trial seed bundles) = Unit {0}
 TellsAccepted Done (command.Run groups) = Unit {0}
 TellsAccepted Limit (command.Run groups) = Unit {0}
 TellsAccepted Faulted (command.Run groups) = Unit {0}
+TellsAccepted Done (command.Watch groups) = Unit {0}
+TellsAccepted Limit (command.Watch groups) = Unit {0}
+TellsAccepted Faulted (command.Watch groups) = Unit {0}
 TellsAccepted status command = ⊥
 
 -- A call with `trial` ends so: the trial is done, its program has violations, the sink failed, or memory ran out.

@@ -1,40 +1,48 @@
 -- The table of words: which list of words is which command.
-use Rattle.std.specs.Prelude.{ℕ, ◌-◌, ◌^◌, ◌≤◌, ⊤, List, [], ◌∷◌, Option, Some, None, if◌then◌else◌, codes, bytes_eq}
+use Rattle.std.specs.Prelude.{ℕ, ◌-◌, ◌^◌, ◌≤◌, ⊤, List, [], ◌∷◌, Option, Some, None, option_map, if◌then◌else◌, codes, bytes_eq}
 use Rattle.ia_insn.specs.declared.limits.TheConstants.{BUNDLE_LIMIT}
 use Rattle.ia64_top.specs.declared.limits.TheConstants.{GROUP_LIMIT}
 use Rattle.ia64_top.specs.declared.words.Command.{Command}
-use Rattle.ia64_top.specs.declared.words.Command.TheVariants.{Build, Show, List as Listing, Wrap, Check, Run, Trial}
+use Rattle.ia64_top.specs.declared.words.Command.TheVariants.{Build, Show, List as Listing, Wrap, Check, Run, Watch, Trial}
 use Rattle.ia64_top.specs.Numbers.{number_between}
 
 -- A run has at least one group, and at most the limit, and a trial so many bundles.
 abbrev pub HasNumbersInRange : Command → Type 0
 HasNumbersInRange (Run groups) = (1 ≤ groups) × (groups ≤ GROUP_LIMIT)
+HasNumbersInRange (Watch groups) = (1 ≤ groups) × (groups ≤ GROUP_LIMIT)
 HasNumbersInRange (Trial seed bundles) = (1 ≤ bundles) × (bundles ≤ BUNDLE_LIMIT)
 HasNumbersInRange command = ⊤
 
--- `check` and `run` judge the program that the input is read as, and `run` runs it only where it is accepted.
+-- `check`, `run` and `watch` judge the program that the input is read as, and run it only where it is accepted.
 abbrev pub Judges : Command → Type 0
 Judges Check = ⊤
 Judges (Run groups) = ⊤
+Judges (Watch groups) = ⊤
 Judges command = ⊥
+
+-- how many groups `run` and `watch` run at most
+abbrev pub groups_of : Command → Option ℕ
+groups_of (Run groups) = Some groups
+groups_of (Watch groups) = Some groups
+groups_of command = None
+
+-- The command is `watch`, which watchers see.
+abbrev pub IsWatch : Option Command → Type 0
+IsWatch (Some (Watch groups)) = ⊤
+IsWatch command = ⊥
 
 -- The command is `trial`, which reads no input.
 abbrev pub IsTrial : Option Command → Type 0
 IsTrial (Some (Trial seed bundles)) = ⊤
 IsTrial command = ⊥
 
--- a run of so many groups, where there is a number
-abbrev pub run_command : Option ℕ → Option Command
-run_command (Some groups) = Some (Run groups)
-run_command None = None
-
 -- a trial of a seed and so many bundles, where both are numbers
 abbrev pub trial_command : Option ℕ → Option ℕ → Option Command
 trial_command (Some seed) (Some bundles) = Some (Trial seed bundles)
 trial_command seed bundles = None
 
--- The command that the words are, where they are one: `build`, `show`, `list`, `wrap` or `check` alone, `run` and a number
--- of groups, or `trial`, a seed of 64 bits and a number of bundles. Upper and lower case differ.
+-- The command that the words are, where they are one: `build`, `show`, `list`, `wrap` or `check` alone, `run` or `watch` and
+-- a number of groups, or `trial`, a seed of 64 bits and a number of bundles. Upper and lower case differ.
 abbrev pub command_of : List (List ℕ) → Option Command
 command_of (word ∷ []) =
     if bytes_eq word (codes "build") then Some Build
@@ -43,7 +51,8 @@ command_of (word ∷ []) =
     else if bytes_eq word (codes "wrap") then Some Wrap
     else if bytes_eq word (codes "check") then Some Check else None
 command_of (word ∷ groups ∷ []) =
-    if bytes_eq word (codes "run") then run_command (number_between 1 GROUP_LIMIT groups) else None
+    if bytes_eq word (codes "run") then option_map Run (number_between 1 GROUP_LIMIT groups)
+    else if bytes_eq word (codes "watch") then option_map Watch (number_between 1 GROUP_LIMIT groups) else None
 command_of (word ∷ seed ∷ bundles ∷ []) =
     if bytes_eq word (codes "trial")
     then trial_command (number_between 0 (2 ^ 64 - 1) seed) (number_between 1 BUNDLE_LIMIT bundles) else None

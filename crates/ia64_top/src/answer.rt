@@ -1,16 +1,19 @@
 //! The answers of the commands.
 
-ghost use Rattle.std.specs.Prelude.{◌≡◌, ◌≢◌, ◌↔◌, ◌⊎◌, ◌≤◌, ℕ, List, length, IfOk, MatchResult};
+ghost use Rattle.std.specs.Prelude.{◌≡◌, ◌≢◌, ◌↔◌, ◌≤◌, ℕ, List, length, map, IfOk, OnOk, OnErr, MatchResult, Some};
 ghost use Rattle.ia_insn.specs.Programs.{Program as Parts};
 ghost use Rattle.image_form.specs.Images.{Spells};
 ghost use Rattle.asm_build.specs.Listing.{IsListing};
 ghost use Rattle.ia64_top.specs.declared.limits.TheConstants.{GROUP_LIMIT, INPUT_LIMIT};
-ghost use Rattle.ia64_top.specs.Words.{HasNumbersInRange, Judges};
+ghost use Rattle.ia64_top.specs.Words.{HasNumbersInRange, Judges, groups_of, IsWatch};
 ghost use Rattle.group_checker.specs.Reports.{IsFree};
-ghost use Rattle.ia64_top.specs.Judgements.{IsJudgement, IsJudgedViolated, verdict_status};
-ghost use Rattle.ia64_top.specs.Output.{IsCanonical, IsMadeOutput, IsCheckedAs, IsRunAs, IsCommandOutput};
+ghost use Rattle.ia64_top.specs.Judgements.{IsJudgement, verdict_status};
+ghost use Rattle.ia64_top.specs.Output.{IsCanonical, IsMadeOutput, IsCheckedAs, IsAcceptedAs, IsUnrunAs, IsRunAs, IsCommandOutput};
 ghost use Rattle.ia64_top.specs.Readings.{as_image, as_bundles, as_text, as_either, IsRefusal};
-ghost use Rattle.ia64_top.specs.Runs.{run_of, end_status, IsRunOf};
+ghost use Rattle.ia64_top.specs.Runs.{run_of, end_status, watch_text, IsRunOf};
+ghost use Rattle.ia_meaning.specs.Runs.{run_text};
+ghost use Rattle.watch_seam.specs.Watching.{HaveRoom};
+ghost use Rattle.ia64_top.specs.Watching.{RanNothing, HaveWatched, HaveWatchedPart};
 ghost use Rattle.trial_maker.specs.Trials.{trial_program};
 ghost use Rattle.ia64_top.specs.Trials.{IsTrialOf, IsTrialOutput, trial_text};
 ghost use Rattle.ia_insn.specs.declared.limits.TheConstants.{BUNDLE_LIMIT};
@@ -19,6 +22,7 @@ ghost use Rattle.ia64_top.specs.declared.status.Status.{Status};
 
 use crate::status::Status;
 use crate::text::{refusal, text_refusal, trial_text, verdict_text};
+use crate::watching::watch_accepted;
 use crate::words::Command;
 use asm_build::{TextError, assemble, disassemble, list, no_fault_where_read, one_text_program};
 use emulator::Machine;
@@ -32,6 +36,7 @@ use image_form::{
 use state_text::state_text;
 use std::alloc::{AllocError, Global};
 use trial_maker::make;
+use watch_seam::Watch;
 
 /// What is written, and how the call ends.
 #[derive(Debug, Drop)]
@@ -217,7 +222,7 @@ fn check_input(alloc: Global, input: &[u8]) -> Result<Answer, AllocError>
 }
 
 /// How a call ends whose run ended so: a `break` ends a run that is done.
-fn end_status(end: &End) -> Status
+pub(crate) fn end_status(end: &End) -> Status
     ensures { result ≡ end_status end.now }
 {
     match end {
@@ -227,12 +232,30 @@ fn end_status(end: &End) -> Status
     }
 }
 
+/// The program of an image or a text, where it is accepted; or the answer to any other input: its fault, or the
+/// verdict that `check` gives.
+fn take_accepted(alloc: Global, input: &[u8]) -> Result<Result<Program, Answer>, AllocError>
+    requires { length input.now ≤ INPUT_LIMIT }
+    ensures { IfOk result (λ taken. MatchResult taken (IsAcceptedAs as_either input.now) (λ answer. IsUnrunAs as_either input.now answer.bytes.items answer.status)) }
+{
+    let program = match take(alloc, input)? {
+        Ok(program) => program,
+        Err(answer) => return Ok(Err(answer)),
+    };
+    program.is_program();
+    let verdict = check(alloc, &program)?;
+    match &verdict {
+        Verdict::Accepted => Ok(Ok(program)),
+        Verdict::Violations(_) => Ok(Err(judge(alloc, &verdict)?)),
+    }
+}
+
 /// The answer of `run` to an accepted program.
 fn run_accepted(alloc: Global, groups: u64, program: &Program) -> Result<Answer, AllocError>
     requires some { 1 ≤ groups }
     requires few { groups ≤ GROUP_LIMIT }
     requires free { IsFree program.now }
-    ensures { IfOk result (λ answer. IsRunOf program.now groups answer.bytes.items answer.status) }
+    ensures { IfOk result (λ answer. IsRunOf run_text program.now groups answer.bytes.items answer.status) }
 {
     progress_is_run();
     law_orders();
@@ -245,48 +268,45 @@ fn run_accepted(alloc: Global, groups: u64, program: &Program) -> Result<Answer,
     })
 }
 
-/// The answer of `run` to a program: a program with violations isn't run, and gets the answer of `check`.
-fn run_program(alloc: Global, groups: u64, program: &Program) -> Result<Answer, AllocError>
-    requires some { 1 ≤ groups }
-    requires few { groups ≤ GROUP_LIMIT }
-    ensures { IfOk result (λ answer. IsRunOf program.now groups answer.bytes.items answer.status ⊎ IsJudgedViolated program.now answer.bytes.items answer.status) }
-{
-    program.is_program();
-    let verdict = check(alloc, program)?;
-    match &verdict {
-        Verdict::Accepted => run_accepted(alloc, groups, program),
-        Verdict::Violations(_) => judge(alloc, &verdict),
-    }
-}
-
-/// The answer of `run` to an image or a text.
-fn run_either(alloc: Global, groups: u64, input: &[u8]) -> Result<Answer, AllocError>
-    requires some { 1 ≤ groups }
-    requires few { groups ≤ GROUP_LIMIT }
-    requires within { length input.now ≤ INPUT_LIMIT }
-    ensures { IfOk result (λ answer. IsRunAs groups as_either input.now answer.bytes.items answer.status) }
-{
-    match take(alloc, input)? {
-        Ok(program) => run_program(alloc, groups, &program),
-        Err(answer) => Ok(answer),
-    }
-}
-
-/// The answer of `run` to an input within the limit.
+/// The answer of `run` to an input within the limit. A program with violations isn't run.
 fn run_input(alloc: Global, groups: u64, input: &[u8]) -> Result<Answer, AllocError>
     requires some { 1 ≤ groups }
     requires few { groups ≤ GROUP_LIMIT }
     requires within { length input.now ≤ INPUT_LIMIT }
-    ensures output { IfOk result (λ answer. IsRunAs groups as_either input.now answer.bytes.items answer.status) }
-    ensures only { IfOk result (λ answer. (bytes : List ℕ) (status : Status) → IsRunAs groups as_either input.now bytes status → status ≡ answer.status) }
-    ensures judged { IfOk result (λ answer. (p : Parts) → as_either.Gives input.now p → ((answer.status ≡ Status.Violated) ↔ (¬ IsFree p))) }
-    ensures ended { IfOk result (λ answer. (p : Parts) → as_either.Gives input.now p → IsFree p → answer.status ≡ end_status (run_of p groups).end) }
+    ensures { IfOk result (λ answer. IsRunAs run_text groups as_either input.now answer.bytes.items answer.status) }
+{
+    match take_accepted(alloc, input)? {
+        Ok(program) => run_accepted(alloc, groups, &program),
+        Err(answer) => Ok(answer),
+    }
+}
+
+/// The answer of `watch` to an input within the limit. A program with violations isn't run, and the watchers see nothing
+/// then.
+fn watch_input(
+    alloc: Global,
+    groups: u64,
+    input: &[u8],
+    watchers: &mut Vec<Box<dyn Watch>>,
+) -> Result<Answer, AllocError>
+    requires some { 1 ≤ groups }
+    requires few { groups ≤ GROUP_LIMIT }
+    requires within { length input.now ≤ INPUT_LIMIT }
+    requires room { HaveRoom (map (λ b. state b) watchers.old.items) }
+    ensures output { IfOk result (λ answer. IsRunAs (watch_text (map (λ b. state b) watchers.old.items)) groups as_either input.now answer.bytes.items answer.status) }
+    ensures watched { OnOk result (HaveWatched groups input.now (map (λ b. state b) watchers.old.items) (map (λ b. state b) watchers.new.items)) }
+    ensures not_run { IfOk result (λ answer. RanNothing answer.status → watchers.new ≡ watchers.old) }
+    ensures still_room { OnOk result (HaveRoom (map (λ b. state b) watchers.new.items)) }
+    ensures cut_short { OnErr result (HaveWatchedPart groups input.now (map (λ b. state b) watchers.old.items) (map (λ b. state b) watchers.new.items)) }
 {
     one_program();
     one_text_program();
     no_fault_where_spelled();
     no_fault_where_read();
-    run_either(alloc, groups, input)
+    match take_accepted(alloc, input)? {
+        Ok(program) => watch_accepted(alloc, groups, &program, watchers),
+        Err(answer) => Ok(answer),
+    }
 }
 
 /// The answer of `trial` to its program, where it is accepted: however the run ends, the trial is done.
@@ -328,16 +348,31 @@ fn try_program(alloc: Global, seed: u64, bundles: u32) -> Result<Answer, AllocEr
     }
 }
 
-/// The answer of a command to an input within the limit.
-pub(crate) fn respond(alloc: Global, command: Command, input: &[u8]) -> Result<Answer, AllocError>
+/// The answer of a command to an input within the limit. The watchers see the groups that `watch` runs.
+pub(crate) fn respond(
+    alloc: Global,
+    command: Command,
+    input: &[u8],
+    watchers: &mut Vec<Box<dyn Watch>>,
+) -> Result<Answer, AllocError>
     requires command { HasNumbersInRange command }
     requires within { length input.now ≤ INPUT_LIMIT }
-    ensures output { IfOk result (λ answer. IsCommandOutput command input.now answer.bytes.items answer.status) }
-    ensures only { IfOk result (λ answer. (bytes : List ℕ) (status : Status) → IsCommandOutput command input.now bytes status → status ≡ answer.status) }
+    requires room { HaveRoom (map (λ b. state b) watchers.old.items) }
+    ensures output { IfOk result (λ answer. IsCommandOutput command (map (λ b. state b) watchers.old.items) input.now answer.bytes.items answer.status) }
+    ensures only { IfOk result (λ answer. (bytes : List ℕ) (status : Status) → IsCommandOutput command (map (λ b. state b) watchers.old.items) input.now bytes status → status ≡ answer.status) }
     ensures accepted { IfOk result (λ answer. command ≡ Command.Check → (p : Parts) → as_either.Gives input.now p → ((answer.status ≡ Status.Done) ↔ IsFree p)) }
     ensures judged { IfOk result (λ answer. Judges command → (p : Parts) → as_either.Gives input.now p → ((answer.status ≡ Status.Violated) ↔ (¬ IsFree p))) }
-    ensures ended { IfOk result (λ answer. (groups : ℕ) → command ≡ Command.Run groups → (p : Parts) → as_either.Gives input.now p → IsFree p → answer.status ≡ end_status (run_of p groups).end) }
+    ensures ended { IfOk result (λ answer. (groups : ℕ) → groups_of command ≡ Some groups → (p : Parts) → as_either.Gives input.now p → IsFree p → answer.status ≡ end_status (run_of p groups).end) }
+    ensures watched { OnOk result ((groups : ℕ) → command ≡ Command.Watch groups → HaveWatched groups input.now (map (λ b. state b) watchers.old.items) (map (λ b. state b) watchers.new.items)) }
+    ensures not_run { IfOk result (λ answer. RanNothing answer.status → watchers.new ≡ watchers.old) }
+    ensures still_room { OnOk result (HaveRoom (map (λ b. state b) watchers.new.items)) }
+    ensures cut_short { OnErr result ((groups : ℕ) → command ≡ Command.Watch groups → HaveWatchedPart groups input.now (map (λ b. state b) watchers.old.items) (map (λ b. state b) watchers.new.items)) }
+    ensures only_watch { ¬ IsWatch (Some command) → watchers.new ≡ watchers.old }
 {
+    one_program();
+    one_text_program();
+    no_fault_where_spelled();
+    no_fault_where_read();
     match command {
         Command::Build => build_input(alloc, input),
         Command::Show => show_input(alloc, input),
@@ -345,6 +380,7 @@ pub(crate) fn respond(alloc: Global, command: Command, input: &[u8]) -> Result<A
         Command::Wrap => wrap_input(alloc, input),
         Command::Check => check_input(alloc, input),
         Command::Run { groups } => run_input(alloc, groups, input),
+        Command::Watch { groups } => watch_input(alloc, groups, input, watchers),
         Command::Trial { seed, bundles } => try_program(alloc, seed, bundles),
     }
 }

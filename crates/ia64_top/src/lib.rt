@@ -7,6 +7,7 @@ pub mod limits;
 mod status;
 mod text;
 mod top;
+mod watching;
 mod words;
 
 pub use laws::law_names;

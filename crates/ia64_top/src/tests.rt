@@ -1,3 +1,5 @@
+//! Whole calls: outputs byte for byte, statuses, and the watchers that are left.
+
 ghost use Rattle.std.specs.Prelude.{◌≤◌};
 
 use crate::{Status, Words, ia64};
@@ -6,6 +8,7 @@ use io_seam::{MemSink, MemSource, read_all};
 use std::alloc::Global;
 use std::process::Abort;
 use std::test::Fail;
+use watch_seam::{Counter, Tracer, Watch};
 
 /// Three `nop` and a stop.
 const NOPS: [u8; 16] = [
@@ -118,7 +121,8 @@ fn run(
     let words = words(alloc, command)?;
     let mut source = MemSource::new(input, source.0, source.1);
     let mut sink = MemSink::new(alloc, 70_000, sink.0, sink.1)?;
-    let status = ia64(alloc, &words, &mut source, &mut sink);
+    let mut watchers = Vec::new(alloc);
+    let status = ia64(alloc, &words, &mut watchers, &mut source, &mut sink);
     Ok((status.number(), Vec::from_slice(alloc, sink.bytes())?))
 }
 
@@ -501,7 +505,8 @@ fn leaves_the_source(rt: &impl Abort, alloc: Global, words: &Words) -> Result<()
     let input = bytes_of(alloc, &image(1, NOPS))?;
     let mut source = MemSource::new(input.clone()?, 16, Vec::new(alloc));
     let mut sink = MemSink::new(alloc, 100, 16, Vec::new(alloc))?;
-    let status = ia64(alloc, words, &mut source, &mut sink);
+    let mut watchers = Vec::new(alloc);
+    let status = ia64(alloc, words, &mut watchers, &mut source, &mut sink);
     assert_eq!(rt; status, Status::Words);
     assert_eq!(rt; sink.bytes(), b"".as_slice());
     assert_eq!(rt; read_all(alloc, &mut source, 100)?, input);
@@ -519,6 +524,9 @@ fn other_words_leave_the_source(rt: HostRuntime) -> Result<(), Fail> {
         "run 5x",
         "run 10000001",
         "run 5 6",
+        "watch",
+        "watch 0",
+        "watch 10000001",
         "trial 1 4097",
         "check now",
         "Check",
@@ -573,5 +581,32 @@ fn registers_print_their_names(rt: HostRuntime) -> Result<(), Fail> {
         write!(names, "{r} {p} {b}")?;
     }
     assert_eq!(rt; names.as_str(), "r127 p63 b7");
+    Ok(())
+}
+
+/// A return that finds no frame below, in the second of two groups.
+const RETURN: &[u8] =
+    b"{ .mii\n  nop.m 0\n  adds r9=129,r0\n  nop.i 0 ;;\n}\n{ .mib\n  nop.m 0\n  mov.i ar.pfs=r9\n  br.ret b0 ;;\n}\n";
+
+/// What a counter and a tracer of one group report of it, and the state after it.
+const RETURN_WATCHED: &[u8] =
+    b"watch 1\n1 0.0 0.2 falls\nwatch 0\ngroups 2 slots 6 taken 0\nend fault Underflow at 1.2\ngroups 2\nframe 0 sof 0 sol 0 sor 0 rrb 0 0 0\nrse 0 0 0 0\nr9 0000000000000081\npr 0000000000000001\nar.pfs 0000000000000081\n";
+
+#[test]
+fn a_full_watcher_leaves_the_list(rt: HostRuntime) -> Result<(), Fail> {
+    let alloc = rt.alloc();
+    let mut watchers: Vec<Box<dyn Watch>> = Vec::new(alloc);
+    watchers.push(Box::new(alloc, Counter::new(10_000_001))?)?;
+    watchers.push(Box::new(alloc, Tracer::new(alloc, 1))?)?;
+    let mut source = MemSource::new(Vec::from_slice(alloc, RETURN)?, 4096, Vec::new(alloc));
+    let mut sink = MemSink::new(alloc, 1000, 4096, Vec::new(alloc))?;
+    let words = words(alloc, "watch 10")?;
+    let status = ia64(alloc, &words, &mut watchers, &mut source, &mut sink);
+    assert_eq!(rt; status, Status::Faulted);
+    assert_eq!(rt; sink.bytes(), RETURN_WATCHED);
+    assert_eq!(rt; watchers.len(), 1);
+    let mut report = Vec::new(alloc);
+    watchers[0].report(&mut report)?;
+    assert_eq!(rt; report.as_slice(), b"groups 2 slots 6 taken 0\n".as_slice());
     Ok(())
 }

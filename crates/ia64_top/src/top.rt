@@ -1,13 +1,13 @@
 //! The top call.
 
-ghost use Rattle.std.specs.Prelude.{◌≡◌, ◌≢◌, ◌≤◌, ◌+◌, ◌↔◌, ◌⊎◌, ℕ, List, None, Some, IsSome, IfSome, IfOk, IfErr, OnOk};
+ghost use Rattle.std.specs.Prelude.{◌≡◌, ◌≢◌, ◌≤◌, ◌+◌, ◌↔◌, ◌⊎◌, ℕ, List, map, None, Some, IsSome, IfSome, IfOk, IfErr, OnOk};
 ghost use Rattle.std.specs.Prelude.{vec_len, IsErrOf};
 ghost use Rattle.std.specs.Io.KnownBytes.{IsAtEnd};
 ghost use Rattle.io_seam.specs.declared.whole.ReadError.{ReadError};
 ghost use Rattle.io_seam.specs.Faults.{Rose};
 ghost use Rattle.io_seam.specs.Bytes.{LosesFirst, LosesAtMost};
 ghost use Rattle.ia64_top.specs.declared.limits.TheConstants.{INPUT_LIMIT};
-ghost use Rattle.ia64_top.specs.Words.{command_of, Judges, IsTrial};
+ghost use Rattle.ia64_top.specs.Words.{command_of, Judges, groups_of, IsTrial, IsWatch};
 ghost use Rattle.ia64_top.specs.Statuses.{IsAnswer, TellsAccepted, EndsTrial};
 ghost use Rattle.ia64_top.specs.Inputs.{IsReadOf};
 ghost use Rattle.ia_insn.specs.Programs.{Program};
@@ -16,7 +16,9 @@ ghost use Rattle.group_checker.specs.Reports.{IsFree};
 ghost use Rattle.ia64_top.specs.Runs.{run_of, end_status};
 ghost use Rattle.ia64_top.specs.Readings.{as_either};
 ghost use Rattle.trial_maker.specs.Trials.{trial_program};
-ghost use Rattle.ia64_top.specs.Output.{IsWithinLimit, IsJudgedBy, IsOutput, GivesOutput, GivesPart, GivesRunOfEveryOrder};
+ghost use Rattle.watch_seam.specs.Watching.{HaveRoom};
+ghost use Rattle.ia64_top.specs.Watching.{RanNothing, IsNotRun, HaveWatched, HaveWatchedPart};
+ghost use Rattle.ia64_top.specs.Output.{IsWithinLimit, IsJudgedBy, printed_run, IsOutput, GivesOutput, GivesPart, GivesTrial, GivesRunOfEveryOrder};
 
 use crate::answer::respond;
 use crate::limits::INPUT_LIMIT;
@@ -28,6 +30,7 @@ use ia_meaning::zero_is_start;
 use image_form::{image_size, one_program};
 use io_seam::{ReadError, Sink, Source, read_all, write_all};
 use std::alloc::Global;
+use watch_seam::Watch;
 
 /// The input of a command: all that the source has left, and nothing for `trial`, which doesn't read.
 ///
@@ -60,53 +63,83 @@ fn read_input<S: Source>(
 }
 
 /// Does what the words say: reads the whole source, but for `trial`, and writes the whole answer to the sink.
+///
+/// The watchers see the groups that `watch` runs, one after the other in the order of the list. One that is full has its
+/// report written, and is taken out of the list and dropped; the others report at the end and stay. In a report's
+/// heading a watcher has the number that it has in the list that is handed in, from 0.
 pub fn ia64<S: Source, K: Sink>(
     alloc: Global,
     words: &Words,
+    watchers: &mut Vec<Box<dyn Watch>>,
     source: &mut S,
     sink: &mut K,
 ) -> Status
+    // Each watcher is still to see groups.
+    requires room { HaveRoom (map (λ b. state b) watchers.old.items) }
+
     // What is written and answered is the stated output of the words and of all that the source had.
     ensures output { IsAnswer result → IfSome (S.left source.old) (λ input.
-        GivesOutput words.now input (K.given sink.old) (K.given sink.new) result) }
+        GivesOutput words.now (map (λ b. state b) watchers.old.items) input (K.given sink.old) (K.given sink.new) result) }
 
     // No other status is stated for them, so each comes exactly where its row says.
     ensures only { IsAnswer result → IfSome (S.left source.old) (λ input.
-        (bytes : List ℕ) (status : Status) → IsOutput words.now input bytes status → status ≡ result) }
+        (bytes : List ℕ) (status : Status) → IsOutput words.now (map (λ b. state b) watchers.old.items) input bytes status → status ≡ result) }
 
     // `accepted` is printed exactly where on no walk two slots of a group break a rule.
     ensures accepted { IsAnswer result → IfSome (S.left source.old) (λ input.
         command_of words.now ≡ Some Command.Check → IsWithinLimit input → (program : Program) → as_either.Gives input program →
         ((result ≡ Status.Done) ↔ IsFree program)) }
 
-    // What `accepted` promises. Where `check` or `trial` is done, or `run` prints a state, the program is order independent: from every
+    // What `accepted` promises. Where `check` or `trial` is done, or `run` or `watch` prints a state, the program is order independent: from every
     // state at an entry, for every number of groups and every order of the writes in each group, groups at once leave
     // what slots one by one leave.
     ensures robust { IsAnswer result → IfSome (S.left source.old) (λ input. (command : Command) →
         command_of words.now ≡ Some command → TellsAccepted result command → (program : Program) → IsJudgedBy command input program → IsRobust program) }
 
-    // So the state that `run` prints is the one of groups at once from the zero state, whatever the order of their writes.
-    ensures ordered { IsAnswer result → IfSome (S.left source.old) (λ input. (groups : ℕ) →
-        command_of words.now ≡ Some (Command.Run groups) → TellsAccepted result (Command.Run groups) → (program : Program) → as_either.Gives input program →
-        GivesRunOfEveryOrder program groups (K.given sink.old) (K.given sink.new) result) }
+    // So the state that `run` and `watch` print is the one of groups at once from the zero state, whatever the order of
+    // their writes, and so is what the watchers report.
+    ensures ordered { IsAnswer result → IfSome (S.left source.old) (λ input. (command : Command) (groups : ℕ) →
+        command_of words.now ≡ Some command → groups_of command ≡ Some groups → TellsAccepted result command → (program : Program) → as_either.Gives input program →
+        GivesRunOfEveryOrder (printed_run command (map (λ b. state b) watchers.old.items)) program groups (K.given sink.old) (K.given sink.new) result) }
 
-    // `check` and `run` answer with violations exactly where on some walk two slots of a group break a rule.
+    // `check`, `run` and `watch` answer with violations exactly where on some walk two slots of a group break a rule.
     ensures judged { IsAnswer result → IfSome (S.left source.old) (λ input. (command : Command) →
         command_of words.now ≡ Some command → Judges command → IsWithinLimit input → (program : Program) → as_either.Gives input program →
         ((result ≡ Status.Violated) ↔ (¬ IsFree program))) }
 
     // Of any other program the end of the run tells the status: `Done` comes exactly where it is a `break`,
     // `Limit` where it is the limit of groups, and `Faulted` where it is a fault.
-    ensures ended { IsAnswer result → IfSome (S.left source.old) (λ input. (groups : ℕ) →
-        command_of words.now ≡ Some (Command.Run groups) → IsWithinLimit input → (program : Program) → as_either.Gives input program → IsFree program →
+    ensures ended { IsAnswer result → IfSome (S.left source.old) (λ input. (command : Command) (groups : ℕ) →
+        command_of words.now ≡ Some command → groups_of command ≡ Some groups → IsWithinLimit input → (program : Program) → as_either.Gives input program → IsFree program →
         result ≡ end_status (run_of program groups).end) }
 
     // `trial` is done exactly where its program has no violations, and answers with them exactly where it has some.
     ensures tried { IsAnswer result → (seed bundles : ℕ) → command_of words.now ≡ Some (Command.Trial seed bundles) →
         ((result ≡ Status.Done) ↔ IsFree (trial_program seed bundles)) × ((result ≡ Status.Violated) ↔ (¬ IsFree (trial_program seed bundles))) }
 
+    // What it writes and answers is stated of its two numbers alone, whether the source tells its bytes or not.
+    ensures trial_output { IsAnswer result → (seed bundles : ℕ) → command_of words.now ≡ Some (Command.Trial seed bundles) →
+        GivesTrial seed bundles (K.given sink.old) (K.given sink.new) result }
+
     // However it ends, it leaves the source as it was, and its end is never one of reading.
     ensures reads_nothing { IsTrial (command_of words.now) → (S.left source.new ≡ S.left source.old) × (S.faults source.new ≡ S.faults source.old) × EndsTrial result }
+
+    // After `watch` those watchers stay that aren't full, and have seen all groups that were run, whether the sink failed
+    // or not.
+    ensures watched { IsAnswer result ⊎ (result ≡ Status.WriteFault) → IfSome (S.left source.old) (λ input. (groups : ℕ) →
+        command_of words.now ≡ Some (Command.Watch groups) → IsWithinLimit input → HaveWatched groups input (map (λ b. state b) watchers.old.items) (map (λ b. state b) watchers.new.items)) }
+
+    // The list is as it was after every other command, and where nothing was run, whether the sink failed or not.
+    ensures only_watch { ¬ IsWatch (command_of words.now) → watchers.new ≡ watchers.old }
+    ensures not_run { RanNothing result → watchers.new ≡ watchers.old }
+    ensures not_run_in_part { result ≡ Status.WriteFault → IfSome (S.left source.old) (λ input. IsNotRun input → watchers.new ≡ watchers.old) }
+
+    // Those that stay are still to see groups, so the list may be handed in again.
+    ensures still_room { result ≢ Status.NoMemory → HaveRoom (map (λ b. state b) watchers.new.items) }
+
+    // Where memory ran out in the run, one number of groups tells what all watchers have seen: so many groups, or one more.
+    ensures cut_short { result ≡ Status.NoMemory → IfSome (S.left source.old) (λ input. (groups : ℕ) →
+        command_of words.now ≡ Some (Command.Watch groups) → HaveWatchedPart groups input (map (λ b. state b) watchers.old.items) (map (λ b. state b) watchers.new.items)) }
 
     // An answer leaves the counts of faults as they were, and, but for `trial`, the source read to its end.
     ensures counts { IsAnswer result → (S.faults source.new ≡ S.faults source.old) × (K.faults sink.new ≡ K.faults sink.old) }
@@ -124,7 +157,7 @@ pub fn ia64<S: Source, K: Sink>(
     ensures unwritten { (result ≡ Status.ReadFault) ⊎ (result ≡ Status.NoMemory) → (K.given sink.new ≡ K.given sink.old) × (K.faults sink.new ≡ K.faults sink.old) }
     ensures write_fault { result ≡ Status.WriteFault → Rose (K.faults sink.old) (K.faults sink.new) }
     ensures written_part { result ≡ Status.WriteFault → (¬ IsTrial (command_of words.now) → IsAtEnd (S.left source.new)) × (S.faults source.new ≡ S.faults source.old) × IfSome (S.left source.old) (λ input.
-        GivesPart words.now input (K.given sink.old) (K.given sink.new)) }
+        GivesPart words.now (map (λ b. state b) watchers.old.items) input (K.given sink.old) (K.given sink.new)) }
     ensures no_memory { result ≡ Status.NoMemory → S.faults source.new ≡ S.faults source.old }
 
     // Whatever the status: the bytes that are gone from the source are its first ones, at most one
@@ -154,7 +187,7 @@ pub fn ia64<S: Source, K: Sink>(
         Err(ReadError::TooLong) => return Status::TooLong,
         Err(ReadError::Memory) => return Status::NoMemory,
     };
-    let Ok(answer) = respond(alloc, command, &input) else {
+    let Ok(answer) = respond(alloc, command, &input, watchers) else {
         return Status::NoMemory;
     };
     match write_all(sink, &answer.bytes) {

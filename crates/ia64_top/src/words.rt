@@ -28,6 +28,11 @@ pub enum Command {
         /// How many groups it may have, 1 to 10,000,000.
         groups: u64,
     },
+    /// Runs a program that is accepted, and shows its groups to watchers.
+    Watch {
+        /// How many groups it may have, 1 to 10,000,000.
+        groups: u64,
+    },
     /// Checks the stated program of a seed, and runs it where it is accepted. No input is read.
     Trial {
         /// The seed.
@@ -118,8 +123,8 @@ impl Words {
         Ok(())
     }
 
-    /// The command that the words are, by the table: `build`, `show`, `list`, `wrap` or `check` alone, `run` and a
-    /// number of groups, or `trial`, a seed and a number of bundles, in lower case.
+    /// The command that the words are, by the table: `build`, `show`, `list`, `wrap` or `check` alone, `run` or
+    /// `watch` and a number of groups, or `trial`, a seed and a number of bundles, in lower case.
     pub fn command(&self) -> Option<Command>
         ensures { result ≡ command_of self.now }
     {
@@ -129,14 +134,14 @@ impl Words {
             [word] if word.as_slice() == b"list".as_slice() => Some(Command::List),
             [word] if word.as_slice() == b"wrap".as_slice() => Some(Command::Wrap),
             [word] if word.as_slice() == b"check".as_slice() => Some(Command::Check),
-            [word, number] if word.as_slice() == b"run".as_slice() => match number_between(
-                1,
-                GROUP_LIMIT,
-                number,
-            ) {
-                Some(groups) => Some(Command::Run { groups }),
-                None => None,
-            },
+            [word, groups] if word.as_slice() == b"run".as_slice() => {
+                let groups = number_between(1, GROUP_LIMIT, groups)?;
+                Some(Command::Run { groups })
+            }
+            [word, groups] if word.as_slice() == b"watch".as_slice() => {
+                let groups = number_between(1, GROUP_LIMIT, groups)?;
+                Some(Command::Watch { groups })
+            }
             [word, seed, bundles] if word.as_slice() == b"trial".as_slice() => {
                 trial_command(seed, bundles)
             }

@@ -1,2 +1,4 @@
 mod Examples
 pub mod Lines
+pub mod Showing
+pub mod Groups

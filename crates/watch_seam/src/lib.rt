@@ -5,10 +5,12 @@
 
 mod counter;
 pub mod limits;
+mod reports;
 mod tracer;
 mod watch;
 
 pub use counter::Counter;
+pub use reports::Reports;
 pub use tracer::Tracer;
 pub use watch::{Keep, Watch, a_line_a_group};
 

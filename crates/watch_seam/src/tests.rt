@@ -1,11 +1,7 @@
-//! Watchers see groups and report them, in boxes too.
-
-ghost use Rattle.std.specs.Prelude.{◌≡◌, ◌<◌, IfOk, OnOk, OnErr};
-ghost use Rattle.watch_seam.specs.Watchers.{after, keep_of};
+//! Watchers see groups and report them, alone and in a list.
 
 use super::*;
 use ia_insn::{GroupEvent, How, Place};
-use std::alloc::AllocError;
 use std::test::Fail;
 
 /// A group of the three slots of a bundle.
@@ -44,23 +40,20 @@ fn tracers_keep_lines(rt: HostRuntime) -> Result<(), Fail> {
     Ok(())
 }
 
-/// Sees a group through a box.
-fn see_boxed(watcher: &mut Box<dyn Watch>, event: &GroupEvent) -> Result<Keep, AllocError>
-    requires { (state watcher.old).groups < (state watcher.old).fill }
-    ensures seen { OnOk result (state watcher.new ≡ after (state watcher.old) event.now) }
-    ensures full { IfOk result (λ keep. keep ≡ keep_of (state watcher.new)) }
-    ensures err { OnErr result (state watcher.new ≡ state watcher.old) }
-{
-    watcher.see(event)
-}
-
 #[test]
-fn watchers_in_boxes_see_and_report(rt: HostRuntime) -> Result<(), Fail> {
-    let mut watcher: Box<dyn Watch> = Box::new(rt.alloc(), Counter::new(2))?;
-    let keep = see_boxed(&mut watcher, &group(1, 0, How::Falls))?;
-    assert!(rt; keep == Keep::Stay);
-    let mut out = Vec::new(rt.alloc());
-    watcher.report(&mut out)?;
-    assert!(rt; out.as_slice() == b"groups 1 slots 3 taken 0\n".as_slice());
+fn a_full_watcher_reports_and_leaves(rt: HostRuntime) -> Result<(), Fail> {
+    let alloc = rt.alloc();
+    let mut watchers: Vec<Box<dyn Watch>> = Vec::new(alloc);
+    watchers.push(Box::new(alloc, Counter::new(3))?)?;
+    watchers.push(Box::new(alloc, Tracer::new(alloc, 1))?)?;
+    let mut reports = Reports::begin(alloc, &watchers)?;
+    reports.show(&group(1, 0, How::Falls), &mut watchers)?;
+    assert_eq!(rt; watchers.len(), 1);
+    reports.show(&group(2, 1, How::Taken), &mut watchers)?;
+    let text = reports.finish(&watchers)?;
+    assert!(rt;
+        text.as_slice()
+            == b"watch 1\n1 0.0 0.2 falls\nwatch 0\ngroups 2 slots 6 taken 1\n".as_slice()
+    );
     Ok(())
 }

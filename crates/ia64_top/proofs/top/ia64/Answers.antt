@@ -3,8 +3,8 @@ use Rattle.ia64_top.specs.Words.{IsTrial}
 use Rattle.ia64_top.specs.declared.limits.TheConstants.{INPUT_LIMIT}
 use Rattle.ia64_top.proofs.Outputs.{either_gives_one}
 use Rattle.ia64_top.proofs.Ordering.{promised, run_in_each_order, promised_beyond, runs_beyond}
-use Rattle.ia64_top.proofs.Answering.{too_long, answered, given_in_part, accepted_beyond, accepted_within, judged_beyond, judged_within, only_within, ended_beyond, ended_within, beyond, untouched, read_whole, same_read}
-use Rattle.ia64_top.proofs.Trying.{tried, untried, ends_trial}
+use Rattle.ia64_top.proofs.Answering.{too_long, answered, given_in_part, accepted_beyond, accepted_within, judged_beyond, judged_within, only_within, ended_beyond, ended_within, watched_beyond, watched_within, cut_within, not_run_within, beyond, untouched, read_whole, same_read}
+use Rattle.ia64_top.proofs.Trying.{tried, untried, gives_trial, ends_trial}
 use Rattle.ia64_top.proofs.Ranges.{in_range}
 use Rattle.ia64_top.proofs.top.ia64.Goals as goal
 
@@ -13,7 +13,7 @@ respond-requires-clause-command g c = in_range c.args.words.now c.in-Some.comman
 
 pub returns-in-Err-TooLong-clause-output : goal.returns-in-Err-TooLong-clause-output
 returns-in-Err-TooLong-clause-output g c u =
-    too_long c.args.words.now c.in-Some.command (g.S.Source.left c.args.source.now) (g.K.Sink.given c.args.sink.now) (sym c.in-Some.ensures) c.in-Err-TooLong.ensures.reads (beyond _ (g.S.Source.left c.args.source.now) (g.S.Source.left c.read_input.new.source) (ap Err c.in-Err-TooLong.field-0-is) c.in-Err-TooLong.ensures.too_long)
+    too_long c.args.words.now c.in-Some.command _ (g.S.Source.left c.args.source.now) (g.K.Sink.given c.args.sink.now) (sym c.in-Some.ensures) c.in-Err-TooLong.ensures.reads (beyond _ (g.S.Source.left c.args.source.now) (g.S.Source.left c.read_input.new.source) (ap Err c.in-Err-TooLong.field-0-is) c.in-Err-TooLong.ensures.too_long)
 
 pub returns-in-Err-TooLong-clause-accepted : goal.returns-in-Err-TooLong-clause-accepted
 returns-in-Err-TooLong-clause-accepted g c u =
@@ -32,13 +32,13 @@ returns-in-Ok-write_all-clause-output g c u =
     let whole = same_read c.in-Some.command (g.S.Source.left c.args.source.now) c.deref.result.now c.in-Ok.input.items c.deref.ensures.value c.in-Ok.ensures.whole in
     let written = rw c.deref-2.ensures.value at c.in-Ok-write_all.ensures in
     let within : length c.deref.result.now ≤ INPUT_LIMIT = omega (arith, c.in-Ok.ensures.within, c.deref.ensures.len, ap length c.deref.ensures.value) in
-    answered c.args.words.now c.in-Some.command (g.S.Source.left c.args.source.now) (g.K.Sink.given c.args.sink.now) (g.K.Sink.given c.write_all.new.sink) c.deref.result.now c.in-Ok-respond.answer.bytes.items c.in-Ok-respond.answer.status (sym c.in-Some.ensures) whole within c.in-Ok-respond.ensures.output written.ok
+    answered c.args.words.now c.in-Some.command _ (g.S.Source.left c.args.source.now) (g.K.Sink.given c.args.sink.now) (g.K.Sink.given c.write_all.new.sink) c.deref.result.now c.in-Ok-respond.answer.bytes.items c.in-Ok-respond.answer.status (sym c.in-Some.ensures) whole within c.in-Ok-respond.ensures.output written.ok
 
 pub returns-in-Ok-write_all-clause-only : goal.returns-in-Ok-write_all-clause-only
 returns-in-Ok-write_all-clause-only g c u =
     let whole = same_read c.in-Some.command (g.S.Source.left c.args.source.now) c.deref.result.now c.in-Ok.input.items c.deref.ensures.value c.in-Ok.ensures.whole in
     let within : length c.deref.result.now ≤ INPUT_LIMIT = omega (arith, c.in-Ok.ensures.within, c.deref.ensures.len, ap length c.deref.ensures.value) in
-    only_within c.args.words.now c.in-Some.command (g.S.Source.left c.args.source.now) c.deref.result.now c.in-Ok-respond.answer.status (sym c.in-Some.ensures) whole within c.in-Ok-respond.ensures.only
+    only_within c.args.words.now c.in-Some.command _ (g.S.Source.left c.args.source.now) c.deref.result.now c.in-Ok-respond.answer.status (sym c.in-Some.ensures) whole within c.in-Ok-respond.ensures.only
 
 pub returns-in-Ok-write_all-clause-accepted : goal.returns-in-Ok-write_all-clause-accepted
 returns-in-Ok-write_all-clause-accepted g c u =
@@ -62,7 +62,7 @@ returns-clause-written_part g c u =
     let within : length c.deref.result.now ≤ INPUT_LIMIT = omega (arith, c.in-Ok.ensures.within, c.deref.ensures.len, ap length c.deref.ensures.value) in (
       λ other. c.in-Ok.ensures.end (subst (λ o. ¬ IsTrial o) (sym c.in-Some.ensures) other),
       c.in-Ok.ensures.quiet,
-      given_in_part c.args.words.now c.in-Some.command (g.S.Source.left c.args.source.now) (g.K.Sink.given c.args.sink.now) (g.K.Sink.given c.write_all.new.sink) c.deref.result.now c.in-Ok-respond.answer.bytes.items c.in-Ok-respond.answer.status (sym c.in-Some.ensures) whole within c.in-Ok-respond.ensures.output written.prefix,
+      given_in_part c.args.words.now c.in-Some.command _ (g.S.Source.left c.args.source.now) (g.K.Sink.given c.args.sink.now) (g.K.Sink.given c.write_all.new.sink) c.deref.result.now c.in-Ok-respond.answer.bytes.items c.in-Ok-respond.answer.status (sym c.in-Some.ensures) whole within c.in-Ok-respond.ensures.output written.prefix,
     )
 
 pub returns-in_default-clause-too_long : goal.returns-in_default-clause-too_long
@@ -70,33 +70,33 @@ returns-in_default-clause-too_long g c = untouched _ (g.S.Source.left c.args.sou
 
 pub returns-in-Ok-write_all-clause-too_long : goal.returns-in-Ok-write_all-clause-too_long
 returns-in-Ok-write_all-clause-too_long g c =
-    read_whole _ c.in-Some.command (g.S.Source.left c.args.source.now) (g.S.Source.left c.read_input.new.source) c.deref.result.now c.in-Ok-respond.answer.bytes.items c.in-Ok-respond.answer.status (λ e. cc) c.in-Ok.ensures.too_long c.in-Ok-respond.ensures.output
+    read_whole _ c.in-Some.command _ (g.S.Source.left c.args.source.now) (g.S.Source.left c.read_input.new.source) c.deref.result.now c.in-Ok-respond.answer.bytes.items c.in-Ok-respond.answer.status (λ e. cc) c.in-Ok.ensures.too_long c.in-Ok-respond.ensures.output
 
 pub returns-in-Err-TooLong-clause-robust : goal.returns-in-Err-TooLong-clause-robust
 returns-in-Err-TooLong-clause-robust g c u = promised_beyond c.args.words.now (g.S.Source.left c.args.source.now)
 
 pub returns-in-Err-TooLong-clause-ordered : goal.returns-in-Err-TooLong-clause-ordered
-returns-in-Err-TooLong-clause-ordered g c u = runs_beyond c.args.words.now (g.S.Source.left c.args.source.now) _ _
+returns-in-Err-TooLong-clause-ordered g c u = runs_beyond c.args.words.now _ (g.S.Source.left c.args.source.now) _ _
 
 pub returns-in-Ok-write_all-clause-robust : goal.returns-in-Ok-write_all-clause-robust
 returns-in-Ok-write_all-clause-robust g c u =
     let one = either_gives_one c.one_program.ensures c.one_text_program.ensures in
     let whole = same_read c.in-Some.command (g.S.Source.left c.args.source.now) c.deref.result.now c.in-Ok.input.items c.deref.ensures.value c.in-Ok.ensures.whole in
-    promised c.law_orders.ensures.run one c.args.words.now c.in-Some.command (g.S.Source.left c.args.source.now) c.deref.result.now c.in-Ok-respond.answer.bytes.items c.in-Ok-respond.answer.status (sym c.in-Some.ensures) whole c.in-Ok-respond.ensures.output
+    promised c.law_orders.ensures.run one c.args.words.now c.in-Some.command _ (g.S.Source.left c.args.source.now) c.deref.result.now c.in-Ok-respond.answer.bytes.items c.in-Ok-respond.answer.status (sym c.in-Some.ensures) whole c.in-Ok-respond.ensures.output
 
 pub returns-in-Ok-write_all-clause-ordered : goal.returns-in-Ok-write_all-clause-ordered
 returns-in-Ok-write_all-clause-ordered g c u =
     let one = either_gives_one c.one_program.ensures c.one_text_program.ensures in
     let whole = same_read c.in-Some.command (g.S.Source.left c.args.source.now) c.deref.result.now c.in-Ok.input.items c.deref.ensures.value c.in-Ok.ensures.whole in
     let written = rw c.deref-2.ensures.value at c.in-Ok-write_all.ensures in
-    run_in_each_order c.law_orders.ensures.run c.zero_is_start.ensures one c.args.words.now c.in-Some.command (g.S.Source.left c.args.source.now) (g.K.Sink.given c.args.sink.now) (g.K.Sink.given c.write_all.new.sink) c.deref.result.now c.in-Ok-respond.answer.bytes.items c.in-Ok-respond.answer.status (sym c.in-Some.ensures) whole c.in-Ok-respond.ensures.output written.ok
+    run_in_each_order c.law_orders.ensures.run c.zero_is_start.ensures one c.args.words.now c.in-Some.command _ (g.S.Source.left c.args.source.now) (g.K.Sink.given c.args.sink.now) (g.K.Sink.given c.write_all.new.sink) c.deref.result.now c.in-Ok-respond.answer.bytes.items c.in-Ok-respond.answer.status (sym c.in-Some.ensures) whole c.in-Ok-respond.ensures.output written.ok
 
 pub returns-in-Err-TooLong-clause-tried : goal.returns-in-Err-TooLong-clause-tried
 returns-in-Err-TooLong-clause-tried g c u = λ seed bundles f. absurd (untried c.args.words.now c.in-Some.command (sym c.in-Some.ensures) c.in-Err-TooLong.ensures.reads seed bundles f)
 
 pub returns-in-Ok-write_all-clause-tried : goal.returns-in-Ok-write_all-clause-tried
 returns-in-Ok-write_all-clause-tried g c u =
-    tried c.args.words.now c.in-Some.command c.deref.result.now c.in-Ok-respond.answer.bytes.items c.in-Ok-respond.answer.status (sym c.in-Some.ensures) c.in-Ok-respond.ensures.output
+    tried c.args.words.now c.in-Some.command _ c.deref.result.now c.in-Ok-respond.answer.bytes.items c.in-Ok-respond.answer.status (sym c.in-Some.ensures) c.in-Ok-respond.ensures.output
 
 pub returns-in-Ok-write_all-clause-read : goal.returns-in-Ok-write_all-clause-read
 returns-in-Ok-write_all-clause-read g c u = λ w t other. c.in-Ok.ensures.end (subst (λ o. ¬ IsTrial o) (sym c.in-Some.ensures) other)
@@ -105,10 +105,42 @@ pub returns-in-Ok-write_all-clause-reads_nothing : goal.returns-in-Ok-write_all-
 returns-in-Ok-write_all-clause-reads_nothing g c is =
     let mine : IsTrial (Some c.in-Some.command) = subst IsTrial (sym c.in-Some.ensures) is in
     let kept = c.in-Ok.ensures.untouched mine in
-    (kept.0, kept.1, ends_trial c.in-Some.command c.deref.result.now c.in-Ok-respond.answer.bytes.items c.in-Ok-respond.answer.status mine c.in-Ok-respond.ensures.output)
+    (kept.0, kept.1, ends_trial c.in-Some.command _ c.deref.result.now c.in-Ok-respond.answer.bytes.items c.in-Ok-respond.answer.status mine c.in-Ok-respond.ensures.output)
 
 pub returns-clause-reads_nothing : goal.returns-clause-reads_nothing
 returns-clause-reads_nothing g c is = let kept = c.in-Ok.ensures.untouched (subst IsTrial (sym c.in-Some.ensures) is) in (kept.0, kept.1, tt)
 
 pub returns-in-Err-TooLong-clause-reads_nothing : goal.returns-in-Err-TooLong-clause-reads_nothing
 returns-in-Err-TooLong-clause-reads_nothing g c is = absurd (c.in-Err-TooLong.ensures.reads (subst IsTrial (sym c.in-Some.ensures) is))
+
+pub returns-in-Err-TooLong-clause-watched : goal.returns-in-Err-TooLong-clause-watched
+returns-in-Err-TooLong-clause-watched g c u =
+    watched_beyond c.image_size.ensures c.args.words.now (g.S.Source.left c.args.source.now) _ _ (beyond _ (g.S.Source.left c.args.source.now) (g.S.Source.left c.read_input.new.source) (ap Err c.in-Err-TooLong.field-0-is) c.in-Err-TooLong.ensures.too_long)
+
+pub returns-in-Ok-write_all-clause-watched : goal.returns-in-Ok-write_all-clause-watched
+returns-in-Ok-write_all-clause-watched g c u =
+    let whole = same_read c.in-Some.command (g.S.Source.left c.args.source.now) c.deref.result.now c.in-Ok.input.items c.deref.ensures.value c.in-Ok.ensures.whole in
+    watched_within c.args.words.now c.in-Some.command (g.S.Source.left c.args.source.now) _ _ c.deref.result.now (sym c.in-Some.ensures) whole c.in-Ok-respond.ensures.watched
+
+pub returns-clause-watched : goal.returns-clause-watched
+returns-clause-watched g c u =
+    let whole = same_read c.in-Some.command (g.S.Source.left c.args.source.now) c.deref.result.now c.in-Ok.input.items c.deref.ensures.value c.in-Ok.ensures.whole in
+    watched_within c.args.words.now c.in-Some.command (g.S.Source.left c.args.source.now) _ _ c.deref.result.now (sym c.in-Some.ensures) whole c.in-Ok-respond.ensures.watched
+
+pub returns-in_default-respond-clause-cut_short : goal.returns-in_default-respond-clause-cut_short
+returns-in_default-respond-clause-cut_short g c u =
+    let whole = same_read c.in-Some.command (g.S.Source.left c.args.source.now) c.deref.result.now c.in-Ok.input.items c.deref.ensures.value c.in-Ok.ensures.whole in
+    cut_within c.args.words.now c.in-Some.command (g.S.Source.left c.args.source.now) _ _ c.deref.result.now (sym c.in-Some.ensures) whole c.in_default-respond.ensures.cut_short
+
+pub returns-clause-not_run_in_part : goal.returns-clause-not_run_in_part
+returns-clause-not_run_in_part g c u =
+    let whole = same_read c.in-Some.command (g.S.Source.left c.args.source.now) c.deref.result.now c.in-Ok.input.items c.deref.ensures.value c.in-Ok.ensures.whole in
+    not_run_within c.in-Some.command (g.S.Source.left c.args.source.now) _ c.args.watchers.now c.respond.new.watchers c.deref.result.now c.in-Ok-respond.answer.bytes.items c.in-Ok-respond.answer.status whole c.in-Ok-respond.ensures.output c.respond.ensures.only_watch c.in-Ok-respond.ensures.not_run
+
+pub returns-in-Err-TooLong-clause-trial_output : goal.returns-in-Err-TooLong-clause-trial_output
+returns-in-Err-TooLong-clause-trial_output g c u = λ seed bundles f. absurd (untried c.args.words.now c.in-Some.command (sym c.in-Some.ensures) c.in-Err-TooLong.ensures.reads seed bundles f)
+
+pub returns-in-Ok-write_all-clause-trial_output : goal.returns-in-Ok-write_all-clause-trial_output
+returns-in-Ok-write_all-clause-trial_output g c u =
+    let written = rw c.deref-2.ensures.value at c.in-Ok-write_all.ensures in
+    gives_trial c.args.words.now c.in-Some.command _ c.deref.result.now c.in-Ok-respond.answer.bytes.items c.in-Ok-respond.answer.status (g.K.Sink.given c.args.sink.now) (g.K.Sink.given c.write_all.new.sink) (sym c.in-Some.ensures) c.in-Ok-respond.ensures.output written.ok

@@ -1,0 +1,84 @@
+//! The run that watchers see.
+
+ghost use Rattle.std.specs.Prelude.{◌≡◌, ◌≤◌, ◌<◌, ◌+◌, ◌^◌, IfOk, OnOk, OnErr, map};
+ghost use Rattle.ia_meaning.specs.Progress.{groups_further, end_of};
+ghost use Rattle.ia_meaning.specs.Runs.{events_further};
+ghost use Rattle.group_checker.specs.Reports.{IsFree};
+ghost use Rattle.watch_seam.specs.Watching.{HaveRoom, IsCutShort, numbered, reports, staying};
+ghost use Rattle.ia64_top.specs.declared.limits.TheConstants.{GROUP_LIMIT};
+ghost use Rattle.ia64_top.specs.Runs.{run_of, watch_text, IsRunOf};
+
+use crate::answer::{Answer, end_status};
+use emulator::Machine;
+use group_checker::law_orders;
+use ia_insn::{End, Program};
+use ia_meaning::progress_is_run;
+use state_text::state_text;
+use std::alloc::{AllocError, Global};
+use watch_seam::{Reports, Watch};
+
+/// Runs so many groups of a machine, or up to an end, and shows each of them to the watchers. What they report is told.
+fn watch_groups(
+    alloc: Global,
+    groups: u64,
+    machine: &mut Machine<'_>,
+    watchers: &mut Vec<Box<dyn Watch>>,
+) -> Result<Vec<u8>, AllocError>
+    requires few { machine.old.progress.groups + groups < 2 ^ 64 }
+    requires room { HaveRoom (map (λ b. state b) watchers.old.items) }
+    ensures state { OnOk result (machine.new ≡ record machine.old { progress = groups_further groups machine.old.program machine.old.progress }) }
+    ensures text { IfOk result (λ text. text.items ≡ reports (events_further groups machine.old.program machine.old.progress) (numbered (map (λ b. state b) watchers.old.items))) }
+    ensures stay { OnOk result (map (λ b. state b) watchers.new.items ≡ staying (events_further groups machine.old.program machine.old.progress) (map (λ b. state b) watchers.old.items)) }
+    ensures still_room { OnOk result (HaveRoom (map (λ b. state b) watchers.new.items)) }
+    ensures cut_short { OnErr result (IsCutShort (events_further groups machine.old.program machine.old.progress) (map (λ b. state b) watchers.old.items) (map (λ b. state b) watchers.new.items)) }
+{
+    let mut reports = Reports::begin(alloc, watchers)?;
+    let mut left = groups;
+    while left > 0 && machine.end().is_none() {
+        let event = machine.step_group();
+        reports.show(&event, watchers)?;
+        left -= 1;
+    }
+    reports.finish(watchers)
+}
+
+/// How the run of a machine ended; `Limit` where it may go on.
+fn ending(machine: &Machine<'_>) -> End
+    ensures { result ≡ end_of machine.now.progress }
+{
+    match machine.end() {
+        Some(end) => end,
+        None => End::Limit {
+            place: machine.place(),
+        },
+    }
+}
+
+/// The answer of `watch` to an accepted program.
+pub(crate) fn watch_accepted(
+    alloc: Global,
+    groups: u64,
+    program: &Program,
+    watchers: &mut Vec<Box<dyn Watch>>,
+) -> Result<Answer, AllocError>
+    requires some { 1 ≤ groups }
+    requires few { groups ≤ GROUP_LIMIT }
+    requires free { IsFree program.now }
+    requires room { HaveRoom (map (λ b. state b) watchers.old.items) }
+    ensures output { IfOk result (λ answer. IsRunOf (watch_text (map (λ b. state b) watchers.old.items)) program.now groups answer.bytes.items answer.status) }
+    ensures stay { OnOk result (map (λ b. state b) watchers.new.items ≡ staying (run_of program.now groups).events (map (λ b. state b) watchers.old.items)) }
+    ensures still_room { OnOk result (HaveRoom (map (λ b. state b) watchers.new.items)) }
+    ensures cut_short { OnErr result (IsCutShort (run_of program.now groups).events (map (λ b. state b) watchers.old.items) (map (λ b. state b) watchers.new.items)) }
+{
+    progress_is_run();
+    law_orders();
+    program.is_program();
+    let mut machine = Machine::open(alloc, program)?;
+    let mut bytes = watch_groups(alloc, groups, &mut machine, watchers)?;
+    let end = ending(&machine);
+    bytes.extend_from_slice(&state_text(alloc, &machine, &end)?)?;
+    Ok(Answer {
+        bytes,
+        status: end_status(&end),
+    })
+}
