@@ -1,12 +1,14 @@
 #!/usr/bin/env python3
-"""Times build, show and list beside the GNU tools on the same work, and run on loops, and prints two
-tables. No part of the gate.
+"""Times build, show and list beside the GNU tools on the same work, trials, and run and watch on loops,
+and prints three tables. No part of the gate.
 
-The inputs are programs of so many bundles, each with a label, a load, an addition and a branch to
-another bundle. A time is the best of five, with the start of the program; all outputs go to files. The
-GNU assembler looks for violated dependencies under -xexplicit and not under -xnone; `build` doesn't,
+The inputs of the first table are programs of so many bundles, each with a label, a load, an addition
+and a branch to another bundle. A trial makes its own program, checks it and runs it. A time is the best of
+five, with the start of the program; all outputs go to files. The GNU assembler looks for violated dependencies under -xexplicit and not under -xnone; `build` doesn't,
 as `check` does that. `objdump -d` and `list` print bytes and instructions, `show` a text that builds
-again. A loop is run to its `break`; of its speed the slots of its turns are counted alone.
+again. A loop is run to its `break`; of its speed the slots of its turns are counted alone. `watch` shows
+each group to two watchers and should have at least 0.8 of the speed of `run` on a counted loop, where a
+group is one bundle.
 
 Call it after the program was built: bench/run.py
 """
@@ -22,6 +24,7 @@ import time
 ROOT = pathlib.Path(__file__).resolve().parent.parent
 PROGRAM = ROOT / "crates" / "ia64_cli" / "out" / "ia64_cli"
 SIZES = (1024, 4096)
+TRIALS = (256, 1024, 4096)
 RUNS = 5
 AS, OBJDUMP, OBJCOPY = (f"ia64-linux-gnu-{name}" for name in ("as", "objdump", "objcopy"))
 
@@ -112,13 +115,20 @@ LOOPS = {
 }
 
 
+def measure_trial(count, folder):
+    """Prints the line of a trial of so many bundles."""
+    taken = seconds([PROGRAM, "trial", "1", str(count)], os.devnull, folder / "trial")
+    print(f"| {count} | {1000 * taken:.1f} |", flush=True)
+
+
 def measure_loop(name, folder):
-    """Prints the line of a loop: how many million slots a second `run` makes."""
+    """Prints the line of a loop: how many million slots a second `run` makes, and `watch`."""
     slots, text = LOOPS[name]
     source = folder / "loop.s"
     source.write_text(text % (TURNS - 1))
-    taken = seconds([PROGRAM, "run", "10000000"], source, folder / "state")
-    print(f"| {name} | {slots * TURNS / taken / 1e6:.1f} |", flush=True)
+    times = (seconds([PROGRAM, word, "10000000"], source, folder / "state") for word in ("run", "watch"))
+    run, watch = (slots * TURNS / taken / 1e6 for taken in times)
+    print(f"| {name} | {run:.1f} | {watch:.1f} | {watch / run:.2f} |", flush=True)
 
 
 def main():
@@ -132,7 +142,10 @@ def main():
     with tempfile.TemporaryDirectory() as folder:
         for count in SIZES:
             measure(count, pathlib.Path(folder))
-        print("\n| Run | Million slots a second, best of 5 |\n|---|---|")
+        print("\n| Bundles | trial, milliseconds, best of 5 |\n|---|---|")
+        for count in TRIALS:
+            measure_trial(count, pathlib.Path(folder))
+        print("\n| Loop | run, million slots a second, best of 5 | watch | watch by run |\n|---|---|---|---|")
         for name in LOOPS:
             measure_loop(name, pathlib.Path(folder))
 

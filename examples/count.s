@@ -16,8 +16,8 @@
 //   r9 000000000000000a
 //   pr 0000000000000001
 //
-// The groups are the first bundle, two for each of ten turns, and the last bundle. `ia64 check` prints
-// `accepted`.
+// The groups are the first bundle, two for each of ten turns, and the last bundle. `ia64 watch 100` prints the
+// first eight of them before the state. `ia64 check` prints `accepted`.
 { .mii
   addl r8=0,r0
   addl r9=0,r0

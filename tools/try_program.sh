@@ -44,8 +44,10 @@ try build_hazard 0 examples/read_after_write.image examples/read_after_write.s b
 try check_text 0 "$dir/accepted" examples/three_nops.s check
 try check_hazard 1 "$dir/raw" examples/read_after_write.s check
 try check_mended 0 "$dir/accepted" examples/read_after_write_mended.s check
-try run_hazard 1 "$dir/raw" examples/read_after_write.s run 100
-try run_hazard_image 1 "$dir/raw" examples/read_after_write.image run 100
+for command in run watch; do
+  try "$command hazard" 1 "$dir/raw" examples/read_after_write.s "$command" 100
+  try "$command hazard, an image" 1 "$dir/raw" examples/read_after_write.image "$command" 100
+done
 try no_words 2 "$dir/nothing" examples/three_nops.image
 try unknown_word 2 "$dir/nothing" examples/three_nops.image Check
 try two_words 2 "$dir/nothing" examples/three_nops.image check now
@@ -56,20 +58,76 @@ try read_fault 5 "$dir/nothing" "$dir" check
 printf 'line 1: char\n' > "$dir/char"
 try no_text 3 "$dir/char" "$dir/no_image" check
 
+# GROUPS SLOTS TAKEN LINE..: what the two watchers report: the lines that the first keeps, each without its number, and the
+# counts of the second.
+reports() {
+  local groups=$1 slots=$2 taken=$3 number=0 line
+  shift 3
+  echo 'watch 0'
+  for line in "$@"; do number=$((number + 1)); echo "$number $line"; done
+  printf 'watch 1\ngroups %s slots %s taken %s\n' "$groups" "$slots" "$taken"
+}
+
+# NAME STATUS STATE INPUT N: `watch N` ends with the status, and prints a line of each of the first eight groups, as many
+# groups as the state says, and then just the bytes of the file STATE, which are those that `run N` prints.
+try_watch() {
+  local name=$1 status=$2 state=$3 input=$4 groups traced got
+  groups=$(sed -n 's/^groups //p' "$state")
+  traced=$((groups < 8 ? groups : 8))
+  "$program" watch "$5" < "$input" > "$dir/out" 2> "$dir/err"
+  got=$?
+  {
+    echo 'watch 0'
+    for number in $(seq "$traced"); do echo "$number P P falls"; done
+    printf 'watch 1\ngroups %s slots S taken T\n' "$groups"
+  } > "$dir/reports"
+  [ "$got" = "$status" ] && [ ! -s "$dir/err" ] && tail -n +$((traced + 4)) "$dir/out" | cmp -s - "$state" &&
+    head -n $((traced + 3)) "$dir/out" |
+    sed -E 's/ [0-9]+\.[012] [0-9]+\.[012] (falls|taken|ends)$/ P P falls/; s/ slots [0-9]+ taken [0-9]+$/ slots S taken T/' |
+      cmp -s - "$dir/reports"
+  note $? "$name, watched: status $got in place of $status, or other bytes"
+}
+
 # What the comment of an example says that `run` prints.
 for name in count counted_loop pipelined_loop predicated call speculation; do
   sed -n 's|^//   ||p' "examples/$name.s" > "$dir/$name"
   try "$name, as it says" 0 "$dir/$name" "examples/$name.s" run 100
+  try_watch "$name" 0 "$dir/$name" "examples/$name.s" 100
 done
+sed -n 's|^//   ||p' examples/deep_recursion.s > "$dir/deep"
+try 'deep_recursion, as it says' 0 "$dir/deep" examples/deep_recursion.s run 1000
+try_watch deep_recursion 0 "$dir/deep" examples/deep_recursion.s 1000
+
+# NAME GROUPS SLOTS TAKEN LINE..: `watch` prints these reports on an example, and then what `run` prints.
+watched() {
+  local name=$1
+  shift
+  { reports "$@"; cat "$dir/$name"; } > "$dir/watched"
+  try "$name, watched" 0 "$dir/watched" "examples/$name.s" watch 100
+}
+one='1.0 1.2 falls' two='2.0 2.2 taken'
+watched count 22 66 9 '0.0 0.2 falls' "$one" "$two" "$one" "$two" "$one" "$two" "$one"
+try 'count, watched for long' 0 "$dir/watched" examples/count.s watch 10000000
+"$program" build < examples/count.s > "$dir/image"
+try 'count, an image that is watched' 0 "$dir/watched" "$dir/image" watch 22
+turn='1.0 1.2 taken'
+watched counted_loop 12 36 9 '0.0 0.2 falls' "$turn" "$turn" "$turn" "$turn" "$turn" "$turn" "$turn"
+turn='3.0 3.2 taken'
+watched pipelined_loop 8 26 4 '0.0 0.1 falls' '1.0 2.2 falls' "$turn" "$turn" "$turn" "$turn" '3.0 3.2 falls' '4.0 4.2 ends'
+watched predicated 3 9 0 '0.0 0.2 falls' '1.0 1.2 falls' '2.0 2.2 ends'
+watched call 6 18 2 '0.0 0.2 falls' '1.0 1.2 taken' '3.0 3.2 falls' '4.0 4.2 falls' '5.0 5.2 taken' '2.0 2.2 ends'
+watched speculation 14 41 3 '0.0 0.1 falls' '1.0 1.2 falls' '2.0 2.2 falls' '3.0 3.2 falls' '4.0 4.2 falls' '5.0 5.2 taken' \
+  '1.0 1.2 falls' '2.0 2.2 falls'
 
 sed -n 's|^//   ||p' examples/loop_edge.s > "$dir/loop_edge"
 try 'loop_edge, as it says' 1 "$dir/loop_edge" examples/loop_edge.s check
-try 'loop_edge, run, as it says' 1 "$dir/loop_edge" examples/loop_edge.s run 100
+for command in run watch; do try "loop_edge, $command, as it says" 1 "$dir/loop_edge" examples/loop_edge.s "$command" 100; done
 
 # A text of tries/ says in its first line for how many groups it is run and with which status that ends. All are accepted.
 for text in tries/*.s; do
   read -r _ _ groups _ status _ < <(tr -d ',:' < "$text")
   try "$text" "$status" "${text%.s}.state" "$text" run "$groups"
+  try_watch "$text" "$status" "${text%.s}.state" "$text" "$groups"
   try "$text, checked" 0 "$dir/accepted" "$text" check
 done
 
@@ -81,6 +139,7 @@ done
 } > "$dir/largest"
 printf 'end fault FellOff at 4095.2\ngroups 4096\nframe 0 sof 0 sol 0 sor 0 rrb 0 0 0\nrse 0 0 0 0\nr8 00000000001ffff8\nr9 0000000000000007\npr 0000000000000001\nm 00000000001ffff8 0000000000000007\n' > "$dir/largest_state"
 try 'the largest program' 9 "$dir/largest_state" "$dir/largest" run 10000
+try_watch 'the largest program' 9 "$dir/largest_state" "$dir/largest" 10000
 
 # The longest state but for registers: 131,072 words of data.
 {
@@ -99,10 +158,42 @@ state() { printf 'end %s\ngroups %s\nframe 0 sof 0 sol 0 sor 0 rrb 0 0 0\nrse 0 
 try fell_off 9 "$dir/fell_off" examples/three_nops.image run 1
 { state 'limit at 2.0' 4; printf 'r8 0000000000000001\nr9 0000000000000002\npr 0000000000000001\nar.lc 0000000000000008\n'; } > "$dir/limited"
 try limited 8 "$dir/limited" examples/count.s run 4
+{ reports 4 12 1 '0.0 0.2 falls' '1.0 1.2 falls' '2.0 2.2 taken' '1.0 1.2 falls'; cat "$dir/limited"; } > "$dir/watched"
+try 'limited, watched' 8 "$dir/watched" examples/count.s watch 4
+{ reports 1 3 0 '0.0 0.2 ends'; cat "$dir/fell_off"; } > "$dir/watched"
+try 'fell_off, watched' 9 "$dir/watched" examples/three_nops.image watch 1
+
+# A loop without an end, of one group a turn: the limit ends it. The first watcher is full with the eighth group.
+printf 'loop:\n{ .mib\nadds r8=1,r8\nnop 0\nbr.cond.sptk.few loop ;;\n}\n' > "$dir/endless"
+for groups in 1 7 8 9 2000; do
+  { state 'limit at 0.0' "$groups"; printf 'r8 %016x\npr 0000000000000001\n' "$groups"; } > "$dir/state"
+  lines=()
+  for _ in $(seq $((groups < 8 ? groups : 8))); do lines+=('0.0 0.2 taken'); done
+  { reports "$groups" $((3 * groups)) "$groups" "${lines[@]}"; cat "$dir/state"; } > "$dir/watched"
+  try "a loop without an end, $groups groups" 8 "$dir/state" "$dir/endless" run "$groups"
+  try "a loop without an end, $groups groups, watched" 8 "$dir/watched" "$dir/endless" watch "$groups"
+done
+
+# A fault ends a group within it: the slots up to the faulty one count. One in a group of two bundles.
+printf '{ .mii\nnop 0\nnop 0\nnop 0\n}\n{ .mii\nnop 0\nadd r8=r32,r0\nnop 0 ;;\n}\n' > "$dir/faulty"
+{ reports 1 5 0 '0.0 1.1 ends'; state 'fault OutOfFrame at 1.1' 1; echo 'pr 0000000000000001'; } > "$dir/watched"
+try 'a fault within a group, watched' 9 "$dir/watched" "$dir/faulty" watch 100
+
+# What isn't run has no reports.
 printf 'line 1: empty\n' > "$dir/empty"
-try run_of_nothing 3 "$dir/empty" /dev/null run 1
-for word in 0 01 +5 10000001 5x; do try "run $word" 2 "$dir/nothing" examples/count.s run "$word"; done
-try run_alone 2 "$dir/nothing" examples/count.s run
+for command in run watch; do
+  try "$command of nothing" 3 "$dir/empty" /dev/null "$command" 1
+  try "$command of no text" 3 "$dir/char" "$dir/no_image" "$command" 1
+  try "$command of a cut image" 3 "$dir/length" "$dir/cut" "$command" 1
+  try "$command of a long input" 4 "$dir/nothing" "$dir/too_long" "$command" 1
+  try "$command of a folder" 5 "$dir/nothing" "$dir" "$command" 1
+  for word in '' 0 01 +5 -5 ' 5' 10000001 5x 99999999999999999999; do
+    try "$command '$word'" 2 "$dir/nothing" examples/count.s "$command" "$word"
+  done
+  try "$command alone" 2 "$dir/nothing" examples/count.s "$command"
+  try "$command 5 6" 2 "$dir/nothing" examples/count.s "$command" 5 6
+done
+try 'Watch 5' 2 "$dir/nothing" examples/count.s Watch 5
 
 # Trials, which read nothing, not even a folder. Every program of these seeds is accepted.
 trial() { printf 'trial %s\naccepted\nend break 0x0 at %s.2\ngroups %s\nsum %s\n' "$1" "$(($2 - 1))" "$2" "$3"; }
@@ -122,7 +213,7 @@ for words in '1 4097' '1 0' '1 01' '-1 1' '01 1' '18446744073709551616 1' '1' '1
 done
 
 # The examples that are right: accepted, as text and as image. Built, shown and built again they give one image.
-for name in count predicated counted_loop pipelined_loop call speculation; do
+for name in count predicated counted_loop pipelined_loop call deep_recursion speculation; do
   try "$name" 0 "$dir/accepted" "examples/$name.s" check
   "$program" build < "examples/$name.s" > "$dir/image" && "$program" show < "$dir/image" > "$dir/shown"
   note $? "$name: not built or not shown"
@@ -130,8 +221,8 @@ for name in count predicated counted_loop pipelined_loop call speculation; do
   try "$name, an image" 0 "$dir/accepted" "$dir/image" check
 done
 
-# Each text of tries/check/ has its verdict beside it, and so has its image. Where that is violations, `run` prints it too,
-# and nothing else.
+# Each text of tries/check/ has its verdict beside it, and so has its image. Where that is violations, `run` and `watch`
+# print it too, and nothing else.
 for text in tries/check/*.s; do
   verdict=${text%.s}.verdict
   cmp -s "$verdict" "$dir/accepted"
@@ -139,7 +230,9 @@ for text in tries/check/*.s; do
   try "$text" "$status" "$verdict" "$text" check
   "$program" build < "$text" > "$dir/image"
   try "$text, an image" "$status" "$verdict" "$dir/image" check
-  [ "$status" = 1 ] && try "$text, run" 1 "$verdict" "$text" run 100
+  if [ "$status" = 1 ]; then
+    for command in run watch; do try "$text, $command" 1 "$verdict" "$text" "$command" 100; done
+  fi
 done
 
 # 4,096 bundles with two clashes each: all are counted, and the first hundred are shown.
@@ -235,6 +328,8 @@ refused 'bundle 64 slot 0: long run' wrap "$long"
 
 "$program" check < examples/three_nops.image > /dev/full 2> /dev/null
 note $(($? != 6)) "write_fault: another status than 6"
+"$program" watch 100 < examples/count.s > /dev/full 2> /dev/null
+note $(($? != 6)) "write_fault, watched: another status than 6"
 
 echo "try_program: $passed passed, $failed failed"
 [ "$failed" = 0 ]

@@ -29,6 +29,11 @@ printf 'accepted\n' > "$dir/accepted"
 printf 'violations 1\nRAW r8 0.1 0.2\n' > "$dir/raw"
 printf 'image: magic\n' > "$dir/magic"
 for name in count call pipelined_loop loop_edge; do sed -n 's|^//   ||p' "examples/$name.s" > "$dir/$name"; done
+{
+  printf 'watch 0\n1 0.0 0.2 falls\n2 1.0 1.2 falls\n3 2.0 2.2 taken\n4 1.0 1.2 falls\n5 2.0 2.2 taken\n'
+  printf '6 1.0 1.2 falls\n7 2.0 2.2 taken\n8 1.0 1.2 falls\nwatch 1\ngroups 22 slots 66 taken 9\n'
+  cat "$dir/count"
+} > "$dir/watched"
 
 # The calls of the README, on the proved program: nothing is said beside the answer.
 try 'a hazard' 1 "$dir/raw" '' examples/read_after_write.s ./ia64 check
@@ -36,6 +41,8 @@ try 'a hazard of an image' 1 "$dir/raw" '' examples/read_after_write.image ./ia6
 try 'a mended hazard' 0 "$dir/accepted" '' examples/read_after_write_mended.s ./ia64 check
 try 'an image' 0 "$dir/accepted" '' examples/three_nops.image ./ia64 check
 try 'a run' 0 "$dir/count" '' examples/count.s ./ia64 run 100
+try 'a run that is watched' 0 "$dir/watched" '' examples/count.s ./ia64 watch 100
+try 'a hazard that is watched' 1 "$dir/raw" '' examples/read_after_write.s ./ia64 watch 100
 try 'two predicates' 0 "$dir/accepted" '' examples/predicated.s ./ia64 check
 try 'a run of a pipelined loop' 0 "$dir/pipelined_loop" '' examples/pipelined_loop.s ./ia64 run 100
 try 'a violation on the way back' 1 "$dir/loop_edge" '' examples/loop_edge.s ./ia64 check
@@ -66,12 +73,17 @@ try 'a file as a word' 2 "$dir/nothing" 'standard input: ia64 check < examples/c
 try 'run without a number' 2 "$dir/nothing" 'ia64 run 100 < INPUT' /dev/null ./ia64 run
 try 'run of a file' 2 "$dir/nothing" 'ia64 run 7 < examples/count.s' /dev/null ./ia64 run 7 examples/count.s
 try 'run of too many groups' 2 "$dir/nothing" 'ia64 run 10000000 < INPUT' /dev/null ./ia64 run 99999999999999999999
+try 'watch without a number' 2 "$dir/nothing" "'watch' takes one number.*: ia64 watch 100 < INPUT" /dev/null ./ia64 watch
+try 'watch of a file' 2 "$dir/nothing" 'ia64 watch 7 < examples/count.s' /dev/null ./ia64 watch 7 examples/count.s
+try 'watch of too many groups' 2 "$dir/nothing" 'ia64 watch 10000000 < INPUT' /dev/null ./ia64 watch 10000001
+try 'watch of an object file' 2 "$dir/nothing" 'tools/check_object examples/functions.o' /dev/null ./ia64 watch 100 examples/functions.o
 try 'a trial without bundles' 2 "$dir/nothing" 'ia64 trial 1 100' /dev/null ./ia64 trial 7 0
 try 'upper case' 2 "$dir/nothing" 'perhaps: ia64 check < examples/count.s' /dev/null ./ia64 Check examples/count.s
+try 'upper case before a number' 2 "$dir/nothing" 'perhaps: ia64 watch 7 < examples/count.s' /dev/null ./ia64 --Watch 7 examples/count.s
 try 'an unknown word' 2 "$dir/nothing" "no command 'assemble'" /dev/null ./ia64 assemble
 ./ia64 --help > "$dir/help"
 try 'help' 0 "$dir/help" '' /dev/null ./ia64 --help
-for command in check 'run N' build show list wrap 'trial SEED'; do grep -q "^  $command " "$dir/help"; note $? "--help has no $command"; done
+for command in check 'run N' 'watch N' build show list wrap 'trial SEED'; do grep -q "^  $command " "$dir/help"; note $? "--help has no $command"; done
 try 'a refusal' 3 "$dir/magic" "'list' refused its input; the reason went to standard output" examples/call.s ./ia64 list
 head -c 4194305 /dev/zero > "$dir/too_long"
 try 'a long input' 4 "$dir/nothing" 'longer than 4,194,304 bytes' "$dir/too_long" ./ia64 check
@@ -106,6 +118,7 @@ export PATH=$dir/bin:$PATH
 # Without a program.
 try 'a first answer' 1 "$dir/raw" 'not built from .*: nothing is proved of this answer. ./build' examples/read_after_write.s "$outline/ia64" check
 try 'a first answer with a number' 0 "$dir/count" 'not built from' examples/count.s "$outline/ia64" run 100
+try 'a first answer that is watched' 0 "$dir/watched" 'not built from' examples/count.s "$outline/ia64" watch 100
 try 'no unproved answer' 125 "$dir/nothing" 'wants a proved one: call ./build' examples/count.s env IA64_PROVED=1 "$outline/ia64" check
 try 'no answer in time' 125 "$dir/accepted" 'gave no answer.*: call ./build' examples/count.s env ANSWERS=no-answer "$outline/ia64" check
 try 'no words and no program' 2 "$dir/nothing" 'a command is missing' /dev/null "$outline/ia64"
@@ -133,7 +146,9 @@ awk 'FILENAME == ARGV[1] { if (/^[a-z]/) { split($0, parts, ":"); below[parts[1]
 note $? 'the order in which build proves'
 # A call that is stopped leaves neither a copy nor a proof that goes on.
 for signal in TERM HUP; do
+  : > "$CALLS"
   NAP=30 "$outline/build" > /dev/null 2>&1 &
+  for _ in {1..200}; do grep -q '^begin' "$CALLS" && break; sleep 0.1; done
   sleep 1
   kill -s "$signal" $!
   wait $!
