@@ -1,5 +1,5 @@
 -- The order of violations, and lists that rise in it.
-use Rattle.std.specs.Prelude.{◌≡◌, ◌⊎◌, ℕ, refl, List, Contains}
+use Rattle.std.specs.Prelude.{◌≡◌, ◌⊎◌, ℕ, List, Contains}
 use Rattle.std.specs.declared.cmp.Ordering.{Ordering}
 use Rattle.std.specs.declared.cmp.Ordering.TheVariants.{Less}
 use Rattle.std.specs.List.Sorted.{IsStrictlySortedBy}
@@ -18,28 +18,28 @@ use Rattle.group_checker.specs.declared.violation.Violation.{Violation}
 abbrev pub place_cmp : Place → Place → Ordering
 place_cmp = (places.ghosts).cmp
 
-pub places_in_order : (a b : Place) → place_cmp a b ≡ ordering_then (nat_cmp a.bundle b.bundle) (nat_cmp a.slot b.slot)
-places_in_order a b = refl
+abbrev pub PlacesInOrder : Type 0
+PlacesInOrder = (a b : Place) → place_cmp a b ≡ ordering_then (nat_cmp a.bundle b.bundle) (nat_cmp a.slot b.slot)
 
 -- rules from RAW to CLEAR,
 abbrev pub rule_cmp : Rule → Rule → Ordering
 rule_cmp = (rules.ghosts).cmp
 
-pub rules_in_order : (rule_cmp Raw Waw ≡ Less) × (rule_cmp Waw War63 ≡ Less) × (rule_cmp War63 AllocFirst ≡ Less) × (rule_cmp AllocFirst ClearLast ≡ Less)
-rules_in_order = (refl, refl, refl, refl)
+abbrev pub RulesInOrder : Type 0
+RulesInOrder = (rule_cmp Raw Waw ≡ Less) × (rule_cmp Waw War63 ≡ Less) × (rule_cmp War63 AllocFirst ≡ Less) × (rule_cmp AllocFirst ClearLast ≡ Less)
 
 -- and resources from the general registers to the frame marker, those of one sort in the order of their numbers.
 abbrev pub resource_cmp : Resource → Resource → Ordering
 resource_cmp = (resources.ghosts).cmp
 
-pub sorts_in_order : (m n : ℕ)
+abbrev pub ResourcesInOrder : Type 0
+ResourcesInOrder = (m n : ℕ)
     → (resource_cmp (Gr m) (Pr n) ≡ Less) × (resource_cmp (Pr m) (Br n) ≡ Less) × (resource_cmp (Br m) Unat ≡ Less)
     × (resource_cmp Unat Pfs ≡ Less) × (resource_cmp Pfs Lc ≡ Less) × (resource_cmp Lc Ec ≡ Less) × (resource_cmp Ec Cfm ≡ Less)
-sorts_in_order m n = (refl, refl, refl, refl, refl, refl, refl)
 
-pub numbers_in_order : (m n : ℕ)
+abbrev pub NumbersInOrder : Type 0
+NumbersInOrder = (m n : ℕ)
     → (resource_cmp (Gr m) (Gr n) ≡ nat_cmp m n) × (resource_cmp (Pr m) (Pr n) ≡ nat_cmp m n) × (resource_cmp (Br m) (Br n) ≡ nat_cmp m n)
-numbers_in_order m n = (refl, refl, refl)
 
 -- Violations are in order of the second slot, the first, the rule and the resource.
 abbrev pub compare : Violation → Violation → Ordering

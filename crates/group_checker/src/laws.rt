@@ -1,9 +1,20 @@
-//! The laws of groups: the walk of a run, what slots see, and the order of writes. They do nothing.
+//! The laws of groups: the order of violations, the walk of a run, what slots see, and the order of writes. They do
+//! nothing.
 
+ghost use Rattle.group_checker.specs.Order.{PlacesInOrder, RulesInOrder, ResourcesInOrder, NumbersInOrder};
 ghost use Rattle.group_checker.specs.Traces.{KnownOnRuns, StepsKnown, WalksGroup, RunIsTraced, RunsKeepState, RunsAreKnown, SolutionIsTrue};
 ghost use Rattle.group_checker.specs.Agreement.{ViewsAgree, OthersSeeTheStart, AllSeeTheStart};
 ghost use Rattle.group_checker.specs.OrderLaws.{OrdersLeaveTheSame, OrdersChangeFramesTheSame, GroupIsOrdered, NextGroupIsOrdered, FreeIsRobust};
 ghost use Rattle.group_checker.specs.OrderExamples.{TwoOrders, TwoMoves, FirstAlloc, LateAlloc, BranchPredicate, BranchRegister, ReturnState, ParallelCompares, MemoryOrder, SpillsAndFills, LaterWrites};
+
+/// The order in which violations are shown: places by bundle and slot, rules from RAW to CLEAR, resources from general
+/// registers to the frame marker, and those of one sort by their numbers.
+pub fn violations_in_order()
+    ensures places { PlacesInOrder }
+    ensures rules { RulesInOrder }
+    ensures resources { ResourcesInOrder }
+    ensures numbers { NumbersInOrder }
+{}
 
 /// Along each sequential run from a start state, the slots since the start, or since an indirect branch
 /// was last taken, are a walk to the state's place, and the predicates of no pair that is known on it are

@@ -23,6 +23,6 @@ mod violation;
 mod window;
 
 pub use checker::{check, one_verdict};
-pub use laws::{law_orders, law_two_orders, law_view, law_walk};
+pub use laws::{law_orders, law_two_orders, law_view, law_walk, violations_in_order};
 pub use report::{Report, SHOWN_LIMIT, Verdict};
 pub use violation::Violation;

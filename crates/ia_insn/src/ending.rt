@@ -7,7 +7,7 @@ use crate::place::Place;
 
 /// Why a slot ends the run. A slot's faults are looked for in this order, and the first one ends the
 /// run.
-#[derive(Clone, Copy, Debug, PartialEq, Eq, PartialOrd, Ord)]
+#[derive(Clone, Copy, Debug, PartialEq, Eq)]
 pub enum FaultKind {
     /// A general register outside the register stack frame is named (volume 1, chapter 4, register
     /// stack).

@@ -16,5 +16,6 @@ mod unat;
 
 pub use alat::Alat;
 pub use fault::MemFault;
+pub use ia_meaning::{AlatEntry, AlatKey, Cell};
 pub use laws::{entered_is_hit, forgotten_is_gone, others_stay, stored_is_loaded, touched_is_gone};
 pub use memory::DataMem;

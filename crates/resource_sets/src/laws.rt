@@ -9,7 +9,7 @@ ghost use Rattle.resource_sets.specs.Regularity.{AccessesAreRegular, GuardsAreRe
 
 /// What an instruction does is the same from registers that agree on its accesses: on what those whose
 /// guard is 1 read, and on the frame where one of these accesses the frame.
-pub fn depends_on_accesses()
+pub fn law_reads()
     ensures { DependsOnAccesses }
 {}
 
@@ -17,7 +17,7 @@ pub fn depends_on_accesses()
 /// writes names, whose guard is 1, and a cell inside the frame; no two writes of a listed instruction go to one
 /// location, and no two resources stand at one; a bit of UNAT is written by an executed spill alone; and an
 /// `alloc` that writes at all writes its frame first, in the sizes and bases of a frame.
-pub fn writes_are_accesses()
+pub fn law_writes()
     ensures covered { WritesAreAccesses }
     ensures inside { CellsAreInside }
     ensures apart { WritesAreApart }

@@ -20,7 +20,7 @@ pub use access::{ACCESS_LIMIT, Access, Kind, Resource};
 pub use clashes::{Rule, clash};
 pub use insn_accesses::{accesses, accesses_of};
 pub use insn_masks::masks;
-pub use laws::{accesses_are_regular, accesses_clash, depends_on_accesses, writes_are_accesses};
+pub use laws::{accesses_are_regular, accesses_clash, law_reads, law_writes};
 pub use masking::{Masks, masks_of, may_clash};
 
 #[cfg(test)]

@@ -1,5 +1,5 @@
 use Rattle.resource_sets.proofs.Dependence.{depends}
-use Rattle.resource_sets.proofs.laws.depends_on_accesses.Goals as goal
+use Rattle.resource_sets.proofs.laws.law_reads.Goals as goal
 
 pub returns : goal.returns
 returns c = depends

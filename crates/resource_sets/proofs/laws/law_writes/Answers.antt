@@ -2,7 +2,7 @@ use Rattle.resource_sets.proofs.Coverage.{covered, cells_inside, spills}
 use Rattle.resource_sets.proofs.Apart.{apart}
 use Rattle.resource_sets.proofs.AllocWrites.{frame_first, new_frame}
 use Rattle.resource_sets.proofs.Locations.{resource_once, predicate_at}
-use Rattle.resource_sets.proofs.laws.writes_are_accesses.Goals as goal
+use Rattle.resource_sets.proofs.laws.law_writes.Goals as goal
 
 pub returns-clause-covered : goal.returns-clause-covered
 returns-clause-covered c = covered
