@@ -1,6 +1,6 @@
 //! The machine.
 
-ghost use Rattle.std.specs.Prelude.{◌≡◌, ◌<◌, ◌≤◌, ◌+◌, ◌^◌, IfOk, MatchResult, Some, None, get_or};
+ghost use Rattle.std.specs.Prelude.{◌≡◌, ◌<◌, ◌≤◌, ◌+◌, ◌^◌, IfOk, IfSome, MatchResult, Some, None, get_or};
 ghost use Rattle.ia_meaning.specs.State.{zero_state};
 ghost use Rattle.ia_meaning.specs.Names.{look};
 ghost use Rattle.ia_meaning.specs.Moves.{predicate_word, application};
@@ -151,14 +151,17 @@ impl<'a> Machine<'a> {
     }
 
     /// Runs so many groups more, at least one, or up to an end. A group that is under way is the first
-    /// of them. The end is `Limit` exactly where all ran without one; a later call goes on there.
+    /// of them. The end is `Limit` exactly where all ran without one; a later call goes on there. After
+    /// another end nothing changes any more, and it is answered again.
     ///
     /// After [`open`](Machine::open) this is the sequential run: `ia_meaning::progress_is_run` is the law.
+    #[tactic(auto, using(ia_meaning::proofs::GroupEnds::groups_ended))]
     pub fn run(&mut self, groups: u64) -> End
         requires some { 1 ≤ groups }
         requires room { self.old.progress.groups + groups < 2 ^ 64 }
         ensures state { self.new ≡ record self.old { progress = groups_further groups self.old.program self.old.progress } }
         ensures end { result ≡ end_of self.new.progress }
+        ensures finished { IfSome self.old.progress.end (λ end. (self.new ≡ self.old) × (result ≡ end)) }
     {
         self.run.run_groups(&self.slots, groups);
         self.run.ending()

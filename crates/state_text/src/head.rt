@@ -1,6 +1,6 @@
 //! The first lines: how the run ended, its groups, and the state of the register stack.
 
-ghost use Rattle.std.specs.Prelude.{◌≡◌, ◌++◌, OnOk, Some, codes, decimal, string_bytes};
+ghost use Rattle.std.specs.Prelude.{◌≡◌, ◌++◌, OnOk, OnErr, Some, codes, decimal, string_bytes};
 ghost use Rattle.ia_meaning.specs.StateText.{line, end_text, frame_text, range_text};
 
 use emulator::Machine;
@@ -64,14 +64,15 @@ fn push_frame(out: &mut String, frame: FrameShape) -> Result<(), AllocError>
 ///
 /// # Errors
 ///
-/// Want of memory.
+/// Want of memory. The text is as it was then.
 pub fn push_outcome(out: &mut String, machine: &Machine<'_>, end: &End) -> Result<(), AllocError>
-    ensures { OnOk result (string_bytes out.new ≡ string_bytes out.old ++ line (end_text end.now) ++ line (codes "groups " ++ decimal machine.now.progress.groups)) }
+    ensures ok { OnOk result (string_bytes out.new ≡ string_bytes out.old ++ line (end_text end.now) ++ line (codes "groups " ++ decimal machine.now.progress.groups)) }
+    ensures err { OnErr result (string_bytes out.new ≡ string_bytes out.old) }
 {
     let shown_end = EndText { end: *end };
     let groups = machine.groups();
-    writeln!(out, "{shown_end}")?;
-    writeln!(out, "groups {groups}")
+    let lines = format!(in *out.allocator(); "{shown_end}\ngroups {groups}\n")?;
+    out.push_str(&lines)
 }
 
 /// How the run ended, how many groups began, the frame and the resident range.
