@@ -22,22 +22,27 @@ use crate::laws::{no_fault_where_read, one_text_fault, one_text_program};
 use crate::names::{all_declared, bundles_named};
 use crate::reason::{Reason, TextError, fault, reason_of};
 use crate::text_parts::TextParts;
-use asm_text::read_line;
+use asm_text::{LineBuffers, read_line_with};
 use asm_words::limits::LINE_LIMIT;
 use bstr::ByteSlice;
 use ia_insn::{BundleOf, Place, Program, long_run};
 use std::alloc::{AllocError, Global};
 use std::collections::BTreeSet;
 
-/// Takes the n-th line.
-fn take_line(parts: &mut TextParts, n: u32, line: &[u8]) -> Result<(), TextError>
+/// Takes the n-th line, which is read with these buffers.
+fn take_line(
+    parts: &mut TextParts,
+    buffers: &mut LineBuffers,
+    n: u32,
+    line: &[u8],
+) -> Result<(), TextError>
     ensures ok { OnOk result ((value : LineValue) × IsTaken parts.old line.now value × (parts.new ≡ after parts.old n value)) }
     ensures err { IfErr result (λ e. (e ≡ error.Memory) ⊎ ((why : ReasonOf) × (e ≡ error.Fault n why) × IsRefused parts.old line.now why)) }
 {
     if line.len() > LINE_LIMIT {
         return Err(fault(n, Reason::Limit));
     }
-    match read_line(line) {
+    match read_line_with(line, buffers) {
         Ok(value) => parts.take(n, value),
         Err(why) => Err(fault(n, reason_of(why))),
     }
@@ -57,10 +62,11 @@ fn take_lines(alloc: Global, text: &[u8]) -> Result<Lines, TextError>
     ensures err { IfErr result (λ e. (e ≡ error.Memory) ⊎ ComesTo start 1 (text_lines text.now) (Err e)) }
 {
     let mut parts = TextParts::new(alloc);
+    let mut buffers = LineBuffers::new();
     let mut count = 0;
     for line in text.lines() {
         count += 1;
-        take_line(&mut parts, count, line)?;
+        take_line(&mut parts, &mut buffers, count, line)?;
     }
     Ok(Lines { parts, count })
 }

@@ -1,7 +1,7 @@
 //! Reading a mnemonic: the leading word, the forms that it names, and their completers.
 
-ghost use Rattle.std.specs.Prelude.{◌≡◌, ◌≤◌, length, drop, map, IfSome, IsTrue, Some, None, option_map};
-ghost use Rattle.std.specs.List.{find};
+ghost use Rattle.std.specs.Prelude.{◌≡◌, ◌≤◌, nat_eq, false, length, drop, map, IfSome, IsTrue, Some, None, option_map};
+ghost use Rattle.std.specs.List.{find, starts_with};
 ghost use Rattle.asm_forms.specs.Completers.{text_of};
 ghost use Rattle.asm_forms.specs.LeadingWords.{word_text, forms_of};
 ghost use Rattle.asm_forms.specs.Rows.{row_of};
@@ -29,12 +29,23 @@ fn ends_part(rest: &[u8]) -> bool
     }
 }
 
+/// Whether the first bytes differ, so that the name doesn't begin with the text. To look at one byte is
+/// shorter than to compare the texts, and tells most words apart.
+fn differ_at_once(name: &[u8], text: &[u8]) -> bool
+    ensures { IsTrue result → starts_with nat_eq name.now text.now ≡ false }
+{
+    match (name, text) {
+        ([first, ..], [other, ..]) => first != other,
+        _ => false,
+    }
+}
+
 /// Whether the name begins with the text, as a part of its own.
 fn begins(name: &[u8], text: &[u8]) -> bool
     ensures value { result ≡ begins name.now text.now }
     ensures room { IsTrue result → length text.now ≤ length name.now }
 {
-    name.starts_with(text) && ends_part(&name[text.len()..])
+    !differ_at_once(name, text) && name.starts_with(text) && ends_part(&name[text.len()..])
 }
 
 /// The first of the words with which the name begins.

@@ -6,6 +6,7 @@
 //! the table of how each instruction is printed, and `printing` prints it. Both tables stand in the order of the manual's formats.
 #![tactic(auto)]
 
+mod buffers;
 mod canonical;
 mod canonical_tokens;
 mod data;
@@ -18,6 +19,7 @@ mod printing;
 mod reading;
 mod shape;
 
+pub use buffers::LineBuffers;
 pub use laws::{
     a_line_has_one_answer, a_line_is_read_by_its_words, char_comes_first,
     printed_slots_are_read_back,
@@ -25,7 +27,7 @@ pub use laws::{
 pub use line::{Draft, Line, Shape, Values};
 pub use numerals::{push_bytes, push_decimal, push_hex};
 pub use printing::print_slot;
-pub use reading::read_line;
+pub use reading::{read_line, read_line_with};
 
 #[cfg(test)]
 mod printing_tests;

@@ -8,33 +8,30 @@ ghost use Rattle.asm_words.specs.Tokens.{token_of};
 ghost use Rattle.asm_words.specs.Words.{pick};
 ghost use Rattle.asm_text.specs.Lines.{AreParts, texts, tokens, name_of, label_name, lead_at, past_parenthesis, ends_in_stop, without_stop, predicate_of, is_bare, completers_or_none, slot_under, slot_of, directive_value, directive_of, alone, data_of, among, worded, marked, shape_of, opened, mark_led, led_by, led, led_at, is_colon, is_open, is_close, label_of, value_of, reading_of, IsListedLine, LineOf, FaultOf};
 
+use crate::buffers::{LineBuffers, Tokens};
 use crate::data::data_of;
 use crate::instruction::op_of;
 use crate::line::{Draft, Line};
 use crate::operands::{is_present_at, pr_at, u32_at};
 use crate::shape::shape_of;
-use arrayvec::ArrayVec;
 use asm_forms::{
     AccessSize, Completer, Completers, Form, Item, LeadingWord, completers, leading_word, named,
     read_form, row,
 };
 use asm_words::limits::LINE_LIMIT;
-use asm_words::{LineFault, Name, Token, Word, WordKind, numbered_register, token, words};
+use asm_words::{LineFault, Name, Token, Word, WordKind, fill, numbered_register, token};
 use ia_insn::{Insn, Pr, is_listed};
 
-type Tokens = ArrayVec<Token, LINE_LIMIT>;
-
-/// What the words may be read as.
-fn tokens(line: &[u8], words: &[Word]) -> Tokens
+/// Puts what the words may be read as into the buffer, in the place of what it held.
+fn fill_tokens(line: &[u8], words: &[Word], buffer: &mut Tokens)
     requires few { length words.now ≤ LINE_LIMIT }
     requires parts { AreParts line.now words.now }
-    ensures { result.items ≡ tokens (texts line.now words.now) }
+    ensures { buffer.new.items ≡ tokens (texts line.now words.now) }
 {
-    let mut list = Tokens::new();
+    buffer.clear();
     for word in words {
-        list.push(token(word.kind, word.text(line)));
+        buffer.push(token(word.kind, word.text(line)));
     }
-    list
 }
 
 /// How many words stand before the leading one: a qualifying predicate, or nothing.
@@ -105,7 +102,7 @@ fn without_stop(tokens: &[Token]) -> &[Token]
 }
 
 /// The qualifying predicate, p0 where no word stands before the leading one.
-fn predicate(line: &[u8], before: &[Word]) -> Result<Pr, LineFault>
+fn predicate(line: &[u8], before: &[Word], buffer: &mut Tokens) -> Result<Pr, LineFault>
     requires few { length before.now ≤ LINE_LIMIT }
     requires parts { AreParts line.now before.now }
     ensures { result ≡ predicate_of (tokens (texts line.now before.now)) }
@@ -113,9 +110,10 @@ fn predicate(line: &[u8], before: &[Word]) -> Result<Pr, LineFault>
     match before {
         [] => Ok(Pr::default()),
         [_, ..] => {
-            let read = tokens(line, before);
-            read_form(&[Form::Predicate], &read, &read)?;
-            Ok(pr_at(&read, 1))
+            fill_tokens(line, before, buffer);
+            let tokens = buffer.as_slice();
+            read_form(&[Form::Predicate], tokens, tokens)?;
+            Ok(pr_at(tokens, 1))
         }
     }
 }
@@ -222,14 +220,20 @@ fn directive_value(
 }
 
 /// A directive, by its forms.
-fn directive_of(forms: &[Form], line: &[u8], words: &[Word]) -> Result<Line, LineFault>
+fn directive_of(
+    forms: &[Form],
+    line: &[u8],
+    words: &[Word],
+    buffer: &mut Tokens,
+) -> Result<Line, LineFault>
     requires few { length words.now ≤ LINE_LIMIT }
     requires parts { AreParts line.now words.now }
     ensures { result ≡ directive_of forms.now (texts line.now words.now) }
 {
-    let operands = tokens(line, words);
-    let form = read_form(forms, &operands, &operands)?;
-    directive_value(form, line, words, &operands)
+    fill_tokens(line, words, buffer);
+    let operands = buffer.as_slice();
+    let form = read_form(forms, operands, operands)?;
+    directive_value(form, line, words, operands)
 }
 
 /// A slot line, by its forms.
@@ -239,14 +243,15 @@ fn slot_of(
     line: &[u8],
     before: &[Word],
     after: &[Word],
+    buffer: &mut Tokens,
 ) -> Result<Line, LineFault>
     requires few { (length before.now ≤ LINE_LIMIT) × (length after.now ≤ LINE_LIMIT) }
     requires parts { AreParts line.now before.now × AreParts line.now after.now }
     ensures { result ≡ slot_of forms.now rest.now (texts line.now before.now) (texts line.now after.now) }
 {
-    let qp = predicate(line, before)?;
-    let read = tokens(line, after);
-    slot_under(qp, forms, rest, &read, line, after)
+    let qp = predicate(line, before, buffer)?;
+    fill_tokens(line, after, buffer);
+    slot_under(qp, forms, rest, buffer.as_slice(), line, after)
 }
 
 /// A data line, before which no predicate stands.
@@ -255,6 +260,7 @@ fn data_line(
     line: &[u8],
     before: &[Word],
     after: &[Word],
+    buffer: &mut Tokens,
 ) -> Result<Line, LineFault>
     requires few { length after.now ≤ LINE_LIMIT }
     requires parts { AreParts line.now after.now }
@@ -262,8 +268,8 @@ fn data_line(
 {
     match before {
         [] => {
-            let numbers = tokens(line, after);
-            data_of(size, &numbers)
+            fill_tokens(line, after, buffer);
+            data_of(size, buffer.as_slice())
         }
         [_, ..] => Err(LineFault::Form),
     }
@@ -275,13 +281,14 @@ fn directive_line(
     line: &[u8],
     before: &[Word],
     after: &[Word],
+    buffer: &mut Tokens,
 ) -> Result<Line, LineFault>
     requires few { length after.now ≤ LINE_LIMIT }
     requires parts { AreParts line.now after.now }
     ensures { result ≡ alone (texts line.now before.now) (directive_of forms.now (texts line.now after.now)) }
 {
     match before {
-        [] => directive_of(forms, line, after),
+        [] => directive_of(forms, line, after, buffer),
         [_, ..] => Err(LineFault::Form),
     }
 }
@@ -293,6 +300,7 @@ fn among(
     line: &[u8],
     before: &[Word],
     after: &[Word],
+    buffer: &mut Tokens,
 ) -> Result<Line, LineFault>
     requires few { (length before.now ≤ LINE_LIMIT) × (length after.now ≤ LINE_LIMIT) }
     requires parts { AreParts line.now before.now × AreParts line.now after.now }
@@ -300,23 +308,29 @@ fn among(
 {
     match forms {
         [] => Err(LineFault::Name),
-        [Form::Numbers { size }, ..] => data_line(*size, line, before, after),
+        [Form::Numbers { size }, ..] => data_line(*size, line, before, after, buffer),
         [
             Form::Text | Form::Data | Form::Entry | Form::Ignored | Form::Skip,
             ..
-        ] => directive_line(forms, line, before, after),
-        [_, ..] => slot_of(forms, rest, line, before, after),
+        ] => directive_line(forms, line, before, after, buffer),
+        [_, ..] => slot_of(forms, rest, line, before, after, buffer),
     }
 }
 
 /// A line that a name leads.
-fn worded(name: &[u8], line: &[u8], before: &[Word], after: &[Word]) -> Result<Line, LineFault>
+fn worded(
+    name: &[u8],
+    line: &[u8],
+    before: &[Word],
+    after: &[Word],
+    buffer: &mut Tokens,
+) -> Result<Line, LineFault>
     requires few { (length before.now ≤ LINE_LIMIT) × (length after.now ≤ LINE_LIMIT) }
     requires parts { AreParts line.now before.now × AreParts line.now after.now }
     ensures { result ≡ worded (mnemonic_of name.now) (texts line.now before.now) (texts line.now after.now) }
 {
     match leading_word(name) {
-        Some((word, rest)) => among(&named(word, rest), rest, line, before, after),
+        Some((word, rest)) => among(&named(word, rest), rest, line, before, after, buffer),
         None => Err(LineFault::Name),
     }
 }
@@ -346,7 +360,13 @@ fn opened(line: &[u8], before: &[Word], after: &[Word]) -> Result<Line, LineFaul
 }
 
 /// A line that this word leads.
-fn led_by(word: &Word, line: &[u8], before: &[Word], after: &[Word]) -> Result<Line, LineFault>
+fn led_by(
+    word: &Word,
+    line: &[u8],
+    before: &[Word],
+    after: &[Word],
+    buffer: &mut Tokens,
+) -> Result<Line, LineFault>
     requires few { (length before.now ≤ LINE_LIMIT) × (length after.now ≤ LINE_LIMIT) }
     requires parts { AreParts line.now before.now × AreParts line.now after.now }
     requires word { (word.now.start ≤ word.now.end) × (word.now.end ≤ length line.now) }
@@ -354,7 +374,7 @@ fn led_by(word: &Word, line: &[u8], before: &[Word], after: &[Word]) -> Result<L
 {
     let text = word.text(line);
     match word.kind {
-        WordKind::Name => worded(text, line, before, after),
+        WordKind::Name => worded(text, line, before, after, buffer),
         WordKind::Number => Err(LineFault::Name),
         WordKind::Mark => match token(WordKind::Mark, text) {
             Token::Stop => marked(Line::Stop, line, before, after),
@@ -382,19 +402,19 @@ fn from(words: &[Word], at: usize) -> &[Word]
 }
 
 /// A line that is no label.
-fn led(line: &[u8], words: &[Word]) -> Result<Line, LineFault>
+fn led(line: &[u8], words: &[Word], buffer: &mut Tokens) -> Result<Line, LineFault>
     requires few { length words.now ≤ LINE_LIMIT }
     requires parts { AreParts line.now words.now }
     ensures { result ≡ led (texts line.now words.now) }
 {
     match lead_at(line, words) {
-        Some(lead) => led_at(line, words, lead),
+        Some(lead) => led_at(line, words, lead, buffer),
         None => Err(LineFault::Name),
     }
 }
 
 /// A line whose leading word stands at this place.
-fn led_at(line: &[u8], words: &[Word], lead: usize) -> Result<Line, LineFault>
+fn led_at(line: &[u8], words: &[Word], lead: usize, buffer: &mut Tokens) -> Result<Line, LineFault>
     requires few { length words.now ≤ LINE_LIMIT }
     requires parts { AreParts line.now words.now }
     ensures { result ≡ led_at (texts line.now words.now) (Some lead) }
@@ -407,6 +427,7 @@ fn led_at(line: &[u8], words: &[Word], lead: usize) -> Result<Line, LineFault>
         line,
         before(words, lead),
         from(words, lead + 1),
+        buffer,
     )
 }
 
@@ -444,31 +465,31 @@ fn is_colon(word: &Word, line: &[u8]) -> bool
 }
 
 /// What the words of a line say.
-fn value_of(line: &[u8], words: &[Word]) -> Result<Line, LineFault>
+fn value_of(line: &[u8], words: &[Word], buffer: &mut Tokens) -> Result<Line, LineFault>
     requires few { length words.now ≤ LINE_LIMIT }
     requires parts { AreParts line.now words.now }
     ensures { result ≡ value_of (texts line.now words.now) }
 {
     match words {
         [] => Ok(Line::Empty),
-        [_] => led(line, words),
+        [_] => led(line, words, buffer),
         [name, colon, rest @ ..] => {
             if is_name(name) && is_colon(colon, line) {
                 label_of(name.text(line), line, rest)
             } else {
-                led(line, words)
+                led(line, words, buffer)
             }
         }
     }
 }
 
 /// What a line says, but for whether its instruction is listed.
-fn reading_of(line: &[u8]) -> Result<Line, LineFault>
+fn reading_of(line: &[u8], buffers: &mut LineBuffers) -> Result<Line, LineFault>
     requires { length line.now ≤ LINE_LIMIT }
     ensures { result ≡ reading_of line.now }
 {
-    let words = words(line)?;
-    value_of(line, &words)
+    fill(line, &mut buffers.words)?;
+    value_of(line, buffers.words.as_slice(), &mut buffers.tokens)
 }
 
 /// Whether the instruction of a slot line is listed.
@@ -492,7 +513,17 @@ pub fn read_line(line: &[u8]) -> Result<Line, LineFault>
     ensures ok { IfOk result (LineOf line.now) }
     ensures err { IfErr result (FaultOf line.now) }
 {
-    let value = reading_of(line)?;
+    read_line_with(line, &mut LineBuffers::new())
+}
+
+/// What a line says, as [`read_line`] has it. The buffers are lent to it, and may be lent to the next line,
+/// which saves making them anew for each.
+pub fn read_line_with(line: &[u8], buffers: &mut LineBuffers) -> Result<Line, LineFault>
+    requires { length line.now ≤ LINE_LIMIT }
+    ensures ok { IfOk result (LineOf line.now) }
+    ensures err { IfErr result (FaultOf line.now) }
+{
+    let value = reading_of(line, buffers)?;
     if is_listed_line(&value) {
         Ok(value)
     } else {

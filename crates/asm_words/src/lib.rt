@@ -1,7 +1,8 @@
 //! The words of a line of assembly text, and what each word may be read as.
 //!
 //! A line is cut into words: names, numbers and marks. A word is a part of the line, given by its
-//! first byte and the byte after its last, so no memory is taken. Then each word is a token: a
+//! first byte and the byte after its last, so no memory is taken, and the list that they are put
+//! into ([`fill`]) serves one line after the other. Then each word is a token: a
 //! register, a number, a name or a mark. `specs/` says what the words of a line are (`Words`), which
 //! register a name spells (`Registers`), which number digits write (`Numbers`) and what the token of
 //! a word is (`Tokens`).
@@ -19,7 +20,7 @@ mod tokens;
 mod word;
 
 pub use fault::LineFault;
-pub use line::words;
+pub use line::{fill, words};
 pub use name::Name;
 pub use reading::token;
 pub use registers::numbered_register;

@@ -1,6 +1,6 @@
 //! The words of a line.
 
-ghost use Rattle.std.specs.Prelude.{◌≡◌, ◌≤◌, length, IfOk, IfErr, true, false, IsTrue, ◌<◌, ◌+◌};
+ghost use Rattle.std.specs.Prelude.{◌≡◌, ◌≤◌, length, [], IfOk, IfErr, OnOk, OnErr, true, false, IsTrue, ◌<◌, ◌+◌};
 ghost use Rattle.asm_words.specs.declared.limits.TheConstants.{LINE_LIMIT};
 ghost use Rattle.asm_words.specs.Bytes.{has_only_plain};
 ghost use Rattle.asm_words.specs.Slices.{AreSlices, LeavesOutGaps};
@@ -24,17 +24,35 @@ pub fn words(line: &[u8]) -> Result<ArrayVec<Word, LINE_LIMIT>, LineFault>
     ensures left_out { IfOk result (λ ws. LeavesOutGaps line.now false 0 ws.items) }
     ensures err { IfErr result (λ e. (has_only_plain line.now ≡ false) × (e ≡ LineFault.Char)) }
 {
+    let mut list = ArrayVec::new();
+    fill(line, &mut list)?;
+    Ok(list)
+}
+
+/// Puts the words of a line, as [`words`] has them, into a list in the place of what it held, so that
+/// one list serves many lines. After Char it is empty.
+pub fn fill(line: &[u8], list: &mut ArrayVec<Word, LINE_LIMIT>) -> Result<(), LineFault>
+    requires { length line.now ≤ LINE_LIMIT }
+    ensures ok { OnOk result ((has_only_plain line.now ≡ true) × (list.new.items ≡ words_from 0 0 line.now)) }
+    ensures slices { OnOk result (AreSlices line.now list.new.items) }
+    ensures left_out { OnOk result (LeavesOutGaps line.now false 0 list.new.items) }
+    ensures err { IfErr result (λ e. (has_only_plain line.now ≡ false) × (e ≡ LineFault.Char)) }
+    ensures emptied { OnErr result (list.new.items ≡ []) }
+{
+    list.clear();
     if !has_only_plain(line) {
         return Err(LineFault::Char);
     }
-    Ok(cut(line))
+    cut(line, list);
+    Ok(())
 }
 
-fn cut(line: &[u8]) -> ArrayVec<Word, LINE_LIMIT>
-    requires { length line.now ≤ LINE_LIMIT }
-    ensures { result.items ≡ words_from 0 0 line.now }
+// Puts the words of a line into an empty list.
+fn cut(line: &[u8], words: &mut ArrayVec<Word, LINE_LIMIT>)
+    requires short { length line.now ≤ LINE_LIMIT }
+    requires empty { words.old.items ≡ [] }
+    ensures { words.new.items ≡ words_from 0 0 line.now }
 {
-    let mut words = ArrayVec::new();
     let mut at = 0;
     while at < line.len() {
         let first = line[at];
@@ -42,7 +60,7 @@ fn cut(line: &[u8]) -> ArrayVec<Word, LINE_LIMIT>
         if is_blank(first) {
             at += 1;
         } else if begins_comment(first, rest) {
-            return words;
+            return;
         } else {
             let (kind, more, sharp) = word_at(first, rest);
             words.push(Word {
@@ -53,7 +71,6 @@ fn cut(line: &[u8]) -> ArrayVec<Word, LINE_LIMIT>
             at = at + 1 + more + sharp;
         }
     }
-    words
 }
 
 // The word that begins with a byte: its kind, how many more bytes it has, and how many that follow
