@@ -31,3 +31,8 @@ mod DataBack
 mod WrittenData
 mod ReadBack
 mod TextLength
+mod DecidedBundles
+mod DecidedRuns
+mod DecidedLines
+mod EndFaults
+mod SomeOutcome

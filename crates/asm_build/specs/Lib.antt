@@ -10,3 +10,4 @@ pub mod Names
 pub mod TextReading
 pub mod Laws
 pub mod RoundTrip
+pub mod SomeOutcome

@@ -1,10 +1,12 @@
 //! The laws of texts.
 
+ghost use Rattle.std.specs.Prelude.{ℕ, List};
 ghost use Rattle.ia_insn.specs.Programs.{Program};
 ghost use Rattle.asm_build.specs.Laws.{OneTextProgram, OneTextFault, NoFaultWhereRead};
 ghost use Rattle.asm_build.specs.RoundTrip.{CanonicalTextReads, CanonicalTextIsShort};
+ghost use Rattle.asm_build.specs.SomeOutcome.{TextOrFault};
 
-use asm_text::{a_line_has_one_answer, printed_slots_are_read_back};
+use asm_text::{a_line_has_one_answer, line_or_fault, printed_slots_are_read_back};
 
 /// The law that a text reads as at most one program. It does nothing.
 pub fn one_text_program()
@@ -25,6 +27,13 @@ pub fn no_fault_where_read()
     ensures { NoFaultWhereRead }
 {
     a_line_has_one_answer();
+}
+
+/// The law that a text reads as a program or has a first fault, of a line and for a reason. It does nothing.
+pub fn text_or_fault()
+    ensures { (text : List ℕ) → TextOrFault text }
+{
+    line_or_fault();
 }
 
 /// The law that the canonical text of a program reads as the program, and is short enough for

@@ -24,6 +24,7 @@ pub use assembly::assemble;
 pub use disassembly::disassemble;
 pub use laws::{
     canonical_texts_are_read_back, no_fault_where_read, one_text_fault, one_text_program,
+    text_or_fault,
 };
 pub use listing::list;
 pub use reason::{Reason, TextError};

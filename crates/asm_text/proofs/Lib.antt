@@ -28,3 +28,6 @@ mod TargetTexts
 mod Targets
 pub mod Untargeted
 mod WordLists
+pub mod Decided
+pub mod DecidedFormats
+mod SomeAnswer

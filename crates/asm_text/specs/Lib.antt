@@ -5,3 +5,4 @@ pub mod Canonical
 pub mod SlotTexts
 pub mod ReadBack
 pub mod OneAnswer
+pub mod SomeAnswer

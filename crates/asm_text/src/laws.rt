@@ -11,12 +11,18 @@ ghost use Rattle.asm_text.specs.Lines.{LineOf, FaultOf, texts, reading_of};
 ghost use Rattle.asm_text.specs.OneAnswer.{HasOneValue, HasOneFault, HasNoFault};
 ghost use Rattle.asm_text.specs.ReadBack.{printed_line};
 ghost use Rattle.asm_text.specs.SlotTexts.{slot_text};
+ghost use Rattle.asm_text.specs.SomeAnswer.{LineOrFault};
 
 /// The law that a line has at most one value, at most one first fault, and not both. It does nothing.
 pub fn a_line_has_one_answer()
     ensures value { (bytes : List ℕ) → HasOneValue bytes }
     ensures fault { (bytes : List ℕ) → HasOneFault bytes }
     ensures either { (bytes : List ℕ) → HasNoFault bytes }
+{}
+
+/// The law that a line has a value or a first fault. It does nothing.
+pub fn line_or_fault()
+    ensures { (bytes : List ℕ) → LineOrFault bytes }
 {}
 
 /// The law that the canonical line of a listed instruction reads as the instruction under its predicate,

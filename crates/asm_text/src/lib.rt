@@ -21,7 +21,7 @@ mod shape;
 
 pub use buffers::LineBuffers;
 pub use laws::{
-    a_line_has_one_answer, a_line_is_read_by_its_words, char_comes_first,
+    a_line_has_one_answer, a_line_is_read_by_its_words, char_comes_first, line_or_fault,
     printed_slots_are_read_back,
 };
 pub use line::{Draft, Line, Shape, Values};

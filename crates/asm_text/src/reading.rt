@@ -19,11 +19,11 @@ use asm_forms::{
     read_form, row,
 };
 use asm_words::limits::LINE_LIMIT;
-use asm_words::{LineFault, Name, Token, Word, WordKind, fill, numbered_register, token};
+use asm_words::{LineFault, Name, Token, Word, WordKind, numbered_register, token, words_into};
 use ia_insn::{Insn, Pr, is_listed};
 
 /// Puts what the words may be read as into the buffer, in the place of what it held.
-fn fill_tokens(line: &[u8], words: &[Word], buffer: &mut Tokens)
+fn tokens_into(line: &[u8], words: &[Word], buffer: &mut Tokens)
     requires few { length words.now ≤ LINE_LIMIT }
     requires parts { AreParts line.now words.now }
     ensures { buffer.new.items ≡ tokens (texts line.now words.now) }
@@ -110,7 +110,7 @@ fn predicate(line: &[u8], before: &[Word], buffer: &mut Tokens) -> Result<Pr, Li
     match before {
         [] => Ok(Pr::default()),
         [_, ..] => {
-            fill_tokens(line, before, buffer);
+            tokens_into(line, before, buffer);
             let tokens = buffer.as_slice();
             read_form(&[Form::Predicate], tokens, tokens)?;
             Ok(pr_at(tokens, 1))
@@ -230,7 +230,7 @@ fn directive_of(
     requires parts { AreParts line.now words.now }
     ensures { result ≡ directive_of forms.now (texts line.now words.now) }
 {
-    fill_tokens(line, words, buffer);
+    tokens_into(line, words, buffer);
     let operands = buffer.as_slice();
     let form = read_form(forms, operands, operands)?;
     directive_value(form, line, words, operands)
@@ -250,7 +250,7 @@ fn slot_of(
     ensures { result ≡ slot_of forms.now rest.now (texts line.now before.now) (texts line.now after.now) }
 {
     let qp = predicate(line, before, buffer)?;
-    fill_tokens(line, after, buffer);
+    tokens_into(line, after, buffer);
     slot_under(qp, forms, rest, buffer.as_slice(), line, after)
 }
 
@@ -268,7 +268,7 @@ fn data_line(
 {
     match before {
         [] => {
-            fill_tokens(line, after, buffer);
+            tokens_into(line, after, buffer);
             data_of(size, buffer.as_slice())
         }
         [_, ..] => Err(LineFault::Form),
@@ -488,7 +488,7 @@ fn reading_of(line: &[u8], buffers: &mut LineBuffers) -> Result<Line, LineFault>
     requires { length line.now ≤ LINE_LIMIT }
     ensures { result ≡ reading_of line.now }
 {
-    fill(line, &mut buffers.words)?;
+    words_into(line, &mut buffers.words)?;
     value_of(line, buffers.words.as_slice(), &mut buffers.tokens)
 }
 

@@ -2,7 +2,7 @@
 //!
 //! A line is cut into words: names, numbers and marks. A word is a part of the line, given by its
 //! first byte and the byte after its last, so no memory is taken, and the list that they are put
-//! into ([`fill`]) serves one line after the other. Then each word is a token: a
+//! into ([`words_into`]) serves one line after the other. Then each word is a token: a
 //! register, a number, a name or a mark. `specs/` says what the words of a line are (`Words`), which
 //! register a name spells (`Registers`), which number digits write (`Numbers`) and what the token of
 //! a word is (`Tokens`).
@@ -20,7 +20,7 @@ mod tokens;
 mod word;
 
 pub use fault::LineFault;
-pub use line::{fill, words};
+pub use line::{words, words_into};
 pub use name::Name;
 pub use reading::token;
 pub use registers::numbered_register;

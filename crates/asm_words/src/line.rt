@@ -25,13 +25,13 @@ pub fn words(line: &[u8]) -> Result<ArrayVec<Word, LINE_LIMIT>, LineFault>
     ensures err { IfErr result (λ e. (has_only_plain line.now ≡ false) × (e ≡ LineFault.Char)) }
 {
     let mut list = ArrayVec::new();
-    fill(line, &mut list)?;
+    words_into(line, &mut list)?;
     Ok(list)
 }
 
 /// Puts the words of a line, as [`words`] has them, into a list in the place of what it held, so that
 /// one list serves many lines. After Char it is empty.
-pub fn fill(line: &[u8], list: &mut ArrayVec<Word, LINE_LIMIT>) -> Result<(), LineFault>
+pub fn words_into(line: &[u8], list: &mut ArrayVec<Word, LINE_LIMIT>) -> Result<(), LineFault>
     requires { length line.now ≤ LINE_LIMIT }
     ensures ok { OnOk result ((has_only_plain line.now ≡ true) × (list.new.items ≡ words_from 0 0 line.now)) }
     ensures slices { OnOk result (AreSlices line.now list.new.items) }

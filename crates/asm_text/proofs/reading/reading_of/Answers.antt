@@ -5,4 +5,4 @@ use Rattle.asm_text.proofs.reading.reading_of.Goals as goal
 pub returns : goal.returns
 returns c =
     c.value_of.ensures
-    ∙ read_by_text c.args.line.now _ (c.as_slice.ensures.value ∙ c.in_ok-fill.ensures.ok.1) c.in_ok-fill.ensures.ok.0
+    ∙ read_by_text c.args.line.now _ (c.as_slice.ensures.value ∙ c.in_ok-words_into.ensures.ok.1) c.in_ok-words_into.ensures.ok.0
