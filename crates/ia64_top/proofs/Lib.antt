@@ -5,6 +5,7 @@ mod Outputs
 mod Judging
 mod Running
 mod Answering
+mod Causes
 mod Trying
 mod Sums
 mod Ordering

@@ -17,7 +17,7 @@ use Rattle.ia64_top.specs.Words.{command_of, groups_of}
 use Rattle.ia64_top.specs.Statuses.{TellsAccepted}
 use Rattle.ia64_top.specs.Runs.{run_of, end_status, watch_text, IsRunOf, ordered_run_of, IsRunOfEveryOrder}
 use Rattle.ia64_top.specs.Readings.{as_either}
-use Rattle.ia64_top.specs.Output.{IsJudgedBy, IsRunAs, printed_run, IsCommandOutput, GivesRunOfEveryOrder}
+use Rattle.ia64_top.specs.Output.{IsProgramOf, IsRunAs, printed_run, IsCommandOutput, GivesRunOfEveryOrder}
 use Rattle.watch_seam.specs.Watchers.{WatchState}
 use Rattle.ia64_top.proofs.Outputs.{GivesOne}
 use Rattle.ia64_top.proofs.Answering.{same_command, run_whole}
@@ -75,7 +75,7 @@ robust_run law one text groups input bytes status ran o p g =
     robust_given law one input a.0 at.gives at.program at.free p g
 
 robust_program : FreeIsRobust → GivesOne as_either → (status : Status) (c : Command) (ws : List WatchState) (all input bytes : List ℕ) → TellsAccepted status c → IsReadOf c input all → IsCommandOutput c ws input bytes status
-    → (p : Program) → IsJudgedBy c all p → IsRobust p
+    → (p : Program) → IsProgramOf c all p → IsRobust p
 robust_program law one Done Check ws all input bytes t is o p g =
     let j = o.2 in
     let done = done_of_judgement o.0 bytes Done o.2 in
@@ -113,7 +113,7 @@ each_order_of law zero one c groups ws input bytes status is t o p g = cc
 -- The promise, of words and an input.
 abbrev pub Promises : List (List ℕ) → Status → List ℕ → Type 0
 Promises words status input =
-    (c : Command) → command_of words ≡ Some c → TellsAccepted status c → (p : Program) → IsJudgedBy c input p → IsRobust p
+    (c : Command) → command_of words ≡ Some c → TellsAccepted status c → (p : Program) → IsProgramOf c input p → IsRobust p
 
 abbrev pub RunsInEachOrder : List (List ℕ) → List WatchState → Option (List ℕ) → Option (List ℕ) → Status → List ℕ → Type 0
 RunsInEachOrder words ws old new status input =
@@ -125,7 +125,7 @@ promised law one words c ws None input bytes status e whole o = tt
 promised law one words c ws (Some l) input bytes status e whole o =
     λ d f t p g.
     let is = same_command words d c f e in
-    robust_program law one status c ws l input bytes (subst (TellsAccepted status) is t) whole o p (subst (λ k. IsJudgedBy k l p) is g)
+    robust_program law one status c ws l input bytes (subst (TellsAccepted status) is t) whole o p (subst (λ k. IsProgramOf k l p) is g)
 
 pub run_in_each_order : FreeIsRobust → ZeroIsStart → GivesOne as_either → (words : List (List ℕ)) (c : Command) (ws : List WatchState) (left old new : Option (List ℕ)) (input bytes : List ℕ) (status : Status) → command_of words ≡ Some c → IfSome left (IsReadOf c input)
     → IsCommandOutput c ws input bytes status → Appends old new bytes → IfSome left (RunsInEachOrder words ws old new status)

@@ -1,5 +1,5 @@
 -- What is stated of `trial`.
-use Rattle.std.proofs.Common.{◌≡◌, ℕ, List, length, refl, sym, ◌∙◌, subst}
+use Rattle.std.proofs.Common.{◌≡◌, ℕ, ◌<◌, List, length, take, refl, sym, ◌∙◌, subst}
 use Rattle.std.specs.Prelude.{◌↔◌, Option, Some}
 use Rattle.std.specs.Io.KnownBytes.{Appends}
 use Rattle.ia_insn.specs.declared.ending.End.{End}
@@ -23,7 +23,7 @@ use Rattle.ia64_top.specs.Texts.{verdict_text}
 use Rattle.ia64_top.specs.Judgements.{verdict_status, IsJudgement}
 use Rattle.ia64_top.specs.Runs.{run_of}
 use Rattle.ia64_top.specs.Trials.{trial_text, IsTrialOf, IsTrialOutput}
-use Rattle.ia64_top.specs.Output.{IsCommandOutput, GivesTrial}
+use Rattle.ia64_top.specs.Output.{IsCommandOutput, GivesTrial, GivesTrialPart}
 use Rattle.ia64_top.proofs.Judging.{judgement_of, violated_of_judgement}
 use Rattle.ia64_top.proofs.Answering.{same_command}
 
@@ -98,6 +98,11 @@ gives_trial words command ws input bytes status old new e o appended seed bundle
   subst (λ c. IsCommandOutput c ws input bytes status) (same_command words command (Trial seed bundles) e f) o,
   appended,
 )
+
+pub gives_trial_part : (words : List (List ℕ)) (command : Command) (ws : List WatchState) (input bytes : List ℕ) (status : Status) (old new : Option (List ℕ)) → command_of words ≡ Some command → IsCommandOutput command ws input bytes status
+    → ((count : ℕ) × (count < length bytes) × Appends old new (take count bytes)) → (seed bundles : ℕ) → command_of words ≡ Some (Trial seed bundles) → GivesTrialPart seed bundles old new
+gives_trial_part words command ws input bytes status old new e o part seed bundles f =
+    (bytes, status, subst (λ c. IsCommandOutput c ws input bytes status) (same_command words command (Trial seed bundles) e f) o, part)
 
 -- a command that isn't `trial` tells nothing of one
 pub untried : (words : List (List ℕ)) (command : Command) → command_of words ≡ Some command → ¬ IsTrial (Some command) → (seed bundles : ℕ) → command_of words ≡ Some (Trial seed bundles) → ⊥

@@ -3,7 +3,8 @@ use Rattle.std.specs.Prelude.{◌≡◌, ℕ, List}
 use Rattle.ia_insn.specs.Programs.{Program, IsProgram}
 use Rattle.group_checker.specs.declared.report.Verdict.{Verdict}
 use Rattle.group_checker.specs.declared.report.Verdict.TheVariants.{Accepted, Violations}
-use Rattle.group_checker.specs.Reports.{IsVerdict}
+use Rattle.group_checker.specs.Reports.{IsReport, IsVerdict}
+use Rattle.group_checker.specs.Shown.{Report}
 use Rattle.ia64_top.specs.declared.status.Status.{Status}
 use Rattle.ia64_top.specs.declared.status.Status.TheVariants.{Done, Violated}
 use Rattle.ia64_top.specs.Texts.{verdict_text}
@@ -20,6 +21,13 @@ pub record IsJudgement (p : Program) (bytes : List ℕ) (status : Status) : Type
   pub exact : IsVerdict p verdict
   pub printed : bytes ≡ verdict_text verdict
   pub tells : status ≡ verdict_status verdict
+
+-- The bytes are the text of a report on the program: how many violations it has, at least one, and a line for each of the
+-- first ones. Each violation is two slots of a group that on some walk break a rule.
+pub record PrintsClashes (p : Program) (bytes : List ℕ) : Type 0 where
+  pub report : Report
+  pub exact : IsReport p report
+  pub printed : bytes ≡ verdict_text (Violations report)
 
 -- those of a verdict with violations
 abbrev pub IsJudgedViolated : Program → List ℕ → Status → Type 0

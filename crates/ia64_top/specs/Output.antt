@@ -11,7 +11,7 @@ use Rattle.image_form.specs.Images.{Spells}
 use Rattle.asm_build.specs.CanonicalText.{canonical_text}
 use Rattle.asm_build.specs.Listing.{IsListing}
 use Rattle.ia64_top.specs.Words.{command_of}
-use Rattle.ia64_top.specs.Judgements.{IsJudgement, IsJudgedViolated}
+use Rattle.ia64_top.specs.Judgements.{IsJudgement, IsJudgedViolated, PrintsClashes}
 use Rattle.trial_maker.specs.Trials.{trial_program}
 use Rattle.ia_meaning.specs.Steps.{Run}
 use Rattle.ia_meaning.specs.Runs.{run_text}
@@ -70,10 +70,19 @@ IsRunAs text groups reading input bytes Faulted =
 IsRunAs text groups reading input bytes Refused = reading.Refuses input bytes
 IsRunAs text groups reading input bytes status = ⊥
 
--- The program that a command judges: the stated one of `trial`, and else the one that the input is read as.
-abbrev pub IsJudgedBy : Command → List ℕ → Program → Type 0
-IsJudgedBy (command.Trial seed bundles) input program = program ≡ trial_program seed bundles
-IsJudgedBy command input program = as_either.Gives input program
+-- The program that a command works on: the one that its input is read as in the way of the command, and the stated one of
+-- `trial`.
+abbrev pub IsProgramOf : Command → List ℕ → Program → Type 0
+IsProgramOf command.Build input program = as_text.Gives input program
+IsProgramOf command.Show input program = as_image.Gives input program
+IsProgramOf command.List input program = as_image.Gives input program
+IsProgramOf command.Wrap input program = as_bundles.Gives input program
+IsProgramOf (command.Trial seed bundles) input program = program ≡ trial_program seed bundles
+IsProgramOf command input program = as_either.Gives input program
+
+-- The input is read as no program in the way of the command.
+abbrev pub IsUnreadable : Command → List ℕ → Type 0
+IsUnreadable command input = (program : Program) → ¬ IsProgramOf command input program
 
 -- a status that prints nothing
 abbrev pub IsSilent : Status → List ℕ → Status → Type 0
@@ -119,10 +128,20 @@ abbrev pub GivesOutput : List (List ℕ) → List WatchState → List ℕ → Op
 GivesOutput words watchers input old new status =
     (bytes : List ℕ) × IsOutput words watchers input bytes status × Appends old new bytes
 
+-- The sink got the text of violations of the program.
+abbrev pub GivesClashes : Program → Option (List ℕ) → Option (List ℕ) → Type 0
+GivesClashes program old new = (bytes : List ℕ) × PrintsClashes program bytes × Appends old new bytes
+
 -- The sink got the bytes of a trial of this status, whatever the input is.
 abbrev pub GivesTrial : ℕ → ℕ → Option (List ℕ) → Option (List ℕ) → Status → Type 0
 GivesTrial seed bundles old new status =
     (bytes : List ℕ) × IsTrialOutput seed bundles bytes status × Appends old new bytes
+
+-- The sink got a proper prefix of the bytes of a trial.
+abbrev pub GivesTrialPart : ℕ → ℕ → Option (List ℕ) → Option (List ℕ) → Type 0
+GivesTrialPart seed bundles old new =
+    (bytes : List ℕ) × (status : Status) × IsTrialOutput seed bundles bytes status
+    × ((count : ℕ) × (count < length bytes) × Appends old new (take count bytes))
 
 -- The sink got a proper prefix of the bytes of some output.
 abbrev pub GivesPart : List (List ℕ) → List WatchState → List ℕ → Option (List ℕ) → Option (List ℕ) → Type 0

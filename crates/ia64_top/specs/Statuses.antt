@@ -26,6 +26,14 @@ IsAnswer WriteFault = ⊥
 IsAnswer NoMemory = ⊥
 IsAnswer status = Unit {0}
 
+-- The status tells of a program: it was made into something else or judged, or its run ended or came to its limit.
+abbrev pub TellsOfProgram : Status → Type 0
+TellsOfProgram Done = Unit {0}
+TellsOfProgram Violated = Unit {0}
+TellsOfProgram Limit = Unit {0}
+TellsOfProgram Faulted = Unit {0}
+TellsOfProgram status = ⊥
+
 -- The status of a command tells that the program is accepted: `check` or `trial` is done, or `run` or `watch` printed a state.
 abbrev pub TellsAccepted : Status → Command → Type 0
 TellsAccepted Done command.Check = Unit {0}

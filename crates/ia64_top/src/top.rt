@@ -1,6 +1,6 @@
 //! The top call.
 
-ghost use Rattle.std.specs.Prelude.{◌≡◌, ◌≢◌, ◌≤◌, ◌+◌, ◌↔◌, ◌⊎◌, ℕ, List, map, None, Some, IsSome, IfSome, IfOk, IfErr, OnOk};
+ghost use Rattle.std.specs.Prelude.{◌≡◌, ◌≢◌, ◌≤◌, ◌+◌, ◌↔◌, ◌⊎◌, ℕ, List, false, map, None, Some, IsSome, IfSome, IfOk, IfErr, OnOk};
 ghost use Rattle.std.specs.Prelude.{vec_len, IsErrOf};
 ghost use Rattle.std.specs.Io.KnownBytes.{IsAtEnd};
 ghost use Rattle.io_seam.specs.declared.whole.ReadError.{ReadError};
@@ -8,7 +8,7 @@ ghost use Rattle.io_seam.specs.Faults.{Rose};
 ghost use Rattle.io_seam.specs.Bytes.{LosesFirst, LosesAtMost};
 ghost use Rattle.ia64_top.specs.declared.limits.TheConstants.{INPUT_LIMIT};
 ghost use Rattle.ia64_top.specs.Words.{command_of, Judges, groups_of, IsTrial, IsWatch};
-ghost use Rattle.ia64_top.specs.Statuses.{IsAnswer, TellsAccepted, EndsTrial};
+ghost use Rattle.ia64_top.specs.Statuses.{IsAnswer, TellsOfProgram, TellsAccepted, EndsTrial};
 ghost use Rattle.ia64_top.specs.Inputs.{IsReadOf};
 ghost use Rattle.ia_insn.specs.Programs.{Program};
 ghost use Rattle.ia_meaning.specs.OrderIndependence.{IsRobust};
@@ -18,16 +18,16 @@ ghost use Rattle.ia64_top.specs.Readings.{as_either};
 ghost use Rattle.trial_maker.specs.Trials.{trial_program};
 ghost use Rattle.watch_seam.specs.Watching.{HaveRoom};
 ghost use Rattle.ia64_top.specs.Watching.{RanNothing, IsNotRun, HaveWatched, HaveWatchedPart};
-ghost use Rattle.ia64_top.specs.Output.{IsWithinLimit, IsJudgedBy, printed_run, IsOutput, GivesOutput, GivesPart, GivesTrial, GivesRunOfEveryOrder};
+ghost use Rattle.ia64_top.specs.Output.{is_too_long, IsWithinLimit, IsProgramOf, IsUnreadable, printed_run, IsOutput, GivesOutput, GivesPart, GivesClashes, GivesTrial, GivesTrialPart, GivesRunOfEveryOrder};
 
 use crate::answer::respond;
 use crate::limits::INPUT_LIMIT;
 use crate::status::Status;
 use crate::words::{Command, Words};
-use asm_build::one_text_program;
+use asm_build::{no_fault_where_read, one_text_program};
 use group_checker::law_orders;
 use ia_meaning::zero_is_start;
-use image_form::{image_size, one_program};
+use image_form::{image_size, no_fault_where_raw, no_fault_where_spelled, one_program};
 use io_seam::{ReadError, Sink, Source, read_all, write_all};
 use std::alloc::Global;
 use watch_seam::Watch;
@@ -85,6 +85,11 @@ pub fn ia64<S: Source, K: Sink>(
     ensures only { IsAnswer result → IfSome (S.left source.old) (λ input.
         (bytes : List ℕ) (status : Status) → IsOutput words.now (map (λ b. state b) watchers.old.items) input bytes status → status ≡ result) }
 
+    // An input is refused exactly where the command's way of reading finds no program in it.
+    ensures refused { IsAnswer result → IfSome (S.left source.old) (λ input. (command : Command) →
+        command_of words.now ≡ Some command → is_too_long command input ≡ false →
+        ((result ≡ Status.Refused) ↔ IsUnreadable command input)) }
+
     // `accepted` is printed exactly where on no walk two slots of a group break a rule.
     ensures accepted { IsAnswer result → IfSome (S.left source.old) (λ input.
         command_of words.now ≡ Some Command.Check → IsWithinLimit input → (program : Program) → as_either.Gives input program →
@@ -94,7 +99,7 @@ pub fn ia64<S: Source, K: Sink>(
     // state at an entry, for every number of groups and every order of the writes in each group, groups at once leave
     // what slots one by one leave.
     ensures robust { IsAnswer result → IfSome (S.left source.old) (λ input. (command : Command) →
-        command_of words.now ≡ Some command → TellsAccepted result command → (program : Program) → IsJudgedBy command input program → IsRobust program) }
+        command_of words.now ≡ Some command → TellsAccepted result command → (program : Program) → IsProgramOf command input program → IsRobust program) }
 
     // So the state that `run` and `watch` print is the one of groups at once from the zero state, whatever the order of
     // their writes, and so is what the watchers report.
@@ -106,6 +111,12 @@ pub fn ia64<S: Source, K: Sink>(
     ensures judged { IsAnswer result → IfSome (S.left source.old) (λ input. (command : Command) →
         command_of words.now ≡ Some command → Judges command → IsWithinLimit input → (program : Program) → as_either.Gives input program →
         ((result ≡ Status.Violated) ↔ (¬ IsFree program))) }
+
+    // Then the bytes are the number of violations and a line for each of the first ones. Each violation is two slots of a
+    // group that on some walk break a rule.
+    ensures clashes { result ≡ Status.Violated → IfSome (S.left source.old) (λ input. (command : Command) →
+        command_of words.now ≡ Some command → (program : Program) → IsProgramOf command input program →
+        GivesClashes program (K.given sink.old) (K.given sink.new)) }
 
     // Of any other program the end of the run tells the status: `Done` comes exactly where it is a `break`,
     // `Limit` where it is the limit of groups, and `Faulted` where it is a fault.
@@ -120,6 +131,8 @@ pub fn ia64<S: Source, K: Sink>(
     // What it writes and answers is stated of its two numbers alone, whether the source tells its bytes or not.
     ensures trial_output { IsAnswer result → (seed bundles : ℕ) → command_of words.now ≡ Some (Command.Trial seed bundles) →
         GivesTrial seed bundles (K.given sink.old) (K.given sink.new) result }
+    ensures trial_part { result ≡ Status.WriteFault → (seed bundles : ℕ) → command_of words.now ≡ Some (Command.Trial seed bundles) →
+        GivesTrialPart seed bundles (K.given sink.old) (K.given sink.new) }
 
     // However it ends, it leaves the source as it was, and its end is never one of reading.
     ensures reads_nothing { IsTrial (command_of words.now) → (S.left source.new ≡ S.left source.old) × (S.faults source.new ≡ S.faults source.old) × EndsTrial result }
@@ -152,9 +165,14 @@ pub fn ia64<S: Source, K: Sink>(
     // Where neither failed there is an answer, unless memory ran out.
     ensures complete { ¬ Rose (S.faults source.old) (S.faults source.new) → ¬ Rose (K.faults sink.old) (K.faults sink.new) → IsAnswer result ⊎ (result ≡ Status.NoMemory) }
 
+    // So an input that reads as a program is answered by what the command makes of the program.
+    ensures served { ¬ Rose (S.faults source.old) (S.faults source.new) → ¬ Rose (K.faults sink.old) (K.faults sink.new) → IfSome (S.left source.old) (λ input. (command : Command) →
+        command_of words.now ≡ Some command → is_too_long command input ≡ false → (program : Program) → IsProgramOf command input program →
+        TellsOfProgram result ⊎ (result ≡ Status.NoMemory)) }
+
     // Faults come from the source and the sink alone.
     ensures read_fault { result ≡ Status.ReadFault → Rose (S.faults source.old) (S.faults source.new) }
-    ensures unwritten { (result ≡ Status.ReadFault) ⊎ (result ≡ Status.NoMemory) → (K.given sink.new ≡ K.given sink.old) × (K.faults sink.new ≡ K.faults sink.old) }
+    ensures unwritten { (result ≡ Status.TooLong) ⊎ (result ≡ Status.ReadFault) ⊎ (result ≡ Status.NoMemory) → (K.given sink.new ≡ K.given sink.old) × (K.faults sink.new ≡ K.faults sink.old) }
     ensures write_fault { result ≡ Status.WriteFault → Rose (K.faults sink.old) (K.faults sink.new) }
     ensures written_part { result ≡ Status.WriteFault → (¬ IsTrial (command_of words.now) → IsAtEnd (S.left source.new)) × (S.faults source.new ≡ S.faults source.old) × IfSome (S.left source.old) (λ input.
         GivesPart words.now (map (λ b. state b) watchers.old.items) input (K.given sink.old) (K.given sink.new)) }
@@ -176,6 +194,9 @@ pub fn ia64<S: Source, K: Sink>(
     image_size();
     one_program();
     one_text_program();
+    no_fault_where_spelled();
+    no_fault_where_raw();
+    no_fault_where_read();
     law_orders();
     zero_is_start();
     let Some(command) = words.command() else {

@@ -4,7 +4,8 @@ use Rattle.ia64_top.specs.declared.limits.TheConstants.{INPUT_LIMIT}
 use Rattle.ia64_top.proofs.Outputs.{either_gives_one}
 use Rattle.ia64_top.proofs.Ordering.{promised, run_in_each_order, promised_beyond, runs_beyond}
 use Rattle.ia64_top.proofs.Answering.{too_long, answered, given_in_part, accepted_beyond, accepted_within, judged_beyond, judged_within, only_within, ended_beyond, ended_within, watched_beyond, watched_within, cut_within, not_run_within, beyond, untouched, read_whole, same_read}
-use Rattle.ia64_top.proofs.Trying.{tried, untried, gives_trial, ends_trial}
+use Rattle.ia64_top.proofs.Trying.{tried, untried, gives_trial, gives_trial_part, ends_trial}
+use Rattle.ia64_top.proofs.Causes.{cause_within, refused_within, served_within, none_beyond, clashes_within}
 use Rattle.ia64_top.proofs.Ranges.{in_range}
 use Rattle.ia64_top.proofs.top.ia64.Goals as goal
 
@@ -144,3 +145,35 @@ pub returns-in-Ok-write_all-clause-trial_output : goal.returns-in-Ok-write_all-c
 returns-in-Ok-write_all-clause-trial_output g c u =
     let written = rw c.deref-2.ensures.value at c.in-Ok-write_all.ensures in
     gives_trial c.args.words.now c.in-Some.command _ c.deref.result.now c.in-Ok-respond.answer.bytes.items c.in-Ok-respond.answer.status (g.K.Sink.given c.args.sink.now) (g.K.Sink.given c.write_all.new.sink) (sym c.in-Some.ensures) c.in-Ok-respond.ensures.output written.ok
+
+pub returns-in-Err-TooLong-clause-refused : goal.returns-in-Err-TooLong-clause-refused
+returns-in-Err-TooLong-clause-refused g c u =
+    none_beyond _ c.args.words.now c.in-Some.command (g.S.Source.left c.args.source.now) (sym c.in-Some.ensures) c.in-Err-TooLong.ensures.reads (beyond _ (g.S.Source.left c.args.source.now) (g.S.Source.left c.read_input.new.source) (ap Err c.in-Err-TooLong.field-0-is) c.in-Err-TooLong.ensures.too_long)
+
+pub returns-in-Err-TooLong-clause-served : goal.returns-in-Err-TooLong-clause-served
+returns-in-Err-TooLong-clause-served g c u w =
+    none_beyond _ c.args.words.now c.in-Some.command (g.S.Source.left c.args.source.now) (sym c.in-Some.ensures) c.in-Err-TooLong.ensures.reads (beyond _ (g.S.Source.left c.args.source.now) (g.S.Source.left c.read_input.new.source) (ap Err c.in-Err-TooLong.field-0-is) c.in-Err-TooLong.ensures.too_long)
+
+pub returns-in-Ok-write_all-clause-refused : goal.returns-in-Ok-write_all-clause-refused
+returns-in-Ok-write_all-clause-refused g c u =
+    let whole = same_read c.in-Some.command (g.S.Source.left c.args.source.now) c.deref.result.now c.in-Ok.input.items c.deref.ensures.value c.in-Ok.ensures.whole in
+    refused_within c.args.words.now (g.S.Source.left c.args.source.now) c.in-Ok-respond.answer.status
+    (cause_within c.no_fault_where_spelled.ensures c.no_fault_where_raw.ensures c.no_fault_where_read.ensures c.args.words.now c.in-Some.command _ (g.S.Source.left c.args.source.now) c.deref.result.now c.in-Ok-respond.answer.bytes.items c.in-Ok-respond.answer.status (sym c.in-Some.ensures) whole c.in-Ok-respond.ensures.output)
+
+pub returns-in-Ok-write_all-clause-served : goal.returns-in-Ok-write_all-clause-served
+returns-in-Ok-write_all-clause-served g c u w =
+    let whole = same_read c.in-Some.command (g.S.Source.left c.args.source.now) c.deref.result.now c.in-Ok.input.items c.deref.ensures.value c.in-Ok.ensures.whole in
+    served_within c.args.words.now (g.S.Source.left c.args.source.now) c.in-Ok-respond.answer.status
+    (cause_within c.no_fault_where_spelled.ensures c.no_fault_where_raw.ensures c.no_fault_where_read.ensures c.args.words.now c.in-Some.command _ (g.S.Source.left c.args.source.now) c.deref.result.now c.in-Ok-respond.answer.bytes.items c.in-Ok-respond.answer.status (sym c.in-Some.ensures) whole c.in-Ok-respond.ensures.output)
+
+pub returns-in-Ok-write_all-clause-clashes : goal.returns-in-Ok-write_all-clause-clashes
+returns-in-Ok-write_all-clause-clashes g c is =
+    let one = either_gives_one c.one_program.ensures c.one_text_program.ensures in
+    let whole = same_read c.in-Some.command (g.S.Source.left c.args.source.now) c.deref.result.now c.in-Ok.input.items c.deref.ensures.value c.in-Ok.ensures.whole in
+    let written = rw c.deref-2.ensures.value at c.in-Ok-write_all.ensures in
+    clashes_within one c.args.words.now c.in-Some.command _ (g.S.Source.left c.args.source.now) (g.K.Sink.given c.args.sink.now) (g.K.Sink.given c.write_all.new.sink) c.deref.result.now c.in-Ok-respond.answer.bytes.items c.in-Ok-respond.answer.status (sym c.in-Some.ensures) whole c.in-Ok-respond.ensures.output written.ok is
+
+pub returns-clause-trial_part : goal.returns-clause-trial_part
+returns-clause-trial_part g c u =
+    let written = rw c.deref-2.ensures.value at c.in-Err.ensures in
+    gives_trial_part c.args.words.now c.in-Some.command _ c.deref.result.now c.in-Ok-respond.answer.bytes.items c.in-Ok-respond.answer.status (g.K.Sink.given c.args.sink.now) (g.K.Sink.given c.write_all.new.sink) (sym c.in-Some.ensures) c.in-Ok-respond.ensures.output written.prefix
