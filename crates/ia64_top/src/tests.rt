@@ -3,12 +3,12 @@
 ghost use Rattle.std.specs.Prelude.{◌≤◌};
 
 use crate::{Status, Words, ia64};
-use ia_insn::{Br, Gr, Pr};
+use ia_insn::{Br, Gr, GroupEvent, Pr};
 use io_seam::{MemSink, MemSource, read_all};
-use std::alloc::Global;
+use std::alloc::{AllocError, Global};
 use std::process::Abort;
 use std::test::Fail;
-use watch_seam::{Counter, Tracer, Watch};
+use watch_seam::{Counter, Keep, Tracer, Watch};
 
 /// Three `nop` and a stop.
 const NOPS: [u8; 16] = [
@@ -106,24 +106,62 @@ fn words(alloc: Global, line: &str) -> Result<Words, Fail> {
     Ok(words)
 }
 
-/// The status and the output of a command on a source and a sink of these steps, whose calls of these
-/// numbers fail.
+/// The number of the call that fails, where there is one.
+fn failing(alloc: Global, call: Option<u64>) -> Result<Vec<u64>, Fail> {
+    let mut calls = Vec::new(alloc);
+    if let Some(number) = call {
+        calls.push(number)?;
+    }
+    Ok(calls)
+}
+
+/// A source of these bytes, of which a call takes at most `step`. The call of number `fault`, from 0, fails.
+fn source_of(
+    alloc: Global,
+    bytes: &[u8],
+    step: usize,
+    fault: Option<u64>,
+) -> Result<MemSource, Fail>
+    requires { 1 ≤ step }
+{
+    let bytes = Vec::from_slice(alloc, bytes)?;
+    Ok(MemSource::new(bytes, step, failing(alloc, fault)?))
+}
+
+/// A sink with room for so many bytes, of which a call takes at most `step`. The call of number `fault`, from 0, fails.
+fn sink_of(alloc: Global, room: usize, step: usize, fault: Option<u64>) -> Result<MemSink, Fail>
+    requires { 1 ≤ step }
+{
+    Ok(MemSink::new(alloc, room, step, failing(alloc, fault)?)?)
+}
+
+/// The status of a command without watchers, and what the sink has then.
 fn run(
     alloc: Global,
     command: &str,
-    input: Vec<u8>,
-    source: (usize, Vec<u64>),
-    sink: (usize, Vec<u64>),
-) -> Result<(u8, Vec<u8>), Fail>
-    requires source { 1 ≤ source.0 }
-    requires sink { 1 ≤ sink.0 }
-{
+    mut source: MemSource,
+    mut sink: MemSink,
+) -> Result<(u8, Vec<u8>), Fail> {
     let words = words(alloc, command)?;
-    let mut source = MemSource::new(input, source.0, source.1);
-    let mut sink = MemSink::new(alloc, 70_000, sink.0, sink.1)?;
     let mut watchers = Vec::new(alloc);
     let status = ia64(alloc, &words, &mut watchers, &mut source, &mut sink);
     Ok((status.number(), Vec::from_slice(alloc, sink.bytes())?))
+}
+
+/// A command on this source and this sink has this status, and the sink has these bytes then.
+fn leaves(
+    rt: &impl Abort,
+    alloc: Global,
+    command: &str,
+    source: MemSource,
+    sink: MemSink,
+    status: u8,
+    output: &[u8],
+) -> Result<(), Fail> {
+    let (number, written) = run(alloc, command, source, sink)?;
+    assert_eq!(rt; number, status);
+    assert_eq!(rt; written.as_slice(), output);
+    Ok(())
 }
 
 /// A command with calls that move up to 4,096 bytes and don't fail has this status and this output.
@@ -135,16 +173,10 @@ fn answers(
     status: u8,
     output: &Parts,
 ) -> Result<(), Fail> {
-    let (number, written) = run(
-        alloc,
-        command,
-        bytes_of(alloc, input)?,
-        (4096, Vec::new(alloc)),
-        (4096, Vec::new(alloc)),
-    )?;
-    assert_eq!(rt; number, status);
-    assert_eq!(rt; written.as_slice(), bytes_of(alloc, output)?.as_slice());
-    Ok(())
+    let source = source_of(alloc, &bytes_of(alloc, input)?, 4096, None)?;
+    let sink = sink_of(alloc, 70_000, 4096, None)?;
+    let output = bytes_of(alloc, output)?;
+    leaves(rt, alloc, command, source, sink, status, &output)
 }
 
 /// The image of a branch to the next bundle, and of three `nop`.
@@ -223,6 +255,9 @@ nop.i 0 ;;
 }
 ";
 
+/// Their verdict.
+const TWO_WRITES: &str = "violations 1\nWAW r14 0.0 0.1\n";
+
 /// A label again, before a bundle that is open at the end.
 const TWICE_TEXT: &str = "{ .mii
 nop.m 0
@@ -285,11 +320,33 @@ r8 ffffffffffffffff
 pr 0000000000000001
 ";
 
+/// A return that finds no frame below, in the second of two groups.
+const RETURN_TEXT: &str = "{ .mii
+nop.m 0
+adds r9=129,r0
+nop.i 0 ;;
+}
+{ .mib
+nop.m 0
+mov.i ar.pfs=r9
+br.ret b0 ;;
+}
+";
+
+/// The state that it ends in.
+const UNDERFLOW: &str = "end fault Underflow at 1.2
+groups 2
+frame 0 sof 0 sol 0 sor 0 rrb 0 0 0
+rse 0 0 0 0
+r9 0000000000000081
+pr 0000000000000001
+ar.pfs 0000000000000081
+";
+
 #[test]
 fn commands_have_their_output(rt: HostRuntime) -> Result<(), Fail> {
     let alloc = rt.alloc();
     let long = headed([1, 0, 0, 0], 262_142, NOPS, b"8 bytes.");
-    let too_long = headed([1, 0, 0, 0], 262_142, NOPS, b"9 bytes..");
     let rows = [
         ("check", image(1, NOPS), 0, text("accepted\n")),
         ("check", BRANCHING, 0, text("accepted\n")),
@@ -324,9 +381,8 @@ fn commands_have_their_output(rt: HostRuntime) -> Result<(), Fail> {
             ),
         ),
         ("list", text(""), 3, text("image: short\n")),
-        // An input of 4,194,304 bytes is read, and no longer one.
+        // An input of 4,194,304 bytes is read.
         ("check", long, 3, text("image: length\n")),
-        ("check", too_long, 4, text("")),
         ("check", text("IA64IMG1"), 3, text("image: short\n")),
         (
             "check",
@@ -371,45 +427,51 @@ fn commands_have_their_output(rt: HostRuntime) -> Result<(), Fail> {
             3,
             text("image: bundle 0 slot 2: target\n"),
         ),
-        ("wrap", bare(1, NOPS, b""), 0, image(1, NOPS)),
-        ("wrap", bare(4096, NOPS, b""), 0, image(4096, NOPS)),
-        ("wrap", bare(1, BRANCH, &NOPS), 0, BRANCHING),
-        ("wrap", text(""), 3, text("image: counts\n")),
-        ("wrap", bare(4097, NOPS, b""), 3, text("image: counts\n")),
-        ("wrap", bare(1, NOPS, b"!"), 3, text("image: length\n")),
+    ];
+    for (command, input, status, output) in rows {
+        answers(&rt, alloc, command, &input, status, &output)?;
+    }
+    Ok(())
+}
+
+#[test]
+fn wrap_has_its_output(rt: HostRuntime) -> Result<(), Fail> {
+    let alloc = rt.alloc();
+    let rows = [
+        (bare(1, NOPS, b""), 0, image(1, NOPS)),
+        (bare(4096, NOPS, b""), 0, image(4096, NOPS)),
+        (bare(1, BRANCH, &NOPS), 0, BRANCHING),
+        (text(""), 3, text("image: counts\n")),
+        (bare(4097, NOPS, b""), 3, text("image: counts\n")),
+        (bare(1, NOPS, b"!"), 3, text("image: length\n")),
         (
-            "wrap",
             bare(1, RESERVED, b""),
             3,
             text("image: bundle 0: template\n"),
         ),
         (
-            "wrap",
             bare(4095, NOPS, &RESERVED),
             3,
             text("image: bundle 4095: template\n"),
         ),
         (
-            "wrap",
             bare(4095, NOPS, &UNLISTED),
             3,
             text("image: bundle 4095 slot 2: unlisted\n"),
         ),
         (
-            "wrap",
             bare(4095, NOPS, &BRANCH),
             3,
             text("image: bundle 4095 slot 2: target\n"),
         ),
         (
-            "wrap",
             bare(65, OPEN, b""),
             3,
             text("image: bundle 64 slot 0: long run\n"),
         ),
     ];
-    for (command, input, status, output) in rows {
-        answers(&rt, alloc, command, &input, status, &output)?;
+    for (input, status, output) in rows {
+        answers(&rt, alloc, "wrap", &input, status, &output)?;
     }
     Ok(())
 }
@@ -422,19 +484,9 @@ fn runs_have_their_output(rt: HostRuntime) -> Result<(), Fail> {
         ("run 1", image(2, NOPS), 8, text(AT_LIMIT)),
         ("run 10000000", text(BREAK_TEXT), 0, text(AT_BREAK)),
         ("run 1", text(DATA_TEXT), 9, text(FELL_OFF_WITH_DATA)),
-        (
-            "run 5",
-            text(TWO_WRITES_TEXT),
-            1,
-            text("violations 1\nWAW r14 0.0 0.1\n"),
-        ),
+        ("run 5", text(TWO_WRITES_TEXT), 1, text(TWO_WRITES)),
+        ("run 10", text(RETURN_TEXT), 9, text(UNDERFLOW)),
         ("run 1", text(""), 3, text("line 1: empty\n")),
-        (
-            "trial 1 1",
-            text(""),
-            0,
-            text("trial 1 1\naccepted\nend break 0x0 at 0.2\ngroups 1\nsum 0000000000000000\n"),
-        ),
         (
             "trial 0 3",
             text(""),
@@ -473,17 +525,17 @@ data8 0x123456789abcdef
 ";
 
 /// What a command answers with calls that don't fail.
-fn answer(alloc: Global, command: &str, input: Vec<u8>) -> Result<(u8, Vec<u8>), Fail> {
-    let (source, sink) = (Vec::new(alloc), Vec::new(alloc));
-    run(alloc, command, input, (4096, source), (4096, sink))
+fn answer(alloc: Global, command: &str, input: &[u8]) -> Result<(u8, Vec<u8>), Fail> {
+    let source = source_of(alloc, input, 4096, None)?;
+    run(alloc, command, source, sink_of(alloc, 1000, 4096, None)?)
 }
 
 #[test]
 fn a_text_comes_back(rt: HostRuntime) -> Result<(), Fail> {
     let alloc = rt.alloc();
-    let (built, image) = answer(alloc, "build", Vec::from_slice(alloc, WHOLE_TEXT)?)?;
+    let (built, image) = answer(alloc, "build", WHOLE_TEXT)?;
     assert_eq!(rt; built, 0);
-    let (shown, text) = answer(alloc, "show", image)?;
+    let (shown, text) = answer(alloc, "show", &image)?;
     assert_eq!(rt; shown, 0);
     assert_eq!(rt; text.as_slice(), WHOLE_TEXT);
     Ok(())
@@ -503,8 +555,8 @@ fn a_hundred_violations_are_shown(rt: HostRuntime) -> Result<(), Fail> {
 /// The words are no command, and neither the source nor the sink is touched.
 fn leaves_the_source(rt: &impl Abort, alloc: Global, words: &Words) -> Result<(), Fail> {
     let input = bytes_of(alloc, &image(1, NOPS))?;
-    let mut source = MemSource::new(input.clone()?, 16, Vec::new(alloc));
-    let mut sink = MemSink::new(alloc, 100, 16, Vec::new(alloc))?;
+    let mut source = source_of(alloc, &input, 16, None)?;
+    let mut sink = sink_of(alloc, 100, 16, None)?;
     let mut watchers = Vec::new(alloc);
     let status = ia64(alloc, words, &mut watchers, &mut source, &mut sink);
     assert_eq!(rt; status, Status::Words);
@@ -545,32 +597,101 @@ fn other_words_leave_the_source(rt: HostRuntime) -> Result<(), Fail> {
     Ok(())
 }
 
+/// What `trial 1 1` prints.
+const TRIAL: &[u8] = b"trial 1 1\naccepted\nend break 0x0 at 0.2\ngroups 1\nsum 0000000000000000\n";
+
 #[test]
-fn faults_and_short_pieces(rt: HostRuntime) -> Result<(), Fail> {
+fn streams_fail(rt: HostRuntime) -> Result<(), Fail> {
     let alloc = rt.alloc();
-    let clash = image(1, CLASH);
-    let none = Vec::new(alloc);
-    let first = vec![in alloc; 0u64]?;
-    let input = bytes_of(alloc, &clash)?;
-    let (status, output) = run(alloc, "check", input, (16, first), (16, none))?;
-    assert_eq!(rt; status, 5);
-    assert_eq!(rt; output.as_slice(), b"".as_slice());
+    let input = TWO_WRITES_TEXT.as_bytes();
 
-    let none = Vec::new(alloc);
-    let second = vec![in alloc; 1u64]?;
-    let input = bytes_of(alloc, &clash)?;
-    let (status, output) = run(alloc, "check", input, (16, none), (5, second))?;
-    assert_eq!(rt; status, 6);
-    assert_eq!(rt; output.as_slice(), b"viola".as_slice());
+    // A call takes a byte of the 48, and one more finds the end.
+    for call in 0..49 {
+        let source = source_of(alloc, input, 1, Some(call))?;
+        let sink = sink_of(alloc, 100, 1, None)?;
+        leaves(&rt, alloc, "check", source, sink, 5, b"")?;
+    }
 
-    let (none, no_other) = (Vec::new(alloc), Vec::new(alloc));
-    let input = bytes_of(alloc, &clash)?;
-    let (status, output) = run(alloc, "check", input, (1, none), (1, no_other))?;
-    assert_eq!(rt; status, 1);
-    assert_eq!(rt;
-        output.as_slice(),
-        b"violations 1\nRAW r8 0.1 0.2\n".as_slice()
-    );
+    // A call gives a byte, and those before the one that fails are given.
+    let mut given = Vec::new(alloc);
+    for (call, byte) in TWO_WRITES.as_bytes().iter().enumerate() {
+        let source = source_of(alloc, input, 4096, None)?;
+        let sink = sink_of(alloc, 100, 1, Some(call as u64))?;
+        leaves(&rt, alloc, "check", source, sink, 6, &given)?;
+        given.push(*byte)?;
+    }
+
+    // No call is made after the end is found, nor after the last byte is given.
+    let source = source_of(alloc, input, 1, Some(49))?;
+    let sink = sink_of(alloc, 100, 1, Some(29))?;
+    leaves(&rt, alloc, "check", source, sink, 1, &given)?;
+
+    // A sink that is full, and one of longer pieces, whose second call fails.
+    for (room, step, fault, output) in [(10, 1, None, "violations"), (100, 5, Some(1), "viola")] {
+        let source = source_of(alloc, input, 1, None)?;
+        let sink = sink_of(alloc, room, step, fault)?;
+        leaves(&rt, alloc, "check", source, sink, 6, output.as_bytes())?;
+    }
+
+    // The input is too long with the byte that call 1024 takes.
+    let too_long = vec![in alloc; b'/'; 4_194_305]?;
+    for (call, status) in [(1024, 5), (1025, 4)] {
+        let source = source_of(alloc, &too_long, 4096, Some(call))?;
+        let sink = sink_of(alloc, 100, 1, None)?;
+        leaves(&rt, alloc, "check", source, sink, status, b"")?;
+    }
+
+    // `trial` asks no source.
+    let source = source_of(alloc, b"", 1, Some(0))?;
+    let sink = sink_of(alloc, 100, 1, None)?;
+    leaves(&rt, alloc, "trial 1 1", source, sink, 0, TRIAL)
+}
+
+#[test]
+fn cut_inputs_are_refused(rt: HostRuntime) -> Result<(), Fail> {
+    let alloc = rt.alloc();
+
+    // The first bytes of an image, and then all of them and one more.
+    let whole = bytes_of(alloc, &image(1, NOPS))?;
+    let mut front = Vec::new(alloc);
+    for (count, byte) in whole.iter().enumerate() {
+        let refusal = if count < 24 {
+            "image: short\n"
+        } else {
+            "image: length\n"
+        };
+        answers(
+            &rt,
+            alloc,
+            "list",
+            &bare(0, NOPS, &front),
+            3,
+            &text(refusal),
+        )?;
+        front.push(*byte)?;
+    }
+    front.push(0)?;
+    let refusal = text("image: length\n");
+    answers(&rt, alloc, "list", &bare(0, NOPS, &front), 3, &refusal)?;
+
+    // The first lines of a text.
+    let mut front = String::new(alloc);
+    for (line, refusal) in [
+        ("{ .mii\n", "line 2: misplaced\n"),
+        ("adds r14=1,r0\n", "line 3: misplaced\n"),
+        ("adds r14=2,r0\n", "line 4: misplaced\n"),
+        ("nop.i 0 ;;\n", "line 5: misplaced\n"),
+    ] {
+        front.push_str(line)?;
+        answers(
+            &rt,
+            alloc,
+            "build",
+            &text(front.as_str()),
+            3,
+            &text(refusal),
+        )?;
+    }
     Ok(())
 }
 
@@ -584,13 +705,15 @@ fn registers_print_their_names(rt: HostRuntime) -> Result<(), Fail> {
     Ok(())
 }
 
-/// A return that finds no frame below, in the second of two groups.
-const RETURN: &[u8] =
-    b"{ .mii\n  nop.m 0\n  adds r9=129,r0\n  nop.i 0 ;;\n}\n{ .mib\n  nop.m 0\n  mov.i ar.pfs=r9\n  br.ret b0 ;;\n}\n";
+/// What a counter and a tracer of one group report of that return.
+const REPORTS: &str = "watch 1\n1 0.0 0.2 falls\nwatch 0\ngroups 2 slots 6 taken 0\n";
 
-/// What a counter and a tracer of one group report of it, and the state after it.
-const RETURN_WATCHED: &[u8] =
-    b"watch 1\n1 0.0 0.2 falls\nwatch 0\ngroups 2 slots 6 taken 0\nend fault Underflow at 1.2\ngroups 2\nframe 0 sof 0 sol 0 sor 0 rrb 0 0 0\nrse 0 0 0 0\nr9 0000000000000081\npr 0000000000000001\nar.pfs 0000000000000081\n";
+/// What a watcher reports.
+fn report_of(alloc: Global, watcher: &Box<dyn Watch>) -> Result<Vec<u8>, Fail> {
+    let mut report = Vec::new(alloc);
+    watcher.report(&mut report)?;
+    Ok(report)
+}
 
 #[test]
 fn a_full_watcher_leaves_the_list(rt: HostRuntime) -> Result<(), Fail> {
@@ -598,15 +721,123 @@ fn a_full_watcher_leaves_the_list(rt: HostRuntime) -> Result<(), Fail> {
     let mut watchers: Vec<Box<dyn Watch>> = Vec::new(alloc);
     watchers.push(Box::new(alloc, Counter::new(10_000_001))?)?;
     watchers.push(Box::new(alloc, Tracer::new(alloc, 1))?)?;
-    let mut source = MemSource::new(Vec::from_slice(alloc, RETURN)?, 4096, Vec::new(alloc));
-    let mut sink = MemSink::new(alloc, 1000, 4096, Vec::new(alloc))?;
     let words = words(alloc, "watch 10")?;
+    let mut source = source_of(alloc, RETURN_TEXT.as_bytes(), 4096, None)?;
+    let mut sink = sink_of(alloc, 1000, 4096, None)?;
     let status = ia64(alloc, &words, &mut watchers, &mut source, &mut sink);
     assert_eq!(rt; status, Status::Faulted);
-    assert_eq!(rt; sink.bytes(), RETURN_WATCHED);
+    let output = format!(in alloc; "{REPORTS}{UNDERFLOW}")?;
+    assert_eq!(rt; sink.bytes(), output.as_bytes());
     assert_eq!(rt; watchers.len(), 1);
-    let mut report = Vec::new(alloc);
-    watchers[0].report(&mut report)?;
+    let report = report_of(alloc, &watchers[0])?;
     assert_eq!(rt; report.as_slice(), b"groups 2 slots 6 taken 0\n".as_slice());
+    Ok(())
+}
+
+/// A counter that finds no memory for its second group.
+#[derive(Drop)]
+struct CounterOfOne {
+    counts: Counter,
+    is_used: bool,
+}
+
+impl Watch for CounterOfOne {
+    ghost state = { λ w. w.counts };
+
+    fn see(&mut self, event: &GroupEvent) -> Result<Keep, AllocError> {
+        if self.is_used {
+            return Err(AllocError);
+        }
+        self.is_used = true;
+        self.counts.see(event)
+    }
+
+    fn report(&self, out: &mut Vec<u8>) -> Result<(), AllocError> {
+        self.counts.report(out)
+    }
+}
+
+/// A call that adds the words of a table, as a compiler writes it.
+const SUM_TEXT: &[u8] = b".global main#
+.proc main#
+main:
+{ .mlx
+  alloc r32 = ar.pfs, 0, 1, 2, 0
+  movl r33 = table ;;
+}
+{ .mib
+  mov r34 = 4
+  nop.i 0
+  br.call.sptk.many b0 = sum# ;;
+}
+{ .mib
+  nop.m 0
+  nop.i 0
+  break.b 0 ;;
+}
+sum:
+{ .mii
+  alloc r34 = ar.pfs, 2, 3, 0, 0
+  mov r35 = b0
+  mov r8 = 0 ;;
+}
+{ .mii
+  adds r36 = -1, r33
+  nop.i 0
+  nop.i 0 ;;
+}
+{ .mii
+  nop.m 0
+  mov ar.lc = r36
+  nop.i 0 ;;
+}
+loop:
+{ .mii
+  ld8 r14 = [r32], 8
+  nop.i 0
+  nop.i 0 ;;
+}
+{ .mib
+  add r8 = r8, r14
+  nop.i 0
+  br.cloop.sptk.few loop ;;
+}
+{ .mii
+  nop.m 0
+  mov ar.pfs = r34
+  mov b0 = r35 ;;
+}
+{ .mib
+  nop.m 0
+  nop.i 0
+  br.ret.sptk.many b0 ;;
+}
+.data
+table:
+  data8 10, 20, 30, 40
+";
+
+#[test]
+fn a_watcher_without_memory_ends_the_run(rt: HostRuntime) -> Result<(), Fail> {
+    let alloc = rt.alloc();
+    let mut watchers: Vec<Box<dyn Watch>> = Vec::new(alloc);
+    watchers.push(Box::new(alloc, Tracer::new(alloc, 1))?)?;
+    let counts = Counter::new(1000);
+    let is_used = false;
+    watchers.push(Box::new(alloc, CounterOfOne { counts, is_used })?)?;
+    watchers.push(Box::new(alloc, Counter::new(1000))?)?;
+    let words = words(alloc, "watch 100")?;
+    let mut source = source_of(alloc, SUM_TEXT, 4096, None)?;
+    let mut sink = sink_of(alloc, 1000, 4096, None)?;
+    let status = ia64(alloc, &words, &mut watchers, &mut source, &mut sink);
+    assert_eq!(rt; status, Status::NoMemory);
+    assert_eq!(rt; sink.bytes(), b"".as_slice());
+
+    // The tracer was full with the first group, which the others have seen too, and no other.
+    assert_eq!(rt; watchers.len(), 2);
+    for watcher in &watchers {
+        let report = report_of(alloc, watcher)?;
+        assert_eq!(rt; report.as_slice(), b"groups 1 slots 2 taken 0\n".as_slice());
+    }
     Ok(())
 }
