@@ -5,31 +5,34 @@ use ia64_top::limits::GROUP_LIMIT;
 use ia64_top::{Status, Words, ia64};
 use io_seam::{StdSink, StdSource};
 use std::alloc::AllocError;
-use std::env;
-use std::io::ErrorKind;
+use std::env::{Env, FillError};
 use std::process::ExitCode;
 use watch_seam::{Counter, Tracer, Watch};
+
+/// How long a word may be. No command has one so long.
+const WORD_ROOM: usize = 64;
 
 /// How many groups the tracer of `watch` keeps a line of.
 const TRACED_GROUPS: u64 = 8;
 
-/// Ends with the status of the top call. Words that are no text are no command.
+/// Ends with the status of the top call. Words that are too long are no command.
 fn main(rt: HostRuntime) -> ExitCode {
     ExitCode::from(run(&rt).number())
 }
 
 fn run(rt: &HostRuntime) -> Status {
     let mut words = Words::new(rt.alloc());
-    match env::args(rt) {
-        Ok(args) => {
-            for word in args.skip(1) {
-                if words.push(word.as_str().as_bytes()).is_err() {
+    let mut word = [0; WORD_ROOM];
+    for number in 1..usize::MAX {
+        match rt.arg(number, &mut word) {
+            Ok(count) => {
+                if words.push(&word[..count]).is_err() {
                     return Status::NoMemory;
                 }
             }
+            Err(FillError::NotPresent) => break,
+            Err(FillError::TooLong) => return Status::Words,
         }
-        Err(error) if error.kind() == ErrorKind::OutOfMemory => return Status::NoMemory,
-        Err(_) => return Status::Words,
     }
     call(rt, &words).unwrap_or(Status::NoMemory)
 }
