@@ -1,6 +1,6 @@
 #!/usr/bin/env python3
-"""Times build, show and list beside the GNU tools on the same work, trials, and run and watch on loops,
-and prints three tables. No part of the gate.
+"""Times build, show and list beside the GNU tools on the same work, trials, run and watch on loops, and
+every command on the inputs that take it longest, and prints four tables. No part of the gate.
 
 The inputs of the first table are programs of so many bundles, each with a label, a load, an addition
 and a branch to another bundle. A trial makes its own program, checks it and runs it. A time is the best of
@@ -10,16 +10,25 @@ again. A loop is run to its `break`; of its speed the slots of its turns are cou
 each group to two watchers and should have at least 0.8 of the speed of `run` on a counted loop, where a
 group is one bundle.
 
-Call it after the program was built: bench/run.py
+The last table has the worst inputs within the limits (`inputs.py`). Its seconds are those of the processor,
+the best of three, and its megabytes the greatest peak, at least that of this script, about 15. It ends with
+status 1 where an input takes longer than is allowed, or more than 256 MB, or isn't answered at all.
+
+Call it after the program was built: bench/run.py [--worst] [--count]
+--worst prints the last table alone. --count adds millions of instructions, as valgrind counts them: they are
+the same on every machine, and take fifty times as long.
 """
 
 import os
 import pathlib
+import re
 import shutil
 import subprocess
 import sys
 import tempfile
 import time
+
+import inputs
 
 ROOT = pathlib.Path(__file__).resolve().parent.parent
 PROGRAM = ROOT / "crates" / "ia64_cli" / "out" / "ia64_cli"
@@ -131,9 +140,82 @@ def measure_loop(name, folder):
     print(f"| {name} | {run:.1f} | {watch:.1f} | {watch / run:.2f} |", flush=True)
 
 
-def main():
-    if not PROGRAM.exists():
-        sys.exit(f"{PROGRAM} is not there: call ./build, which proves and builds it")
+# The worst inputs: the words of a command, what makes its input, and how many seconds it may take at most.
+# To `run` and `watch` time isn't limited.
+MEGABYTES = 256
+BUILDS = (
+    inputs.empty_lines, inputs.stop_lines, inputs.section_lines, inputs.ignored_lines, inputs.skip_lines,
+    inputs.comment_lines, inputs.blank_lines, inputs.numbers, inputs.number_lines, inputs.long_numbers,
+    inputs.short_slots, inputs.long_slots, inputs.rising_labels, inputs.scattered_labels, inputs.long_labels,
+    inputs.late_labels,
+)
+CHECKS = (
+    inputs.largest_program, inputs.most_violations, inputs.most_excuses, inputs.losses_past_nops,
+    inputs.losses_past_compares, inputs.losses_past_branches, inputs.losses_past_violations,
+)
+WORST = [("build", make, 4) for make in BUILDS]
+WORST += [(words, inputs.largest_program, 1) for words in ("show", "list")]
+WORST += [("wrap", inputs.most_bundles, 1)]
+WORST += [("check", make, 10) for make in CHECKS]
+WORST += [
+    ("trial 1 4096", inputs.nothing, 10),
+    ("run 1", inputs.largest_state, None),
+    ("run 10000000", inputs.endless_calls, None),
+    ("watch 10000000", inputs.endless_calls, None),
+    ("run 1000000", inputs.endless_stores, None),
+]
+
+
+def prepare(words, make, source):
+    """Writes the input of a command: a text, or what `build` makes of it, for `wrap` without the head. The
+    text is made by a process of its own, since what a process has had in memory counts in the peak of those
+    that it starts."""
+    with source.open("wb") as made:
+        subprocess.run([sys.executable, inputs.__file__, make.__name__], stdout=made, check=True)
+    if words in ("show", "list", "wrap"):
+        built = subprocess.run([PROGRAM, "build"], stdin=source.open("rb"), stdout=subprocess.PIPE, check=True)
+        source.write_bytes(built.stdout[24:] if words == "wrap" else built.stdout)
+
+
+def cost(command, source, output):
+    """The processor's seconds and the peak megabytes of a command, and its status."""
+    with open(source, "rb") as stdin, open(output, "wb") as stdout:
+        child = subprocess.Popen(command, stdin=stdin, stdout=stdout)
+        _, status, usage = os.wait4(child.pid, 0)
+    child.returncode = os.WEXITSTATUS(status) if os.WIFEXITED(status) else 128
+    return usage.ru_utime + usage.ru_stime, usage.ru_maxrss / 1024, child.returncode
+
+
+def instructions(command, source, output):
+    """How many million instructions a command takes."""
+    counter = ["valgrind", "--tool=callgrind", "--callgrind-out-file=/dev/null"]
+    with open(source, "rb") as stdin, open(output, "wb") as stdout:
+        counted = subprocess.run(counter + command, stdin=stdin, stdout=stdout, stderr=subprocess.PIPE)
+    return int(re.search(rb"Collected : (\d+)", counted.stderr).group(1)) / 1e6
+
+
+def measure_worst(words, make, allowed, folder, counts):
+    """Prints the line of a worst input, and says whether it was answered within its limits."""
+    source, output, command = folder / "input", folder / "output", [PROGRAM] + words.split()
+    prepare(words, make, source)
+    runs = [cost(command, source, output) for _ in range(3)]
+    taken, peak = min(run[0] for run in runs), max(run[1] for run in runs)
+    within = taken <= (allowed or taken) and peak <= MEGABYTES and runs[0][2] in (0, 1, 3, 8, 9)
+    count = f" {instructions(command, source, output):.0f} |" if counts else ""
+    limit, verdict = allowed or "none", "" if within else " exceeded"
+    print(f"| {words} | {make.__name__} | {taken:.2f} | {limit}{verdict} | {peak:.0f} |{count}", flush=True)
+    return within
+
+
+def worst_within(folder, counts):
+    """Prints the table of the worst inputs, and says whether all are within their limits."""
+    more, line = (" Million instructions |", "---|") if counts else ("", "")
+    print(f"| Command | Input | Seconds, best of 3 | Limit | MB |{more}\n|---|---|---|---|---|{line}")
+    return all([measure_worst(*row, folder, counts) for row in WORST])
+
+
+def print_tables():
+    """Prints the tables beside the GNU tools, of trials and of loops."""
     if not has_gnu():
         print("Without the GNU tools for ia64, which are not installed.")
     one, five, fifteen = os.getloadavg()
@@ -148,6 +230,16 @@ def main():
         print("\n| Loop | run, million slots a second, best of 5 | watch | watch by run |\n|---|---|---|---|")
         for name in LOOPS:
             measure_loop(name, pathlib.Path(folder))
+
+
+def main():
+    if not PROGRAM.exists():
+        sys.exit(f"{PROGRAM} is not there: call ./build, which proves and builds it")
+    if "--worst" not in sys.argv:
+        print_tables()
+        print()
+    with tempfile.TemporaryDirectory() as folder:
+        sys.exit(not worst_within(pathlib.Path(folder), "--count" in sys.argv))
 
 
 if __name__ == "__main__":

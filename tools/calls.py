@@ -1,0 +1,207 @@
+"""Calls the program, and holds its answers to docs/FORMATS.md and to each other."""
+
+import collections
+import os
+import re
+import resource
+import subprocess
+
+import printed_forms
+from printed_forms import BUNDLE_LIMIT, MAGIC, Layout, bundles_of, has_form, head, takes_image
+
+INPUT_LIMIT = 4194304
+DONE, VIOLATED, REFUSED = 0, 1, 3
+
+# The commands, their words joined by zero bytes, and the highest numbers of those that take some.
+COMMANDS = re.compile(rb"build|show|list|wrap|check|(?:run|watch)\0[1-9][0-9]*|trial\0(?:0|[1-9][0-9]*)\0[1-9][0-9]*")
+HIGHEST = {b"run": (10**7,), b"watch": (10**7,), b"trial": (2**64 - 1, BUNDLE_LIMIT)}
+
+# How much processor time a call may take, in nanoseconds: START, so many for each byte of the input, and
+# of a run for each group, of a trial for each bundle. Much more than random programs need; a check that was
+# made to take long (`bench/inputs.py`) may take more.
+START = 50_000_000
+FOR_A_BYTE = {"build": 4000, "show": 2000, "list": 2000, "wrap": 2000, "check": 200_000, "run": 200_000,
+              "watch": 200_000}
+FOR_A_NUMBER = {"run": 20_000, "watch": 20_000, "trial": 100_000}
+
+Answer = collections.namedtuple("Answer", "status output")
+
+
+class GivenUp(Exception):
+    """A case that can't go on, after a finding."""
+
+
+def is_command(words):
+    if not COMMANDS.fullmatch(b"\0".join(words)):
+        return False
+    return all(int(word) <= most for word, most in zip(words[1:], HIGHEST.get(words[0], ())))
+
+
+def spent():
+    """The processor time of all calls that have ended, in seconds."""
+    used = resource.getrusage(resource.RUSAGE_CHILDREN)
+    return used.ru_utime + used.ru_stime
+
+
+def run(command, data, options):
+    """Runs a command under the limit of memory, which it has from this process: so no copy of it is made."""
+    own = resource.getrlimit(resource.RLIMIT_AS)
+    resource.setrlimit(resource.RLIMIT_AS, (options.memory << 20 or own[0], own[1]))
+    try:
+        pipe = subprocess.PIPE
+        called = subprocess.Popen(command, stdin=pipe, stdout=pipe, stderr=pipe, close_fds=False)
+    finally:
+        resource.setrlimit(resource.RLIMIT_AS, own)
+    with called:
+        try:
+            output, error = called.communicate(data, timeout=options.seconds)
+        except subprocess.TimeoutExpired:
+            called.kill()
+            raise
+    return subprocess.CompletedProcess(command, called.returncode, output, error)
+
+
+def difference(answer, wanted):
+    if answer.status != wanted.status:
+        return f"status {answer.status} in place of {wanted.status}"
+    at = len(os.path.commonprefix((answer.output, wanted.output)))
+    return f"{answer.output[at:at + 30]!r} in place of {wanted.output[at:at + 30]!r} from byte {at}"
+
+
+class Calls:
+    """Calls the program in one case, and notes what it finds. `kept` gets the inputs, if they are wanted."""
+
+    def __init__(self, options, groups, kept=None):
+        self.options, self.groups, self.kept = options, str(groups), kept
+        self.answers, self.findings, self.seconds, self.slowest = {}, [], 0, (0, "")
+
+    def note(self, words, text):
+        self.findings.append(f"{' '.join(word[:40] for word in words)}: {text}")
+
+    def call(self, *words, data=b""):
+        """The answer of the program to these words, which is looked at by itself. A call is made once."""
+        if (words, data) not in self.answers:
+            self.answers[words, data] = self.made_call(words, data)
+        return self.answers[words, data]
+
+    def made_call(self, words, data):
+        began, shown = spent(), [word if isinstance(word, str) else repr(word)[2:-1] for word in words]
+        try:
+            done = run([self.options.program, *words], data, self.options)
+        except subprocess.TimeoutExpired:
+            self.note(shown, f"no end within {self.options.seconds} seconds")
+            raise GivenUp from None
+        seconds = spent() - began
+        self.seconds, self.slowest = self.seconds + seconds, max(self.slowest, (seconds, " ".join(shown)[:60]))
+        if self.kept is not None:
+            self.kept.append((shown, data, done, seconds))
+        self.examine(shown, words, data, done, seconds)
+        return Answer(done.returncode, done.stdout)
+
+    def examine(self, shown, words, data, done, seconds):
+        """Looks at a call by itself."""
+        status, output = done.returncode, done.stdout
+        if status < 0:
+            self.note(shown, f"signal {-status}")
+            raise GivenUp
+        if done.stderr:
+            self.note(shown, f"{done.stderr[:60]!r} on standard error")
+        if not is_command([os.fsencode(word) for word in words]):
+            if status != 2 or output:
+                self.note(shown, f"no command, status {status}, {output[:30]!r}")
+            return
+        word = shown[0]
+        wanted = [4] if len(data) > INPUT_LIMIT and word != "trial" else [REFUSED, *printed_forms.FORMS[word]]
+        if status not in wanted or (word == "trial" and status == REFUSED):
+            self.note(shown, f"status {status}, {output[:30]!r}")
+            raise GivenUp
+        if not has_form(word, status, takes_image(word, data), output):
+            self.note(shown, f"status {status} and another form: {output[:60]!r}")
+            raise GivenUp
+        oddity = self.oddity(shown, status, data, output)
+        if oddity:
+            self.note(shown, oddity)
+        number = int(shown[-1]) if word in FOR_A_NUMBER else 0
+        most = START + FOR_A_BYTE.get(word, 0) * len(data) + FOR_A_NUMBER.get(word, 0) * number
+        if seconds > most * 1e-9 * self.options.slack:
+            self.note(shown, f"{seconds:.2f} seconds for {len(data)} bytes")
+
+    def oddity(self, words, status, data, output):
+        """What is wrong with an output whose form is right, or nothing."""
+        word, is_image = words[0], takes_image(words[0], data)
+        if status == REFUSED and is_image:
+            return printed_forms.image_refusal_oddity(head(len(data) // 16) + data if word == "wrap" else data, output)
+        if status == REFUSED:
+            return printed_forms.text_refusal_oddity(data, output)
+        if status == VIOLATED:
+            return printed_forms.violations_oddity(output, int(words[2]) if word == "trial" else bundles_of(data))
+        if word not in ("run", "watch") or not output:
+            return printed_forms.head_fault(data) if is_image and word != "wrap" and output else None
+        at = output.index(b"end ", 0 if word == "run" else output.index(b"taken ", output.index(b"watch 1\n")))
+        return (printed_forms.state_oddity(output[at:], bundles_of(data), int(words[1]))
+                or at and printed_forms.reports_oddity(output[:at], output[at:]))
+
+    def same(self, word, answer, wanted, like):
+        if answer != wanted:
+            self.note([word], f"{difference(answer, wanted)}, as {like}")
+
+    def verdicts(self, data):
+        """The answers of `check`, `run N` and `watch N`, which are held to each other."""
+        checked = self.call("check", data=data)
+        ran, watched = (self.call(word, self.groups, data=data) for word in ("run", "watch"))
+        if checked.status != DONE:
+            self.same("run", ran, checked, "check says")
+            self.same("watch", watched, checked, "check says")
+        elif ran.status in (VIOLATED, REFUSED):
+            self.note(["run", self.groups], f"status {ran.status} where check accepts")
+        elif watched.status != ran.status or not watched.output.endswith(b"\n" + ran.output):
+            self.note(["watch", self.groups], "another state or status than that of run")
+        return checked, ran, watched
+
+    def all_same(self, answers, wanted, like):
+        for word, answer, other in zip(("check", "run", "watch"), answers, wanted):
+            self.same(word, answer, other, like)
+
+    def text(self, data):
+        """Holds the answers on a text to each other. Its image, or None."""
+        built, answers = self.call("build", data=data), self.verdicts(data)
+        if built.status == DONE:
+            self.image(built.output, None if data.startswith(MAGIC) else answers)
+            return built.output
+        if not data.startswith(MAGIC):
+            self.all_same(answers, [built] * 3, "build says")
+        return None
+
+    def image(self, data, like=None):
+        """Holds the answers on an image, or on what may be one, to each other and to those on its text."""
+        shown, listed = self.call("show", data=data), self.call("list", data=data)
+        answers = self.verdicts(data)
+        if like is not None:
+            self.all_same(answers, like, "of the text")
+        if shown.status == DONE:
+            return self.shown(data, shown.output, listed, answers)
+        self.same("list", listed, shown, "show says")
+        if data.startswith(MAGIC):
+            self.all_same(answers, [shown] * 3, "show says")
+        return None
+
+    def shown(self, image, text, listed, answers):
+        """Holds an image to its canonical text, its listing and its bundles."""
+        self.same("build", self.call("build", data=text), Answer(DONE, image), "the image that was shown")
+        self.all_same(self.verdicts(text), answers, "of the image")
+        code = Layout(image).code_of(image)
+        wanted = [f"{n} {code[16 * n:16 * n + 16].hex()}" for n in range(len(code) // 16)]
+        if re.findall(r"^\S+ \S+", listed.output.decode(), re.M) != wanted:
+            self.note(["list"], "other numbers or bytes than those of the image")
+        if re.findall(rb"^  .*", listed.output, re.M) != re.findall(rb"^  .*", text, re.M):
+            self.note(["list"], "other slots than those of show")
+        self.wrap(code)
+
+    def wrap(self, data):
+        """Holds `wrap` of these bytes to the image that it makes. The image, or None."""
+        image, wrapped = head(len(data) // 16) + data, self.call("wrap", data=data)
+        if len(image) > INPUT_LIMIT:
+            return None
+        shown = self.call("show", data=image)
+        self.same("wrap", wrapped, shown if shown.status == REFUSED else Answer(DONE, image), "show of the image says")
+        return image if wrapped.status == DONE else None

@@ -1,0 +1,254 @@
+#!/usr/bin/env python3
+"""Looks for inputs on which the built program doesn't keep docs/FORMATS.md. It is no part of the gate.
+
+Call it when the program is built: tools/fuzz.py [--program FILE] [--seed S] [--cases N] [--processes P].
+Case n of a seed is the same on every machine, as far as the program builds the same images of the texts
+of tries/ and examples/. The cases are of seven sorts by turns: random programs as texts, which have to be
+right; such texts and those of the repository, damaged; images of both, damaged; bare bundles; bytes that
+are nothing; words near the commands; and texts with one fault, whose reason and line are known.
+
+Of each call it looks at the status, the form of what is printed, that nothing is on standard error, that
+a refusal names a place of the input, and at the processor time (`FOR_A_BYTE` of calls.py); and over several calls:
+
+- `build` of what `show` prints is the image again; `list` has the bundles' bytes and the lines of the
+  slots; `wrap` of the bundles is refused as the image of them is, or gives it;
+- `check`, `run N` and `watch N` answer the same of a text, its image and the image's text, and refuse
+  what `build`, or of an image `show`, refuses, in the same way;
+- `run N` and `watch N` print what `check` does exactly where that isn't `accepted`; `watch N` ends with
+  what `run N` prints, and its reports and the state are of one run.
+
+It doesn't know what a program means: neither the verdict, nor the state, nor (but for the last sort) the
+reason of a refusal is held to anything from outside. Faults of reading and writing aren't tried, and want
+of memory isn't either: status 7 within the memory limit is a finding.
+
+It prints a line for each finding: the seed, the case, the command and what differs, and at the end how
+many cases of each sort ran, how long, and the slowest. The status is 1 where something was found. With
+--only N it runs one case, prints each call, and keeps each input in the folder that --keep names.
+"""
+
+import argparse
+import collections
+import functools
+import multiprocessing
+import random as randoms
+import shutil
+import subprocess
+import sys
+import time
+from pathlib import Path
+
+sys.dont_write_bytecode = True
+
+from damage import CODE_EDITS, IMAGE_EDITS, TEXT_EDITS, damaged, flip, random_bytes
+from gnu_as import stop
+from calls import DONE, INPUT_LIMIT, REFUSED, Answer, GivenUp, Calls
+from printed_forms import MAGIC, Layout, head
+from random_texts import FAULT_KINDS, Shape, random_lines
+
+ROOT = Path(__file__).resolve().parent.parent
+PROGRAM = ROOT / "crates" / "ia64_cli" / "out" / "ia64_cli"
+
+Result = collections.namedtuple("Result", "number sort findings calls seconds slowest")
+
+
+# The sorts of cases.
+
+
+@functools.lru_cache(maxsize=None)
+def texts():
+    """The texts of the repository."""
+    folders = ("examples", "tries", "tries/check", "tries/gnu")
+    return [path.read_bytes() for folder in folders for path in sorted((ROOT / folder).glob("*.s"))]
+
+
+@functools.lru_cache(maxsize=None)
+def images(program):
+    """The images of the repository, and of its texts."""
+    own = [path.read_bytes() for path in sorted((ROOT / "examples").glob("*.image"))]
+    built = [subprocess.run([program, "build"], input=text, stdout=subprocess.PIPE, check=False) for text in texts()]
+    return own + [done.stdout for done in built if done.returncode == DONE]
+
+
+def random_text(random, **fixed):
+    return encoded(random, random_lines(random, Shape(random, **fixed)))
+
+
+def encoded(random, lines):
+    end = random.choice(("\n", "\n", "\n", "\r\n"))
+    return (end.join(lines) + end * (random.randrange(4) > 0 or not lines or lines[-1] == "")).encode()
+
+
+def some_text(random):
+    return random_text(random) if random.randrange(2) else random.choice(texts())
+
+
+def some_image(calls, random):
+    """An image of the repository or of a random program."""
+    if random.randrange(2):
+        return random.choice(images(calls.options.program))
+    built = calls.call("build", data=random_text(random, stops=1))
+    if built.status != DONE:
+        raise GivenUp
+    return built.output
+
+
+def programs(calls, random):
+    """Random programs, whose texts are right but for long runs."""
+    shape = Shape(random)
+    data = encoded(random, random_lines(random, shape))
+    refusal = None if calls.text(data) else calls.call("build", data=data).output
+    if refusal and (shape.stops == 1 or not refusal.endswith(b": long run\n")):
+        calls.note(["build"], f"a right text is refused: {refusal!r}")
+
+
+def damaged_texts(calls, random):
+    data = damaged(random, some_text(random), TEXT_EDITS)
+    if random.randrange(8) == 0:
+        calls.image(data)
+    else:
+        calls.text(data)
+
+
+def damaged_images(calls, random):
+    calls.image(damaged(random, some_image(calls, random), IMAGE_EDITS))
+
+
+def bare_bundles(calls, random):
+    image = some_image(calls, random)
+    code = Layout(image).code_of(image) * random.choice((1, 1, 1, 1, 7, 100))
+    made = calls.wrap(damaged(random, code, CODE_EDITS))
+    if made:
+        calls.image(made)
+
+
+def any_bytes(calls, random):
+    """Bytes of all kinds, and such that begin as an image; seldom more than a command takes."""
+    data = random_bytes(random, random.choice((1, 16, 24, 100, 2000)))
+    count = random.randrange(1, 20)
+    data = random.choice((
+        data, MAGIC + data, MAGIC[:random.randrange(8)], head(count) + random_bytes(random, 16 * 20)[:16 * count],
+        head(*(random.choice((0, 1, 2, 8, 1024, 4096, 1 << 20, 2**32 - 1)) for _ in range(4))) + data,
+        bytes(b % 95 + 32 for b in data), b"\n" * len(data), data.replace(b"\n", b"") * 3))
+    if random.randrange(500) == 0:
+        data = (data * (INPUT_LIMIT // len(data) + 1))[:INPUT_LIMIT + random.choice((0, 1))]
+    calls.text(data)
+    calls.image(data)
+    calls.wrap(data)
+
+
+NUMBERS = [b"0", b"2", b"9", b"4097", b"10000001", b"18446744073709551615", b"18446744073709551616", b"9" * 40, b"01",
+           b"00", b"+5", b"-5", b"-0", b"5 ", b" 5", b"5x", b"0x5", b"1e3", b"1.0", b"", b"5\n", "\uff15".encode(), b"\xff",
+           b"x" * 100000]
+GROUPS, SEEDS, BUNDLES = (1, 7, 8, 9, 100, 9999, 10**6, 10**7), (0, 1, 2**63, 2**64 - 1), (1, 2, 100, 4096)
+WORDS = [b"build", b"show", b"list", b"wrap", b"check", b"run", b"watch", b"trial"]
+NEAR = [b"help", b"--help", b"Check", b"check ", b"chec", b"checks", b"-", b"", b"run 5", b"trial 1 1"]
+
+
+def words(calls, random):
+    """Words near the commands, with a text of the repository, with nothing, or seldom with too much to read."""
+    given = [random.choice(WORDS)]
+    if given[0] in (b"run", b"watch"):
+        given += [b"%d" % random.choice(GROUPS)]
+    elif given[0] == b"trial":
+        given += [b"%d" % random.choice((*SEEDS, random.getrandbits(64)))]
+        given += [b"%d" % random.choice((*BUNDLES, random.randrange(1, 99)))]
+    if random.randrange(3):
+        at, more = random.randrange(len(given)), random.choice(NUMBERS + WORDS + NEAR)
+        before, after = given[:at], given[at + 1:]
+        flipped = [flip(random, word).replace(b"\0", b"") for word in given]
+        given = random.choice((before + after, before + [more] + after, before + [more] + given[at:], given + [more],
+                               given[::-1], given * 2, flipped))
+    data = bytes(INPUT_LIMIT + 1) if random.randrange(50) == 0 else random.choice((b"", random.choice(texts())))
+    calls.call(*given, data=data)
+
+
+def single_faults(calls, random):
+    """Texts with one fault, which has to be refused with its reason and line."""
+    lines = random_lines(random, Shape(random, stops=1, bundles=random.randrange(1, 12)))
+    lines, number, reason = random.choice(FAULT_KINDS)(random, lines)
+    data, wanted = encoded(random, lines), Answer(REFUSED, f"line {number}: {reason}\n".encode())
+    calls.same("build", calls.call("build", data=data), wanted, "the fault that was put in")
+    calls.all_same(calls.verdicts(data), [wanted] * 3, "the fault that was put in")
+
+
+SORTS = (programs, damaged_texts, damaged_images, bare_bundles, any_bytes, words, single_faults)
+
+
+def run_case(options, number, kept=None):
+    """A case by its number, and what came of it."""
+    sort = SORTS[number % len(SORTS)]
+    random = randoms.Random(f"{options.seed} {number}")
+    calls = Calls(options, random.choice((1, 2, 3, 8, 9, 100, 5000)), kept)
+    try:
+        sort(calls, random)
+    except GivenUp:
+        pass
+    return Result(number, sort.__name__, calls.findings, len(calls.answers), calls.seconds, calls.slowest)
+
+
+def numbers_of(options):
+    return range(options.first, options.first + options.cases)
+
+
+def run_all(options):
+    """Runs the cases side by side, and prints the findings in the order of their numbers. The results."""
+    results = []
+    with multiprocessing.Pool(options.processes) as pool:
+        for result in pool.imap(functools.partial(run_case, options), numbers_of(options), chunksize=8):
+            results.append(result)
+            for finding in result.findings:
+                print(f"seed {options.seed} case {result.number} {result.sort}: {finding}", flush=True)
+    return results
+
+
+def summary(results, seconds):
+    """The lines on all cases."""
+    counts = collections.Counter(result.sort for result in results)
+    slowest = max(results, key=lambda result: result.seconds)
+    yield ", ".join(f"{counts[sort.__name__]} {sort.__name__.replace('_', ' ')}" for sort in SORTS)
+    yield f"{len(results)} cases, {sum(result.calls for result in results)} calls, {seconds:.0f} seconds"
+    yield (f"the slowest is case {slowest.number}, {slowest.sort}, with {slowest.seconds:.2f} seconds of the processor, "
+           f"{slowest.slowest[0]:.2f} of them for {slowest.slowest[1]}")
+    yield f"{sum(len(result.findings) for result in results)} findings"
+
+
+def run_one(options):
+    """Runs one case, prints its calls and keeps their inputs. The result."""
+    kept, names = [], {}
+    result = run_case(options, options.only, kept)
+    for words, data, done, seconds in kept:
+        if data not in names:
+            names[data] = options.keep / f"{options.seed}-{options.only}-{len(names)}"
+            names[data].write_bytes(data)
+        print(f"{' '.join(words)[:60]} < {names[data]}: status {done.returncode}, {len(done.stdout)} bytes, "
+              f"{seconds:.3f} seconds")
+    for finding in result.findings:
+        print(finding)
+    return result
+
+
+def main():
+    words = argparse.ArgumentParser(description=__doc__, formatter_class=argparse.RawDescriptionHelpFormatter)
+    words.add_argument("--program", default=str(PROGRAM), help="another program than the built one of this repository")
+    words.add_argument("--seed", type=int, default=1)
+    words.add_argument("--cases", type=int, default=7000, help="how many cases")
+    words.add_argument("--first", type=int, default=0, help="the number of the first case")
+    words.add_argument("--only", type=int, help="the number of the one case to run")
+    words.add_argument("--keep", type=Path, default=Path("."), help="the folder for the inputs of that case")
+    words.add_argument("--processes", type=int, default=2)
+    words.add_argument("--memory", type=int, default=256, help="megabytes of addresses for a call, 0 for no limit")
+    words.add_argument("--seconds", type=int, default=120, help="when a call is given up")
+    words.add_argument("--slack", type=float, default=1, help="by how much more time than stated a call may take")
+    options = words.parse_args()
+    if shutil.which(options.program) is None:
+        stop(f"{options.program} is not there: call ./build, which proves and builds it")
+    if options.only is not None:
+        sys.exit(1 if run_one(options).findings else 0)
+    began = time.time()
+    results = run_all(options)
+    print("\n".join(summary(results, time.time() - began)))
+    sys.exit(1 if any(result.findings for result in results) else 0)
+
+
+if __name__ == "__main__":
+    main()
