@@ -194,7 +194,7 @@ def largest_program():
 
 
 def most_violations():
-    """The most violations, 34 million. In each of 64 groups of 192 slots 128 move to all predicates under one
+    """The most violations, 35 million. In each of 64 groups of 192 slots 128 move to all predicates under one
     of them: each two break 64 rules, for which 66 accesses are compared with 66."""
     move = "(p1)mov pr=r1,-1"
     return in_groups(BUNDLE_LIMIT, "mii", "(p1)cmp.eq.unc p2,p3=r1,r1", move, move).encode()
