@@ -130,6 +130,7 @@ def any_bytes(calls, random):
         head(*(random.choice((0, 1, 2, 8, 1024, 4096, 1 << 20, 2**32 - 1)) for _ in range(4))) + data,
         bytes(b % 95 + 32 for b in data), b"\n" * len(data), data.replace(b"\n", b"") * 3))
     if random.randrange(500) == 0:
+        data = data or b"\n"
         data = (data * (INPUT_LIMIT // len(data) + 1))[:INPUT_LIMIT + random.choice((0, 1))]
     calls.text(data)
     calls.image(data)
