@@ -1,12 +1,12 @@
 -- What comes along an edge.
-use Rattle.std.proofs.Common.{◌≡◌, ◌≢◌, ℕ, ◌+◌, ◌<◌, ◌≤◌, ◌⊎◌, Bool, true, false, cond, Option, None, Some, List, length, get_or, set, length-set, refl, sym, ap, ◌∙◌, subst, arith, inl, inr}
-use Rattle.std.proofs.lemmas.Bool.{true≢false}
+use Rattle.std.proofs.Common.{◌≡◌, ℕ, ◌+◌, ◌<◌, ◌≤◌, ◌⊎◌, false, Option, None, Some, List, length, get_or, set, length-set, refl, sym, ap, ◌∙◌, subst, arith, inl, inr}
+use mathlib.Core.Path.{fun_ext}
+use Rattle.std.specs.Prelude.{bit_or}
 use Rattle.std.proofs.lemmas.Option.{same_Some}
-use Rattle.std.proofs.lemmas.List.Sums.{sum_by-set}
 use Rattle.ia_insn.specs.declared.insn.Insn.{Insn}
 use Rattle.ia_insn.specs.declared.place.Place.{Place}
 use Rattle.ia_insn.specs.Places.{place_number, place_at, insn_at}
-use Rattle.ia_insn.specs.Programs.{Program, IsProgram, IsEntry}
+use Rattle.ia_insn.specs.Programs.{Program, IsEntry}
 use Rattle.ia_insn.proofs.InOrder.{slot_small}
 use Rattle.ia_meaning.specs.Sequence.{first_of}
 use Rattle.predicate_rel.specs.declared.edge.Edge.{Edge}
@@ -16,11 +16,12 @@ use Rattle.predicate_rel.specs.Rules.{form_rule, pairs_by}
 use Rattle.predicate_rel.proofs.RuleLaws.{WhyMissing, whatever, since, why_missing, pairs_after-within}
 use Rattle.predicate_rel.specs.Edges.{HasEdge, pairs_past, pairs_past_insn}
 use Rattle.slot_table.specs.declared.slot.Slot.{Slot}
-use Rattle.slot_table.specs.Slots.{slot_at, edge_from}
-use Rattle.slot_table.proofs.SlotLaws.{slot_edges, pairs_by-slot}
+use Rattle.slot_table.specs.Slots.{slot_at}
+use Rattle.slot_table.proofs.SlotLaws.{pairs_by-slot}
 use Rattle.flow_facts.specs.Walks.{Known, known_at, Walk, begins, goes_on, EndsAt, facts_on}
-use Rattle.flow_facts.specs.Tables.{weight, place_count, AtMost, Shrinks, Joined, IsWitnessed, EdgeSettled, IsSettled, Passed, IsUnderWay, is_dirty, dirty_count}
-use Rattle.flow_facts.proofs.Numbering.{number_below, place_at-number, value_read, cases_place, value_at-set_same, value_at-set_other}
+use Rattle.flow_facts.specs.Tables.{weight, place_count, AtMost, Joined, IsWitnessedAt, IsWitnessed, IsSameBut, HasCome, Progress, Passed, IsUnderWay, marked, dirty_count}
+use Rattle.flow_facts.proofs.Numbering.{number_below, place_at-number, cases_place, value_read, value_at-place_at, value_at-set_other}
+use Rattle.flow_facts.proofs.Marks.{no_progress, progress_marked, progress_same, progress_twice, same_trans, come_unknown, dirty_count-set}
 
 -- more before a place is more past it
 pub past_within : (p : Program) (from : Place) (e : Edge) (f g : Pairs) → IsWithin f g → IsWithin (pairs_past p from e f) (pairs_past p from e g)
@@ -62,153 +63,161 @@ pub facts_longer : (p : Program) (from to : Place) (e : Edge) (w : Walk) → End
 facts_longer p from to e w is = ap (λ (k : Place). pairs_past p k e (facts_on p w)) is.ends
 
 -- a pair that is missing after an edge is missing on some walk
-lacking_along : (p : Program) (t : List Known) (from : Place) (e : Edge) (to : Place) (rows : Table) → IsWitnessed p t → known_at t from ≡ Some rows → HasEdge p from e to → (x y : ℕ) → WhyMissingPast p from e (pairs_of rows) x y → (w : Walk) × EndsAt p to w × (facts_on p w x y ≡ false)
-lacking_along p t from e to rows wit at edge x y (whatever_before h) =
-    let (w, is) = wit.reached from rows at in
+lacking_along : (p : Program) (from : Place) (e : Edge) (to : Place) (f : Pairs) → IsWitnessedAt p from f → HasEdge p from e to → (x y : ℕ) → WhyMissingPast p from e f x y → (w : Walk) × EndsAt p to w × (facts_on p w x y ≡ false)
+lacking_along p from e to f wit edge x y (whatever_before h) =
+    let (w, is) = wit.reached in
     (goes_on w e to, longer p from to e w is edge, ap (λ (f : Pairs). f x y) (facts_longer p from to e w is) ∙ h (facts_on p w))
-lacking_along p t from e to rows wit at edge x y (since_before a b n h) =
-    let (w, is, m) = wit.lacking from rows at a b n in
+lacking_along p from e to f wit edge x y (since_before a b n h) =
+    let (w, is, m) = wit.lacking a b n in
     (goes_on w e to, longer p from to e w is edge, ap (λ (f : Pairs). f x y) (facts_longer p from to e w is) ∙ h (facts_on p w) m)
 
--- what came to a place, for a reason, leaves witnesses of each place
-pub witnessed_by : (p : Program) (t t' : List Known) (to : Place) (out : Pairs) → IsWitnessed p t → (w : Walk) × EndsAt p to w → ((x y : ℕ) → out x y ≡ false → (w : Walk) × EndsAt p to w × (facts_on p w x y ≡ false)) → Joined t t' to out → IsWitnessed p t'
-witnessed_by p t t' to out wit reach why joined = record {
-  reached = λ k rows at. reached k rows at (cases_place k to);
-  lacking = λ k rows at x y n. lacking k rows at x y n (cases_place k to);
+-- what is known past a place is witnessed at the end of an edge
+pub witnessed_along : (p : Program) (from : Place) (e : Edge) (to : Place) (f : Pairs) → IsWitnessedAt p from f → HasEdge p from e to → IsWitnessedAt p to (pairs_past p from e f)
+witnessed_along p from e to f wit edge = record {
+  reached = (let (w, is) = wit.reached in (goes_on w e to, longer p from to e w is edge));
+  lacking = λ x y n. lacking_along p from e to f wit edge x y (why_missing_past p from e f x y n);
 }
-  where
-    reached : (k : Place) (rows : Table) → known_at t' k ≡ Some rows → (k ≡ to) ⊎ (k ≡ to → ⊥) → (w : Walk) × EndsAt p k w
-    reached k rows at (inl e) = let P : Place → Type 0 = λ m. (w : Walk) × EndsAt p m w in subst P (sym e) reach
-    reached k rows at (inr e) = wit.reached k rows (sym (joined.others k e) ∙ at)
 
-    lacking : (k : Place) (rows : Table) → known_at t' k ≡ Some rows → (x y : ℕ) → pairs_of rows x y ≡ false → (k ≡ to) ⊎ (k ≡ to → ⊥) → (w : Walk) × EndsAt p k w × (facts_on p w x y ≡ false)
-    lacking k rows at x y n (inl e) =
-        let P : Place → Type 0 = λ m. (w : Walk) × EndsAt p m w × (facts_on p w x y ≡ false) in
-        subst P (sym e) (elim (joined.lacking rows (ap (known_at t') (sym e) ∙ at) x y n) [ inl m ↦ why x y m | inr m ↦ wit.lacking to m.0 m.1 x y m.2 ])
-    lacking k rows at x y n (inr e) = wit.lacking k rows (sym (joined.others k e) ∙ at) x y n
-
--- what came along an edge leaves witnesses
-pub witnessed_pass : (p : Program) (t t' : List Known) (from : Place) (e : Edge) (to : Place) (rows : Table) → IsWitnessed p t → known_at t from ≡ Some rows → HasEdge p from e to → Joined t t' to (pairs_past p from e (pairs_of rows)) → IsWitnessed p t'
-witnessed_pass p t t' from e to rows wit at edge joined =
-    witnessed_by p t t' to (pairs_past p from e (pairs_of rows)) wit
-    (let (w, is) = wit.reached from rows at in (goes_on w e to, longer p from to e w is edge))
-    (λ x y n. lacking_along p t from e to rows wit at edge x y (why_missing_past p from e (pairs_of rows) x y n)) joined
-
--- and so does an entry, where nothing is known
-pub witnessed_entry : (p : Program) (t t' : List Known) (bundle : ℕ) → IsWitnessed p t → IsEntry p bundle → Joined t t' (first_of bundle) no_pairs → IsWitnessed p t'
+-- and so is nothing at an entry
+pub witnessed_entry : (p : Program) (bundle : ℕ) → IsEntry p bundle → IsWitnessedAt p (first_of bundle) no_pairs
 unfolding no_pairs
-witnessed_entry p t t' bundle wit entry joined =
-    witnessed_by p t t' (first_of bundle) no_pairs wit (begins bundle, record { walks = entry; ends = refl })
-    (λ x y n. (begins bundle, record { walks = entry; ends = refl }, refl)) joined
+witnessed_entry p bundle entry = record {
+  reached = (begins bundle, record { walks = entry; ends = refl });
+  lacking = λ x y n. (begins bundle, record { walks = entry; ends = refl }, refl);
+}
 
--- a place that isn't dirty after one was marked is another
-pub not_dirty_there : (d : List Bool) (n : ℕ) (k : Place) → n < length d → is_dirty (set d n true) k ≡ false → k ≢ place_at n
-not_dirty_there d n k l clean e = true≢false (sym (value_at-set_same false true d n l) ∙ ap (is_dirty (set d n true)) (sym e) ∙ clean)
-
--- and it was not dirty before
-pub still_clean : (d : List Bool) (n : ℕ) (k : Place) → k ≢ place_at n → (b : Bool) → is_dirty (set d n b) k ≡ false → is_dirty d k ≡ false
-still_clean d n k apart b clean = sym (value_at-set_other false b d n k apart) ∙ clean
-
--- with one place marked, at most one more is dirty
-dirty_count-set : (d : List Bool) (n : ℕ) → n < length d → dirty_count (set d n true) ≤ dirty_count d + 1
-dirty_count-set d n l = omega (arith, sum_by-set (λ (is : Bool). cond is 1 0) d n true false l)
-
--- What is known at a place, these rows, has come along an edge from there to the place of a number.
-pub record ComesAlong (p : Program) (from : Place) (e : Edge) (to : ℕ) (t t' : List Known) (rows : Table) : Type 0 where
-  pub edge : HasEdge p from e (place_at to)
-  pub below : to < place_count p
-  pub at : known_at t from ≡ Some rows
-  pub joined : Joined t t' (place_at to) (pairs_past p from e (pairs_of rows))
-
--- by the slot
-pub comes_along : (p : Program) (from : ℕ) (e : Edge) (to : Place) (n : ℕ) (slot : Slot) (t t' : List Known) (read : Known) (rows : Table) (out : Pairs) → IsProgram p → length t ≡ place_count p → slot_at p.bundles (place_at from) ≡ Some slot → Some to ≡ edge_from slot e → read ≡ get_or t from read → read ≡ Some rows → n ≡ place_number to → out ≡ pairs_by (pairs_of rows) (form_rule slot.form e slot.qp) → Joined t t' (place_at n) out → ComesAlong p (place_at from) e n t t' rows
-comes_along p from e to n slot t t' read rows out program sized here leads got is number made joined =
-    let edge : HasEdge p (place_at from) e to = slot_edges p (place_at from) slot e (Some to) program here leads in
-    let at : place_at n ≡ to = ap place_at number ∙ place_at-number to (slot_small p.bundles to edge.lands) in
-    let past = made ∙ pairs_by-slot p (place_at from) slot e (pairs_of rows) here in
-    record {
-      edge = subst (HasEdge p (place_at from) e) (sym at) edge;
-      below = omega (arith, number, number_below p (place_count p) to refl edge.lands);
-      at = value_read None t from read (Some rows) (omega (arith, number_below p (length t) (place_at from) sized edge.inside)) got is;
-      joined = subst (Joined t t' (place_at n)) past joined;
+-- what is witnessed at a place and is joined into it leaves witnesses of each place
+pub witnessed_by : (p : Program) (t t' : List Known) (to : Place) (out : Pairs) → IsWitnessed p t → IsWitnessedAt p to out → Joined t t' to out → IsWitnessed p t'
+witnessed_by p t t' to out wit came joined = record { at = λ k rows is. at k rows is (cases_place k to) }
+  where
+    here : (rows : Table) → known_at t' to ≡ Some rows → IsWitnessedAt p to (pairs_of rows)
+    here rows is = record {
+      reached = came.reached;
+      lacking = λ x y n. elim (joined.lacking rows is x y n) [ inl m ↦ came.lacking x y m | inr m ↦ (wit.at to m.0 m.1).lacking x y m.2 ];
     }
 
--- where the end of an edge knows no more than what comes along it, each edge of its sort is settled
-settled_pass : (p : Program) (from : Place) (e : Edge) (to : Place) (t : List Known) (rows : Table) → HasEdge p from e to → known_at t from ≡ Some rows → AtMost t to (pairs_past p from e (pairs_of rows)) → (to' : Place) → HasEdge p from e to' → EdgeSettled p t from e to'
-settled_pass p from e to t rows edge at most to' edge' = record {
-  settles = λ rows' at'.
-      let one : to ≡ to' = leads_to_one p from e to to' edge edge' in
-      let same : rows ≡ rows' = same_Some _ _ (sym at ∙ at') in
-      let P : Place → Table → Type 0 = λ k r. AtMost t k (pairs_past p from e (pairs_of r)) in
-      subst (λ (k : Place). P k rows') one (subst (λ (r : Table). P to r) same most);
+    at : (k : Place) (rows : Table) → known_at t' k ≡ Some rows → (k ≡ to) ⊎ (k ≡ to → ⊥) → IsWitnessedAt p k (pairs_of rows)
+    at k rows is (inl e) = subst (λ (q : Place). IsWitnessedAt p q (pairs_of rows)) (sym e) (here rows (ap (known_at t') (sym e) ∙ is))
+    at k rows is (inr e) = wit.at k rows (sym (joined.others k e) ∙ is)
+
+-- What was known at a place has come along an edge from there to the place of a number.
+pub record ComesAlong (p : Program) (from : Place) (e : Edge) (to : ℕ) (t t' : List Known) (before : Pairs) : Type 0 where
+  pub edge : HasEdge p from e (place_at to)
+  pub below : to < place_count p
+  pub joined : Joined t t' (place_at to) (pairs_past p from e before)
+
+-- the number of the end of an edge
+pub edge_number : (p : Program) (from : Place) (e : Edge) (to : Place) (n : ℕ) → HasEdge p from e to → n ≡ place_number to → (place_at n ≡ to) × (n < place_count p)
+edge_number p from e to n edge number = (ap place_at number ∙ place_at-number to (slot_small p.bundles to edge.lands), omega (arith, number, number_below p (place_count p) to refl edge.lands))
+
+-- by the slot
+pub comes_along : (p : Program) (from : Place) (e : Edge) (to : Place) (n : ℕ) (slot : Slot) (t t' : List Known) (before : Pairs) → slot_at p.bundles from ≡ Some slot → HasEdge p from e to → n ≡ place_number to → Joined t t' (place_at n) (pairs_by before (form_rule slot.form e slot.qp)) → ComesAlong p from e n t t' before
+comes_along p from e to n slot t t' before here edge number joined =
+    let there = edge_number p from e to n edge number in
+    record {
+      edge = subst (HasEdge p from e) (sym there.0) edge;
+      below = there.1;
+      joined = subst (Joined t t' (place_at n)) (pairs_by-slot p from slot e before here) joined;
+    }
+
+-- and what has come earlier has come past the slot
+pub come_by_slot : (p : Program) (from : Place) (e : Edge) (to : Place) (n : ℕ) (slot : Slot) (t : List Known) (w : ℕ) (now : Known) → slot_at p.bundles from ≡ Some slot → place_at n ≡ to → HasCome t to (pairs_past p from e) w now → HasCome t (place_at n) (λ f. pairs_by f (form_rule slot.form e slot.qp)) w now
+come_by_slot p from e to n slot t w now here there come =
+    let same : pairs_past p from e ≡ (λ f. pairs_by f (form_rule slot.form e slot.qp)) = fun_ext (λ f. sym (pairs_by-slot p from slot e f here)) in
+    subst (λ (past : Pairs → Pairs). HasCome t (place_at n) past w now) same (subst (λ (q : Place). HasCome t q (pairs_past p from e) w now) (sym there) come)
+
+-- nothing comes where there is no edge of this sort
+pub passed_none : (p : Program) (from : Place) (e : Edge) (before : Pairs) (t : List Known) (d : List ℕ) → IsWitnessed p t → ((to : Place) → HasEdge p from e to → ⊥) → Passed p from e before t d t d
+passed_none p from e before t d wit none = record { witnessed = wit; come = λ to edge. absurd (none to edge); progress = no_progress t d; lost = omega arith }
+
+-- what has come along an edge has come along each of its sort
+pub passed_by : (p : Program) (from : Place) (e : Edge) (to : ℕ) (before : Pairs) (t t' : List Known) (d d' : List ℕ) → IsWitnessed p t → IsWitnessedAt p from before → ComesAlong p from e to t t' before → Progress t d t' d' → weight t' + dirty_count d' ≤ weight t + dirty_count d → Passed p from e before t d t' d'
+passed_by p from e to before t t' d d' wit here came progress lost = record {
+  witnessed = witnessed_by p t t' (place_at to) _ wit (witnessed_along p from e (place_at to) before here came.edge) came.joined;
+  come = λ to' edge. subst (λ (q : Place). AtMost t' q (pairs_past p from e before)) (leads_to_one p from e (place_at to) to' came.edge edge) came.joined.below;
+  progress = progress;
+  lost = lost;
 }
 
--- nothing is changed where each edge of this sort is settled
-pub passed_settled : (p : Program) (from : Place) (e : Edge) (t : List Known) (d : List Bool) → IsWitnessed p t → ((to : Place) → HasEdge p from e to → EdgeSettled p t from e to) → Passed p from e t d t d
-passed_settled p from e t d wit settled = record {
-  witnessed = wit;
-  settled = λ clean. settled;
-  progress = record { shrinks = record { same_length = refl; keeps = λ k f most. most }; same_length = refl; clean = λ k c. (c, refl) };
-  lost = omega arith;
-}
+-- where rows of the edge's end changed, they are marked
+pub passed_changed : (p : Program) (from : Place) (e : Edge) (to rows : ℕ) (before : Pairs) (t t' : List Known) (d : List ℕ) → length d ≡ place_count p → IsWitnessed p t → IsWitnessedAt p from before → ComesAlong p from e to t t' before → IsSameBut rows (known_at t (place_at to)) (known_at t' (place_at to)) → weight t' + 1 ≤ weight t → Passed p from e before t d t' (set d to (bit_or (get_or d to 0) rows))
+passed_changed p from e to rows before t t' d sized wit here came same less =
+    let short : to < length d = omega (arith, came.below, sized) in
+    passed_by p from e to before t t' d _ wit here came (progress_marked t t' d to rows _ short came.joined same) (omega (arith, dirty_count-set d to (bit_or (get_or d to 0) rows) short, less))
 
--- so it is where what came changes nothing
-pub passed_same : (p : Program) (from : Place) (e : Edge) (to : ℕ) (t t' : List Known) (d : List Bool) (rows : Table) → IsWitnessed p t → ComesAlong p from e to t t' rows → t' ≡ t → Passed p from e t d t' d
-passed_same p from e to t t' d rows wit came same =
-    let below : AtMost t (place_at to) (pairs_past p from e (pairs_of rows)) = subst (λ (u : List Known). AtMost u (place_at to) (pairs_past p from e (pairs_of rows))) same came.joined.below in
-    rw same (passed_settled p from e t d wit (settled_pass p from e (place_at to) t rows came.edge came.at below))
+-- and where none did, nothing is
+pub passed_same : (p : Program) (from : Place) (e : Edge) (to : ℕ) (before : Pairs) (t t' : List Known) (d : List ℕ) → IsWitnessed p t → IsWitnessedAt p from before → ComesAlong p from e to t t' before → IsSameBut 0 (known_at t (place_at to)) (known_at t' (place_at to)) → weight t' ≤ weight t → Passed p from e before t d t' d
+passed_same p from e to before t t' d wit here came same less = passed_by p from e to before t t' d d wit here came (progress_same t t' d to _ came.joined same) (omega (arith, less))
 
--- the end of an edge was changed and marked
-pub passed_changed : (p : Program) (from : Place) (e : Edge) (to : ℕ) (t t' : List Known) (d : List Bool) (rows : Table) → length d ≡ place_count p → IsWitnessed p t → ComesAlong p from e to t t' rows → weight t' + 1 ≤ weight t → Passed p from e t d t' (set d to true)
-passed_changed p from e to t t' d rows sized wit came less = record {
-  witnessed = witnessed_pass p t t' from e (place_at to) rows wit came.at came.edge came.joined;
-  settled = λ clean. settled_pass p from e (place_at to) t' rows came.edge (came.joined.others from (not_dirty_there d to from short clean) ∙ came.at) came.joined.below;
-  progress = record {
-    shrinks = came.joined.shrinks;
-    same_length = length-set d to true;
-    clean = λ k c. let apart = not_dirty_there d to k short c in (still_clean d to k apart true c, came.joined.others k apart);
-  };
-  lost = omega (arith, dirty_count-set d to short, less);
+-- What is known at the place of a number that is gone on from, and which of its rows changed since it last was.
+pub record GoesOn (p : Program) (t : List Known) (n rows : ℕ) (before : Table) : Type 0 where
+  pub known : known_at t (place_at n) ≡ Some before
+  pub witnessed : IsWitnessedAt p (place_at n) (pairs_of before)
+  pub come : (e : Edge) (to : Place) → HasEdge p (place_at n) e to → HasCome t to (pairs_past p (place_at n) e) rows (Some before)
+
+-- by what is read there
+pub goes_on_from : (p : Program) (t : List Known) (d : List ℕ) (n rows : ℕ) (read : Known) (before : Table) → IsUnderWay p t d → n < place_count p → read ≡ get_or t n read → read ≡ Some before → rows ≡ get_or d n 0 → GoesOn p t n rows before
+goes_on_from p t d n rows read before u below got is taken = record {
+  known = known;
+  witnessed = u.witnessed.at (place_at n) before known;
+  come = λ e to edge. subst (λ (w : ℕ). HasCome t to (pairs_past p (place_at n) e) w (Some before)) there (subst (HasCome t to (pairs_past p (place_at n) e) (marked d (place_at n))) known (u.come (place_at n) e to edge));
 }
   where
-    short : to < length d
-    short = omega (arith, came.below, sized)
+    known : known_at t (place_at n) ≡ Some before
+    known = value_read None t n read (Some before) (omega (arith, below, u.table_length)) got is
 
--- what is settled stays so while its own place keeps its facts
-pub still_settled : (p : Program) (t t' : List Known) (k : Place) (e : Edge) (to : Place) → Shrinks t t' → known_at t' k ≡ known_at t k → EdgeSettled p t k e to → EdgeSettled p t' k e to
-still_settled p t t' k e to s same h = record { settles = λ rows at. s.keeps to _ (h.settles rows (sym same ∙ at)) }
+    there : marked d (place_at n) ≡ rows
+    there = value_at-place_at 0 d n ∙ sym taken
 
--- two steps are one
-pub shrinks_twice : (a b c : List Known) → Shrinks a b → Shrinks b c → Shrinks a c
-shrinks_twice a b c f g = record { same_length = g.same_length ∙ f.same_length; keeps = λ k h m. g.keeps k h (f.keeps k h m) }
+-- a place where nothing is known is gone on from
+pub none_spread : (p : Program) (t : List Known) (d : List ℕ) (n : ℕ) → IsUnderWay p t d → known_at t (place_at n) ≡ None → IsUnderWay p t (set d n 0)
+none_spread p t d n u none = record {
+  table_length = u.table_length;
+  dirty_length = length-set d n 0 ∙ u.dirty_length;
+  witnessed = u.witnessed;
+  entries = u.entries;
+  come = λ k e to edge. come k e to edge (cases_place k (place_at n));
+}
+  where
+    come : (k : Place) (e : Edge) (to : Place) → HasEdge p k e to → (k ≡ place_at n) ⊎ (k ≡ place_at n → ⊥) → HasCome t to (pairs_past p k e) (marked (set d n 0) k) (known_at t k)
+    come k e to edge (inl same) = come_unknown t to (pairs_past p k e) (marked (set d n 0) k) (known_at t k) (rw (ap (known_at t) same ∙ none) tt)
+    come k e to edge (inr apart) = rw (value_at-set_other 0 0 d n k apart) (u.come k e to edge)
 
 -- the place is no longer dirty, and what was known there has come along both sorts of edges
-pub two_passes : (p : Program) (t t1 t2 : List Known) (d d1 d2 : List Bool) (n : ℕ) → IsUnderWay p t d → Passed p (place_at n) Falls t (set d n false) t1 d1 → Passed p (place_at n) Taken t1 d1 t2 d2 → IsUnderWay p t2 d2
-two_passes p t t1 t2 d d1 d2 n u f g = record {
-  table_length = all.same_length ∙ u.table_length;
-  dirty_length = g.progress.same_length ∙ f.progress.same_length ∙ length-set d n false ∙ u.dirty_length;
+pub two_passes : (p : Program) (t t1 t2 : List Known) (d d1 d2 : List ℕ) (n : ℕ) (before : Table) → IsUnderWay p t d → known_at t (place_at n) ≡ Some before → Passed p (place_at n) Falls (pairs_of before) t (set d n 0) t1 d1 → Passed p (place_at n) Taken (pairs_of before) t1 d1 t2 d2 → IsUnderWay p t2 d2
+two_passes p t t1 t2 d d1 d2 n before u is f g = record {
+  table_length = all.shrinks.same_length ∙ u.table_length;
+  dirty_length = all.same_length ∙ length-set d n 0 ∙ u.dirty_length;
   witnessed = g.witnessed;
-  entries = λ bundle en. all.keeps (first_of bundle) no_pairs (u.entries bundle en);
-  settled = λ k c. settled k c (cases_place k from);
+  entries = λ bundle en. all.shrinks.keeps (first_of bundle) no_pairs (u.entries bundle en);
+  come = λ k e to edge. come k e to edge (cases_place k from);
 }
   where
     from : Place
     from = place_at n
 
-    all : Shrinks t t2
-    all = shrinks_twice t t1 t2 f.progress.shrinks g.progress.shrinks
+    all : Progress t (set d n 0) t2 d2
+    all = progress_twice t t1 t2 (set d n 0) d1 d2 f.progress g.progress
 
-    here : is_dirty d2 from ≡ false → IsSettled p t2 from
-    here c2 = let c1 = g.progress.clean from c2 in record { edge = λ s to edge. sorts s to edge c1.0 c1.1 }
-      where
-        sorts : (s : Edge) (to : Place) → HasEdge p from s to → is_dirty d1 from ≡ false → known_at t2 from ≡ known_at t1 from → EdgeSettled p t2 from s to
-        sorts Falls to edge c1 same = still_settled p t1 t2 from Falls to g.progress.shrinks same (f.settled c1 to edge)
-        sorts Taken to edge c1 same = g.settled c2 to edge
+    sorts : (e : Edge) (to : Place) → HasEdge p from e to → AtMost t2 to (pairs_past p from e (pairs_of before))
+    sorts Falls to edge = g.progress.shrinks.keeps to _ (f.come to edge)
+    sorts Taken to edge = g.come to edge
 
-    settled : (k : Place) → is_dirty d2 k ≡ false → (k ≡ from) ⊎ (k ≡ from → ⊥) → IsSettled p t2 k
-    settled k c (inl e) = subst (IsSettled p t2) (sym e) (here (ap (is_dirty d2) (sym e) ∙ c))
-    settled k c (inr e) =
-        let c2 = g.progress.clean k c in
-        let c1 = f.progress.clean k c2.0 in
-        let c0 = still_clean d n k e false c1.0 in
-        record { edge = λ s to edge. still_settled p t t2 k s to all (c2.1 ∙ c1.1) ((u.settled k c0).edge s to edge) }
+    here : (e : Edge) (to : Place) → HasEdge p from e to → HasCome t2 to (pairs_past p from e) (marked d2 from) (known_at t2 from)
+    here e to edge = record {
+      older = Some before;
+      same = subst (λ (o : Known). IsSameBut (marked d2 from) o (known_at t2 from)) is (all.changed from);
+      came = λ rows q. subst (λ (r : Table). AtMost t2 to (pairs_past p from e (pairs_of r))) (same_Some before rows q) (sorts e to edge);
+    }
+
+    come : (k : Place) (e : Edge) (to : Place) → HasEdge p k e to → (k ≡ from) ⊎ (k ≡ from → ⊥) → HasCome t2 to (pairs_past p k e) (marked d2 k) (known_at t2 k)
+    come k e to edge (inl q) =
+        let P : Place → Type 0 = λ m. HasCome t2 to (pairs_past p m e) (marked d2 m) (known_at t2 m) in
+        subst P (sym q) (here e to (subst (λ (m : Place). HasEdge p m e to) q edge))
+    come k e to edge (inr apart) =
+        let was = u.come k e to edge in
+        record {
+          older = was.older;
+          same = same_trans (marked (set d n 0) k) (marked d2 k) was.older (known_at t k) (known_at t2 k) (all.keeps k) (subst (λ (w : ℕ). IsSameBut w was.older (known_at t k)) (sym (value_at-set_other 0 0 d n k apart)) was.same) (all.changed k);
+          came = λ rows q. all.shrinks.keeps to _ (was.came rows q);
+        }

@@ -1,10 +1,11 @@
 -- How a table of what is known at each place changes while it is made.
-use Rattle.std.specs.Prelude.{◌≡◌, ◌≢◌, ◌<◌, ◌≤◌, ℕ, zero, suc, ◌+◌, ◌*◌, ◌/◌, Bool, true, false, if◌then◌else◌, None, Some, List, length, slice_index_or, sum_by, ◌⊎◌}
+use Rattle.std.specs.Prelude.{◌≡◌, ◌≢◌, ◌<◌, ◌≤◌, ℕ, zero, suc, ◌+◌, ◌*◌, ◌/◌, ◌==◌, Bool, false, if◌then◌else◌, None, Some, List, length, slice_index_or, sum_by, ◌⊎◌}
 use Rattle.ia_insn.specs.declared.place.Place.{Place}
 use Rattle.ia_insn.specs.Programs.{Program, IsEntry}
 use Rattle.ia_meaning.specs.Sequence.{first_of}
 use Rattle.predicate_rel.specs.declared.edge.Edge.{Edge}
-use Rattle.predicate_rel.specs.Pairs.{Table, Pairs, no_pairs, pairs_of, IsWithin}
+use Rattle.predicate_rel.specs.Pairs.{Table, Pairs, has_bit, no_pairs, pairs_of, IsWithin}
+use Rattle.predicate_rel.specs.Changes.{AgreeOutside, HasAllRows}
 use Rattle.predicate_rel.specs.Edges.{HasEdge, pairs_past}
 use Rattle.flow_facts.specs.Walks.{Walk, EndsAt, Known, known_at, value_at, facts_on}
 
@@ -55,58 +56,72 @@ pub record Joined (old new : List Known) (to : Place) (out : Pairs) : Type 0 whe
   pub lacking : (rows : Table) → known_at new to ≡ Some rows → (x y : ℕ) → pairs_of rows x y ≡ false →
       (out x y ≡ false) ⊎ ((before : Table) × (known_at old to ≡ Some before) × (pairs_of before x y ≡ false))
 
--- A place that the table says something of is reached, and each pair that is missing there is missing on a walk that
--- ends there.
+-- A walk ends at the place, and each of the pairs that is missing is missing on a walk that ends there.
+pub record IsWitnessedAt (p : Program) (place : Place) (f : Pairs) : Type 0 where
+  pub reached : (w : Walk) × EndsAt p place w
+  pub lacking : (x y : ℕ) → f x y ≡ false → (w : Walk) × EndsAt p place w × (facts_on p w x y ≡ false)
+
+-- So it is of each place that the table says something of.
 pub record IsWitnessed (p : Program) (table : List Known) : Type 0 where
-  pub reached : (place : Place) (rows : Table) → known_at table place ≡ Some rows → (w : Walk) × EndsAt p place w
-  pub lacking : (place : Place) (rows : Table) → known_at table place ≡ Some rows → (x y : ℕ) → pairs_of rows x y ≡ false → (w : Walk) × EndsAt p place w × (facts_on p w x y ≡ false)
+  pub at : (place : Place) (rows : Table) → known_at table place ≡ Some rows → IsWitnessedAt p place (pairs_of rows)
+
+-- Of what was known at a place, only rows of the word have changed: all of them, where nothing was known.
+abbrev pub IsSameBut : ℕ → Known → Known → Type 0
+IsSameBut changed None None = Unit {0}
+IsSameBut changed None (Some new) = HasAllRows changed
+IsSameBut changed (Some old) None = ⊥
+IsSameBut changed (Some old) (Some new) = AgreeOutside changed (pairs_of old) (pairs_of new)
+
+-- What was known before an edge has come along it, but for what has changed since in the rows of the word: its end knows
+-- no more than what follows from what was known then.
+pub record HasCome (table : List Known) (to : Place) (past : Pairs → Pairs) (changed : ℕ) (now : Known) : Type 0 where
+  pub older : Known
+  pub same : IsSameBut changed older now
+  pub came : (rows : Table) → older ≡ Some rows → AtMost table to (past (pairs_of rows))
 
 -- The edge's end knows no more than what comes along the edge.
 pub record EdgeSettled (p : Program) (table : List Known) (from : Place) (e : Edge) (to : Place) : Type 0 where
   pub settles : (rows : Table) → known_at table from ≡ Some rows → AtMost table to (pairs_past p from e (pairs_of rows))
 
--- So it is along each edge from the place.
-pub record IsSettled (p : Program) (table : List Known) (from : Place) : Type 0 where
-  pub edge : (e : Edge) (to : Place) → HasEdge p from e to → EdgeSettled p table from e to
-
--- the place is still to be gone on from
-abbrev pub is_dirty : List Bool → Place → Bool
-is_dirty dirty place = value_at false dirty place
+-- The rows of the place that are marked: those that have changed since it was last gone on from.
+abbrev pub marked : List ℕ → Place → ℕ
+marked dirty place = value_at 0 dirty place
 
 -- how many places are still to be gone on from
-abbrev pub dirty_count : List Bool → ℕ
-dirty_count dirty = sum_by (λ (is : Bool). if is then 1 else 0) dirty
+abbrev pub dirty_count : List ℕ → ℕ
+dirty_count dirty = sum_by (λ (rows : ℕ). if rows == 0 then 0 else 1) dirty
 
 -- How the dirty places are kept: none is below this number, and each is in a block of 64 places that is marked.
-pub record IsKept (dirty blocks : List Bool) (low : ℕ) : Type 0 where
+pub record IsKept (dirty : List ℕ) (blocks : List Bool) (low : ℕ) : Type 0 where
   pub long : length dirty ≤ 64 * length blocks
-  pub below : (n : ℕ) → n < low → slice_index_or dirty n false ≡ false
-  pub unmarked : (n : ℕ) → slice_index_or blocks (n / 64) false ≡ false → slice_index_or dirty n false ≡ false
+  pub below : (n : ℕ) → n < low → slice_index_or dirty n 0 ≡ 0
+  pub unmarked : (n : ℕ) → slice_index_or blocks (n / 64) false ≡ false → slice_index_or dirty n 0 ≡ 0
 
 -- The place of this number is the lowest dirty one.
-pub record IsLowest (dirty : List Bool) (n : ℕ) : Type 0 where
-  pub is : slice_index_or dirty n false ≡ true
-  pub none_below : (k : ℕ) → k < n → slice_index_or dirty k false ≡ false
+pub record IsLowest (dirty : List ℕ) (n : ℕ) : Type 0 where
+  pub is : slice_index_or dirty n 0 ≢ 0
+  pub none_below : (k : ℕ) → k < n → slice_index_or dirty k 0 ≡ 0
 
--- No place knows more than before, and one whose facts change is dirty from then on.
-pub record Progress (table : List Known) (dirty : List Bool) (table' : List Known) (dirty' : List Bool) : Type 0 where
+-- No place knows more than before, and the rows that change at a place are marked from then on.
+pub record Progress (table : List Known) (dirty : List ℕ) (table' : List Known) (dirty' : List ℕ) : Type 0 where
   pub shrinks : Shrinks table table'
   pub same_length : length dirty' ≡ length dirty
-  pub clean : (place : Place) → is_dirty dirty' place ≡ false → (is_dirty dirty place ≡ false) × (known_at table' place ≡ known_at table place)
+  pub keeps : (place : Place) (x : ℕ) → has_bit (marked dirty' place) x ≡ false → has_bit (marked dirty place) x ≡ false
+  pub changed : (place : Place) → IsSameBut (marked dirty' place) (known_at table place) (known_at table' place)
 
--- Between two steps: what the table says is witnessed, the entries know nothing, and each place that isn't dirty is
--- settled.
-pub record IsUnderWay (p : Program) (table : List Known) (dirty : List Bool) : Type 0 where
+-- Between two steps: what the table says is witnessed, the entries know nothing, and what is known has come along each
+-- edge, but for what changed in the rows that are marked.
+pub record IsUnderWay (p : Program) (table : List Known) (dirty : List ℕ) : Type 0 where
   pub table_length : length table ≡ place_count p
   pub dirty_length : length dirty ≡ place_count p
   pub witnessed : IsWitnessed p table
   pub entries : (bundle : ℕ) → IsEntry p bundle → AtMost table (first_of bundle) no_pairs
-  pub settled : (place : Place) → is_dirty dirty place ≡ false → IsSettled p table place
+  pub come : (from : Place) (e : Edge) (to : Place) → HasEdge p from e to → HasCome table to (pairs_past p from e) (marked dirty from) (known_at table from)
 
 -- What was known at a place has come along its edges of this sort. For each place that this made dirty the table has
 -- lost something.
-pub record Passed (p : Program) (from : Place) (e : Edge) (table : List Known) (dirty : List Bool) (table' : List Known) (dirty' : List Bool) : Type 0 where
+pub record Passed (p : Program) (from : Place) (e : Edge) (before : Pairs) (table : List Known) (dirty : List ℕ) (table' : List Known) (dirty' : List ℕ) : Type 0 where
   pub witnessed : IsWitnessed p table'
-  pub settled : is_dirty dirty' from ≡ false → (to : Place) → HasEdge p from e to → EdgeSettled p table' from e to
+  pub come : (to : Place) → HasEdge p from e to → AtMost table' to (pairs_past p from e before)
   pub progress : Progress table dirty table' dirty'
   pub lost : weight table' + dirty_count dirty' ≤ weight table + dirty_count dirty

@@ -1,6 +1,6 @@
 //! The dirty places: those that are still to be gone on from.
 
-ghost use Rattle.std.specs.Prelude.{◌≡◌, ℕ, ◌<◌, IfOk, MatchOption, List, Bool, true, false, length, slice_index_or, slice_set, replicate};
+ghost use Rattle.std.specs.Prelude.{◌≡◌, ◌≢◌, ℕ, ◌<◌, IfOk, MatchOption, List, length, slice_index_or, slice_set, replicate, bit_or};
 ghost use Rattle.flow_facts.specs.Tables.{IsKept, IsLowest};
 
 use std::alloc::{AllocError, Global};
@@ -9,13 +9,15 @@ use std::marker::Model;
 /// How many places a block has.
 const BLOCK: usize = 64;
 
-/// A set of dirty places. Contracts see a list that says of the place of each number whether it is dirty.
+/// The dirty places, and of each the rows that have changed since it was last gone on from: bit x is that of the
+/// pairs of the x-th predicate. Contracts see a list that says of the place of each number which rows are
+/// marked. Where none is, the place isn't dirty.
 ///
 /// The lowest of them is found in few steps: the search begins where the last one ended, or at a lower
 /// place that was inserted since, and passes a block that isn't marked in one step.
 #[derive(Drop)]
 pub(crate) struct DirtyPlaces {
-    flags: Vec<bool>,
+    rows: Vec<u64>,
     // Of each block of places, in order, whether it may have a dirty one.
     blocks: Vec<bool>,
     // No place below this number is dirty.
@@ -23,11 +25,11 @@ pub(crate) struct DirtyPlaces {
 }
 
 impl Model for DirtyPlaces {
-    ghost Value = { List Bool };
+    ghost Value = { List ℕ };
 
-    ghost view = { λ d. d.flags.items };
+    ghost view = { λ d. d.rows.items };
 
-    ghost invariant = { λ d. IsKept d.flags.items d.blocks.items d.low };
+    ghost invariant = { λ d. IsKept d.rows.items d.blocks.items d.low };
 }
 
 impl DirtyPlaces {
@@ -37,47 +39,50 @@ impl DirtyPlaces {
     ///
     /// Want of memory.
     pub(crate) fn none(alloc: Global, count: usize) -> Result<DirtyPlaces, AllocError>
-        ensures { IfOk result (λ dirty. dirty ≡ replicate count false) }
+        ensures { IfOk result (λ dirty. dirty ≡ replicate count 0) }
     {
-        let flags = vec![in alloc; false; count]?;
+        let rows = vec![in alloc; 0; count]?;
         let blocks = vec![in alloc; false; count / BLOCK + 1]?;
         Ok(DirtyPlaces {
-            flags,
+            rows,
             blocks,
             low: 0,
         })
     }
 
-    /// The place of this number is dirty from now on.
-    pub(crate) fn insert(&mut self, n: usize)
+    /// These rows of the place of this number are marked, too.
+    pub(crate) fn insert(&mut self, n: usize, rows: u64)
         requires { n < length self.old }
-        ensures { self.new ≡ slice_set self.old n true }
+        ensures { self.new ≡ slice_set self.old n (bit_or (slice_index_or self.old n 0) rows) }
     {
-        self.flags[n] = true;
+        self.rows[n] |= rows;
         self.blocks[n / BLOCK] = true;
         if n < self.low {
             self.low = n;
         }
     }
 
-    /// The place of this number is no longer dirty.
-    pub(crate) fn remove(&mut self, n: usize)
+    /// The rows of the place of this number that are marked. It is no longer dirty.
+    pub(crate) fn take(&mut self, n: usize) -> u64
         requires { n < length self.old }
-        ensures { self.new ≡ slice_set self.old n false }
+        ensures rows { result ≡ slice_index_or self.old n 0 }
+        ensures taken { self.new ≡ slice_set self.old n 0 }
     {
-        self.flags[n] = false;
+        let rows = self.rows[n];
+        self.rows[n] = 0;
+        rows
     }
 
     /// The number of the lowest dirty place. None exactly where no place is dirty.
     pub(crate) fn lowest(&mut self) -> Option<usize>
         ensures same { self.new ≡ self.old }
-        ensures lowest { MatchOption result ((n : ℕ) → slice_index_or self.old n false ≡ false) (λ n. IsLowest self.old n) }
+        ensures lowest { MatchOption result ((n : ℕ) → slice_index_or self.old n 0 ≡ 0) (λ n. IsLowest self.old n) }
     {
-        'looking: while self.low < self.flags.len() {
+        'looking: while self.low < self.rows.len() {
             let n = self.low;
             if !self.blocks[n / BLOCK] {
                 self.low = BLOCK * (n / BLOCK + 1);
-            } else if self.flags[n] {
+            } else if self.rows[n] != 0 {
                 return Some(n);
             } else {
                 self.low = n + 1;

@@ -1,18 +1,19 @@
 //! Facts run to a fixpoint over the places of a program.
 
-ghost use Rattle.std.specs.Prelude.{◌≡◌, ◌+◌, ◌<◌, List, true, false, length, slice_index_or, None, Some, IfOk};
+ghost use Rattle.std.specs.Prelude.{◌≡◌, ◌≢◌, ◌+◌, ◌<◌, List, length, slice_index_or, None, Some, IfOk};
 ghost use Rattle.std.specs.Option.{option_copied};
 ghost use Rattle.ia_insn.specs.declared.place.Place.{Place};
 ghost use Rattle.ia_insn.specs.Places.{place_at};
-ghost use Rattle.slot_table.specs.Slots.{slot_at};
+ghost use Rattle.predicate_rel.specs.Pairs.{pairs_of};
+ghost use Rattle.predicate_rel.specs.Edges.{HasEdge, pairs_past};
 ghost use Rattle.flow_facts.specs.Walks.{Known, known_at, IsSolution};
-ghost use Rattle.flow_facts.specs.Tables.{Passed, weight, dirty_count, IsWitnessed, IsUnderWay, is_dirty, place_count};
+ghost use Rattle.flow_facts.specs.Tables.{Passed, weight, dirty_count, IsWitnessed, IsWitnessedAt, HasCome, IsUnderWay, marked, place_count};
 
 use crate::dirty::DirtyPlaces;
 use crate::table::join;
 use ia_insn::{Place, Program};
 use predicate_rel::{Edge, Facts};
-use slot_table::{Slot, SlotTable, place_number};
+use slot_table::{SlotTable, place_number};
 use std::alloc::{AllocError, Global};
 use std::marker::Model;
 
@@ -42,33 +43,36 @@ impl InFacts {
     }
 }
 
-/// Takes what is known at the place of this number along the edge of this sort from its slot, if there is one. If
-/// that changes the place at its end, that place is dirty from then on.
+/// Takes what is known at the place of this number, `before`, along the edge of this sort from its slot, if there is
+/// one. The rows of `changed` have changed since that was last done. Those that thereby change at the edge's
+/// end are marked there.
 fn pass(
     slots: &SlotTable,
     table: &mut Vec<Option<Facts>>,
     dirty: &mut DirtyPlaces,
     from: usize,
-    slot: &Slot,
     edge: Edge,
+    before: &Facts,
+    changed: u64,
 )
-    requires slot { slot_at slots.now.bundles (place_at from) ≡ Some slot.now }
     requires table { length table.old.items ≡ place_count slots.now }
     requires dirty { length dirty.old ≡ place_count slots.now }
     requires witnessed { IsWitnessed slots.now table.old.items }
-    ensures { Passed slots.now (place_at from) edge table.old.items dirty.old table.new.items dirty.new }
+    requires before { IsWitnessedAt slots.now (place_at from) (pairs_of before.now) }
+    requires come { (to : Place) → HasEdge slots.now (place_at from) edge to → HasCome table.old.items to (pairs_past slots.now (place_at from) edge) changed (Some before.now) }
+    ensures { Passed slots.now (place_at from) edge (pairs_of before.now) table.old.items dirty.old table.new.items dirty.new }
 {
     slots.is_program();
+    let Some(slot) = slots.at_number(from) else {
+        return;
+    };
     let Some(to) = slot.edge_end(edge) else {
         return;
     };
-    let Some(known) = &table[from] else {
-        return;
-    };
-    let out = known.after_form(&slot.form, slot.qp, edge);
     let to = place_number(to);
-    if join(table, to, out) {
-        dirty.insert(to);
+    let lost = join(table, to, before, slot, edge, changed);
+    if lost != 0 {
+        dirty.insert(to, lost);
     }
 }
 
@@ -76,17 +80,17 @@ fn pass(
 /// place itself.
 fn spread(slots: &SlotTable, table: &mut Vec<Option<Facts>>, dirty: &mut DirtyPlaces, from: usize)
     requires from { from < place_count slots.now }
-    requires dirty { slice_index_or dirty.old from false ≡ true }
+    requires dirty { slice_index_or dirty.old from 0 ≢ 0 }
     requires under_way { IsUnderWay slots.now table.old.items dirty.old }
     ensures under_way { IsUnderWay slots.now table.new.items dirty.new }
     ensures less { weight table.new.items + dirty_count dirty.new < weight table.old.items + dirty_count dirty.old }
 {
-    dirty.remove(from);
-    let Some(slot) = slots.at_number(from) else {
+    let changed = dirty.take(from);
+    let Some(before) = table[from] else {
         return;
     };
-    pass(slots, table, dirty, from, slot, Edge::Falls);
-    pass(slots, table, dirty, from, slot, Edge::Taken);
+    pass(slots, table, dirty, from, Edge::Falls, &before, changed);
+    pass(slots, table, dirty, from, Edge::Taken, &before, changed);
 }
 
 /// Goes on from the lowest dirty place until none is left. This ends, since a place gets dirty only where
@@ -94,7 +98,7 @@ fn spread(slots: &SlotTable, table: &mut Vec<Option<Facts>>, dirty: &mut DirtyPl
 fn settle(slots: &SlotTable, table: &mut Vec<Option<Facts>>, dirty: &mut DirtyPlaces)
     requires { IsUnderWay slots.now table.old.items dirty.old }
     ensures under_way { IsUnderWay slots.now table.new.items dirty.new }
-    ensures clean { (place : Place) → is_dirty dirty.new place ≡ false }
+    ensures clean { (place : Place) → marked dirty.new place ≡ 0 }
 {
     'settling: while let Some(from) = dirty.lowest() {
         spread(slots, table, dirty, from);
@@ -111,15 +115,15 @@ fn enter(program: &Program, table: &mut Vec<Option<Facts>>, dirty: &mut DirtyPla
     for bundle in 0..program.bundle_count() {
         if program.is_entry(bundle) {
             let first = place_number(Place { bundle, slot: 0 });
-            let _changed = join(table, first, Facts::empty());
-            dirty.insert(first);
+            table[first] = Some(Facts::empty());
+            dirty.insert(first, u64::MAX);
         }
     }
 }
 
 /// What is known of predicates at each place of a program: exactly the meet over all walks that end
 /// there (volume 1, chapter 3, instruction sequencing and predication). It goes on from the lowest place
-/// that has changed until none is left.
+/// that has changed until none is left, with what the rows that changed there have a part in.
 ///
 /// # Errors
 ///

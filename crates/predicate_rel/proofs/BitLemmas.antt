@@ -2,8 +2,9 @@
 use Rattle.std.proofs.Common.{◌≡◌, ◌≢◌, ℕ, ◌+◌, ◌-◌, ◌*◌, ◌/◌, ◌%◌, ◌^◌, ◌<◌, Bool, true, false, cond, ◌&&◌, ◌||◌, not, eqb, ltb, eqb-true, eq-eqb, below_more, refl, sym, ap, ◌∙◌, arith, inl, inr}
 use Rattle.std.specs.Prelude.{bit_and, bit_or, min, max}
 use Rattle.std.specs.Int.{bit_at, trailing_zeros, w64}
-use Rattle.std.proofs.lemmas.Bool.{cases_eq, cases_lt, lt-ltb, le-ltb, ne_eqb}
+use Rattle.std.proofs.lemmas.Bool.{cases_eq, cases_lt, lt-ltb, le-ltb, ne_eqb, true≢false}
 use Rattle.std.proofs.lemmas.Bool.Decides.{nat_tests}
+use Rattle.std.proofs.lemmas.Nat.{and_le_l}
 use Rattle.std.proofs.lemmas.Nat.Bits.{shr_and_one, bit_at_and, bit_at_or, bit_at-lt, bit_at_ones, bit_at-zero, bit_at_set_same, bit_at_set_other, bit_at_clear_same, bit_at_clear_other, bit_at_not, bit_at-trailing_zeros, bit_at_ones_above, bit_at_cat_low, bit_at_cat_high}
 use Rattle.predicate_rel.specs.Pairs.{has_bit}
 use Rattle.predicate_rel.specs.Rules.{is_moved}
@@ -83,7 +84,7 @@ written_bits row new f i v l is next before = below_more (λ k. has_bit new k �
 max_test : (a b : ℕ) → a < 2 → b < 2 → eqb (max a b) 1 ≡ (eqb a 1 || eqb b 1)
 max_test a b h k = grind (arith, nat_tests)
 
-has_bit_or : (a b y : ℕ) → has_bit (bit_or a b) y ≡ (has_bit a y || has_bit b y)
+pub has_bit_or : (a b y : ℕ) → has_bit (bit_or a b) y ≡ (has_bit a y || has_bit b y)
 unfolding has_bit
 has_bit_or a b y = ap (λ (v : ℕ). eqb v 1) (bit_at_or a b y) ∙ max_test (bit_at a y) (bit_at b y) (bit_at-lt a y) (bit_at-lt b y)
 
@@ -134,3 +135,21 @@ has_bit_moved n y l some =
 pub moved_bits : (mask y : ℕ) → is_moved mask y ≡ (not (eqb y 0) && cond (ltb y 16) (has_bit mask y) (has_bit mask 16))
 unfolding has_bit
 moved_bits mask y = refl
+
+-- the lowest bit of a word that has one
+pub lowest_there : (n : ℕ) → n ≢ 0 → n < 2 ^ 64 → has_bit n (trailing_zeros w64 n) ≡ true
+lowest_there n some fits = has_bit_one n (trailing_zeros w64 n) (bit_at-trailing_zeros w64 n (omega arith) fits).1
+
+-- a word without one of its bits, which is less
+pub without_bits : (n k y : ℕ) → k < 64 → y < 64 → has_bit (bit_and n (18446744073709551615 - 1 * 2 ^ k % 18446744073709551616)) y ≡ (not (eqb y k) && has_bit n y)
+without_bits n k y l m = clear_value n k false l refl y m ∙ by_bool (eqb y k)
+  where
+    by_bool : (b : Bool) → cond b false (has_bit n y) ≡ (not b && has_bit n y)
+    by_bool true = refl
+    by_bool false = refl
+
+pub without_less : (n k : ℕ) → k < 64 → has_bit n k ≡ true → bit_and n (18446744073709551615 - 1 * 2 ^ k % 18446744073709551616) < n
+without_less n k l there = omega (arith, and_le_l n (18446744073709551615 - 1 * 2 ^ k % 18446744073709551616), apart)
+  where
+    apart : bit_and n (18446744073709551615 - 1 * 2 ^ k % 18446744073709551616) ≡ n → ⊥
+    apart e = true≢false (sym there ∙ ap (λ (m : ℕ). has_bit m k) (sym e) ∙ without_bits n k k l l ∙ (rw (eq-eqb k k refl) refl))

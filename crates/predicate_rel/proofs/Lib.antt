@@ -1,6 +1,8 @@
 pub mod BitLemmas
 pub mod PairLemmas
 pub mod Literals
+pub mod Reached
+pub mod Narrowing
 pub mod OrAndcm
 mod Examples
 pub mod EdgeEnds

@@ -4,3 +4,4 @@ pub mod Rows
 pub mod Edges
 pub mod Truth
 pub mod Steps
+pub mod Changes

@@ -1,6 +1,6 @@
 //! Rows: words whose bit y is what a set has of the y-th predicate.
 
-ghost use Rattle.std.specs.Prelude.{◌≡◌, ◌≢◌, ℕ, ◌-◌, ◌<◌, ◌&&◌, ◌||◌, ◌==◌, nat_lt, if◌then◌else◌, true, false};
+ghost use Rattle.std.specs.Prelude.{◌≡◌, ◌≢◌, ℕ, ◌-◌, ◌<◌, ◌&&◌, ◌||◌, ◌==◌, nat_lt, if◌then◌else◌, not, true, false};
 ghost use Rattle.std.specs.Bool.{OnTrue, OnFalse};
 ghost use Rattle.predicate_rel.specs.Pairs.{has_bit};
 
@@ -40,6 +40,14 @@ pub(crate) fn both(a: u64, b: u64) -> u64
     ensures { (y : ℕ) → has_bit result y ≡ (has_bit a y && has_bit b y) }
 {
     a & b
+}
+
+/// The bits of either row.
+#[tactic(auto, using(crate::proofs::BitLemmas::has_bit_or))]
+pub(crate) fn either(a: u64, b: u64) -> u64
+    ensures { (y : ℕ) → has_bit result y ≡ (has_bit a y || has_bit b y) }
+{
+    a | b
 }
 
 /// Whether each bit of a is in b.
@@ -88,4 +96,25 @@ pub(crate) fn moved_up(word: u64) -> u64
     ensures { (y : ℕ) → y < 64 → y ≢ 0 → has_bit result y ≡ has_bit word (y - 1) }
 {
     word << 1
+}
+
+/// The lowest bit of a row that has one.
+#[tactic(auto, using(crate::proofs::BitLemmas::lowest_there))]
+pub(crate) fn lowest(word: u64) -> u8
+    requires { word ≢ 0 }
+    ensures range { result < 64 }
+    ensures there { has_bit word result ≡ true }
+{
+    word.trailing_zeros() as u8
+}
+
+/// The row without its bit k, which is less.
+#[tactic(auto, using(crate::proofs::BitLemmas::without_bits, crate::proofs::BitLemmas::without_less))]
+pub(crate) fn without(word: u64, k: u8) -> u64
+    requires range { k < 64 }
+    requires there { has_bit word k ≡ true }
+    ensures bits { (y : ℕ) → y < 64 → has_bit result y ≡ (not (y == k) && has_bit word y) }
+    ensures less { result < word }
+{
+    word & !(1 << k)
 }

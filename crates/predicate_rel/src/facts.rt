@@ -1,6 +1,6 @@
 //! Sets of pairs of predicates that are known not to be both 1.
 
-ghost use Rattle.std.specs.Prelude.{◌≡◌, ℕ, ◌<◌, ◌||◌};
+ghost use Rattle.std.specs.Prelude.{◌≡◌, ℕ, ◌<◌, ◌&&◌, ◌||◌, ◌==◌, not};
 ghost use Rattle.std.specs.Bool.{OnTrue, OnFalse};
 ghost use Rattle.predicate_rel.specs.Pairs.{Table, has_bit, pairs_of, no_pairs, all_pairs, common, other_of, is_same_pair, with_pair, IsWithin, HasMore};
 ghost use Rattle.predicate_rel.specs.Rules.{form_rule, pairs_by, pairs_after};
@@ -15,7 +15,7 @@ use std::marker::Model;
 /// dependencies). The order of a pair says nothing, and a pair (x, x) stands for (x, p0): since p0 is 1, it
 /// says that x is 0. The functions here keep that ([`law_unordered`](crate::law_unordered)). A set is 512 bytes, and none of them
 /// takes other memory.
-#[derive(Drop)]
+#[derive(Clone, Copy)]
 pub struct Facts {
     rows: [u64; 64],
 }
@@ -24,6 +24,8 @@ impl Model for Facts {
     ghost Value = { Table };
 
     ghost view = { λ facts. facts.rows };
+
+    ghost inverse = { λ rows. record { rows = rows } };
 }
 
 /// The second predicate of a pair, p0 where it is the first.
@@ -136,6 +138,21 @@ impl Facts {
         ensures { (y : ℕ) → y < 64 → has_bit result y ≡ pairs_of self.now x y }
     {
         self.rows[x as usize]
+    }
+
+    /// Leaves of the pairs of the x-th predicate those that are also in `row`, and says whether that is less.
+    pub(crate) fn narrow_row(&mut self, x: u8, row: u64) -> bool
+        requires { x < 64 }
+        ensures narrowed { (k y : ℕ) → pairs_of self.new k y ≡ (pairs_of self.old k y && (not (k == x) || has_bit row y)) }
+        ensures more { OnTrue result (HasMore (pairs_of self.old) (pairs_of self.new)) }
+        ensures same { OnFalse result (self.new ≡ self.old) }
+    {
+        let old = self.row(x);
+        if is_within(old, row) {
+            return false;
+        }
+        self.rows[x as usize] = both(old, row);
+        true
     }
 
     /// The pairs of the x-th predicate, and that of `a` and `b`.

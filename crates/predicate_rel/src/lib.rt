@@ -12,6 +12,7 @@ mod bits;
 mod edge;
 mod facts;
 mod laws;
+mod narrow;
 mod rows;
 
 pub use edge::Edge;

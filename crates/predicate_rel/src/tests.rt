@@ -1,7 +1,8 @@
 use super::*;
 use ia_insn::Pr;
 
-/// All pairs are there. A pair that is added is there in both orders, and (x, x) as (x, p0) too; no other is.
+/// All pairs are there. A pair that is added is there in both orders, and (x, x) as (x, p0) too; no other is. So a
+/// set has the one that it was made from, and their meet is that one.
 #[test]
 fn pairs_are_there(rt: HostRuntime) {
     let p0 = Pr::of_field(0);
@@ -10,6 +11,9 @@ fn pairs_are_there(rt: HostRuntime) {
     let all = Facts::all();
     let pair = Facts::empty().plus(p6, p7);
     let alone = pair.plus(p6, p6);
+    let both = alone.meet(&pair);
+    assert!(rt; pair.is_subset(&alone));
+    assert!(rt; !alone.is_subset(&pair));
     for (x, y, in_pair, in_alone) in [
         (p6, p7, true, true),
         (p7, p6, true, true),
@@ -21,6 +25,7 @@ fn pairs_are_there(rt: HostRuntime) {
     ] {
         assert!(rt; all.has(x, y));
         assert_eq!(rt; pair.has(x, y), in_pair, "{x} {y}");
+        assert_eq!(rt; both.has(x, y), in_pair, "{x} {y}");
         assert_eq!(rt; alone.has(x, y), in_alone, "{x} {y}");
     }
 }

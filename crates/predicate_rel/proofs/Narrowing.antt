@@ -1,0 +1,165 @@
+-- A set that is narrowed row by row.
+use Rattle.std.proofs.Common.{◌≡◌, ◌≢◌, ℕ, ◌<◌, Bool, true, false, cond, ◌&&◌, ◌||◌, not, eqb, eq-eqb, length, set, get_or-set_same, get_or-set_other, refl, sym, ap, ◌∙◌, subst, inl, inr, ◌⊎◌}
+use mathlib.Core.Path.{fun_ext}
+use Rattle.std.proofs.lemmas.Bool.{cases_Bool, cases_eq, ne_eqb, and_parts, and_left, true≢false}
+use Rattle.predicate_rel.specs.Pairs.{Table, Pairs, has_bit, in_range, truth, pairs_of, common, IsWithin, HasMore}
+use Rattle.predicate_rel.specs.Changes.{AgreeOutside}
+use Rattle.predicate_rel.specs.Rules.{PairRule, pairs_by}
+use Rattle.predicate_rel.specs.Rows.{IsRow}
+use Rattle.predicate_rel.proofs.PairLemmas.{in_range_parts, in_range_from, pairs_of_in, pairs_of_out}
+use Rattle.predicate_rel.proofs.BitLemmas.{has_bit_none}
+
+and_true : (b : Bool) → (b && true) ≡ b
+and_true true = refl
+and_true false = refl
+
+-- A set has lost what isn't in another, in those of some rows that aren't left in `rest`.
+pub record IsNarrowed (old past : Pairs) (rows rest : ℕ) (now : Pairs) : Type 0 where
+  pub inside : (x : ℕ) → x < 64 → has_bit rest x ≡ true → has_bit rows x ≡ true
+  pub left : (x y : ℕ) → x < 64 → has_bit rest x ≡ true → now x y ≡ old x y
+  pub outside : (x y : ℕ) → x < 64 → has_bit rows x ≡ false → now x y ≡ old x y
+  pub done : (x y : ℕ) → x < 64 → y < 64 → has_bit rows x ≡ true → has_bit rest x ≡ false → now x y ≡ (old x y && past x y)
+
+-- at first all rows are left
+pub narrowed_none : (f past : Pairs) (rows : ℕ) → IsNarrowed f past rows rows f
+narrowed_none f past rows = record {
+  inside = λ x l e. e;
+  left = λ x y l e. refl;
+  outside = λ x y l e. refl;
+  done = λ x y l m e n. absurd (true≢false (sym e ∙ n));
+}
+
+-- one row more
+pub narrowed_row : (old past now now' : Pairs) (rows rest rest' k row : ℕ) → IsNarrowed old past rows rest now → k < 64 → has_bit rest k ≡ true → ((x : ℕ) → x < 64 → has_bit rest' x ≡ (not (eqb x k) && has_bit rest x)) → ((y : ℕ) → y < 64 → has_bit row y ≡ past k y) → ((x y : ℕ) → now' x y ≡ (now x y && (not (eqb x k) || has_bit row y))) → IsNarrowed old past rows rest' now'
+narrowed_row old past now now' rows rest rest' k row h below there less is_row narrowed = record {
+  inside = λ x l e. h.inside x l (and_parts (not (eqb x k)) (has_bit rest x) (sym (less x l) ∙ e)).1;
+  left = λ x y l e. let both = and_parts (not (eqb x k)) (has_bit rest x) (sym (less x l) ∙ e) in narrowed x y ∙ (rw both.0 (and_true (now x y))) ∙ h.left x y l both.1;
+  outside = λ x y l n. of_outside x y l n (cases_eq x k);
+  done = λ x y l m e n. of_done x y l m e (sym (less x l) ∙ n) (cases_eq x k);
+}
+  where
+    of_outside : (x y : ℕ) → x < 64 → has_bit rows x ≡ false → (x ≡ k) ⊎ (x ≡ k → ⊥) → now' x y ≡ old x y
+    of_outside x y l n (inl e) = absurd (true≢false (sym (h.inside k below there) ∙ ap (has_bit rows) (sym e) ∙ n))
+    of_outside x y l n (inr ne) = narrowed x y ∙ (rw (ne_eqb x k ne) (and_true (now x y))) ∙ h.outside x y l n
+
+    of_done : (x y : ℕ) → x < 64 → y < 64 → has_bit rows x ≡ true → (not (eqb x k) && has_bit rest x) ≡ false → (x ≡ k) ⊎ (x ≡ k → ⊥) → now' x y ≡ (old x y && past x y)
+    of_done x y l m e n (inl same) = narrowed x y ∙ (rw (eq-eqb x k same, same, is_row y m, h.left k y below there) refl)
+    of_done x y l m e n (inr ne) = narrowed x y ∙ (rw (ne_eqb x k ne) (and_true (now x y))) ∙ h.done x y l m e (rw (ne_eqb x k ne) at n)
+
+-- what is left was there
+pub narrowed_within : (old past now : Pairs) (rows rest x y : ℕ) → IsNarrowed old past rows rest now → x < 64 → y < 64 → now x y ≡ true → old x y ≡ true
+narrowed_within old past now rows rest x y h l m e = by_bits (cases_Bool (has_bit rows x)) (cases_Bool (has_bit rest x))
+  where
+    by_bits : (has_bit rows x ≡ true) ⊎ (has_bit rows x ≡ false) → (has_bit rest x ≡ true) ⊎ (has_bit rest x ≡ false) → old x y ≡ true
+    by_bits (inr n) other = sym (h.outside x y l n) ∙ e
+    by_bits (inl t) (inl s) = sym (h.left x y l s) ∙ e
+    by_bits (inl t) (inr n) = (and_parts (old x y) (past x y) (sym (h.done x y l m t n) ∙ e)).0
+
+-- sets of predicates are the same where each pair of two predicates is
+pairs_same : (a b : Pairs) → ((x y : ℕ) → in_range x y ≡ false → a x y ≡ false) → ((x y : ℕ) → in_range x y ≡ false → b x y ≡ false) → ((x y : ℕ) → x < 64 → y < 64 → a x y ≡ b x y) → a ≡ b
+pairs_same a b out out' inside = fun_ext (λ x. fun_ext (λ y. by_range x y (cases_Bool (in_range x y))))
+  where
+    by_range : (x y : ℕ) → (in_range x y ≡ true) ⊎ (in_range x y ≡ false) → a x y ≡ b x y
+    by_range x y (inl t) = let p = in_range_parts x y t in inside x y p.0 p.1
+    by_range x y (inr n) = out x y n ∙ sym (out' x y n)
+
+-- with no row left, the set has what both have: where the rows are all, and where the others of the set are within the other
+narrowed_common : (old new : Table) (past : Pairs) (rows : ℕ) → IsNarrowed (pairs_of old) past rows 0 (pairs_of new) → ((x y : ℕ) → x < 64 → y < 64 → has_bit rows x ≡ false → pairs_of old x y ≡ (pairs_of old x y && past x y)) → pairs_of new ≡ common (pairs_of old) past
+unfolding common
+narrowed_common old new past rows h others = pairs_same (pairs_of new) (λ x y. pairs_of old x y && past x y) (pairs_of_out new) (λ x y n. and_left (pairs_of old x y) (past x y) (pairs_of_out old x y n)) (λ x y l m. by_bit x y l m (cases_Bool (has_bit rows x)))
+  where
+    by_bit : (x y : ℕ) → x < 64 → y < 64 → (has_bit rows x ≡ true) ⊎ (has_bit rows x ≡ false) → pairs_of new x y ≡ (pairs_of old x y && past x y)
+    by_bit x y l m (inl t) = h.done x y l m t (has_bit_none x)
+    by_bit x y l m (inr n) = h.outside x y l n ∙ others x y l m n
+
+pub narrowed_whole : (old new : Table) (past : Pairs) (rows : ℕ) → IsNarrowed (pairs_of old) past rows 0 (pairs_of new) → ((x : ℕ) → x < 64 → has_bit rows x ≡ true) → pairs_of new ≡ common (pairs_of old) past
+narrowed_whole old new past rows h all = narrowed_common old new past rows h (λ x y l m n. absurd (true≢false (sym (all x l) ∙ n)))
+
+pub narrowed_more : (old new : Table) (past earlier : Pairs) (rows : ℕ) → IsNarrowed (pairs_of old) past rows 0 (pairs_of new) → AgreeOutside rows earlier past → IsWithin (pairs_of old) earlier → pairs_of new ≡ common (pairs_of old) past
+narrowed_more old new past earlier rows h agree within = narrowed_common old new past rows h (λ x y l m n. by_case x y n (cases_Bool (pairs_of old x y)))
+  where
+    by_case : (x y : ℕ) → has_bit rows x ≡ false → (pairs_of old x y ≡ true) ⊎ (pairs_of old x y ≡ false) → pairs_of old x y ≡ (pairs_of old x y && past x y)
+    by_case x y n (inl t) = t ∙ (rw (t, sym (agree.same x y n) ∙ within.each x y t) refl)
+    by_case x y n (inr f) = f ∙ sym (and_left (pairs_of old x y) (past x y) f)
+
+-- With no row left, the set has no more than it had, and all that both have.
+pub narrowed_no_more : (old new : Table) (past : Pairs) (rows : ℕ) → IsNarrowed (pairs_of old) past rows 0 (pairs_of new) → IsWithin (pairs_of new) (pairs_of old)
+narrowed_no_more old new past rows h = record { each = λ x y t. by_range x y t (cases_Bool (in_range x y)) }
+  where
+    by_range : (x y : ℕ) → pairs_of new x y ≡ true → (in_range x y ≡ true) ⊎ (in_range x y ≡ false) → pairs_of old x y ≡ true
+    by_range x y t (inl i) = let p = in_range_parts x y i in narrowed_within (pairs_of old) past (pairs_of new) rows 0 x y h p.0 p.1 t
+    by_range x y t (inr out) = absurd (true≢false (sym t ∙ pairs_of_out new x y out))
+
+pub narrowed_keeps : (old new : Table) (past : Pairs) (rows : ℕ) → IsNarrowed (pairs_of old) past rows 0 (pairs_of new) → IsWithin (common (pairs_of old) past) (pairs_of new)
+unfolding common
+narrowed_keeps old new past rows h = record { each = λ x y t. by_range x y t (cases_Bool (in_range x y)) (cases_Bool (has_bit rows x)) }
+  where
+    by_range : (x y : ℕ) → (pairs_of old x y && past x y) ≡ true → (in_range x y ≡ true) ⊎ (in_range x y ≡ false) → (has_bit rows x ≡ true) ⊎ (has_bit rows x ≡ false) → pairs_of new x y ≡ true
+    by_range x y t (inr out) b = absurd (true≢false (sym (and_parts (pairs_of old x y) (past x y) t).0 ∙ pairs_of_out old x y out))
+    by_range x y t (inl i) (inl b) = let p = in_range_parts x y i in h.done x y p.0 p.1 b (has_bit_none x) ∙ t
+    by_range x y t (inl i) (inr n) = h.outside x y (in_range_parts x y i).0 n ∙ (and_parts (pairs_of old x y) (past x y) t).0
+
+-- The rows of which `lost` has no bit have lost nothing, and where it has one, something is lost.
+pub record HasLost (old : Pairs) (lost : ℕ) (now : Pairs) : Type 0 where
+  pub others : (x y : ℕ) → x < 64 → has_bit lost x ≡ false → now x y ≡ old x y
+  pub more : lost ≢ 0 → HasMore old now
+
+pub lost_none : (f : Pairs) → HasLost f 0 f
+lost_none f = record { others = λ x y l n. refl; more = λ some. absurd (some refl) }
+
+-- a row that lost something is marked
+pub lost_row : (old now now' : Pairs) (lost lost' k row : ℕ) → HasLost old lost now → ((x y : ℕ) → x < 64 → y < 64 → now x y ≡ true → old x y ≡ true) → ((x : ℕ) → x < 64 → has_bit lost' x ≡ cond (eqb x k) true (has_bit lost x)) → ((x y : ℕ) → now' x y ≡ (now x y && (not (eqb x k) || has_bit row y))) → HasMore now now' → HasLost old lost' now'
+lost_row old now now' lost lost' k row h within marks narrowed m = record {
+  others = λ x y l n. of_others x y l (sym (marks x l) ∙ n) (cases_eq x k);
+  more = λ some. record { first = m.first; second = m.second; first_below = m.first_below; second_below = m.second_below; there = within m.first m.second m.first_below m.second_below m.there; missing = m.missing };
+}
+  where
+    of_others : (x y : ℕ) → x < 64 → cond (eqb x k) true (has_bit lost x) ≡ false → (x ≡ k) ⊎ (x ≡ k → ⊥) → now' x y ≡ old x y
+    of_others x y l n (inl e) = absurd (true≢false (rw (eq-eqb x k e) at n))
+    of_others x y l n (inr ne) = narrowed x y ∙ (rw (ne_eqb x k ne) (and_true (now x y))) ∙ h.others x y l (rw (ne_eqb x k ne) at n)
+
+pub lost_agrees : (old new : Table) (lost : ℕ) → HasLost (pairs_of old) lost (pairs_of new) → AgreeOutside lost (pairs_of old) (pairs_of new)
+lost_agrees old new lost h = record { same = λ x y n. by_range x y n (cases_Bool (in_range x y)) }
+  where
+    by_range : (x y : ℕ) → has_bit lost x ≡ false → (in_range x y ≡ true) ⊎ (in_range x y ≡ false) → pairs_of old x y ≡ pairs_of new x y
+    by_range x y n (inl t) = sym (h.others x y (in_range_parts x y t).0 n)
+    by_range x y n (inr out) = pairs_of_out old x y out ∙ sym (pairs_of_out new x y out)
+
+-- One row of a table is written.
+pub row_same : (rows : Table) (k row : ℕ) → ((y : ℕ) → y < 64 → pairs_of rows k y ≡ true → has_bit row y ≡ true) → (x y : ℕ) → pairs_of rows x y ≡ (pairs_of rows x y && (not (eqb x k) || has_bit row y))
+row_same rows k row within x y = by_case (cases_eq x k) (cases_Bool (pairs_of rows x y))
+  where
+    by_case : (x ≡ k) ⊎ (x ≡ k → ⊥) → (pairs_of rows x y ≡ true) ⊎ (pairs_of rows x y ≡ false) → pairs_of rows x y ≡ (pairs_of rows x y && (not (eqb x k) || has_bit row y))
+    by_case same (inr n) = n ∙ sym (and_left (pairs_of rows x y) _ n)
+    by_case (inr ne) (inl t) = rw (ne_eqb x k ne) (sym (and_true (pairs_of rows x y)))
+    by_case (inl e) (inl t) = rw (eq-eqb x k e, t, within y (below y (cases_Bool (in_range x y))) (ap (λ (n : ℕ). pairs_of rows n y) (sym e) ∙ t)) refl
+      where
+        below : (y' : ℕ) → (in_range x y ≡ true) ⊎ (in_range x y ≡ false) → y < 64
+        below y' (inl i) = (in_range_parts x y i).1
+        below y' (inr out) = absurd (true≢false (sym t ∙ pairs_of_out rows x y out))
+
+pub row_written : (rows : Table) (k word row : ℕ) → length rows ≡ 64 → k < 64 → ((y : ℕ) → y < 64 → has_bit word y ≡ (pairs_of rows k y && has_bit row y)) → (x y : ℕ) → pairs_of (set rows k word) x y ≡ (pairs_of rows x y && (not (eqb x k) || has_bit row y))
+row_written rows k word row sized below bits x y = by_range (cases_Bool (in_range x y))
+  where
+    inside : x < 64 → y < 64 → (x ≡ k) ⊎ (x ≡ k → ⊥) → truth (set rows k word) x y ≡ (truth rows x y && (not (eqb x k) || has_bit row y))
+    inside l m (inl e) = rw (eq-eqb x k e, e) (ap (λ (n : ℕ). has_bit n y) (get_or-set_same rows k word 0 (subst (λ (n : ℕ). k < n) (sym sized) below)) ∙ bits y m ∙ ap (λ (b : Bool). b && has_bit row y) (pairs_of_in rows k y below m))
+    inside l m (inr ne) = rw (ne_eqb x k ne) (ap (λ (n : ℕ). has_bit n y) (get_or-set_other rows k x word 0 ne) ∙ sym (and_true (truth rows x y)))
+
+    by_range : (in_range x y ≡ true) ⊎ (in_range x y ≡ false) → pairs_of (set rows k word) x y ≡ (pairs_of rows x y && (not (eqb x k) || has_bit row y))
+    by_range (inl t) = let p = in_range_parts x y t in pairs_of_in (set rows k word) x y p.0 p.1 ∙ inside p.0 p.1 (cases_eq x k) ∙ ap (λ (b : Bool). b && (not (eqb x k) || has_bit row y)) (sym (pairs_of_in rows x y p.0 p.1))
+    by_range (inr out) = pairs_of_out (set rows k word) x y out ∙ sym (and_left (pairs_of rows x y) _ (pairs_of_out rows x y out))
+
+-- and what it had and the other row hasn't is lost
+pub row_more : (rows : Table) (k word row y : ℕ) → length rows ≡ 64 → k < 64 → y < 64 → ((y : ℕ) → y < 64 → has_bit word y ≡ (pairs_of rows k y && has_bit row y)) → pairs_of rows k y ≡ true → has_bit row y ≡ false → HasMore (pairs_of rows) (pairs_of (set rows k word))
+row_more rows k word row y sized below l bits there missing = record {
+  first = k;
+  second = y;
+  first_below = below;
+  second_below = l;
+  there = there;
+  missing = row_written rows k word row sized below bits k y ∙ (rw (eq-eqb k k refl, missing, there) refl);
+}
+
+-- a row of what is known past an instruction
+pub row_past : (f : Pairs) (rules : ℕ → ℕ → PairRule) (k row : ℕ) → k < 64 → IsRow row (rules k) f → (y : ℕ) → y < 64 → has_bit row y ≡ pairs_by f rules k y
+row_past f rules k row below is y l = is y l ∙ (rw (in_range_from k y below l) refl)

@@ -1,0 +1,13 @@
+use Rattle.predicate_rel.specs.Pairs.{pairs_of}
+use Rattle.predicate_rel.specs.Rules.{form_rule, pairs_by}
+use Rattle.predicate_rel.proofs.Narrowing.{IsNarrowed, HasLost}
+use Rattle.predicate_rel.proofs.facts.Facts.narrow.Given as goal
+
+abbrev pub invariant-narrowing : goal.invariant-narrowing
+invariant-narrowing l = record {
+  narrowed : IsNarrowed (pairs_of l.initial.self) (pairs_by (pairs_of l.before) (form_rule l.form l.edge l.qp)) l.initial.rest l.rest (pairs_of l.self);
+  lost : HasLost (pairs_of l.initial.self) l.lost (pairs_of l.self);
+}
+
+abbrev pub decreases-narrowing : goal.decreases-narrowing
+decreases-narrowing l = l.rest
