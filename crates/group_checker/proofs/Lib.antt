@@ -1,4 +1,5 @@
 pub mod Members
+pub mod SetLists
 pub mod Rising
 pub mod Falling
 pub mod Masks
@@ -8,7 +9,8 @@ pub mod Slots
 pub mod Windowing
 pub mod Excusing
 pub mod Pairing
-pub mod Adding
+pub mod Gaining
+pub mod ListedViolations
 pub mod Reporting
 pub mod Uniqueness
 pub mod Walked

@@ -1,13 +1,18 @@
 -- What is found of a slot of the window and the slot under way is what they break on some walk.
-use Rattle.std.proofs.Common.{◌≡◌, ℕ, ◌+◌, ◌-◌, ◌<◌, ◌⊎◌, Bool, true, false, cond, ◌&&◌, eqb-true, None, Some, List, [], length, get_or, refl, sym, ap, ◌∙◌, subst, arith, inl, inr}
+use Rattle.std.proofs.Common.{◌≡◌, ℕ, ◌+◌, ◌-◌, ◌<◌, ◌⊎◌, Bool, true, false, cond, ◌&&◌, None, Some, Option, List, length, get_or, refl, sym, ap, ◌∙◌, subst, arith, inl, inr}
 use Rattle.std.specs.Prelude.{Contains}
 use Rattle.std.proofs.lemmas.Bool.{cases_lt, cases_Bool, and_cases, true≢false}
 use Rattle.ia_insn.specs.declared.place.Place.{Place}
 use Rattle.ia_insn.specs.Places.{IsBefore}
 use Rattle.ia_insn.specs.Programs.{Program}
 use Rattle.resource_sets.specs.declared.access.Access.{Access}
+use Rattle.resource_sets.specs.declared.access_sets.AccessSet.{AccessSet}
+use Rattle.resource_sets.specs.ResourceSets.{has_resource}
+use Rattle.resource_sets.specs.AccessSets.{AreSetsOf}
+use Rattle.resource_sets.specs.Masks.{may_clash}
+use Rattle.resource_sets.proofs.AccessSets.{resource_itself}
 use Rattle.resource_sets.specs.declared.access.Resource.{Resource}
-use Rattle.resource_sets.specs.declared.access.Resource.TheVariants.{Gr, Pr, Br, Unat, Pfs, Lc, Ec, Cfm}
+use Rattle.resource_sets.specs.declared.access.Resource.TheVariants.{Cfm}
 use Rattle.resource_sets.specs.declared.clashes.Rule.{Rule}
 use Rattle.resource_sets.specs.declared.clashes.Rule.TheVariants.{Raw, Waw, War63, AllocFirst, ClearLast}
 use Rattle.resource_sets.specs.Clashes.{clash, clash_of, is_resource, is_raw, is_waw, is_war63}
@@ -20,10 +25,11 @@ use Rattle.group_checker.specs.declared.violation.Violation.{Violation}
 use Rattle.group_checker.specs.declared.window.EarlierSlot.{EarlierSlot}
 use Rattle.group_checker.specs.Excuses.{accesses_at, IsExcused, IsLatest}
 use Rattle.group_checker.specs.Violations.{Clashes, Breaks, Violates, allocates_at}
-use Rattle.group_checker.specs.Order.{Adds}
+use Rattle.group_checker.specs.declared.broken.Broken.{Broken}
+use Rattle.group_checker.specs.Broken.{is_broken, Gains}
 use Rattle.group_checker.specs.Windows.{IsThrough, IsAt, IsWindow, IsUnderWay}
-use Rattle.group_checker.specs.Findings.{may_be_excused, excused_by, FindsIn, IsPair, IsNthPair, IsSlotRule}
-use Rattle.group_checker.proofs.Members.{not_in_none}
+use Rattle.group_checker.specs.Findings.{may_be_excused, excused_by, FindsIn, AreBroken, IsPair, IsNthPair, IsSlotRule}
+use Rattle.group_checker.proofs.Gaining.{apart_clash}
 use Rattle.group_checker.proofs.Falling.{not_before_itself, one_before, comes_from}
 use Rattle.group_checker.proofs.EarlierSlots.{at_once, earlier_at}
 use Rattle.group_checker.proofs.Excusing.{opens, excuses}
@@ -50,25 +56,15 @@ clash_rule : (a b : Access) (rule : Rule) → clash a b ≡ Some rule → IsClas
 unfolding clash_of
 clash_rule a b rule e = of_three (is_resource a.resource b.resource) (is_raw a.kind b.kind) (is_waw a.kind b.kind) (is_war63 a.kind b.kind) IsClashRule rule e tt tt tt
 
--- resources that pass the test are one
-same_resource : (a b : Resource) → is_resource a b ≡ true → a ≡ b
-same_resource (Gr n) (Gr k) e = ap Gr (eqb-true n k e)
-same_resource (Pr n) (Pr k) e = ap Pr (eqb-true n k e)
-same_resource (Br n) (Br k) e = ap Br (eqb-true n k e)
-same_resource Unat Unat e = refl
-same_resource Pfs Pfs e = refl
-same_resource Lc Lc e = refl
-same_resource Ec Ec e = refl
-same_resource Cfm Cfm e = refl
-same_resource a b e = absurd (true≢false (sym e))
+-- accesses of two resources never clash, and of one by their kinds
+by_kinds : (s : Bool) (c : Option Rule) (rule : Rule) → cond s c None ≡ Some rule → (s ≡ true) × (c ≡ Some rule)
+by_kinds true c rule e = (refl, e)
+by_kinds false c rule e = absurd cc
 
--- accesses of two resources never clash
-pub clash_resource : (a b : Access) (rule : Rule) → clash a b ≡ Some rule → a.resource ≡ b.resource
-clash_resource a b rule e = same_resource a.resource b.resource (of (is_resource a.resource b.resource) e)
-  where
-    of : (s : Bool) → cond s (clash_of a.kind b.kind) None ≡ Some rule → s ≡ true
-    of true h = refl
-    of false h = absurd cc
+kinds_clash : (a b : Access) (rule : Rule) → a.resource ≡ b.resource → clash_of a.kind b.kind ≡ Some rule → clash a b ≡ Some rule
+kinds_clash a b rule same e =
+    let on : is_resource a.resource b.resource ≡ true = ap (λ (q : Resource). is_resource a.resource q) (sym same) ∙ resource_itself a.resource in
+    rw on e
 
 -- accesses that clash break the rule, if they are not excused where they could be
 breaks_by_clash : (p : Program) (w : Walk) (i : Place) (rule : Rule) (q : Resource) (c : Clashes p i (end_of w) rule q) → (may_be_excused rule ≡ true → ¬ IsExcused p w i c.first.guard c.second.guard) → Breaks p w i rule q
@@ -114,20 +110,76 @@ unexcused p es j n e rule g h win at fails = elim (and_cases (may_be_excused rul
   | inr q ↦ (let o = opens p es j n e g h win at q in record { walk = o.walk; through = o.through; stays = λ may. o.stays })
 ]
 
--- what is found is broken on a walk
-pub found_violates : (p : Program) (es : List EarlierSlot) (j : Place) (n : ℕ) (e : EarlierSlot) (v : Violation) → IsWindow p es j → IsAt es n e → IsPair e.place j v → FindsIn e e.masks (accesses_at p j) v → Violates p v
-found_violates p es j n e v win at is (a, of_first, (b, of_second, found)) =
-    let o = unexcused p es j n e v.rule a.guard b.guard win at found.stays in
-    let carried = win.carried n e at in
-    violates_by p e.place j v o.walk is o.through (breaks_by_clash p o.walk e.place v.rule v.resource (record {
+-- access sets of an earlier slot and of the one under way
+pub record AreOf (p : Program) (j : Place) (e : EarlierSlot) (firsts seconds : List AccessSet) : Type 0 where
+  pub of_first : AreSetsOf e.masks firsts
+  pub of_second : AreSetsOf (accesses_at p j) seconds
+
+-- what is found are accesses that clash
+pub record FoundClash (e : EarlierSlot) (seconds : List Access) (v : Violation) : Type 0 where
+  pub first : Access
+  pub second : Access
+  pub of_first : Contains e.masks first
+  pub of_second : Contains seconds second
+  pub first_on : first.resource ≡ v.resource
+  pub second_on : second.resource ≡ v.resource
+  pub clash : clash first second ≡ Some v.rule
+  pub stays : (may_be_excused v.rule && excused_by e first.guard second.guard) ≡ false
+
+found_clash : (p : Program) (j : Place) (e : EarlierSlot) (xs ys : List AccessSet) (v : Violation) → AreOf p j e xs ys → FindsIn e xs ys v → FoundClash e (accesses_at p j) v
+found_clash p j e xs ys v of (s, in_first, (t, in_second, found)) =
+    let a : Access = record { resource = v.resource; kind = s.kind; guard = s.guard } in
+    let b : Access = record { resource = v.resource; kind = t.kind; guard = t.guard } in
+    record {
       first = a;
       second = b;
-      of_first = subst (λ (l : List Access). Contains l a) carried.accesses of_first;
-      of_second = subst (λ (k : Place). Contains (accesses_at p k) b) (sym o.through.there.ends) of_second;
-      first_on = found.first_on;
-      second_on = found.second_on;
-      clash = found.clash;
+      of_first = of.of_first.only a (s, in_first, record { kind = refl; guard = refl; resource = found.first_on });
+      of_second = of.of_second.only b (t, in_second, record { kind = refl; guard = refl; resource = found.second_on });
+      first_on = refl;
+      second_on = refl;
+      clash = kinds_clash a b v.rule refl found.clash;
+      stays = found.stays;
+    }
+
+-- and accesses that clash are found
+clash_found : (p : Program) (j : Place) (e : EarlierSlot) (xs ys : List AccessSet) (v : Violation) → AreOf p j e xs ys → FoundClash e (accesses_at p j) v → FindsIn e xs ys v
+clash_found p j e xs ys v of c =
+    let (s, in_first, x) = of.of_first.has c.first c.of_first in
+    let (t, in_second, y) = of.of_second.has c.second c.of_second in
+    let kinds = (by_kinds (is_resource c.first.resource c.second.resource) (clash_of c.first.kind c.second.kind) v.rule c.clash).1 in (
+      s,
+      in_first,
+      (
+        t,
+        in_second,
+        record {
+          first_on = ap (has_resource s.resources) (sym c.first_on) ∙ x.resource;
+          second_on = ap (has_resource t.resources) (sym c.second_on) ∙ y.resource;
+          clash = (λ i. clash_of (x.kind i) (y.kind i)) ∙ kinds;
+          stays = (λ i. may_be_excused v.rule && excused_by e (x.guard i) (y.guard i)) ∙ c.stays;
+        },
+      ),
+    )
+
+-- what is found is broken on a walk
+pub found_violates : (p : Program) (es : List EarlierSlot) (j : Place) (n : ℕ) (e : EarlierSlot) (xs ys : List AccessSet) (v : Violation) → IsWindow p es j → IsAt es n e → AreOf p j e xs ys → IsPair e.place j v → FindsIn e xs ys v → Violates p v
+found_violates p es j n e xs ys v win at sets is found =
+    let c = found_clash p j e xs ys v sets found in
+    let o = unexcused p es j n e v.rule c.first.guard c.second.guard win at c.stays in
+    let carried = win.carried n e at in
+    violates_by p e.place j v o.walk is o.through (breaks_by_clash p o.walk e.place v.rule v.resource (record {
+      first = c.first;
+      second = c.second;
+      of_first = subst (λ (l : List Access). Contains l c.first) carried.accesses c.of_first;
+      of_second = subst (λ (k : Place). Contains (accesses_at p k) c.second) (sym o.through.there.ends) c.of_second;
+      first_on = c.first_on;
+      second_on = c.second_on;
+      clash = c.clash;
     }) o.stays)
+
+-- accesses of one that may not clash are never found
+pub apart_finds : (p : Program) (j : Place) (e : EarlierSlot) (v : Violation) → may_clash e.masks (accesses_at p j) ≡ false → FoundClash e (accesses_at p j) v → ⊥
+apart_finds p j e v apart c = apart_clash e.masks (accesses_at p j) c.first c.second v.rule apart c.of_first c.of_second c.clash
 
 -- the last slot of the window is the latest of the group on each walk through it
 latest : (p : Program) (es : List EarlierSlot) (j : Place) (n : ℕ) (e : EarlierSlot) (w : Walk) → IsWindow p es j → IsAt es n e → n + 1 ≡ length es → IsThrough p e.place j w → IsLatest (earlier_in_group p w) e.place
@@ -172,20 +224,22 @@ slot_violates p es j s n e v win here_at at end is rule =
     broken w through here (inr r) = of w ClearLast r.rule r.resource (sym (win.carried n e at).clears ∙ r.clears, here, refl)
 
 -- a clash on a walk is found
-finds_clash : (p : Program) (es : List EarlierSlot) (j : Place) (n : ℕ) (e : EarlierSlot) (v : Violation) (w : Walk) → IsWindow p es j → IsAt es n e → IsThrough p e.place j w → (c : Clashes p e.place (end_of w) v.rule v.resource) → (may_be_excused v.rule && excused_by e c.first.guard c.second.guard) ≡ false → FindsIn e e.masks (accesses_at p j) v
+finds_clash : (p : Program) (es : List EarlierSlot) (j : Place) (n : ℕ) (e : EarlierSlot) (v : Violation) (w : Walk) → IsWindow p es j → IsAt es n e → IsThrough p e.place j w → (c : Clashes p e.place (end_of w) v.rule v.resource) → (may_be_excused v.rule && excused_by e c.first.guard c.second.guard) ≡ false → FoundClash e (accesses_at p j) v
 finds_clash p es j n e v w win at through c stays =
-    let carried = win.carried n e at in (
-      c.first,
-      subst (λ (l : List Access). Contains l c.first) (sym carried.accesses) c.of_first,
-      (
-        c.second,
-        subst (λ (k : Place). Contains (accesses_at p k) c.second) through.there.ends c.of_second,
-        record { first_on = c.first_on; second_on = c.second_on; clash = c.clash; stays = stays },
-      ),
-    )
+    let carried = win.carried n e at in
+    record {
+      first = c.first;
+      second = c.second;
+      of_first = subst (λ (l : List Access). Contains l c.first) (sym carried.accesses) c.of_first;
+      of_second = subst (λ (k : Place). Contains (accesses_at p k) c.second) through.there.ends c.of_second;
+      first_on = c.first_on;
+      second_on = c.second_on;
+      clash = c.clash;
+      stays = stays;
+    }
 
 -- what is broken on a walk is found
-pub violation_found : (p : Program) (es : List EarlierSlot) (j : Place) (s : Slot) (n : ℕ) (e : EarlierSlot) (v : Violation) → IsWindow p es j → slot_at p.bundles j ≡ Some s → IsAt es n e → IsPair e.place j v → Violates p v → FindsIn e e.masks (accesses_at p j) v ⊎ ((n + 1 ≡ length es) × IsSlotRule e s v)
+pub violation_found : (p : Program) (es : List EarlierSlot) (j : Place) (s : Slot) (n : ℕ) (e : EarlierSlot) (v : Violation) → IsWindow p es j → slot_at p.bundles j ≡ Some s → IsAt es n e → IsPair e.place j v → Violates p v → FoundClash e (accesses_at p j) v ⊎ ((n + 1 ≡ length es) × IsSlotRule e s v)
 violation_found p es j s n e v win here_at at is x = let b = broken_on p e.place j v is x in by_rule b.walk b.through v.rule refl b.breaks
   where
     unexcused_stays : (w : Walk) → IsThrough p e.place j w → (may : Bool) (g h : ℕ) → ¬ IsExcused p w e.place g h → (may && excused_by e g h) ≡ false
@@ -195,36 +249,38 @@ violation_found p es j s n e v win here_at at is x = let b = broken_on p e.place
       | inr f ↦ f
     ]
 
-    by_clash : (w : Walk) (rule : Rule) → v.rule ≡ rule → IsThrough p e.place j w → (c : Clashes p e.place (end_of w) rule v.resource) → (may_be_excused rule && excused_by e c.first.guard c.second.guard) ≡ false → FindsIn e e.masks (accesses_at p j) v
+    by_clash : (w : Walk) (rule : Rule) → v.rule ≡ rule → IsThrough p e.place j w → (c : Clashes p e.place (end_of w) rule v.resource) → (may_be_excused rule && excused_by e c.first.guard c.second.guard) ≡ false → FoundClash e (accesses_at p j) v
     by_clash w rule same through c stays =
         finds_clash p es j n e v w win at through
         (record { first = c.first; second = c.second; of_first = c.of_first; of_second = c.of_second; first_on = c.first_on; second_on = c.second_on; clash = c.clash ∙ ap Some (sym same) })
         (ap (λ (r : Rule). may_be_excused r && excused_by e c.first.guard c.second.guard) same ∙ stays)
 
-    by_rule : (w : Walk) → IsThrough p e.place j w → (rule : Rule) → v.rule ≡ rule → Breaks p w e.place rule v.resource → FindsIn e e.masks (accesses_at p j) v ⊎ ((n + 1 ≡ length es) × IsSlotRule e s v)
+    by_rule : (w : Walk) → IsThrough p e.place j w → (rule : Rule) → v.rule ≡ rule → Breaks p w e.place rule v.resource → FoundClash e (accesses_at p j) v ⊎ ((n + 1 ≡ length es) × IsSlotRule e s v)
     by_rule w through Raw same b = inl (by_clash w Raw same through b.clashes (unexcused_stays w through true b.clashes.first.guard b.clashes.second.guard b.stays))
     by_rule w through Waw same b = inl (by_clash w Waw same through b.clashes (unexcused_stays w through true b.clashes.first.guard b.clashes.second.guard b.stays))
     by_rule w through War63 same b = inl (by_clash w War63 same through b refl)
     by_rule w through AllocFirst same b = inr (is_last p es j n e w win at through b.1, inl (record { rule = same; allocates = sym (slot_allocates p j s here_at) ∙ subst (λ (k : Place). allocates_at p k ≡ true) through.there.ends b.0; resource = b.2 }))
     by_rule w through ClearLast same b = inr (is_last p es j n e w win at through b.1, inr (record { rule = same; clears = (win.carried n e at).clears ∙ b.0; resource = b.2 }))
 
--- the violations of a pair of slots are those that its accesses break, and if the slots follow each other, those of the
--- rules on slots
-pub pair_all : (p : Program) (es : List EarlierSlot) (j : Place) (s : Slot) (seconds : List Access) (n : ℕ) (e : EarlierSlot) (xs ys zs : List Violation) → IsUnderWay p es j s seconds → IsAt es n e → xs ≡ [] → Adds xs ys (λ v. IsPair e.place j v × FindsIn e e.masks seconds v) → Adds ys zs (λ v. (n + 1 ≡ length es) × (IsPair e.place j v × IsSlotRule e s v)) → Adds [] zs (λ v. IsNthPair es n j v × Violates p v)
-pair_all p es j s seconds n e xs ys zs u at none a b = record {
-  keeps = λ v c. absurd (not_in_none v c);
-  has = λ v (nth, x).
-      let same : nth.slot ≡ e = at_once es n nth.slot e nth.at at in
-      let pair : IsPair e.place j v = subst (λ (q : EarlierSlot). IsPair q.place j v) same nth.pair in
-      elim (violation_found p es j s n e v u.window u.slot at pair x) [
-        | inl found ↦ b.keeps v (a.has v (pair, rw u.accesses found))
-        | inr slots ↦ b.has v (slots.0, (pair, slots.1))
-      ];
-  only = λ v c. elim (b.only v c) [
+-- what a pair of slots breaks is what its access sets find, and if the slots follow each other, what the rules on slots say
+pub pair_all : (p : Program) (es : List EarlierSlot) (j : Place) (s : Slot) (seconds : List Access) (n : ℕ) (e : EarlierSlot) (xs ys : List AccessSet) (none some all : Broken) → IsUnderWay p es j s seconds → IsAt es n e
+    → AreSetsOf e.masks xs → AreSetsOf seconds ys → ((v : Violation) → is_broken none v ≡ false) → Gains none some (FindsIn e xs ys) → Gains some all (λ v. (n + 1 ≡ length es) × IsSlotRule e s v) → AreBroken p es n j all
+pair_all p es j s seconds n e xs ys none some all u at firsts lasts nothing a b = record {
+  has = λ v nth x. elim (violation_found p es j s n e v u.window u.slot at (pair v nth) x) [
+    | inl found ↦ b.keeps v (a.has v (clash_found p j e xs ys v sets found))
+    | inr slots ↦ b.has v slots
+  ];
+  only = λ v nth c. elim (b.only v c) [
     | inl d ↦ elim (a.only v d) [
-      | inl before ↦ inl (rw none at before)
-      | inr h ↦ inr (record { slot = e; at = at; pair = h.0 }, found_violates p es j n e v u.window at h.0 (rw u.accesses at h.1))
+      | inl before ↦ absurd (true≢false (sym before ∙ nothing v))
+      | inr found ↦ found_violates p es j n e xs ys v u.window at sets (pair v nth) found
     ]
-    | inr h ↦ inr (record { slot = e; at = at; pair = h.1.0 }, slot_violates p es j s n e v u.window u.slot at h.0 h.1.0 h.1.1)
+    | inr h ↦ slot_violates p es j s n e v u.window u.slot at h.0 (pair v nth) h.1
   ];
 }
+  where
+    sets : AreOf p j e xs ys
+    sets = record { of_first = firsts; of_second = subst (λ (l : List Access). AreSetsOf l ys) u.accesses lasts }
+
+    pair : (v : Violation) → IsNthPair es n j v → IsPair e.place j v
+    pair v nth = subst (λ (q : EarlierSlot). IsPair q.place j v) (at_once es n nth.slot e nth.at at) nth.pair

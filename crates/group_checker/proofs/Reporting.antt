@@ -1,6 +1,7 @@
 -- The report counts and begins to show the one rising list of all violations.
-use Rattle.std.proofs.Common.{◌≡◌, ℕ, zero, suc, ◌+◌, ◌-◌, ◌<◌, ◌≤◌, ◌⊎◌, true, false, cond, eqb, eq-eqb, None, Some, List, [], ◌∷◌, ◌++◌, length, length-append, length-take, take, refl, sym, ap, ◌∙◌, subst, arith, inl, inr}
-use Rattle.std.specs.Prelude.{Contains}
+use Rattle.std.proofs.Common.{◌≡◌, ℕ, zero, suc, ◌+◌, ◌-◌, ◌*◌, ◌<◌, ◌≤◌, ◌⊎◌, true, false, cond, eqb, eq-eqb, None, Some, List, [], ◌∷◌, ◌++◌, length, length-append, length-take, take, get_or, append_assoc, refl, sym, ap, ◌∙◌, subst, arith, inl, inr}
+use Rattle.std.specs.Prelude.{Contains, map}
+use Rattle.std.proofs.lemmas.List.{take_all, take_more}
 use Rattle.std.proofs.lemmas.Bool.{cases_eq, ne_eqb}
 use Rattle.std.proofs.Math.Seq.{take-append-add}
 use Rattle.std.proofs.lemmas.List.Elements.{Contains-append_left, Contains-append_right, Contains-append_cases}
@@ -11,20 +12,30 @@ use Rattle.ia_insn.proofs.InOrder.{bundle_small, slot_small}
 use Rattle.ia_meaning.specs.Sequence.{first_of, next_of}
 use Rattle.ia_meaning.proofs.Follows.{next_is}
 use Rattle.ia_meaning.proofs.Sequences.{next_fits}
+use Rattle.resource_sets.specs.declared.access.Resource.{Resource}
+use Rattle.resource_sets.specs.declared.sets.ResourceSet.{ResourceSet}
+use Rattle.resource_sets.specs.declared.sets.TheConstants.{RESOURCE_COUNT}
+use Rattle.resource_sets.specs.declared.clashes.Rule.{Rule}
+use Rattle.resource_sets.specs.declared.clashes.Rule.TheVariants.{Raw, Waw, War63, AllocFirst, ClearLast}
+use Rattle.resource_sets.specs.ResourceSets.{resources_in}
 use Rattle.group_checker.specs.declared.violation.Violation.{Violation}
 use Rattle.group_checker.specs.declared.window.EarlierSlot.{EarlierSlot}
 use Rattle.group_checker.specs.declared.report.TheConstants.{SHOWN_LIMIT}
 use Rattle.group_checker.specs.declared.report.Verdict.TheVariants.{Accepted, Violations}
-use Rattle.group_checker.specs.Order.{Precedes, Rises, IsListOf, Adds}
+use Rattle.group_checker.specs.Order.{Precedes, IsListOf}
 use Rattle.group_checker.specs.Shown.{Report}
 use Rattle.group_checker.specs.Violations.{Violates}
 use Rattle.group_checker.specs.Reports.{Shows, IsVerdict}
 use Rattle.group_checker.specs.Windows.{IsWindow, IsAt}
-use Rattle.group_checker.specs.Findings.{IsNthPair}
+use Rattle.group_checker.specs.Findings.{IsPair, IsNthPair, AreBroken}
+use Rattle.group_checker.specs.declared.broken.Broken.{Broken}
+use Rattle.group_checker.specs.Broken.{is_broken, violations_by, violations_of}
 use Rattle.group_checker.specs.Progress.{HasReported, IsEarlier, IsEarlierPair, IsUpTo, pair_bound, place_bound}
 use Rattle.group_checker.proofs.Members.{not_in_none}
+use Rattle.group_checker.proofs.EarlierSlots.{at_once}
+use Rattle.group_checker.proofs.ListedViolations.{listed}
 use Rattle.group_checker.proofs.Falling.{before_trans, number_rises, place_cases, comes_from}
-use Rattle.group_checker.proofs.Rising.{precedes_by_second, precedes_by_first, rises_append, rises_none, all_added}
+use Rattle.group_checker.proofs.Rising.{precedes_by_second, precedes_by_first, rises_append, rises_none}
 
 -- what is cut is cut again
 pub take_again : {A : Type 0} (n : ℕ) (xs ys : List A) → take n (take n xs ++ ys) ≡ take n (xs ++ ys)
@@ -38,9 +49,90 @@ take_room n xs ys zs l e =
     let all : length xs + (n - length xs) ≡ n = omega arith in
     e ∙ sym (take-append-add xs ys (n - length xs)) ∙ ap (λ m. take m (xs ++ ys)) all
 
+-- one more is shown where there is room
+pub shown_more : {A : Type 0} (n : ℕ) (xs zs : List A) (x : A) → length xs < n → zs ≡ xs ++ x ∷ [] → zs ≡ take n (xs ++ x ∷ [])
+shown_more n xs zs x l e = e ∙ sym (take_all n (xs ++ x ∷ []) (omega (arith, length-append xs (x ∷ []))))
+
+append_none : {A : Type 0} (ys : List A) → ys ++ [] ≡ ys
+append_none [] = refl
+append_none (y ∷ ys) = ap (λ l. y ∷ l) (append_none ys)
+
+-- and none where there is none
+pub shown_full : {A : Type 0} (n : ℕ) (xs : List A) (x : A) → length xs ≤ n → n ≤ length xs → xs ≡ take n (xs ++ x ∷ [])
+shown_full n xs x l m = take_room n xs (x ∷ []) xs l (let none : n - length xs ≡ 0 = omega arith in rw none (sym (append_none xs)))
+
+-- no more
+pub none_more : {A : Type 0} (n : ℕ) (xs : List A) → length xs ≤ n → xs ≡ take n (xs ++ [])
+none_more n xs l = take_room n xs [] xs l (none (n - length xs))
+  where
+    none : (k : ℕ) → xs ≡ xs ++ take k []
+    none zero = sym (append_none xs)
+    none (suc k) = sym (append_none xs)
+
+-- what is shown, and more of it
+pub shown_again : {A : Type 0} (n : ℕ) (old xs ys mid new : List A) → mid ≡ take n (old ++ xs) → new ≡ take n (mid ++ ys) → new ≡ take n (old ++ (xs ++ ys))
+shown_again n old xs ys mid new a b =
+    b ∙ ap (λ l. take n (l ++ ys)) a ∙ take_again n (old ++ xs) ys ∙ ap (λ l. take n l) (append_assoc old xs ys)
+
+-- one more image of a list
+pub map_more : {A B : Type 0} (g : A → B) (xs : List A) (k : ℕ) (d : A) → k < length xs → map g (take (k + 1) xs) ≡ map g (take k xs) ++ g (get_or xs k d) ∷ []
+map_more g xs k d short = ap (λ l. map g l) (take_more xs k d short) ∙ map_append g (take k xs) (get_or xs k d ∷ [])
+  where
+    map_append : {A B : Type 0} (g : A → B) (xs ys : List A) → map g (xs ++ ys) ≡ map g xs ++ map g ys
+    map_append g [] ys = refl
+    map_append g (x ∷ xs) ys = ap (λ l. g x ∷ l) (map_append g xs ys)
+
+-- what is shown of a rule
+pub shown_by : (was old : List Violation) (found : List Resource) (resources : ResourceSet) (first second : Place) (rule : Rule) (new : List Violation) → was ≡ old → found ≡ resources_in resources
+    → new ≡ take SHOWN_LIMIT (was ++ map (λ q. record { second = second; first = first; rule = rule; resource = q }) found) → new ≡ take SHOWN_LIMIT (old ++ violations_by first second rule resources)
+unfolding violations_by
+shown_by was old found resources first second rule new a b e =
+    e ∙ ap (λ (l : List Violation). take SHOWN_LIMIT (l ++ map (λ q. record { second = second; first = first; rule = rule; resource = q }) found)) a
+    ∙ ap (λ (l : List Resource). take SHOWN_LIMIT (old ++ map (λ q. record { second = second; first = first; rule = rule; resource = q }) l)) b
+
+-- once a hundred are shown, no more are
+pub shown_over : {A : Type 0} (n : ℕ) (xs ys : List A) → length xs ≤ n → n ≤ length xs → xs ≡ take n (xs ++ ys)
+shown_over n xs ys l m = take_room n xs ys xs l (let none : n - length xs ≡ 0 = omega arith in rw none (sym (append_none xs)))
+
+-- what is reported by one rule after the other
+pub record IsAdded (old new : Report) (found : List Violation) : Type 0 where
+  pub few : length found ≤ RESOURCE_COUNT
+  pub total : new.total ≡ old.total + length found
+  pub shown : new.shown ≡ take SHOWN_LIMIT (old.shown ++ found)
+
+-- of a list that is empty nothing is
+pub none_added : (r : Report) (found : List Violation) → length r.shown ≤ SHOWN_LIMIT → length found ≡ 0 → IsAdded r r found
+none_added r [] l e = record { few = omega arith; total = omega arith; shown = none_more SHOWN_LIMIT r.shown l }
+none_added r (v ∷ vs) l e = cc
+
+pub record AreAdded (old new : Report) (found : List Violation) (bound : ℕ) : Type 0 where
+  pub few : length found ≤ bound
+  pub total : new.total ≡ old.total + length found
+  pub shown : new.shown ≡ take SHOWN_LIMIT (old.shown ++ found)
+
+pub added_after : (old mid new : Report) (xs ys : List Violation) (bound : ℕ) → AreAdded old mid xs bound → IsAdded mid new ys → AreAdded old new (xs ++ ys) (bound + RESOURCE_COUNT)
+added_after old mid new xs ys bound a b = record {
+  few = omega (arith, length-append xs ys, a.few, b.few);
+  total = omega (arith, length-append xs ys, a.total, b.total);
+  shown = shown_again SHOWN_LIMIT old.shown xs ys mid.shown new.shown a.shown b.shown;
+}
+
 -- at most so many are shown
 pub shown_short : (n : ℕ) (r : List Violation) (all : List Violation) → r ≡ take n all → length r ≤ n
 shown_short n r all e = rw e (simp length-take (omega arith))
+
+-- what is reported of all rules
+pub all_added : (first second : Place) (b : Broken) (r r1 r2 r3 r4 r5 : Report)
+    → IsAdded r r1 (violations_by first second Raw b.raw) → IsAdded r1 r2 (violations_by first second Waw b.waw) → IsAdded r2 r3 (violations_by first second War63 b.war63)
+    → IsAdded r3 r4 (violations_by first second AllocFirst b.alloc_first) → IsAdded r4 r5 (violations_by first second ClearLast b.clear_last)
+    → AreAdded r r5 (violations_of first second b) pair_bound
+unfolding violations_of
+all_added first second b r r1 r2 r3 r4 r5 x1 x2 x3 x4 x5 =
+    let one : AreAdded r r1 (violations_by first second Raw b.raw) RESOURCE_COUNT = record { few = x1.few; total = x1.total; shown = x1.shown } in
+    let two = added_after r r1 r2 (violations_by first second Raw b.raw) (violations_by first second Waw b.waw) RESOURCE_COUNT one x2 in
+    let three = added_after r r2 r3 (violations_by first second Raw b.raw ++ violations_by first second Waw b.waw) (violations_by first second War63 b.war63) (2 * RESOURCE_COUNT) two x3 in
+    let four = added_after r r3 r4 ((violations_by first second Raw b.raw ++ violations_by first second Waw b.waw) ++ violations_by first second War63 b.war63) (violations_by first second AllocFirst b.alloc_first) (3 * RESOURCE_COUNT) three x4 in
+    added_after r r4 r5 (((violations_by first second Raw b.raw ++ violations_by first second Waw b.waw) ++ violations_by first second War63 b.war63) ++ violations_by first second AllocFirst b.alloc_first) (violations_by first second ClearLast b.clear_last) (4 * RESOURCE_COUNT) four x5
 
 -- a list of some violations is followed by one of later ones
 list_append : (P Q R : Violation → Type 0) (xs ys : List Violation) → ((v : Violation) → P v → R v) → ((v : Violation) → Q v → R v) → ((v : Violation) → R v → P v ⊎ Q v) → ((v w : Violation) → P v → Q w → Precedes v w) → IsListOf P xs → IsListOf Q ys → IsListOf R (xs ++ ys)
@@ -77,12 +169,12 @@ pair_precedes p es j n v w win (inr h) k =
     (subst (λ (q : Place). IsBefore q w.first) has.is (subst (IsBefore has.slot.place) (sym k.pair.0) up))
 
 -- the violations of one more pair of slots
-pub pair_reported : (p : Program) (old new : Report) (es : List EarlierSlot) (j : Place) (n bound : ℕ) (found : List Violation) → IsWindow p es j → HasReported p old (IsEarlierPair es j n) bound → Rises found → Adds [] found (λ v. IsNthPair es n j v × Violates p v) → length found ≤ pair_bound → new.total ≡ old.total + length found → new.shown ≡ take SHOWN_LIMIT (old.shown ++ found) → HasReported p new (IsEarlierPair es j (n + 1)) (bound + pair_bound)
-pair_reported p old new es j n bound found win r up all few total shown = record {
+pub pair_reported : (p : Program) (old new : Report) (es : List EarlierSlot) (j : Place) (n bound : ℕ) (found : List Violation) → IsWindow p es j → HasReported p old (IsEarlierPair es j n) bound → IsListOf (λ v. IsNthPair es n j v × Violates p v) found → length found ≤ pair_bound → new.total ≡ old.total + length found → new.shown ≡ take SHOWN_LIMIT (old.shown ++ found) → HasReported p new (IsEarlierPair es j (n + 1)) (bound + pair_bound)
+pair_reported p old new es j n bound found win r list few total shown = record {
   all = r.all ++ found;
   list = list_append (λ v. Violates p v × IsEarlierPair es j n v) (λ v. IsNthPair es n j v × Violates p v) (λ v. Violates p v × IsEarlierPair es j (n + 1) v) r.all found
       (λ v h. (h.0, wider v h.1)) (λ v h. (h.1, added v h.0)) (λ v h. split v h.0 h.1)
-      (λ v w h k. pair_precedes p es j n v w win h.1 k.0) r.list (all_added (λ v. IsNthPair es n j v × Violates p v) found up all);
+      (λ v w h k. pair_precedes p es j n v w win h.1 k.0) r.list list;
   shows = record {
     total = total ∙ ap (λ (n : ℕ). n + length found) r.shows.total ∙ sym (length-append r.all found);
     shown = shown ∙ ap (λ (l : List Violation). take SHOWN_LIMIT (l ++ found)) r.shows.shown ∙ take_again SHOWN_LIMIT r.all found;
@@ -103,6 +195,17 @@ pair_reported p old new es j n bound found win r up all few total shown = record
       | inl q ↦ inr (record { slot = e.1.has.slot; at = subst (λ (m : ℕ). IsAt es m e.1.has.slot) q e.1.has.at; pair = (sym e.1.has.is, e.0) }, x)
       | inr q ↦ inl (x, inr (e.0, record { has = e.1.has; below = omega (arith, e.1.below) }))
     ]
+
+-- those of one pair of slots, told by what is broken
+pub pair_listed : (p : Program) (es : List EarlierSlot) (j : Place) (n : ℕ) (e : EarlierSlot) (b : Broken) → IsAt es n e → AreBroken p es n j b → IsListOf (λ v. IsNthPair es n j v × Violates p v) (violations_of e.place j b)
+pair_listed p es j n e b at all =
+    list_like (λ v. IsPair e.place j v × (is_broken b v ≡ true)) (λ v. IsNthPair es n j v × Violates p v) (violations_of e.place j b)
+    (λ v h. (nth v h.0, all.only v (nth v h.0) h.1))
+    (λ v h. (subst (λ (q : EarlierSlot). IsPair q.place j v) (at_once es n h.0.slot e h.0.at at) h.0.pair, all.has v h.0 h.1))
+    (listed e.place j b)
+  where
+    nth : (v : Violation) → IsPair e.place j v → IsNthPair es n j v
+    nth v pair = record { slot = e; at = at; pair = pair }
 
 -- and of one that breaks no rule
 pub pair_apart : (p : Program) (r : Report) (es : List EarlierSlot) (j : Place) (n bound : ℕ) → ((v : Violation) → IsNthPair es n j v → ¬ Violates p v) → HasReported p r (IsEarlierPair es j n) bound → HasReported p r (IsEarlierPair es j (n + 1)) (bound + pair_bound)

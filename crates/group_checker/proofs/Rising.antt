@@ -1,17 +1,16 @@
 -- Rising lists of violations.
-use Rattle.std.proofs.Common.{◌≡◌, ◌⊎◌, Bool, true, false, cond, IsTrue, List, [], ◌∷◌, ◌++◌, refl, sym, ap, ◌∙◌, arith, inl, inr}
+use Rattle.std.proofs.Common.{◌≡◌, Bool, true, false, IsTrue, List, [], ◌++◌, refl, sym, ap, arith}
 use Rattle.std.specs.Prelude.{Contains, ◌↔◌}
 use Rattle.std.specs.declared.cmp.Ordering.{Ordering}
 use Rattle.std.specs.declared.cmp.Ordering.TheVariants.{Less, Equal, Greater}
-use Rattle.std.specs.BTreeSet.{BTreeSet, contains, Updates}
+use Rattle.std.specs.BTreeSet.{BTreeSet, contains}
 use Rattle.std.specs.Cmp.{IsTotalOrder}
-use Rattle.std.specs.List.{AllByRecursion as Each}
 use Rattle.std.specs.List.Sorted.{IsStrictlySortedBy}
-use Rattle.std.specs.Ordering.{ordering_then, nat_cmp, is_eq}
+use Rattle.std.specs.Ordering.{ordering_then, nat_cmp}
 use Rattle.std.proofs.lemmas.Bool.Decides.{nat_tests}
 use Rattle.std.proofs.lemmas.Cmp.{tied_itself}
 use Rattle.std.proofs.lemmas.Map.Lookups.{CmpEqualImpliesEq, exact_unsigned, btree_set_from_contains}
-use Rattle.std.proofs.lemmas.Map.Views.{btree_set_contains_iff, tells_apart}
+use Rattle.std.proofs.lemmas.Map.Views.{btree_set_contains_iff}
 use Rattle.ia_insn.specs.declared.place.Place.{Place}
 use Rattle.ia_insn.specs.Places.{IsBefore}
 use Rattle.ia_insn.specs.contracts.place.PlaceOrd.TheImpl.Laws as places
@@ -21,10 +20,9 @@ use Rattle.resource_sets.specs.declared.clashes.Rule.{Rule}
 use Rattle.resource_sets.specs.declared.clashes.Rule.TheVariants.{Raw, Waw, War63, AllocFirst, ClearLast}
 use Rattle.group_checker.specs.declared.violation.Violation.{Violation}
 use Rattle.group_checker.specs.contracts.violation.ViolationOrd.TheImpl.Laws as laws
-use Rattle.group_checker.specs.Order.{place_cmp, rule_cmp, resource_cmp, compare, Precedes, Rises, IsListOf, Adds}
+use Rattle.group_checker.specs.Order.{place_cmp, rule_cmp, resource_cmp, compare, Precedes, Rises}
 use Rattle.group_checker.proofs.Falling.{same_place}
-use Rattle.group_checker.proofs.Members.{not_in_none, head_in, in_tail}
-use Rattle.group_checker.proofs.Untouched.{each_append}
+use Rattle.group_checker.proofs.SetLists.{sorted_append}
 
 total : IsTotalOrder compare
 total = laws.total-law
@@ -86,44 +84,32 @@ precedes_by_second v w h = rw (place_precedes v.second w.second h) refl
 pub precedes_by_first : (v w : Violation) → v.second ≡ w.second → IsBefore v.first w.first → Precedes v w
 precedes_by_first v w e h = rw (e, tied_itself places.total-law w.second, place_precedes v.first w.first h) refl
 
+same_rule : (r : Rule) → rule_cmp r r ≡ Equal
+same_rule Raw = refl
+same_rule Waw = refl
+same_rule War63 = refl
+same_rule AllocFirst = refl
+same_rule ClearLast = refl
+
+-- of two slots those of an earlier rule come first
+pub precedes_by_rule : (v w : Violation) → v.second ≡ w.second → v.first ≡ w.first → rule_cmp v.rule w.rule ≡ Less → Precedes v w
+precedes_by_rule v w e f h = rw (e, f, tied_itself places.total-law w.second, tied_itself places.total-law w.first, h) refl
+
+-- and of one rule they are in the order of the resources
+pub compared_by_resource : (second first : Place) (rule : Rule) (q r : Resource) → compare (record { second = second; first = first; rule = rule; resource = q }) (record { second = second; first = first; rule = rule; resource = r }) ≡ resource_cmp q r
+compared_by_resource second first rule q r = rw (tied_itself places.total-law second, tied_itself places.total-law first, same_rule rule) refl
+
 -- a list with no violation rises
 pub rises_none : Rises []
 unfolding IsStrictlySortedBy
 rises_none = tt
 
-each_of : {X : Type 0} (P : X → Type 0) (xs : List X) → ((x : X) → Contains xs x → P x) → Each P xs
-each_of P [] h = tt
-each_of P (x ∷ xs) h = (h x (head_in x xs), each_of P xs (λ y c. h y (in_tail x y xs c)))
-
 -- rising lists of which the first is before the second rise together
 pub rises_append : (xs ys : List Violation) → Rises xs → Rises ys → ((x y : Violation) → Contains xs x → Contains ys y → Precedes x y) → Rises (xs ++ ys)
-unfolding IsStrictlySortedBy
-rises_append [] ys a b h = b
-rises_append (x ∷ xs) ys a b h =
-    (each_append (Precedes x) xs ys a.0 (each_of (Precedes x) ys (λ y c. h x y (head_in x xs) c)), rises_append xs ys a.1 b (λ z y c d. h z y (in_tail x z xs c) d))
+rises_append xs ys a b h = sorted_append compare xs ys a b h
 
 is_in : (s : BTreeSet Violation) (v : Violation) → IsTrue (contains compare s v) ↔ Contains s.keys v
 is_in s v = btree_set_contains_iff total exact s v
-
--- a set gains the violation that is inserted
-pub adds_one : (old new : BTreeSet Violation) (v : Violation) → Updates compare old new v true → Adds old.keys new.keys (λ x. x ≡ v)
-adds_one old new v u = record {
-  keeps = λ x c. (is_in new x).0 (u.0 x ∙ stays (is_eq (compare v x)) (contains compare old x) ((is_in old x).1 c));
-  has = λ x e. rw e ((is_in new v).0 u.1);
-  only = λ x c. was x (is_eq (compare v x)) refl (sym (u.0 x) ∙ (is_in new x).1 c);
-}
-  where
-    stays : (b c : Bool) → c ≡ true → cond b true c ≡ true
-    stays true c e = refl
-    stays false c e = e
-
-    was : (x : Violation) (b : Bool) → is_eq (compare v x) ≡ b → cond b true (contains compare old x) ≡ true → Contains old.keys x ⊎ (x ≡ v)
-    was x true e h = inr (sym (tells_apart exact v x e))
-    was x false e h = inl ((is_in old x).0 h)
-
--- what a rising list gained from none on is all that it has
-pub all_added : (P : Violation → Type 0) (xs : List Violation) → Rises xs → Adds [] xs P → IsListOf P xs
-all_added P xs up a = record { rises = up; has = a.has; only = λ v c. elim (a.only v c) [ inl none ↦ absurd (not_in_none v none) | inr h ↦ h ] }
 
 -- two rising lists of the same violations are one
 pub one_rising_list : (xs ys : List Violation) → Rises xs → Rises ys → ((v : Violation) → Contains xs v → Contains ys v) → ((v : Violation) → Contains ys v → Contains xs v) → xs ≡ ys

@@ -1,16 +1,21 @@
 -- What is found of two slots of one group by their accesses and by what is known of them.
 use Rattle.std.specs.Prelude.{◌≡◌, ℕ, Bool, true, false, not, ◌&&◌, ◌⊎◌, List, Contains, Some}
 use Rattle.ia_insn.specs.declared.place.Place.{Place}
+use Rattle.ia_insn.specs.Programs.{Program}
 use Rattle.ia_meaning.specs.Actions.{is_alloc}
 use Rattle.resource_sets.specs.declared.access.Resource.TheVariants.{Cfm}
-use Rattle.resource_sets.specs.declared.access.Access.{Access}
 use Rattle.resource_sets.specs.declared.clashes.Rule.{Rule}
 use Rattle.resource_sets.specs.declared.clashes.Rule.TheVariants.{Raw, Waw, War63, AllocFirst, ClearLast}
-use Rattle.resource_sets.specs.Clashes.{clash}
+use Rattle.resource_sets.specs.declared.access_sets.AccessSet.{AccessSet}
+use Rattle.resource_sets.specs.Clashes.{clash_of}
+use Rattle.resource_sets.specs.ResourceSets.{has_resource}
 use Rattle.predicate_rel.specs.Pairs.{has_bit, pairs_of}
 use Rattle.slot_table.specs.declared.slot.Slot.{Slot}
 use Rattle.group_checker.specs.declared.violation.Violation.{Violation}
 use Rattle.group_checker.specs.declared.window.EarlierSlot.{EarlierSlot}
+use Rattle.group_checker.specs.declared.broken.Broken.{Broken}
+use Rattle.group_checker.specs.Violations.{Violates}
+use Rattle.group_checker.specs.Broken.{is_broken}
 use Rattle.group_checker.specs.Windows.{IsAt}
 
 -- Each walk through the first slot excuses accesses under these guards.
@@ -26,20 +31,20 @@ may_be_excused War63 = false
 may_be_excused AllocFirst = false
 may_be_excused ClearLast = false
 
--- Two accesses break the rule on the resource, and some walk doesn't excuse them.
-pub record FindsBy (first : EarlierSlot) (a b : Access) (v : Violation) : Type 0 where
-  pub first_on : a.resource ≡ v.resource
-  pub second_on : b.resource ≡ v.resource
-  pub clash : clash a b ≡ Some v.rule
+-- Accesses of two sets break the rule on the resource, and some walk doesn't excuse them.
+pub record FindsBy (first : EarlierSlot) (a b : AccessSet) (v : Violation) : Type 0 where
+  pub first_on : has_resource a.resources v.resource ≡ true
+  pub second_on : has_resource b.resources v.resource ≡ true
+  pub clash : clash_of a.kind b.kind ≡ Some v.rule
   pub stays : (may_be_excused v.rule && excused_by first a.guard b.guard) ≡ false
 
--- one of the accesses of the second slot
-abbrev pub FindsWith : EarlierSlot → Access → List Access → Violation → Type 0
-FindsWith first a seconds v = (b : Access) × Contains seconds b × FindsBy first a b v
+-- one of the access sets of the second slot
+abbrev pub FindsWith : EarlierSlot → AccessSet → List AccessSet → Violation → Type 0
+FindsWith first a seconds v = (b : AccessSet) × Contains seconds b × FindsBy first a b v
 
 -- and one of the first
-abbrev pub FindsIn : EarlierSlot → List Access → List Access → Violation → Type 0
-FindsIn first firsts seconds v = (a : Access) × Contains firsts a × FindsWith first a seconds v
+abbrev pub FindsIn : EarlierSlot → List AccessSet → List AccessSet → Violation → Type 0
+FindsIn first firsts seconds v = (a : AccessSet) × Contains firsts a × FindsWith first a seconds v
 
 abbrev pub IsPair : Place → Place → Violation → Type 0
 IsPair first second v = (v.first ≡ first) × (v.second ≡ second)
@@ -49,6 +54,11 @@ pub record IsNthPair (window : List EarlierSlot) (n : ℕ) (second : Place) (v :
   pub slot : EarlierSlot
   pub at : IsAt window n slot
   pub pair : IsPair slot.place second v
+
+-- What is broken is what the n-th slot of the window and this second one violate.
+pub record AreBroken (p : Program) (window : List EarlierSlot) (n : ℕ) (second : Place) (b : Broken) : Type 0 where
+  pub has : (v : Violation) → IsNthPair window n second v → Violates p v → is_broken b v ≡ true
+  pub only : (v : Violation) → IsNthPair window n second v → is_broken b v ≡ true → Violates p v
 
 -- An `alloc` comes just after another slot of its group.
 pub record IsAllocRule (slot : Slot) (v : Violation) : Type 0 where

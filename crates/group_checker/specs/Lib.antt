@@ -4,6 +4,7 @@ pub mod Order
 pub mod Shown
 pub mod Reports
 pub mod Windows
+pub mod Broken
 pub mod Findings
 pub mod Progress
 pub mod Traces

@@ -1,5 +1,5 @@
 -- The order of violations, and lists that rise in it.
-use Rattle.std.specs.Prelude.{◌≡◌, ◌⊎◌, ℕ, List, Contains}
+use Rattle.std.specs.Prelude.{◌≡◌, ℕ, List, Contains}
 use Rattle.std.specs.declared.cmp.Ordering.{Ordering}
 use Rattle.std.specs.declared.cmp.Ordering.TheVariants.{Less}
 use Rattle.std.specs.List.Sorted.{IsStrictlySortedBy}
@@ -60,9 +60,3 @@ pub record IsListOf (P : Violation → Type 0) (all : List Violation) : Type 0 w
   pub rises : Rises all
   pub has : (v : Violation) → P v → Contains all v
   pub only : (v : Violation) → Contains all v → P v
-
--- the new list has what the old one had, and what has P
-pub record Adds (old new : List Violation) (P : Violation → Type 0) : Type 0 where
-  pub keeps : (v : Violation) → Contains old v → Contains new v
-  pub has : (v : Violation) → P v → Contains new v
-  pub only : (v : Violation) → Contains new v → Contains old v ⊎ P v

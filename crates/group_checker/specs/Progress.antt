@@ -1,10 +1,10 @@
 -- What is reported while slots are gone over.
-use Rattle.std.specs.Prelude.{◌≡◌, ◌<◌, ◌≤◌, ℕ, ◌+◌, ◌*◌, ◌⊎◌, List, length}
+use Rattle.std.specs.Prelude.{◌≡◌, ◌<◌, ◌≤◌, ℕ, ◌*◌, ◌⊎◌, List, length}
 use Rattle.ia_insn.specs.declared.limits.TheConstants.{BUNDLE_LIMIT}
 use Rattle.ia_insn.specs.declared.place.Place.{Place}
 use Rattle.ia_insn.specs.Places.{IsBefore}
 use Rattle.ia_insn.specs.Programs.{Program}
-use Rattle.resource_sets.specs.declared.access.TheConstants.{ACCESS_LIMIT}
+use Rattle.resource_sets.specs.declared.sets.TheConstants.{RESOURCE_COUNT}
 use Rattle.group_checker.specs.declared.violation.Violation.{Violation}
 use Rattle.group_checker.specs.declared.window.EarlierSlot.{EarlierSlot}
 use Rattle.group_checker.specs.Violations.{Violates}
@@ -17,9 +17,9 @@ use Rattle.group_checker.specs.Windows.{HasPlace}
 abbrev pub place_bound : ℕ
 place_bound = 3 * BUNDLE_LIMIT
 
--- as many violations as two slots have at most: one for each pair of their accesses, and one for each rule on slots
+-- as many violations as two slots have at most: one for each rule and resource
 abbrev pub pair_bound : ℕ
-pair_bound = ACCESS_LIMIT * ACCESS_LIMIT + 2
+pair_bound = 5 * RESOURCE_COUNT
 
 -- and as one second slot has
 abbrev pub second_bound : ℕ

@@ -9,7 +9,7 @@ ghost use Rattle.group_checker.specs.Windows.{IsUnderWay};
 ghost use Rattle.group_checker.specs.Progress.{HasReported, IsEarlier, IsEarlierPair, IsUpTo, pair_bound, place_bound, second_bound};
 
 use crate::moves::move_on;
-use crate::pairs::{are_apart, pair_violations};
+use crate::pairs::{are_apart, pair_broken};
 use crate::report::{Report, SHOWN_LIMIT, Verdict};
 use crate::window::EarlierSlot;
 use flow_facts::solve;
@@ -25,7 +25,6 @@ use std::alloc::{AllocError, Global};
 ///
 /// Want of memory.
 fn check_pair(
-    alloc: Global,
     window: &[EarlierSlot],
     n: usize,
     second: Place,
@@ -43,8 +42,8 @@ fn check_pair(
     if are_apart(window, n, seconds) {
         return Ok(());
     }
-    let found = pair_violations(alloc, window, n, second, slot, seconds)?;
-    report.add_all(&found)?;
+    let broken = pair_broken(window, n, slot, seconds);
+    report.add_all(window[n].place, second, &broken)?;
     Ok(())
 }
 
@@ -55,7 +54,6 @@ fn check_pair(
 ///
 /// Want of memory.
 fn check_second(
-    alloc: Global,
     window: &[EarlierSlot],
     second: Place,
     slot: &Slot,
@@ -69,7 +67,7 @@ fn check_second(
     ensures { OnOk result ((p : Program) → IsUnderWay p window.now second slot.now seconds.now → HasReported p report.old (IsEarlier second) (second_bound * place_number second) → HasReported p report.new (IsUpTo second) (second_bound * place_number second + pair_bound * length window.now)) }
 {
     for n in 0..window.len() {
-        check_pair(alloc, window, n, second, slot, seconds, report)?;
+        check_pair(window, n, second, slot, seconds, report)?;
     }
     Ok(())
 }
@@ -93,7 +91,7 @@ fn check_slots(alloc: Global, table: &SlotTable) -> Result<Verdict, AllocError>
             unreachable!();
         };
         let seconds = masks_of(slot.qp, &slot.form);
-        check_second(alloc, &window, second, slot, &seconds, &mut report)?;
+        check_second(&window, second, slot, &seconds, &mut report)?;
         move_on(&facts, &mut window, second, slot, seconds)?;
         let Some(after) = slot.next else {
             return Ok(report.verdict());

@@ -14,6 +14,7 @@
 //! the first ones in order, up to [`SHOWN_LIMIT`].
 #![tactic(auto)]
 
+mod broken;
 mod checker;
 mod laws;
 mod moves;

@@ -1,12 +1,15 @@
 //! Verdicts and reports.
 
-ghost use Rattle.std.specs.Prelude.{◌≡◌, ◌≤◌, ◌+◌, ◌<◌, ◌^◌, ◌++◌, [], length, take, OnOk, if◌then◌else◌, ◌==◌};
+ghost use Rattle.std.specs.Prelude.{◌≡◌, ◌≤◌, ◌+◌, ◌<◌, ◌^◌, ◌++◌, ◌∷◌, [], length, take, map, OnOk, if◌then◌else◌, ◌==◌};
 ghost use Rattle.group_checker.specs.declared.report.Verdict.TheVariants.{Accepted, Violations};
-ghost use Rattle.group_checker.specs.Order.{Rises};
+ghost use Rattle.group_checker.specs.Broken.{violations_by, violations_of};
+ghost use Rattle.group_checker.specs.Progress.{pair_bound};
 
+use crate::broken::Broken;
 use crate::violation::Violation;
+use ia_insn::Place;
+use resource_sets::{RESOURCE_COUNT, Resource, ResourceSet, Rule};
 use std::alloc::{AllocError, Global};
-use std::collections::BTreeSet;
 use std::marker::Model;
 
 /// How many violations a report shows at most.
@@ -45,7 +48,8 @@ impl Report {
         self.total
     }
 
-    /// All of them, but at most the first `SHOWN_LIMIT`, in order of the second slot, the first, the rule and the resource.
+    /// All of them, but at most the first `SHOWN_LIMIT`, in order of the second slot, the first, the rule and the
+    /// resource.
     pub fn shown(&self) -> &[Violation]
         ensures { result.now ≡ self.now.shown }
     {
@@ -62,20 +66,55 @@ impl Report {
         }
     }
 
-    /// Reports violations that come after all that are reported.
+    /// Reports what two slots break by one rule, which comes after all that is reported.
     ///
     /// # Errors
     ///
     /// Want of memory.
-    pub(crate) fn add_all(&mut self, found: &BTreeSet<Violation>) -> Result<(), AllocError>
-        requires room { self.old.total + length found.now.keys < 2 ^ 64 }
+    fn add_by(
+        &mut self,
+        first: Place,
+        second: Place,
+        rule: Rule,
+        resources: &ResourceSet,
+    ) -> Result<(), AllocError>
+        requires room { self.old.total + RESOURCE_COUNT < 2 ^ 64 }
         requires shown { length self.old.shown ≤ SHOWN_LIMIT }
-        ensures rises { OnOk result (Rises found.now.keys) }
-        ensures total { OnOk result (self.new.total ≡ self.old.total + length found.now.keys) }
-        ensures shown { OnOk result (self.new.shown ≡ take SHOWN_LIMIT (self.old.shown ++ found.now.keys)) }
+        ensures few { OnOk result (length (violations_by first second rule resources.now) ≤ RESOURCE_COUNT) }
+        ensures total { OnOk result (self.new.total ≡ self.old.total + length (violations_by first second rule resources.now)) }
+        ensures shown { OnOk result (self.new.shown ≡ take SHOWN_LIMIT (self.old.shown ++ violations_by first second rule resources.now)) }
     {
-        show_all(&mut self.shown, found)?;
-        self.total += found.len() as u64;
+        let count = resources.len();
+        if count == 0 {
+            return Ok(());
+        }
+        show_set(&mut self.shown, first, second, rule, resources)?;
+        self.total += count as u64;
+        Ok(())
+    }
+
+    /// Reports what two slots break, which comes after all that is reported.
+    ///
+    /// # Errors
+    ///
+    /// Want of memory.
+    pub(crate) fn add_all(
+        &mut self,
+        first: Place,
+        second: Place,
+        broken: &Broken,
+    ) -> Result<(), AllocError>
+        requires room { self.old.total + pair_bound < 2 ^ 64 }
+        requires shown { length self.old.shown ≤ SHOWN_LIMIT }
+        ensures few { OnOk result (length (violations_of first second broken.now) ≤ pair_bound) }
+        ensures total { OnOk result (self.new.total ≡ self.old.total + length (violations_of first second broken.now)) }
+        ensures shown { OnOk result (self.new.shown ≡ take SHOWN_LIMIT (self.old.shown ++ violations_of first second broken.now)) }
+    {
+        self.add_by(first, second, Rule::Raw, &broken.raw)?;
+        self.add_by(first, second, Rule::Waw, &broken.waw)?;
+        self.add_by(first, second, Rule::War63, &broken.war63)?;
+        self.add_by(first, second, Rule::AllocFirst, &broken.alloc_first)?;
+        self.add_by(first, second, Rule::ClearLast, &broken.clear_last)?;
         Ok(())
     }
 
@@ -91,12 +130,56 @@ impl Report {
     }
 }
 
-/// Shows more violations in order, as many as there is room for.
-fn show_all(shown: &mut Vec<Violation>, found: &BTreeSet<Violation>) -> Result<(), AllocError>
+/// Shows a violation, where there is room for it.
+fn show(shown: &mut Vec<Violation>, violation: Violation) -> Result<(), AllocError>
     requires { length shown.old.items ≤ SHOWN_LIMIT }
-    ensures { OnOk result (shown.new.items ≡ take SHOWN_LIMIT (shown.old.items ++ found.now.keys)) }
+    ensures { OnOk result (shown.new.items ≡ take SHOWN_LIMIT (shown.old.items ++ violation ∷ [])) }
 {
-    let room = SHOWN_LIMIT - shown.len();
-    shown.extend(found.iter().copied().take(room))?;
+    if shown.len() < SHOWN_LIMIT {
+        shown.push(violation)?;
+    }
+    Ok(())
+}
+
+/// Shows the violations of a rule on these resources, as many as there is room for.
+fn show_all(
+    shown: &mut Vec<Violation>,
+    first: Place,
+    second: Place,
+    rule: Rule,
+    resources: &[Resource],
+) -> Result<(), AllocError>
+    requires { length shown.old.items ≤ SHOWN_LIMIT }
+    ensures { OnOk result (shown.new.items ≡ take SHOWN_LIMIT (shown.old.items ++ map (λ q. record { second = second; first = first; rule = rule; resource = q }) resources.now)) }
+{
+    for resource in resources {
+        show(
+            shown,
+            Violation {
+                second,
+                first,
+                rule,
+                resource: *resource,
+            },
+        )?;
+    }
+    Ok(())
+}
+
+/// Shows the violations of a rule on the resources of a set, as many as there is room for.
+fn show_set(
+    shown: &mut Vec<Violation>,
+    first: Place,
+    second: Place,
+    rule: Rule,
+    resources: &ResourceSet,
+) -> Result<(), AllocError>
+    requires { length shown.old.items ≤ SHOWN_LIMIT }
+    ensures { OnOk result (shown.new.items ≡ take SHOWN_LIMIT (shown.old.items ++ violations_by first second rule resources.now)) }
+{
+    if shown.len() < SHOWN_LIMIT {
+        let found = resources.resources();
+        show_all(shown, first, second, rule, found.as_slice())?;
+    }
     Ok(())
 }

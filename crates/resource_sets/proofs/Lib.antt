@@ -8,6 +8,8 @@ pub mod Locations
 pub mod Regularity
 pub mod Examples
 pub mod BitWords
+pub mod SetBits
+pub mod AccessSets
 pub mod AccessColumns
 pub mod BitLists
 pub mod WrittenGuards

@@ -2,6 +2,8 @@ pub mod Rows
 pub mod Clashes
 pub mod Masks
 pub mod Bits
+pub mod ResourceSets
+pub mod AccessSets
 pub mod Accesses
 pub mod AccessLaws
 pub mod Regularity

@@ -26,6 +26,18 @@ pub enum Resource {
     Cfm,
 }
 
+impl Default for Resource {
+    ghost use Rattle.std.specs.Prelude.{◌≡◌};
+    ghost use Rattle.resource_sets.specs.declared.access.Resource.TheVariants.{Cfm};
+
+    ghost is_default = { λ resource. resource ≡ Cfm };
+
+    /// The frame.
+    fn default() -> Self {
+        Resource::Cfm
+    }
+}
+
 /// How a resource is accessed.
 #[derive(Clone, Copy, Debug, PartialEq, Eq)]
 pub enum Kind {

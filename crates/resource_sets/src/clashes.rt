@@ -3,7 +3,7 @@
 ghost use Rattle.std.specs.Prelude.{◌≡◌};
 ghost use Rattle.resource_sets.specs.Clashes.{is_written, is_write, is_read, is_raw, is_waw, is_war63, clash_of, clash};
 
-use crate::access::{Access, Kind, Resource};
+use crate::access::{Access, Kind};
 
 /// Why two slots of one group clash, in the order in which they are printed.
 #[derive(Clone, Copy, Debug, PartialEq, Eq, PartialOrd, Ord)]
@@ -73,9 +73,10 @@ fn is_war63(first: Kind, second: Kind) -> bool
     first == Kind::BranchRead && second == Kind::LoopWrite
 }
 
-/// Why an access of the first kind clashes with a later one of the second, of one resource.
+/// Why an access of the first kind clashes with a later one of the second, of one resource; None exactly where no rule
+/// is broken.
 #[tactic(auto, unfolding(crate::specs::Clashes::clash_of))]
-fn clash_of(first: Kind, second: Kind) -> Option<Rule>
+pub fn clash_of(first: Kind, second: Kind) -> Option<Rule>
     ensures { result ≡ clash_of first second }
 {
     if is_raw(first, second) {

@@ -8,10 +8,11 @@ ghost use Rattle.ia_meaning.specs.Arithmetic.{bit};
 ghost use Rattle.resource_sets.specs.Clashes.{may_write_guard};
 ghost use Rattle.resource_sets.specs.Masks.{may_clash};
 ghost use Rattle.resource_sets.specs.Bits.{IsWithin, AreWithin, fits, all_fit, AreBits};
+ghost use Rattle.resource_sets.specs.AccessSets.{AreSetsOf};
 
-use crate::access::{ACCESS_LIMIT, Access, Kind, Resource};
+use crate::access_sets::{ACCESS_SET_LIMIT, AccessSet, access_sets_of};
 use crate::bits::AccessBits;
-use crate::insn_accesses::{accesses_of, frame_row, own_rows, placed_rows, qp_rows};
+use crate::insn_accesses::{frame_row, own_rows, placed_rows, qp_rows};
 use crate::row::Row;
 use arrayvec::ArrayVec;
 use ia_insn::Pr;
@@ -51,11 +52,11 @@ impl Model for Masks {
 }
 
 impl Masks {
-    /// The accesses, as `accesses_of` gives them.
-    pub fn accesses(&self) -> ArrayVec<Access, ACCESS_LIMIT>
-        ensures { result.items ≡ self.now }
+    /// The accesses in sets, each of one kind and under one guard.
+    pub fn access_sets(&self) -> ArrayVec<AccessSet, ACCESS_SET_LIMIT>
+        ensures { AreSetsOf self.now result.items }
     {
-        accesses_of(self.qp, &self.form)
+        access_sets_of(self.qp, &self.form)
     }
 
     /// The predicates that the instruction may write, by their names: those that it writes, and from p16 on all if it

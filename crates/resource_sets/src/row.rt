@@ -2,7 +2,7 @@
 
 ghost use Rattle.std.specs.Prelude.{◌≡◌, ◌+◌, ◌≤◌, ◌<◌, ◌++◌, ◌∷◌, [], length, true, false};
 ghost use Rattle.arrayvec.specs.ArrayVec.{array_vec_len};
-ghost use Rattle.resource_sets.specs.Rows.{gr, pr, always, listed};
+ghost use Rattle.resource_sets.specs.Rows.{gr, pr, always, access, listed};
 
 use crate::access::{ACCESS_LIMIT, Access, Kind, Resource};
 use arrayvec::ArrayVec;
@@ -77,6 +77,19 @@ pub(crate) fn always(guarded: bool, resource: Resource, kind: Kind) -> Row
     }
 }
 
+impl Row {
+    /// The access of a row that is there.
+    pub fn access(self, qp: Pr) -> Access
+        ensures { result ≡ access qp self }
+    {
+        Access {
+            resource: self.resource,
+            kind: self.kind,
+            guard: if self.guarded { qp } else { Pr::of_field(0) },
+        }
+    }
+}
+
 /// Appends a row's access, where it is there.
 pub(crate) fn push(out: &mut ArrayVec<Access, ACCESS_LIMIT>, qp: Pr, row: Row)
     requires { array_vec_len out.old < ACCESS_LIMIT }
@@ -84,11 +97,7 @@ pub(crate) fn push(out: &mut ArrayVec<Access, ACCESS_LIMIT>, qp: Pr, row: Row)
     ensures len { array_vec_len out.new ≤ array_vec_len out.old + 1 }
 {
     if row.there {
-        out.push(Access {
-            resource: row.resource,
-            kind: row.kind,
-            guard: if row.guarded { qp } else { Pr::of_field(0) },
-        });
+        out.push(row.access(qp));
     }
 }
 

@@ -1,17 +1,22 @@
-use Rattle.std.proofs.Common.{◌≡◌, ◌∙◌, sym, subst, List}
-use Rattle.resource_sets.specs.declared.access.Access.{Access}
-use Rattle.group_checker.specs.Order.{Adds}
-use Rattle.group_checker.specs.Findings.{FindsIn, IsPair}
-use Rattle.group_checker.proofs.Adding.{adds_nothing, apart_finds}
+use Rattle.std.proofs.Common.{◌≡◌, take, arith, subst, List}
+use Rattle.std.proofs.lemmas.List.{take_all}
+use Rattle.resource_sets.specs.declared.access_sets.AccessSet.{AccessSet}
+use Rattle.group_checker.specs.declared.violation.Violation.{Violation}
+use Rattle.group_checker.specs.Broken.{Gains}
+use Rattle.group_checker.specs.Findings.{FindsIn, FindsWith}
+use Rattle.group_checker.proofs.Gaining.{gains_nothing, gains_more}
+use Rattle.group_checker.proofs.Members.{not_in_none}
 use Rattle.group_checker.proofs.pairs.clashes.Goals as goal
 
-pub returns-clause-adds : goal.returns-clause-adds
-returns-clause-adds c =
-    let firsts : c.as_slice.result.now ≡ c.args.first.now.masks = c.as_slice.ensures.value ∙ c.accesses-firsts.ensures in
-    let seconds : c.as_slice-2.result.now ≡ c.args.seconds.now = c.as_slice-2.ensures.value ∙ c.accesses-seconds.ensures in
-    let P : List Access → List Access → Type 0 = λ f s. Adds c.args.found.now.keys c.clashes_of.new.found.keys (λ v. IsPair c.args.first.now.place c.args.second v × FindsIn c.args.first.now f s v) in
-    subst (P c.args.first.now.masks) seconds (subst (λ (f : List Access). P f c.as_slice-2.result.now) firsts c.in_ok-clashes_of.ensures.adds)
+pub loop-a-init : goal.loop-a-init
+loop-a-init c = gains_nothing c.args.broken.now _ (λ v h. not_in_none h.0 h.1)
 
-pub returns-then-not-may_clash-clause-adds : goal.returns-then-not-may_clash-clause-adds
-returns-then-not-may_clash-clause-adds c = adds_nothing _ _
-    (λ v h. apart_finds c.args.first.now c.args.first.now.masks c.args.seconds.now v (sym c.may_clash.ensures ∙ c.if-not-may_clash.true) h.1)
+pub loop-a-preserved : goal.loop-a-preserved
+loop-a-preserved c =
+    gains_more c.args.broken.now c.loop-a.broken c.clashes_with.new.broken c.args.firsts.now c.loop-a.a-index c.a-item.result (λ (a : AccessSet) (v : Violation). FindsWith c.args.first.now a c.args.seconds.now v) (omega arith) c.a-item.is
+    c.loop-a.invariant c.clashes_with.ensures
+
+pub returns : goal.returns
+returns c =
+    let all : take c.loop-a.a-index c.args.firsts.now ≡ c.args.firsts.now = take_all _ _ (omega arith) in
+    subst (λ (l : List AccessSet). Gains c.args.broken.now c.loop-a.broken (FindsIn c.args.first.now l c.args.seconds.now)) all c.loop-a.invariant

@@ -1,0 +1,63 @@
+//! What two slots of one group break, as sets of resources.
+
+ghost use Rattle.std.specs.Prelude.{◌≡◌, true, false};
+ghost use Rattle.resource_sets.specs.declared.access.Resource.TheVariants as resource;
+ghost use Rattle.resource_sets.specs.ResourceSets.{has_resource};
+ghost use Rattle.group_checker.specs.declared.violation.Violation.{Violation};
+ghost use Rattle.group_checker.specs.Broken.{is_broken, Gains};
+
+use resource_sets::{Resource, ResourceSet, Rule};
+
+/// Of each rule the resources on which two slots break it.
+#[derive(Clone, Copy)]
+pub(crate) struct Broken {
+    /// Read after write.
+    pub raw: ResourceSet,
+    /// Write after write.
+    pub waw: ResourceSet,
+    /// A loop branch writes p63.
+    pub war63: ResourceSet,
+    /// An `alloc` isn't first.
+    pub alloc_first: ResourceSet,
+    /// A `clrrrb` isn't last.
+    pub clear_last: ResourceSet,
+}
+
+impl Broken {
+    /// No rule is broken.
+    pub fn nothing() -> Broken
+        ensures { (v : Violation) → is_broken result v ≡ false }
+    {
+        Broken {
+            raw: ResourceSet::empty(),
+            waw: ResourceSet::empty(),
+            war63: ResourceSet::empty(),
+            alloc_first: ResourceSet::empty(),
+            clear_last: ResourceSet::empty(),
+        }
+    }
+
+    /// Notes that a rule is broken on these resources.
+    pub fn add(&mut self, rule: Rule, resources: &ResourceSet)
+        ensures { Gains self.old self.new (λ v. (v.rule ≡ rule) × (has_resource resources.now v.resource ≡ true)) }
+    {
+        match rule {
+            Rule::Raw => self.raw.insert_all(resources),
+            Rule::Waw => self.waw.insert_all(resources),
+            Rule::War63 => self.war63.insert_all(resources),
+            Rule::AllocFirst => self.alloc_first.insert_all(resources),
+            Rule::ClearLast => self.clear_last.insert_all(resources),
+        }
+    }
+
+    /// Notes that a rule is broken on the frame, where the test holds.
+    pub fn add_frame_if(&mut self, holds: bool, rule: Rule)
+        ensures { Gains self.old self.new (λ v. (holds ≡ true) × (v.rule ≡ rule) × (v.resource ≡ resource.Cfm)) }
+    {
+        if holds {
+            let mut frame = ResourceSet::empty();
+            frame.insert(Resource::Cfm);
+            self.add(rule, &frame);
+        }
+    }
+}

@@ -1,0 +1,29 @@
+-- Sets of accesses of one kind under one guard.
+use Rattle.std.specs.Prelude.{◌≡◌, true, List, Contains}
+use Rattle.ia_meaning.specs.declared.form.Form.{Form}
+use Rattle.ia_meaning.specs.declared.form.Form.TheVariants as form
+use Rattle.resource_sets.specs.declared.access.Kind.{Kind}
+use Rattle.resource_sets.specs.declared.access.Kind.TheVariants.{Read, Write}
+use Rattle.resource_sets.specs.declared.access.Access.{Access}
+use Rattle.resource_sets.specs.declared.access_sets.AccessSet.{AccessSet}
+use Rattle.resource_sets.specs.ResourceSets.{has_resource}
+
+-- The access is in the set.
+pub record IsIn (a : Access) (set : AccessSet) : Type 0 where
+  pub kind : set.kind ≡ a.kind
+  pub guard : set.guard ≡ a.guard
+  pub resource : has_resource set.resources a.resource ≡ true
+
+-- One of the sets has the access.
+abbrev pub HasSetWith : List AccessSet → Access → Type 0
+HasSetWith sets a = (set : AccessSet) × Contains sets set × IsIn a set
+
+-- The sets are sets of these accesses, and of no other.
+pub record AreSetsOf (accesses : List Access) (sets : List AccessSet) : Type 0 where
+  pub has : (a : Access) → Contains accesses a → HasSetWith sets a
+  pub only : (a : Access) → HasSetWith sets a → Contains accesses a
+
+-- how predicates by place are accessed
+abbrev pub placed_kind : Form → Kind
+placed_kind (form.ToPredicates r2 mask w) = Write
+placed_kind f = Read
