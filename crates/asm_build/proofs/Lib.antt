@@ -36,3 +36,8 @@ mod DecidedRuns
 mod DecidedLines
 mod EndFaults
 mod SomeOutcome
+mod SaidLines
+mod SaidBundles
+mod SaidLabels
+mod SaidEntries
+mod SaidTexts

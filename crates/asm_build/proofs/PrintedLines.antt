@@ -7,14 +7,18 @@ use Rattle.asm_words.specs.Bytes.{has_only_plain}
 use Rattle.asm_words.proofs.Lexed.{lexed}
 use Rattle.asm_words.proofs.Lexing.{name_lexed}
 use Rattle.asm_words.proofs.Readings.{label_is_short, label_reads, decimal_is_name_bytes, decimal_is_plain, both_plain}
+use Rattle.asm_forms.specs.declared.form.Form.TheVariants as form
+use Rattle.asm_forms.specs.Matching.{read_form}
+use Rattle.asm_words.specs.Tokens.{token_of}
 use Rattle.asm_text.specs.declared.line.Line.{Line}
 use Rattle.asm_text.specs.declared.line.Line.TheVariants as line
 use Rattle.asm_text.specs.declared.line.Shape.{Shape}
 use Rattle.asm_text.specs.declared.line.Shape.TheVariants as shape
-use Rattle.asm_text.specs.Lines.{IsListedLine, value_of, reading_of}
+use Rattle.asm_text.specs.Lines.{◌>>=◌, named, directive_value, IsListedLine, is_colon, value_of, reading_of}
 use Rattle.asm_text.specs.SlotTexts.{label_text}
 use Rattle.asm_text.proofs.OperandTexts.{label_is_name}
 use Rattle.asm_text.proofs.SlotLines.{read_plain}
+use Rattle.asm_build.proofs.Choices.{otherwise}
 use Rattle.asm_build.specs.CanonicalText.{unit_letter}
 use Rattle.asm_build.specs.TemplateNames.{units_named}
 use Rattle.asm_build.specs.TextReading.{Says}
@@ -49,7 +53,10 @@ nothing_more [] = refl
 nothing_more (x ∷ xs) = ap (λ ys. x ∷ ys) (nothing_more xs)
 
 entry_value : (n : ℕ) → n < 2 ^ 32 → value_of ((kind.Name, codes ".entry") ∷ (kind.Name, label_text n) ∷ []) ≡ Ok (line.Entry (label_text n))
-entry_value n l = rw (label_reads n l, label_is_name n (omega (arith, l))) refl
+entry_value n l =
+    otherwise (is_colon (token_of kind.Name (label_text n))) _ _ (ap is_colon (label_reads n l))
+    ∙ ap (λ x. read_form (form.Entry ∷ []) (x ∷ []) (x ∷ []) >>= λ f. directive_value f ((kind.Name, label_text n) ∷ [])) (label_reads n l)
+    ∙ ap (λ o. named o (λ name. line.Entry name)) (label_is_name n (omega (arith, l)))
 
 -- a declared entry
 pub entry_says : (n : ℕ) → n < 2 ^ 32 → Says (codes ".entry " ++ label_text n) (line.Entry (label_text n))

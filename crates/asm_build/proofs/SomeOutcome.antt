@@ -17,7 +17,7 @@ use Rattle.asm_build.specs.declared.reason.TextError.TheVariants.{Fault}
 use Rattle.asm_build.specs.Addresses.{IsInside}
 use Rattle.asm_build.specs.Names.{name_fault, program_of}
 use Rattle.asm_build.specs.Reasons.{reason_of}
-use Rattle.asm_build.specs.SomeOutcome.{TextOrFault}
+use Rattle.asm_build.specs.Laws.{TextOrFault}
 use Rattle.asm_build.specs.TextParts.{TextParts, start, after, value_stages, AreLabelsInside}
 use Rattle.asm_build.specs.TextReading.{text_lines, Says, SaysNothing, IsRefused, IsTaken, ComesTo, found, end_stages, AllSay}
 use Rattle.asm_build.proofs.DecidedLines.{decided, value_decided}

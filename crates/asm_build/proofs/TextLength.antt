@@ -1,103 +1,159 @@
--- The length of canonical texts.
-use Rattle.std.proofs.Common.{ℕ, ◌+◌, ◌*◌, ◌<◌, ◌≤◌, ◌%◌, ◌^◌, Bool, true, false, ◌||◌, ◌==◌, List, [], ◌∷◌, ◌++◌, length, map, codes, sym, subst, arith, length-append}
+-- The length of canonical texts, by the length of their slot lines.
+use Rattle.std.proofs.Common.{◌≡◌, ℕ, suc, ◌+◌, ◌*◌, ◌/◌, ◌<◌, ◌≤◌, ◌%◌, ◌^◌, Bool, true, false, ◌||◌, ◌==◌, List, [], ◌∷◌, ◌++◌, length, map, codes, refl, sym, subst, arith, length-append, lit<, mul-suc}
 use Rattle.std.specs.Prelude.{if◌then◌else◌}
 use Rattle.std.specs.Fmt.{digits}
-use Rattle.asm_words.specs.declared.limits.TheConstants.{LINE_LIMIT}
+use Rattle.std.proofs.lemmas.Bool.Decides.{nat_tests}
+use Rattle.std.proofs.lemmas.Fmt.{length-decimal-le}
 use Rattle.ia_insn.specs.declared.limits.TheConstants.{BUNDLE_LIMIT}
 use Rattle.ia_insn.specs.declared.choices.Unit.{Unit as ExecutionUnit}
+use Rattle.ia_insn.specs.declared.insn.Insn.{Insn}
 use Rattle.ia_insn.specs.declared.bundle.Slots.{Slots}
 use Rattle.ia_insn.specs.declared.bundle.Slots.TheVariants as slots
 use Rattle.ia_insn.specs.Bundles.{Bundle, IsBundle}
-use Rattle.ia_insn.specs.Programs.{Program, AreBytes}
+use Rattle.ia_insn.specs.Listed.{IsListed}
+use Rattle.ia_insn.specs.Programs.{Program, IsProgram, AreBytes}
+use Rattle.asm_text.specs.declared.limits.TheConstants.{SLOT_LINE_LIMIT}
+use Rattle.asm_text.specs.declared.line.Shape.{Shape}
+use Rattle.asm_text.specs.declared.line.Shape.TheVariants as shape
 use Rattle.asm_text.specs.SlotTexts.{label_text, slot_text}
 use Rattle.asm_text.proofs.Short.{hex_is_short}
-use Rattle.asm_build.specs.CanonicalText.{line as text_line, has_stop, is_among, unit_letter, head_text, slots_text, bundle_text, bundles_text, targets_from, words_of, words_text, is_nothing, data_text}
+use Rattle.asm_build.specs.CanonicalText.{line as text_line, has_stop, is_among, unit_letter, head_text, slots_text, bundle_text, bundles_text, targets_from, words_of, words_text, is_nothing, data_text, canonical_text}
 use Rattle.asm_build.specs.Marks.{AreSound}
-use Rattle.asm_build.specs.RoundTrip.{CanonicalTextIsShort}
+use Rattle.asm_build.specs.RoundTrip.{CanonicalTextIsShort, CanonicalTextFits}
 use Rattle.asm_build.specs.TemplateNames.{units_named}
 use Rattle.asm_build.proofs.DataBack.{AreWords, words_small}
 use Rattle.asm_build.proofs.NamedTemplates.{has_name}
-use Rattle.asm_build.proofs.PrintedLines.{label_says, entry_says, head_says}
-use Rattle.asm_build.proofs.WrittenBundles.{SlotsSay}
 use Rattle.asm_build.proofs.WrittenTexts.{AreGood, good_of}
 
--- the bytes of a line with its end
-abbrev line_bytes : ℕ
-line_bytes = LINE_LIMIT + 1
+-- the slot lines of listed instructions have at most so many bytes
+abbrev pub AreSlotLinesWithin : ℕ → Type 0
+AreSlotLinesWithin most = (i : Insn) (bundle : ℕ) (stop : Bool) → IsListed i → bundle < 2 ^ 32 → length (slot_text i bundle stop) ≤ most
 
 both_short : (xs ys : List ℕ) (m n : ℕ) → length xs ≤ m → length ys ≤ n → length (xs ++ ys) ≤ m + n
 both_short xs ys m n a b = omega (arith, a, b, length-append xs ys)
 
-line_short : (text : List ℕ) → length text ≤ LINE_LIMIT → length (text_line text) ≤ LINE_LIMIT + 1
-line_short text h = both_short text (10 ∷ []) LINE_LIMIT 1 h (omega arith)
+line_short : (text : List ℕ) (m : ℕ) → length text ≤ m → length (text_line text) ≤ m + 1
+line_short text m h = both_short text (10 ∷ []) m 1 h (omega arith)
 
 if_short : (is : Bool) (text : List ℕ) (n : ℕ) → length text ≤ n → length (if is then text else []) ≤ n
 if_short true text n h = h
 if_short false text n h = omega arith
 
-head_short : (b : Bundle) → IsBundle b → length (head_text b.template) ≤ line_bytes
+-- `{ .mii`
+name_short : (s : Shape) → length (text_line (codes "{ ." ++ map unit_letter (units_named s))) ≤ 7
+name_short shape.Mii = omega arith
+name_short shape.Mlx = omega arith
+name_short shape.Mmi = omega arith
+name_short shape.Mfi = omega arith
+name_short shape.Mmf = omega arith
+name_short shape.Mib = omega arith
+name_short shape.Mbb = omega arith
+name_short shape.Bbb = omega arith
+name_short shape.Mmb = omega arith
+name_short shape.Mfb = omega arith
+
+head_short : (b : Bundle) → IsBundle b → length (head_text b.template) ≤ 7
 head_short b fit =
     let name = has_name b.template b.slots fit in
-    subst (λ (us : List ExecutionUnit). length (text_line (codes "{ ." ++ map unit_letter us)) ≤ line_bytes) (sym name.1.units) (line_short (codes "{ ." ++ map unit_letter (units_named name.0)) (head_says name.0).short)
+    subst (λ (us : List ExecutionUnit). length (text_line (codes "{ ." ++ map unit_letter us)) ≤ 7) (sym name.1.units) (name_short name.0)
 
-slots_short : SlotsSay → (count n template : ℕ) (contents : Slots) → n < 2 ^ 32 → AreSound count n contents → length (slots_text n template contents) ≤ 3 * line_bytes
-slots_short say count n template (slots.Three a b c) low sound =
-    let la = line_short (slot_text a n (has_stop template 0)) (say a n (has_stop template 0) sound.0.listed low).short in
-    let lb = line_short (slot_text b n (has_stop template 1)) (say b n (has_stop template 1) sound.1.0.listed low).short in
-    let lc = line_short (slot_text c n (has_stop template 2)) (say c n (has_stop template 2) sound.1.1.listed low).short in
-    both_short (text_line (slot_text a n (has_stop template 0))) (text_line (slot_text b n (has_stop template 1)) ++ text_line (slot_text c n (has_stop template 2))) line_bytes (2 * line_bytes) la
-    (both_short (text_line (slot_text b n (has_stop template 1))) (text_line (slot_text c n (has_stop template 2))) line_bytes line_bytes lb lc)
-slots_short say count n template (slots.Long a b) low sound =
-    let la = line_short (slot_text a n false) (say a n false sound.0.listed low).short in
-    let lb = line_short (slot_text b n (has_stop template 2)) (say b n (has_stop template 2) sound.1.listed low).short in
-    both_short (text_line (slot_text a n false)) (text_line (slot_text b n (has_stop template 2))) line_bytes (2 * line_bytes) la (omega (arith, lb))
+-- `L4095`
+label_short : (n : ℕ) → n < BUNDLE_LIMIT → length (label_text n) ≤ 5
+label_short n h = omega (arith, length-decimal-le 4 n (lit< tt) (omega arith) (omega (arith, h)))
 
-bundle_short : SlotsSay → (entries targets : List ℕ) (count n : ℕ) (b : Bundle) → n < 2 ^ 32 → IsBundle b → AreSound count n b.slots → length (bundle_text entries targets n b) ≤ 6 * line_bytes + 2
-bundle_short say entries targets count n b low fit sound =
+slots_short : (most : ℕ) → AreSlotLinesWithin most → (count n template : ℕ) (contents : Slots) → n < 2 ^ 32 → AreSound count n contents → length (slots_text n template contents) ≤ 3 * (most + 1)
+slots_short most within count n template (slots.Three a b c) low sound =
+    let la = line_short (slot_text a n (has_stop template 0)) most (within a n (has_stop template 0) sound.0.listed low) in
+    let lb = line_short (slot_text b n (has_stop template 1)) most (within b n (has_stop template 1) sound.1.0.listed low) in
+    let lc = line_short (slot_text c n (has_stop template 2)) most (within c n (has_stop template 2) sound.1.1.listed low) in
+    let later = both_short (text_line (slot_text b n (has_stop template 1))) (text_line (slot_text c n (has_stop template 2))) (most + 1) (most + 1) lb lc in
+    omega (arith, both_short (text_line (slot_text a n (has_stop template 0))) (text_line (slot_text b n (has_stop template 1)) ++ text_line (slot_text c n (has_stop template 2))) (most + 1) ((most + 1) + (most + 1)) la later)
+slots_short most within count n template (slots.Long a b) low sound =
+    let la = line_short (slot_text a n false) most (within a n false sound.0.listed low) in
+    let lb = line_short (slot_text b n (has_stop template 2)) most (within b n (has_stop template 2) sound.1.listed low) in
+    omega (arith, both_short (text_line (slot_text a n false)) (text_line (slot_text b n (has_stop template 2))) (most + 1) (most + 1) la lb)
+
+-- the bytes of a bundle, with its entry and its label
+abbrev bundle_bytes : ℕ → ℕ
+bundle_bytes most = 3 * (most + 1) + 29
+
+bundle_short : (most : ℕ) → AreSlotLinesWithin most → (entries targets : List ℕ) (count n : ℕ) (b : Bundle) → n < BUNDLE_LIMIT → IsBundle b → AreSound count n b.slots → length (bundle_text entries targets n b) ≤ bundle_bytes most
+bundle_short most within entries targets count n b low fit sound =
     let entry = is_among entries n in
     let labelled = is_among entries n || is_among targets n in
-    let entry_line = text_line (codes ".entry " ++ label_text n) in
-    let label_line = text_line (label_text n ++ codes ":") in
+    let label = label_short n low in
+    let entry_line = line_short (codes ".entry " ++ label_text n) 12 (both_short (codes ".entry ") (label_text n) 7 5 (omega arith) label) in
+    let label_line = line_short (label_text n ++ codes ":") 6 (both_short (label_text n) (codes ":") 5 1 label (omega arith)) in
+    let first = if_short entry (text_line (codes ".entry " ++ label_text n)) 13 (omega (arith, entry_line)) in
+    let second = if_short labelled (text_line (label_text n ++ codes ":")) 7 (omega (arith, label_line)) in
     let body = slots_text n b.template b.slots ++ text_line (codes "}") in
-    both_short (if entry then entry_line else []) ((if labelled then label_line else []) ++ (head_text b.template ++ body)) line_bytes (5 * line_bytes + 2)
-    (if_short entry entry_line line_bytes (line_short (codes ".entry " ++ label_text n) (entry_says n low).short))
-    (both_short (if labelled then label_line else []) (head_text b.template ++ body) line_bytes (4 * line_bytes + 2)
-    (if_short labelled label_line line_bytes (line_short (label_text n ++ codes ":") (label_says n low).short))
-    (both_short (head_text b.template) body line_bytes (3 * line_bytes + 2) (head_short b fit)
-    (both_short (slots_text n b.template b.slots) (text_line (codes "}")) (3 * line_bytes) 2 (slots_short say count n b.template b.slots low sound) (omega arith))))
+    let contents = both_short (slots_text n b.template b.slots) (text_line (codes "}")) (3 * (most + 1)) 2 (slots_short most within count n b.template b.slots (omega (arith, low)) sound) (omega arith) in
+    let headed = both_short (head_text b.template) body 7 (3 * (most + 1) + 2) (head_short b fit) contents in
+    let named = both_short (if labelled then text_line (label_text n ++ codes ":") else []) (head_text b.template ++ body) 7 (7 + (3 * (most + 1) + 2)) second headed in
+    omega (arith, both_short (if entry then text_line (codes ".entry " ++ label_text n) else []) ((if labelled then text_line (label_text n ++ codes ":") else []) ++ (head_text b.template ++ body)) 13 (7 + (7 + (3 * (most + 1) + 2))) first named)
 
-bundles_short : SlotsSay → (entries targets : List ℕ) (count n : ℕ) (bs : List Bundle) → n + length bs ≤ BUNDLE_LIMIT → AreGood count n bs → length (bundles_text entries targets n bs) ≤ (6 * line_bytes + 2) * length bs
-bundles_short say entries targets count n [] few good = omega arith
-bundles_short say entries targets count n (b ∷ bs) few good =
-    let here = bundle_short say entries targets count n b (omega (arith, few)) good.0.0 good.0.1 in
-    let later = bundles_short say entries targets count (n + 1) bs (omega (arith, few)) good.1 in
-    omega (arith, here, later, length-append (bundle_text entries targets n b) (bundles_text entries targets (n + 1) bs))
+bundles_short : (most : ℕ) → AreSlotLinesWithin most → (entries targets : List ℕ) (count n : ℕ) (bs : List Bundle) → n + length bs ≤ BUNDLE_LIMIT → AreGood count n bs → length (bundles_text entries targets n bs) ≤ bundle_bytes most * length bs
+bundles_short most within entries targets count n [] few good = omega arith
+bundles_short most within entries targets count n (b ∷ bs) few good =
+    let here = bundle_short most within entries targets count n b (omega (arith, few)) good.0.0 good.0.1 in
+    let later = bundles_short most within entries targets count (n + 1) bs (omega (arith, few)) good.1 in
+    rw (mul-suc (bundle_bytes most) (length bs)) (omega (arith, here, later, length-append (bundle_text entries targets n b) (bundles_text entries targets (n + 1) bs)))
 
-begin_short : (is : Bool) → length (if is then codes "data8 " else codes ",") ≤ 6
-begin_short true = omega arith
-begin_short false = omega arith
+-- The k-th word begins with `data8 ` where it is the first of its line, and ends the line where it is the last.
+begin_short : (k : ℕ) (b : Bool) → (k % 8 == 0) ≡ b → length {A = ℕ} (if b then codes "data8 " else codes ",") + 5 * ((k + 7) / 8) ≤ 1 + 5 * ((k + 8) / 8)
+begin_short k true e = let first : k % 8 ≡ 0 = grind (arith, nat_tests) in omega (arith, first)
+begin_short k false e = omega arith
 
-words_short : (k : ℕ) (ws : List ℕ) → AreWords ws → length (words_text k ws) ≤ 25 * length ws
+end_short : (k : ℕ) (b : Bool) → (k % 8 == 7) ≡ b → length {A = ℕ} (if b then 10 ∷ [] else []) + k / 8 ≤ (k + 1) / 8
+end_short k true e = let last : k % 8 ≡ 7 = grind (arith, nat_tests) in omega (arith, last)
+end_short k false e = omega arith
+
+one_word_short : (w : ℕ) → w < 2 ^ 64 → length (48 ∷ 120 ∷ digits 16 false w) ≤ 18
+one_word_short w h = omega (arith, hex_is_short 15 w h h)
+
+-- Of words of at most 18 bytes, all but the first of a line with a comma, and each line with its head and its end.
+words_short : (k : ℕ) (ws : List ℕ) → AreWords ws → length (words_text k ws) + 5 * ((k + 7) / 8) + k / 8 ≤ 19 * length ws + 6 * ((k + length ws + 7) / 8)
 words_short k [] small = omega arith
-words_short k (w ∷ ws) small =
+words_short k (w ∷ []) small =
     let begin : List ℕ = if k % 8 == 0 then codes "data8 " else codes "," in
-    let end : List ℕ = if (k % 8 == 7) || is_nothing ws then 10 ∷ [] else [] in
-    let word = both_short begin (48 ∷ 120 ∷ digits 16 false w) 6 18 (begin_short (k % 8 == 0)) (omega (arith, hex_is_short 15 w small.0 small.0)) in
-    let rest = both_short end (words_text (k + 1) ws) 1 (25 * length ws) (if_short ((k % 8 == 7) || is_nothing ws) (10 ∷ []) 1 (omega arith)) (words_short (k + 1) ws small.1) in
-    let all = both_short (begin ++ (48 ∷ 120 ∷ digits 16 false w)) (end ++ words_text (k + 1) ws) 24 (1 + 25 * length ws) word rest in
-    omega (arith, all)
+    let end : List ℕ = if (k % 8 == 7) || true then 10 ∷ [] else [] in
+    let word = one_word_short w small.0 in
+    let stop = if_short ((k % 8 == 7) || true) (10 ∷ []) 1 (omega arith) in
+    omega (arith, begin_short k (k % 8 == 0) refl, word, stop, length-append (begin ++ (48 ∷ 120 ∷ digits 16 false w)) (end ++ []), length-append begin (48 ∷ 120 ∷ digits 16 false w), length-append end [])
+words_short k (w ∷ v ∷ ws) small =
+    let begin : List ℕ = if k % 8 == 0 then codes "data8 " else codes "," in
+    let end : List ℕ = if (k % 8 == 7) || false then 10 ∷ [] else [] in
+    let word = one_word_short w small.0 in
+    let rest = words_short (k + 1) (v ∷ ws) small.1 in
+    let stop = end_short k ((k % 8 == 7) || false) (or_false (k % 8 == 7)) in
+    omega (arith, begin_short k (k % 8 == 0) refl, word, stop, rest, length-append (begin ++ (48 ∷ 120 ∷ digits 16 false w)) (end ++ words_text (k + 1) (v ∷ ws)), length-append begin (48 ∷ 120 ∷ digits 16 false w), length-append end (words_text (k + 1) (v ∷ ws)))
+  where
+    or_false : (b : Bool) → b ≡ (b || false)
+    or_false true = refl
+    or_false false = refl
 
-few_words : (bytes : List ℕ) → length (words_of bytes) ≤ length bytes
+few_words : (bytes : List ℕ) → 8 * length (words_of bytes) ≤ length bytes
 few_words (a ∷ b ∷ c ∷ d ∷ e ∷ f ∷ g ∷ h ∷ rest) = omega (arith, few_words rest)
 few_words _ = omega arith
 
-data_short : (bytes : List ℕ) → AreBytes bytes → length (data_text bytes) ≤ 6 + 25 * length bytes
-data_short [] small = omega arith
-data_short (b ∷ bytes) small = omega (arith, words_short 0 (words_of (b ∷ bytes)) (words_small (b ∷ bytes) small), few_words (b ∷ bytes), length-append (text_line (codes ".data")) (words_text 0 (words_of (b ∷ bytes))))
+-- the bytes of so many words of data, with their directive
+abbrev data_bytes : ℕ → ℕ
+data_bytes words = 6 + 19 * words + 6 * ((words + 7) / 8)
 
--- The canonical text of a program is short enough to be read.
-pub text_is_short : SlotsSay → (p : Program) → CanonicalTextIsShort p
-text_is_short say p h =
+data_short : (bytes : List ℕ) → AreBytes bytes → length (data_text bytes) ≤ data_bytes (length (words_of bytes))
+data_short [] small = omega arith
+data_short (b ∷ bytes) small = omega (arith, words_short 0 (words_of (b ∷ bytes)) (words_small (b ∷ bytes) small), length-append (text_line (codes ".data")) (words_text 0 (words_of (b ∷ bytes))))
+
+text_short : (most : ℕ) → AreSlotLinesWithin most → (p : Program) → IsProgram p → length (canonical_text p) ≤ bundle_bytes most * length p.bundles + data_bytes (length (words_of p.bytes))
+text_short most within p h =
     let targets = targets_from 0 p.bundles in
-    let bundles = bundles_short say p.entries targets (length p.bundles) 0 p.bundles (omega (arith, h.counts.bundles)) (good_of p h) in
-    omega (arith, bundles, data_short p.bytes h.bytes, h.counts.bundles, h.counts.bytes, length-append (bundles_text p.entries targets 0 p.bundles) (data_text p.bytes))
+    let bundles = bundles_short most within p.entries targets (length p.bundles) 0 p.bundles (omega (arith, h.counts.bundles)) (good_of p h) in
+    omega (arith, bundles, data_short p.bytes h.bytes, length-append (bundles_text p.entries targets 0 p.bundles) (data_text p.bytes))
+
+-- The canonical text of a program fits in what a command takes.
+pub text_fits : AreSlotLinesWithin SLOT_LINE_LIMIT → (p : Program) → CanonicalTextFits p
+text_fits within p h = omega (arith, text_short SLOT_LINE_LIMIT within p h, few_words p.bytes, h.counts.bundles, h.counts.bytes)
+
+-- And so it is short enough to be read.
+pub text_is_short : AreSlotLinesWithin SLOT_LINE_LIMIT → (p : Program) → CanonicalTextIsShort p
+text_is_short within p h = omega (arith, text_fits within p h)

@@ -8,6 +8,6 @@ pub mod Drafts
 pub mod TextParts
 pub mod Names
 pub mod TextReading
+pub mod WholeTexts
 pub mod Laws
 pub mod RoundTrip
-pub mod SomeOutcome

@@ -2,9 +2,9 @@
 
 ghost use Rattle.std.specs.Prelude.{ℕ, List};
 ghost use Rattle.ia_insn.specs.Programs.{Program};
-ghost use Rattle.asm_build.specs.Laws.{OneTextProgram, OneTextFault, NoFaultWhereRead};
-ghost use Rattle.asm_build.specs.RoundTrip.{CanonicalTextReads, CanonicalTextIsShort};
-ghost use Rattle.asm_build.specs.SomeOutcome.{TextOrFault};
+ghost use Rattle.asm_build.specs.Laws.{OneTextProgram, OneTextFault, NoFaultWhereRead, TextOrFault};
+ghost use Rattle.asm_build.specs.RoundTrip.{CanonicalTextReads, CanonicalTextIsShort, CanonicalTextFits};
+ghost use Rattle.asm_build.specs.WholeTexts.{MeansWhatItReads};
 
 use asm_text::{a_line_has_one_answer, line_or_fault, printed_slots_are_read_back};
 
@@ -37,10 +37,18 @@ pub fn text_or_fault()
 }
 
 /// The law that the canonical text of a program reads as the program, and is short enough for
-/// [`assemble`](crate::assemble). It does nothing.
+/// [`assemble`](crate::assemble): it has at most 4,194,304 bytes. It does nothing.
 pub fn canonical_texts_are_read_back()
     ensures back { (p : Program) → CanonicalTextReads p }
     ensures short { (p : Program) → CanonicalTextIsShort p }
+    ensures fits { (p : Program) → CanonicalTextFits p }
 {
     printed_slots_are_read_back();
 }
+
+/// The law that a text means what its lines say, looked at all at once: the bundles of the program that it reads as,
+/// its declared entries and its data are those on the lines, in order, and a label names what as many bundles, or
+/// as many bytes of data, stand before as before the label in the text. It does nothing.
+pub fn texts_mean_their_lines()
+    ensures { (text : List ℕ) (p : Program) → MeansWhatItReads text p }
+{}

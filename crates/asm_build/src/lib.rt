@@ -14,6 +14,7 @@ mod disassembly;
 mod draft;
 mod labels;
 mod laws;
+pub mod limits;
 mod listing;
 mod names;
 mod reason;
@@ -24,7 +25,7 @@ pub use assembly::assemble;
 pub use disassembly::disassemble;
 pub use laws::{
     canonical_texts_are_read_back, no_fault_where_read, one_text_fault, one_text_program,
-    text_or_fault,
+    text_or_fault, texts_mean_their_lines,
 };
 pub use listing::list;
 pub use reason::{Reason, TextError};

@@ -1,2 +1,12 @@
+pub mod Bools
+pub mod Chosen
+pub mod Clear
+pub mod Fits
+mod Letters
 mod PastTheEnd
+mod Places
 mod Pushed
+pub mod ReadChoice
+pub mod RowBack
+pub mod RowFacts
+mod Somes

@@ -1,11 +1,15 @@
 -- What a form wants at one place of its operands, and from which tokens that is read.
-use Rattle.std.specs.Prelude.{ℕ, ◌%◌, Bool, true, false, ◌&&◌, nat_le, ◌==◌, if◌then◌else◌}
+use Rattle.std.specs.Prelude.{ℕ, ◌+◌, ◌%◌, Bool, true, false, ◌&&◌, nat_le, ◌==◌, if◌then◌else◌, List, [], ◌∷◌}
 use Rattle.asm_words.specs.declared.tokens.Token.{Token}
 use Rattle.asm_words.specs.declared.tokens.Token.TheVariants as t
 use Rattle.asm_forms.specs.declared.items.Item.{Item}
-use Rattle.asm_forms.specs.declared.items.Item.TheVariants as i
+use Rattle.asm_forms.specs.declared.items.Item.TheVariants.{Is, Takes}
+use Rattle.asm_forms.specs.declared.items.Mark.{Mark}
+use Rattle.asm_forms.specs.declared.items.Mark.TheVariants as m
+use Rattle.asm_forms.specs.declared.items.Kind.{Kind}
+use Rattle.asm_forms.specs.declared.items.Kind.TheVariants as k
 use Rattle.asm_forms.specs.declared.items.NumberField.{NumberField}
-use Rattle.asm_forms.specs.declared.items.NumberField.TheVariants.{Imm8, Less8, Imm9, Imm14, Imm22, Imm21, Imm62, Imm64, Count, Position, Length, Length16, One, ZeroOrMinusOne, Frame, Rotating, Tag, Mask, RotatingMask, Skip, Data1, Data2, Data4}
+use Rattle.asm_forms.specs.declared.items.NumberField.TheVariants.{Imm8, Less8, Imm9, Imm14, Imm22, Imm21, Imm62, Imm64, Count, Position, Length, Length16, ZeroOrMinusOne, Frame, Rotating, Tag, Mask, RotatingMask, Skip, Data1, Data2, Data4}
 use Rattle.ia_insn.specs.declared.registers.Ar.TheVariants as ar
 use Rattle.ia_insn.specs.declared.limits.TheConstants.{DATA_LIMIT}
 
@@ -27,7 +31,6 @@ holds Count s m = within s m 0 4 && nat_le 1 m
 holds Position s m = within s m 0 63
 holds Length s m = within s m 0 64 && nat_le 1 m
 holds Length16 s m = within s m 0 16 && nat_le 1 m
-holds One s m = within s m 0 1 && nat_le 1 m
 holds ZeroOrMinusOne s m = within s m 1 0
 holds Frame s m = within s m 0 96
 holds Rotating s m = within s m 0 96 && (m % 8 == 0)
@@ -39,49 +42,34 @@ holds Data1 s m = within s m 128 255
 holds Data2 s m = within s m 32768 65535
 holds Data4 s m = within s m 2147483648 4294967295
 
-abbrev is_gr : Token → Bool
-is_gr (t.Gr _) = true
-is_gr _ = false
+-- the token that a mark is
+abbrev pub mark_token : Mark → Token
+mark_token m.Equals = t.Equals
+mark_token m.Comma = t.Comma
+mark_token m.OpenBracket = t.OpenBracket
+mark_token m.CloseBracket = t.CloseBracket
+mark_token m.Unat = t.Ar ar.Unat
+mark_token m.Pfs = t.Ar ar.Pfs
+mark_token m.R0 = t.Gr 0
+mark_token m.Predicates = t.Predicates
+mark_token m.RotatingPredicates = t.RotatingPredicates
+mark_token m.Ip = t.Ip
+mark_token m.One = t.Number false 1
 
-abbrev is_pr : Token → Bool
-is_pr (t.Pr _) = true
-is_pr _ = false
-
-abbrev is_br : Token → Bool
-is_br (t.Br _) = true
-is_br _ = false
-
-abbrev is_ar : Token → Bool
-is_ar (t.Ar _) = true
-is_ar _ = false
-
-abbrev is_unat : Token → Bool
-is_unat (t.Ar ar.Unat) = true
-is_unat _ = false
-
-abbrev is_pfs : Token → Bool
-is_pfs (t.Ar ar.Pfs) = true
-is_pfs _ = false
-
-abbrev is_r0 : Token → Bool
-is_r0 (t.Gr n) = n == 0
-is_r0 _ = false
-
-abbrev is_predicates : Token → Bool
-is_predicates t.Predicates = true
-is_predicates _ = false
-
-abbrev is_rotating_predicates : Token → Bool
-is_rotating_predicates t.RotatingPredicates = true
-is_rotating_predicates _ = false
-
-abbrev is_ip : Token → Bool
-is_ip t.Ip = true
-is_ip _ = false
-
-abbrev is_number_of : NumberField → Token → Bool
-is_number_of f (t.Number s m) = holds f s m
-is_number_of f _ = false
+-- the token is the mark
+abbrev pub is_mark : Mark → Token → Bool
+is_mark m.Equals t.Equals = true
+is_mark m.Comma t.Comma = true
+is_mark m.OpenBracket t.OpenBracket = true
+is_mark m.CloseBracket t.CloseBracket = true
+is_mark m.Unat (t.Ar ar.Unat) = true
+is_mark m.Pfs (t.Ar ar.Pfs) = true
+is_mark m.R0 (t.Gr n) = n == 0
+is_mark m.Predicates t.Predicates = true
+is_mark m.RotatingPredicates t.RotatingPredicates = true
+is_mark m.Ip t.Ip = true
+is_mark m.One (t.Number false n) = n == 1
+is_mark _ _ = false
 
 -- a label has any spelling of at most 63 bytes
 abbrev pub is_label : Token → Bool
@@ -96,70 +84,75 @@ is_label t.Name = true
 is_label t.Symbol = true
 is_label _ = false
 
-abbrev is_equals : Token → Bool
-is_equals t.Equals = true
-is_equals _ = false
+-- an operand of the kind is read from the token
+abbrev pub takes : Kind → Token → Bool
+takes k.Gr (t.Gr _) = true
+takes k.Pr (t.Pr _) = true
+takes k.Br (t.Br _) = true
+takes k.Ar (t.Ar _) = true
+takes (k.Number f) (t.Number s m) = holds f s m
+takes k.Label x = is_label x
+takes _ _ = false
 
-abbrev is_comma : Token → Bool
-is_comma t.Comma = true
-is_comma _ = false
-
-abbrev is_open_bracket : Token → Bool
-is_open_bracket t.OpenBracket = true
-is_open_bracket _ = false
-
-abbrev is_close_bracket : Token → Bool
-is_close_bracket t.CloseBracket = true
-is_close_bracket _ = false
-
-abbrev is_open_parenthesis : Token → Bool
-is_open_parenthesis t.OpenParenthesis = true
-is_open_parenthesis _ = false
-
-abbrev is_close_parenthesis : Token → Bool
-is_close_parenthesis t.CloseParenthesis = true
-is_close_parenthesis _ = false
-
--- whether an item is read from a token
+-- an item is read from the token
 abbrev pub accepts : Item → Token → Bool
-accepts i.Gr x = is_gr x
-accepts i.Pr x = is_pr x
-accepts i.Br x = is_br x
-accepts i.Ar x = is_ar x
-accepts i.Unat x = is_unat x
-accepts i.Pfs x = is_pfs x
-accepts i.R0 x = is_r0 x
-accepts i.Predicates x = is_predicates x
-accepts i.RotatingPredicates x = is_rotating_predicates x
-accepts i.Ip x = is_ip x
-accepts (i.Number f) x = is_number_of f x
-accepts i.Label x = is_label x
-accepts i.Equals x = is_equals x
-accepts i.Comma x = is_comma x
-accepts i.OpenBracket x = is_open_bracket x
-accepts i.CloseBracket x = is_close_bracket x
-accepts i.OpenParenthesis x = is_open_parenthesis x
-accepts i.CloseParenthesis x = is_close_parenthesis x
+accepts (Is mark) x = is_mark mark x
+accepts (Takes kind) x = takes kind x
+
+-- how many operands the items take
+abbrev pub operand_count : List Item → ℕ
+operand_count [] = 0
+operand_count (Is mark ∷ is) = operand_count is
+operand_count (Takes kind ∷ is) = operand_count is + 1
+
+-- the operands among the tokens of the items
+abbrev pub taken : List Item → List Token → List Token
+taken [] xs = []
+taken (i ∷ is) [] = []
+taken (Is mark ∷ is) (x ∷ xs) = taken is xs
+taken (Takes kind ∷ is) (x ∷ xs) = x ∷ taken is xs
+
+-- the tokens of the items with these operands
+abbrev pub filled : List Item → List Token → List Token
+filled [] xs = []
+filled (Is mark ∷ is) xs = mark_token mark ∷ filled is xs
+filled (Takes kind ∷ is) [] = []
+filled (Takes kind ∷ is) (x ∷ xs) = x ∷ filled is xs
+
+-- an operand of the kind is printed as the token: a label as a name that is no register
+abbrev pub prints : Kind → Token → Bool
+prints k.Label t.Name = true
+prints k.Label _ = false
+prints kind x = takes kind x
+
+-- the operands are of the kinds that the items take, one by one, as they are printed
+abbrev pub fits : List Item → List Token → Bool
+fits [] [] = true
+fits [] (x ∷ xs) = false
+fits (Is mark ∷ is) xs = fits is xs
+fits (Takes kind ∷ is) [] = false
+fits (Takes kind ∷ is) (x ∷ xs) = prints kind x && fits is xs
 
 abbrev pub is_register : Item → Bool
-is_register i.Gr = true
-is_register i.Pr = true
-is_register i.Br = true
-is_register i.Ar = true
-is_register i.Unat = true
-is_register i.Pfs = true
-is_register i.R0 = true
-is_register i.Predicates = true
-is_register i.RotatingPredicates = true
-is_register i.Ip = true
+is_register (Takes k.Gr) = true
+is_register (Takes k.Pr) = true
+is_register (Takes k.Br) = true
+is_register (Takes k.Ar) = true
+is_register (Is m.Unat) = true
+is_register (Is m.Pfs) = true
+is_register (Is m.R0) = true
+is_register (Is m.Predicates) = true
+is_register (Is m.RotatingPredicates) = true
+is_register (Is m.Ip) = true
 is_register _ = false
 
 abbrev pub is_number : Item → Bool
-is_number (i.Number _) = true
+is_number (Takes (k.Number _)) = true
+is_number (Is m.One) = true
 is_number _ = false
 
 abbrev pub is_label_item : Item → Bool
-is_label_item i.Label = true
+is_label_item (Takes k.Label) = true
 is_label_item _ = false
 
 -- the token is a name that begins with a letter

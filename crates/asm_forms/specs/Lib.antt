@@ -1,6 +1,5 @@
 pub mod Completers
 pub mod Items
-pub mod LeadingWords
 pub mod Rows
 pub mod Naming
 pub mod Matching

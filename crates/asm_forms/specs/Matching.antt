@@ -16,7 +16,7 @@ use Rattle.asm_forms.specs.Rows.{row_of}
 
 -- the operands are those of the form, one by one
 abbrev pub is_spelled : List Token → Form → Bool
-is_spelled operands form = pointwise accepts (row_of form).1 operands
+is_spelled operands form = pointwise accepts (row_of form).items operands
 
 abbrev pub is_stop_next : List Token → Bool
 is_stop_next [] = false
@@ -37,7 +37,7 @@ agreed items tokens =
 -- the most tokens on which a form agrees
 abbrev pub reach : List Form → List Token → ℕ
 reach [] tokens = 0
-reach (f ∷ fs) tokens = max (agreed (row_of f).1 tokens) (reach fs tokens)
+reach (f ∷ fs) tokens = max (agreed (row_of f).items tokens) (reach fs tokens)
 
 abbrev is_in : Class → Item → Bool
 is_in class.Register i = is_register i
@@ -48,12 +48,12 @@ abbrev pub is_of : Class → Option Item → Bool
 is_of c None = false
 is_of c (Some i) = is_in c i
 
--- the form agrees so far, and wants an item of the class next
-abbrev pub wants_at : Class → List Token → ℕ → Form → Bool
-wants_at c tokens at f = (agreed (row_of f).1 tokens == at) && is_of c (slice_get (row_of f).1 at)
+-- the items agree so far, and one of the class is next
+abbrev pub wants_next : Class → List Item → List Token → ℕ → Bool
+wants_next c items tokens at = (agreed items tokens == at) && is_of c (slice_get items at)
 
 abbrev pub wants : Class → List Form → List Token → ℕ → Bool
-wants c forms tokens at = list_any (wants_at c tokens at) forms
+wants c forms tokens at = list_any (λ f. wants_next c (row_of f).items tokens at) forms
 
 -- a number that its field has no room for, or no number
 abbrev pub number_fault : Token → LineFault

@@ -1,14 +1,14 @@
--- A mnemonic: a leading word, and one completer of each set of a form that it leads.
-use Rattle.std.specs.Prelude.{ℕ, nat_eq, Bool, true, ◌&&◌, ◌==◌, length, drop, filter, List, [], ◌∷◌, Option, Some, None, option_map, is_some}
-use Rattle.std.specs.List.{find, starts_with}
+-- A mnemonic: the word of a row, and one completer of each of the row's sets.
+use Rattle.std.specs.Prelude.{ℕ, nat_eq, Bool, true, false, ◌&&◌, ◌==◌, length, drop, filter, map, List, [], ◌∷◌, Option, Some, None, option_map, is_some}
+use Rattle.std.specs.List.{find, list_any, starts_with}
+use Rattle.std.specs.Str.{bytes_eq}
+use denote.Enum.Declared.{tag_of}
+use Rattle.asm_forms.specs.contracts.completer.Completer.{the_type}
 use Rattle.asm_forms.specs.declared.completer.Completer.{Completer}
 use Rattle.asm_forms.specs.declared.completer.CompleterSet.{CompleterSet}
 use Rattle.asm_forms.specs.declared.form.Form.{Form}
-use Rattle.asm_forms.specs.declared.leading.LeadingWord.{LeadingWord}
 use Rattle.asm_forms.specs.Completers.{text_of, members}
-use Rattle.asm_forms.specs.LeadingWords.{word_text}
-use Rattle.asm_forms.specs.declared.leading.TheConstants.{ALL}
-use Rattle.asm_forms.specs.Rows.{row_of}
+use Rattle.asm_forms.specs.Rows.{Row, rows, row_of}
 
 -- a dot or nothing follows
 abbrev pub ends_part : List ℕ → Bool
@@ -23,7 +23,7 @@ abbrev none_left : List ℕ → Option (List Completer)
 none_left [] = Some []
 none_left (c ∷ cs) = None
 
-abbrev and_more : Option Completer → (Completer → Option (List Completer)) → Option (List Completer)
+abbrev pub and_more : Option Completer → (Completer → Option (List Completer)) → Option (List Completer)
 and_more None more = None
 and_more (Some c) more = option_map (λ cs. c ∷ cs) (more c)
 
@@ -33,10 +33,28 @@ completers_in [] name = none_left name
 completers_in (s ∷ ss) name =
     and_more (find (λ c. begins name (text_of c)) (members s)) (λ c. completers_in ss (drop (length (text_of c)) name))
 
--- the leading word of a name, and what follows it
-abbrev pub mnemonic_of : List ℕ → Option (LeadingWord × List ℕ)
-mnemonic_of name = option_map (λ w. (w, drop (length (word_text w)) name)) (find (λ w. begins name (word_text w)) ALL)
+abbrev pub has_completers_if : Bool → List CompleterSet → List ℕ → Bool
+has_completers_if false sets name = false
+has_completers_if true sets name = is_some (completers_in sets name)
 
--- the forms whose completers this is
-abbrev pub named_in : List Form → List ℕ → List Form
-named_in forms rest = filter (λ f. is_some (completers_in (row_of f).0 rest)) forms
+-- the name is the row's word and completers
+abbrev pub is_named : List ℕ → Row → Bool
+is_named name r = has_completers_if (begins name r.word) r.sets (drop (length r.word) name)
+
+-- the forms whose words and completers this name is, in their order
+abbrev pub named_forms : List ℕ → List Form
+named_forms name = map (λ r. r.form) (filter (is_named name) rows)
+
+-- the completers of the form in a name that its word begins
+abbrev pub completers : Form → List ℕ → Option (List Completer)
+completers f name = completers_in (row_of f).sets (drop (length (row_of f).word) name)
+
+-- the same completer: of one kind and one text
+abbrev pub is_same : Completer → Completer → Bool
+is_same x y = (tag_of the_type x == tag_of the_type y) && bytes_eq (text_of x) (text_of y)
+
+-- one completer of each set
+abbrev pub is_choice : List CompleterSet → List Completer → Bool
+is_choice [] [] = true
+is_choice (s ∷ ss) (x ∷ xs) = list_any (is_same x) (members s) && is_choice ss xs
+is_choice _ _ = false

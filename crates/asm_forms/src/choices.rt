@@ -50,7 +50,7 @@ pub enum CacheHint {
     Nta,
 }
 
-/// How many bytes are loaded, stored, extended or written as data.
+/// How many bytes a number of a line of data has.
 #[derive(Clone, Copy, Debug, PartialEq, Eq)]
 pub enum AccessSize {
     /// 1 byte.

@@ -1,11 +1,11 @@
 //! What a form wants at one place of its operands.
 
 ghost use Rattle.std.specs.Prelude.{◌≡◌};
-ghost use Rattle.asm_forms.specs.Items.{accepts, holds, within, is_label, is_register, is_number, is_label_item, begins_with_letter, is_long_name, is_stop};
+ghost use Rattle.asm_forms.specs.Items.{mark_token, is_mark, takes, accepts, holds, within, is_label, is_register, is_number, is_label_item, begins_with_letter, is_long_name, is_stop};
 
 use asm_words::Token;
-use ia_insn::Ar;
 use ia_insn::limits::DATA_LIMIT;
+use ia_insn::{Ar, Gr};
 
 /// A field for a number.
 #[derive(Clone, Copy, Debug, PartialEq, Eq)]
@@ -34,8 +34,6 @@ pub enum NumberField {
     Length,
     /// 1 to 16.
     Length16,
-    /// 1 alone.
-    One,
     /// -1 to 0.
     ZeroOrMinusOne,
     /// 0 to 96.
@@ -58,33 +56,9 @@ pub enum NumberField {
     Data4,
 }
 
-/// What a form wants at one place.
+/// What stands at one place and is the same in each line.
 #[derive(Clone, Copy, Debug, PartialEq, Eq)]
-pub enum Item {
-    /// A general register.
-    Gr,
-    /// A predicate register.
-    Pr,
-    /// A branch register.
-    Br,
-    /// An application register.
-    Ar,
-    /// `ar.unat`.
-    Unat,
-    /// `ar.pfs`.
-    Pfs,
-    /// `r0`.
-    R0,
-    /// `pr`.
-    Predicates,
-    /// `pr.rot`.
-    RotatingPredicates,
-    /// `ip`.
-    Ip,
-    /// A number of this field.
-    Number(NumberField),
-    /// A label.
-    Label,
+pub enum Mark {
     /// `=`
     Equals,
     /// `,`
@@ -93,10 +67,46 @@ pub enum Item {
     OpenBracket,
     /// `]`
     CloseBracket,
-    /// `(`
-    OpenParenthesis,
-    /// `)`
-    CloseParenthesis,
+    /// `ar.unat`
+    Unat,
+    /// `ar.pfs`
+    Pfs,
+    /// `r0`
+    R0,
+    /// `pr`
+    Predicates,
+    /// `pr.rot`
+    RotatingPredicates,
+    /// `ip`
+    Ip,
+    /// `1`
+    One,
+}
+
+/// A kind of operand.
+#[derive(Clone, Copy, Debug, PartialEq, Eq)]
+pub enum Kind {
+    /// A general register.
+    Gr,
+    /// A predicate register.
+    Pr,
+    /// A branch register.
+    Br,
+    /// An application register.
+    Ar,
+    /// A number of this field.
+    Number(NumberField),
+    /// A label.
+    Label,
+}
+
+/// What a form wants at one place.
+#[derive(Clone, Copy, Debug, PartialEq, Eq)]
+pub enum Item {
+    /// This mark.
+    Is(Mark),
+    /// An operand of this kind.
+    Takes(Kind),
 }
 
 /// Whether a number from `-below` to `above` has this sign and magnitude.
@@ -132,7 +142,6 @@ pub fn holds(field: NumberField, negative: bool, magnitude: u64) -> bool
         NumberField::Position => within(negative, magnitude, 0, 63),
         NumberField::Length => within(negative, magnitude, 0, 64) && magnitude >= 1,
         NumberField::Length16 => within(negative, magnitude, 0, 16) && magnitude >= 1,
-        NumberField::One => within(negative, magnitude, 0, 1) && magnitude >= 1,
         NumberField::ZeroOrMinusOne => within(negative, magnitude, 1, 0),
         NumberField::Frame => within(negative, magnitude, 0, 96),
         NumberField::Rotating => within(negative, magnitude, 0, 96) && magnitude % 8 == 0,
@@ -167,38 +176,83 @@ fn is_label(token: Token) -> bool
     )
 }
 
-/// Whether the item is read from the token.
-pub fn accepts(item: Item, token: Token) -> bool
-    ensures { result ≡ accepts item token }
+/// The token that a mark is.
+pub fn mark_token(mark: Mark) -> Token
+    ensures { result ≡ mark_token mark }
 {
-    match item {
-        Item::Gr => matches!(token, Token::Gr(_)),
-        Item::Pr => matches!(token, Token::Pr(_)),
-        Item::Br => matches!(token, Token::Br(_)),
-        Item::Ar => matches!(token, Token::Ar(_)),
-        Item::Unat => matches!(token, Token::Ar(Ar::Unat)),
-        Item::Pfs => matches!(token, Token::Ar(Ar::Pfs)),
-        Item::R0 => match token {
+    match mark {
+        Mark::Equals => Token::Equals,
+        Mark::Comma => Token::Comma,
+        Mark::OpenBracket => Token::OpenBracket,
+        Mark::CloseBracket => Token::CloseBracket,
+        Mark::Unat => Token::Ar(Ar::Unat),
+        Mark::Pfs => Token::Ar(Ar::Pfs),
+        Mark::R0 => Token::Gr(Gr::default()),
+        Mark::Predicates => Token::Predicates,
+        Mark::RotatingPredicates => Token::RotatingPredicates,
+        Mark::Ip => Token::Ip,
+        Mark::One => Token::Number {
+            negative: false,
+            magnitude: 1,
+        },
+    }
+}
+
+/// Whether the token is the mark.
+fn is_mark(mark: Mark, token: Token) -> bool
+    ensures { result ≡ is_mark mark token }
+{
+    match mark {
+        Mark::Equals => matches!(token, Token::Equals),
+        Mark::Comma => matches!(token, Token::Comma),
+        Mark::OpenBracket => matches!(token, Token::OpenBracket),
+        Mark::CloseBracket => matches!(token, Token::CloseBracket),
+        Mark::Unat => matches!(token, Token::Ar(Ar::Unat)),
+        Mark::Pfs => matches!(token, Token::Ar(Ar::Pfs)),
+        Mark::R0 => match token {
             Token::Gr(register) => register.is_zero(),
             _ => false,
         },
-        Item::Predicates => matches!(token, Token::Predicates),
-        Item::RotatingPredicates => matches!(token, Token::RotatingPredicates),
-        Item::Ip => matches!(token, Token::Ip),
-        Item::Number(field) => match token {
+        Mark::Predicates => matches!(token, Token::Predicates),
+        Mark::RotatingPredicates => matches!(token, Token::RotatingPredicates),
+        Mark::Ip => matches!(token, Token::Ip),
+        Mark::One => matches!(
+            token,
+            Token::Number {
+                negative: false,
+                magnitude: 1
+            }
+        ),
+    }
+}
+
+/// Whether an operand of the kind is read from the token.
+fn takes(kind: Kind, token: Token) -> bool
+    ensures { result ≡ takes kind token }
+{
+    match kind {
+        Kind::Gr => matches!(token, Token::Gr(_)),
+        Kind::Pr => matches!(token, Token::Pr(_)),
+        Kind::Br => matches!(token, Token::Br(_)),
+        Kind::Ar => matches!(token, Token::Ar(_)),
+        Kind::Number(field) => match token {
             Token::Number {
                 negative,
                 magnitude,
             } => holds(field, negative, magnitude),
             _ => false,
         },
-        Item::Label => is_label(token),
-        Item::Equals => matches!(token, Token::Equals),
-        Item::Comma => matches!(token, Token::Comma),
-        Item::OpenBracket => matches!(token, Token::OpenBracket),
-        Item::CloseBracket => matches!(token, Token::CloseBracket),
-        Item::OpenParenthesis => matches!(token, Token::OpenParenthesis),
-        Item::CloseParenthesis => matches!(token, Token::CloseParenthesis),
+        Kind::Label => is_label(token),
+    }
+}
+
+/// Whether the item is read from the token.
+pub fn accepts(item: Item, token: Token) -> bool
+    ensures { result ≡ accepts item token }
+{
+    match item {
+        Item::Is(mark) => is_mark(mark, token),
+        Item::Takes(kind) => takes(kind, token),
     }
 }
 
@@ -208,16 +262,15 @@ pub(crate) fn is_register(item: Item) -> bool
 {
     matches!(
         item,
-        Item::Gr
-            | Item::Pr
-            | Item::Br
-            | Item::Ar
-            | Item::Unat
-            | Item::Pfs
-            | Item::R0
-            | Item::Predicates
-            | Item::RotatingPredicates
-            | Item::Ip
+        Item::Takes(Kind::Gr | Kind::Pr | Kind::Br | Kind::Ar)
+            | Item::Is(
+                Mark::Unat
+                    | Mark::Pfs
+                    | Mark::R0
+                    | Mark::Predicates
+                    | Mark::RotatingPredicates
+                    | Mark::Ip
+            )
     )
 }
 
@@ -225,14 +278,14 @@ pub(crate) fn is_register(item: Item) -> bool
 pub(crate) fn is_number(item: Item) -> bool
     ensures { result ≡ is_number item }
 {
-    matches!(item, Item::Number(_))
+    matches!(item, Item::Takes(Kind::Number(_)) | Item::Is(Mark::One))
 }
 
 /// Whether the item is a label.
 pub(crate) fn is_label_item(item: Item) -> bool
     ensures { result ≡ is_label_item item }
 {
-    matches!(item, Item::Label)
+    matches!(item, Item::Takes(Kind::Label))
 }
 
 /// Whether the token is a name that begins with a letter.

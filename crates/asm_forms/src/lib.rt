@@ -2,27 +2,28 @@
 //! and where a line's first fault is.
 //!
 //! A line is a leading word, its completers and its operands (volume 3, chapter 2, the assembly syntax
-//! of each instruction). What there is is data: `leading` has the words that lead a line and the
-//! forms of each, `rows` has a row a form, in the order of the manual's formats, with the completers
-//! and the operands that it wants, and `completer` has the completers that may stand at one place.
-//! Everything else looks at no instruction: `naming` reads a word with its completers, `matching` says
-//! which form a line's operands have, and where none has them which fault that is.
+//! of each instruction). What there is is data: `rows` has a row a form, with the word that leads a line of
+//! the form, the sets of its completers and what stands after it, and `completer` has the completers of each
+//! set. Everything else goes by the rows: `naming` reads a word with its completers, `matching` says which
+//! form a line's operands have, and where none has them which fault that is, and `operands` takes the
+//! operands from between a form's marks.
 #![tactic(auto)]
 
 mod choices;
 mod completer;
 mod form;
 mod items;
-mod leading;
+mod laws;
 mod matching;
 mod naming;
+mod operands;
 mod rows;
 
 pub use choices::{AccessSize, CacheHint, Relation, Whether};
 pub use completer::{Completer, CompleterSet, members, text};
 pub use form::Form;
-pub use items::{Item, NumberField, accepts, holds};
-pub use leading::{LeadingWord, forms, word_text};
+pub use items::{Item, Kind, Mark, NumberField, accepts, holds, mark_token};
+pub use laws::forms_are_read_back;
 pub use matching::{fault_at, read_form};
-pub use naming::{Completers, Named, completers, leading_word, named};
-pub use rows::row;
+pub use naming::{Completers, Named, completers, named};
+pub use operands::{Operands, taken};

@@ -5,13 +5,12 @@ ghost use Rattle.std.specs.Cmp.Lexicographic.{pointwise};
 ghost use Rattle.std.specs.List.{find};
 ghost use Rattle.asm_forms.specs.Items.{accepts};
 ghost use Rattle.asm_forms.specs.Rows.{row_of};
-ghost use Rattle.asm_forms.specs.Matching.{agreed, agreed_items, is_stop_next, is_spelled, reach, wants, wants_at, fault_at, fault_of, number_fault, read_form, is_of};
+ghost use Rattle.asm_forms.specs.Matching.{agreed, agreed_items, is_stop_next, is_spelled, reach, wants, wants_next, fault_at, fault_of, number_fault, read_form, is_of};
 
 use crate::form::Form;
 use crate::items::{
     Item, accepts, begins_with_letter, is_label_item, is_long_name, is_number, is_register, is_stop,
 };
-use crate::rows::row;
 use asm_words::{LineFault, Token};
 
 /// A class of items.
@@ -93,7 +92,7 @@ fn reach(forms: &[Form], tokens: &[Token]) -> usize
 {
     let mut most = 0;
     for form in forms {
-        most = most.max(agreed(row(*form).1, tokens));
+        most = most.max(agreed(form.items(), tokens));
     }
     most
 }
@@ -103,17 +102,17 @@ fn wants(class: Class, forms: &[Form], tokens: &[Token], at: usize) -> bool
     ensures { result ≡ wants class forms.now tokens.now at }
 {
     for form in forms {
-        if wants_at(class, *form, tokens, at) {
+        if wants_next(class, form.items(), tokens, at) {
             return true;
         }
     }
     false
 }
 
-fn wants_at(class: Class, form: Form, tokens: &[Token], at: usize) -> bool
-    ensures { result ≡ wants_at class tokens.now at form }
+/// Whether the items agree so far, and one of the class is next.
+fn wants_next(class: Class, items: &[Item], tokens: &[Token], at: usize) -> bool
+    ensures { result ≡ wants_next class items.now tokens.now at }
 {
-    let items = row(form).1;
     agreed(items, tokens) == at && is_of(class, items.get(at).copied())
 }
 
@@ -167,7 +166,7 @@ fn find_form(forms: &[Form], operands: &[Token]) -> Option<Form>
     ensures { result ≡ find (is_spelled operands.now) forms.now }
 {
     for form in forms {
-        if are_accepted(row(*form).1, operands) {
+        if are_accepted(form.items(), operands) {
             return Some(*form);
         }
     }

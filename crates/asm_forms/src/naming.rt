@@ -1,23 +1,21 @@
-//! Reading a mnemonic: the leading word, the forms that it names, and their completers.
+//! Reading a mnemonic: the forms that it names, and their completers.
 
-ghost use Rattle.std.specs.Prelude.{◌≡◌, ◌≤◌, nat_eq, false, length, drop, map, IfSome, IsTrue, Some, None, option_map};
+ghost use Rattle.std.specs.Prelude.{◌≡◌, ◌≤◌, nat_eq, false, length, drop, filter, map, IfSome, IsTrue, Some, None, is_some, option_map};
 ghost use Rattle.std.specs.List.{find, starts_with};
 ghost use Rattle.asm_forms.specs.Completers.{text_of};
-ghost use Rattle.asm_forms.specs.LeadingWords.{word_text, forms_of};
-ghost use Rattle.asm_forms.specs.Rows.{row_of};
-ghost use Rattle.asm_forms.specs.Naming.{begins, ends_part, completers_in, mnemonic_of, named_in};
+ghost use Rattle.asm_forms.specs.Naming.{begins, ends_part, completers_in, is_named, named_forms, completers};
+ghost use Rattle.asm_forms.specs.Rows.{seen};
 
 use crate::completer::{Completer, CompleterSet, members, text};
 use crate::form::Form;
-use crate::leading::{ALL, LeadingWord, forms, word_text};
-use crate::rows::row;
+use crate::rows::{Row, rows_c_to_i, rows_from_o, rows_l_to_n, rows_to_b};
 use arrayvec::ArrayVec;
 
 /// The completers of a form, place by place.
 pub type Completers = ArrayVec<Completer, 4>;
 
 /// The forms that a mnemonic names, in their order.
-pub type Named = ArrayVec<Form, 20>;
+pub type Named = ArrayVec<Form, 36>;
 
 /// Whether a dot or nothing follows.
 fn ends_part(rest: &[u8]) -> bool
@@ -48,19 +46,6 @@ fn begins(name: &[u8], text: &[u8]) -> bool
     !differ_at_once(name, text) && name.starts_with(text) && ends_part(&name[text.len()..])
 }
 
-/// The first of the words with which the name begins.
-fn find_word(words: &[LeadingWord], name: &[u8]) -> Option<LeadingWord>
-    ensures value { result ≡ find (λ w. begins name.now (word_text w)) words.now }
-    ensures room { IfSome result (λ w. length (word_text w) ≤ length name.now) }
-{
-    for word in words {
-        if begins(name, word_text(*word)) {
-            return Some(*word);
-        }
-    }
-    None
-}
-
 /// The first of the completers with which the name begins.
 fn find_completer(completers: &[Completer], name: &[u8]) -> Option<Completer>
     ensures value { result ≡ find (λ c. begins name.now (text_of c)) completers.now }
@@ -74,20 +59,83 @@ fn find_completer(completers: &[Completer], name: &[u8]) -> Option<Completer>
     None
 }
 
-/// The leading word of a name, and what follows it; None where no word leads it.
-pub fn leading_word(name: &[u8]) -> Option<(LeadingWord, &[u8])>
-    ensures { option_map (λ m. (m.0, m.1.now)) result ≡ mnemonic_of name.now }
+/// Whether the text is a completer of each set, one after the other.
+fn has_completers(sets: &[CompleterSet], name: &[u8]) -> bool
+    ensures { result ≡ is_some (completers_in sets.now name.now) }
 {
-    let word = find_word(&ALL, name)?;
-    let rest = &name[word_text(word).len()..];
-    Some((word, rest))
+    match sets {
+        [] => name.is_empty(),
+        [set, sets @ ..] => match find_completer(members(*set), name) {
+            Some(completer) => has_completers(sets, &name[text(completer).len()..]),
+            None => false,
+        },
+    }
 }
 
-/// The completers of the form that this text is, and None where it is none.
-pub fn completers(form: Form, name: &[u8]) -> Option<Completers>
-    ensures { option_map (λ cs. cs.items) result ≡ completers_in (row_of form).0 name.now }
+/// Whether the name is the row's word and completers.
+fn is_named(name: &[u8], row: &Row) -> bool
+    ensures { result ≡ is_named name.now (seen row.now) }
 {
-    completers_of(row(form).0, name)
+    begins(name, row.1) && has_completers(row.2, &name[row.1.len()..])
+}
+
+/// The rows among which those of the name's word are.
+fn rows_by_letter(name: &[u8]) -> &'static [Row]
+    ensures value { map (λ r. r.form) (filter (is_named name.now) (map seen result.now)) ≡ named_forms name.now }
+    ensures few { length result.now ≤ 36 }
+{
+    match name {
+        [first, ..] => {
+            if *first < b'c' {
+                rows_to_b()
+            } else if *first < b'l' {
+                rows_c_to_i()
+            } else if *first < b'o' {
+                rows_l_to_n()
+            } else {
+                rows_from_o()
+            }
+        }
+        [] => rows_to_b(),
+    }
+}
+
+/// The forms whose words and completers this name is, in the order of the rows.
+pub fn named(name: &[u8]) -> Named
+    ensures { result.items ≡ named_forms name.now }
+{
+    named_among(rows_by_letter(name), name)
+}
+
+fn named_among(rows: &[Row], name: &[u8]) -> Named
+    requires { length rows.now ≤ 36 }
+    ensures { result.items ≡ map (λ r. r.form) (filter (is_named name.now) (map seen rows.now)) }
+{
+    let mut named = Named::new();
+    for row in rows {
+        if is_named(name, row) {
+            named.push(row.0);
+        }
+    }
+    named
+}
+
+/// What follows the word in the name.
+fn past<'a>(word: &[u8], name: &'a [u8]) -> &'a [u8]
+    ensures { result.now ≡ drop (length word.now) name.now }
+{
+    if word.len() <= name.len() {
+        &name[word.len()..]
+    } else {
+        &[]
+    }
+}
+
+/// The completers of the form in a name that the form's word begins, and None where it has others.
+pub fn completers(form: Form, name: &[u8]) -> Option<Completers>
+    ensures { option_map (λ cs. cs.items) result ≡ completers form name.now }
+{
+    completers_of(form.sets(), past(form.word(), name))
 }
 
 /// One completer of each set, one after the other.
@@ -111,24 +159,4 @@ fn rest_of(name: &[u8], at: usize) -> &[u8]
     ensures { result.now ≡ drop at name.now }
 {
     &name[at..]
-}
-
-/// The forms of the leading word whose completers this text is.
-pub fn named(word: LeadingWord, rest: &[u8]) -> Named
-    ensures { result.items ≡ named_in (forms_of word) rest.now }
-{
-    named_among(forms(word), rest)
-}
-
-fn named_among(forms: &[Form], rest: &[u8]) -> Named
-    requires { length forms.now ≤ 20 }
-    ensures { result.items ≡ named_in forms.now rest.now }
-{
-    let mut named = Named::new();
-    for form in forms {
-        if completers(*form, rest).is_some() {
-            named.push(*form);
-        }
-    }
-    named
 }

@@ -1,92 +1,37 @@
--- The forms that a printed mnemonic names, and what is read from them.
-use Rattle.std.proofs.Common.{◌≡◌, ◌≢◌, ◌⊎◌, inl, inr, refl, ℕ, ◌≤◌, Bool, true, false, List, [], ◌∷◌, Some, None, Ok, length, drop, arith, flat_map}
-use Rattle.std.specs.List.{find}
-use Rattle.asm_words.specs.declared.tokens.Token.{Token}
-use Rattle.asm_forms.specs.declared.completer.Completer.{Completer}
+-- The printed completers are in their sets, and their choices come back.
+use Rattle.std.proofs.Common.{◌≡◌, ◌≢◌, ◌⊎◌, inl, inr, refl, ℕ, ◌≤◌, Bool, true, false, cond, eqb, [], ◌∷◌, arith}
+use Rattle.std.specs.List.{list_any}
 use Rattle.asm_forms.specs.declared.completer.Completer.TheVariants as c
-use Rattle.asm_forms.specs.declared.completer.CompleterSet.{CompleterSet}
 use Rattle.asm_forms.specs.declared.completer.CompleterSet.TheVariants as set
-use Rattle.asm_forms.specs.declared.form.Form.{Form}
-use Rattle.asm_forms.specs.declared.choices.Whether.{Whether}
 use Rattle.asm_forms.specs.declared.choices.Whether.TheVariants as wh
-use Rattle.asm_forms.specs.declared.choices.CacheHint.{CacheHint}
 use Rattle.asm_forms.specs.declared.choices.CacheHint.TheVariants as hint
-use Rattle.asm_forms.specs.Completers.{text_of, members}
-use Rattle.asm_forms.specs.Matching.{read_form}
-use Rattle.asm_forms.specs.Naming.{begins, ends_part, completers_in, named_in}
-use Rattle.asm_forms.specs.Rows.{row_of}
-use Rattle.ia_insn.specs.declared.insn.Op.{Op}
+use Rattle.asm_forms.specs.Completers.{members}
+use Rattle.asm_forms.specs.Naming.{is_same, is_choice}
+use Rattle.asm_forms.proofs.Bools.{both}
 use Rattle.ia_insn.specs.declared.choices.LoadKind.{LoadKind}
 use Rattle.ia_insn.specs.declared.choices.LoadKind.TheVariants as load
 use Rattle.ia_insn.specs.declared.choices.StoreKind.{StoreKind}
 use Rattle.ia_insn.specs.declared.choices.StoreKind.TheVariants as store
-use Rattle.asm_text.specs.Canonical.{form_of, completers_of, tokens_of, when, prefetch_hint, cache_hint, whether as whether_numbered}
-use Rattle.asm_text.specs.Instructions.{op_of}
-use Rattle.asm_text.specs.Lines.{KindAndText, among, slot_of, is_bare}
+use Rattle.asm_text.specs.Canonical.{when, prefetch_hint, cache_hint, branch_hints, whether as whether_numbered}
 use Rattle.asm_text.specs.Operands.{hint_of, is_many, is_present, whether}
-use Rattle.asm_text.specs.ReadBack.{ReadsBack, untargeted, completers_text, named_forms}
 
--- a form whose completers a name has is named
-pub named_yes : (f : Form) (fs gs : List Form) (rest : List ℕ) (cs : List Completer) → completers_in (row_of f).0 rest ≡ Some cs → named_in fs rest ≡ gs → named_in (f ∷ fs) rest ≡ f ∷ gs
-named_yes f fs gs rest cs e m = rw (e, m) refl
+whether_in : (a b d : Bool) → list_any (is_same (c.Whether (cond a wh.Sptk (cond b wh.Spnt (cond d wh.Dptk wh.Dpnt))))) (members set.Whether) ≡ true
+whether_in true b d = refl
+whether_in false true d = refl
+whether_in false false true = refl
+whether_in false false false = refl
 
--- and one whose completers it hasn't is not
-pub named_no : (f : Form) (fs gs : List Form) (rest : List ℕ) → completers_in (row_of f).0 rest ≡ None → named_in fs rest ≡ gs → named_in (f ∷ fs) rest ≡ gs
-named_no f fs gs rest e m = rw (e, m) refl
+many_in : (many : Bool) → list_any (is_same (prefetch_hint many)) (members set.Prefetch) ≡ true
+many_in true = refl
+many_in false = refl
 
--- two and three forms of the same completers
-pub named_two : (f g : Form) (rest : List ℕ) (cs : List Completer) → completers_in (row_of f).0 rest ≡ Some cs → completers_in (row_of g).0 rest ≡ Some cs → named_in (f ∷ g ∷ []) rest ≡ f ∷ g ∷ []
-named_two f g rest cs e d = rw (e, d) refl
-
-pub named_three : (f g k : Form) (rest : List ℕ) (cs : List Completer) → completers_in (row_of f).0 rest ≡ Some cs → completers_in (row_of g).0 rest ≡ Some cs → completers_in (row_of k).0 rest ≡ Some cs → named_in (f ∷ g ∷ k ∷ []) rest ≡ f ∷ g ∷ k ∷ []
-named_three f g k rest cs e d m = rw (e, d, m) refl
-
--- forms by another name are read alike
-slot_from : (forms fs : List Form) (rest : List ℕ) (before after : List KindAndText) → forms ≡ fs → among fs rest before after ≡ slot_of fs rest before after → among forms rest before after ≡ slot_of forms rest before after
-slot_from forms fs rest before after e h = rw e h
-
-form_from : (forms fs : List Form) (xs ts : List Token) (f : Form) → forms ≡ fs → read_form fs xs ts ≡ Ok f → read_form forms xs ts ≡ Ok f
-form_from forms fs xs ts f e h = rw e h
-
--- an instruction is read back where the forms that its mnemonic names are known
-pub reads_by : (x : Op) (fs : List Form) → named_forms x ≡ fs → ((rest : List ℕ) (before after : List KindAndText) → among fs rest before after ≡ slot_of fs rest before after) → completers_in (row_of (form_of x)).0 (completers_text x) ≡ Some (completers_of x) → ((ts : List Token) → read_form fs (tokens_of x) ts ≡ Ok (form_of x)) → is_bare (form_of x) (completers_of x) ≡ false → op_of (form_of x) (completers_of x) (tokens_of x) ≡ Some (untargeted x) → ReadsBack x
-reads_by x fs e s c f b o = record {
-  slot = λ before after. slot_from (named_forms x) fs (completers_text x) before after e (s (completers_text x) before after);
-  completers = c;
-  form = λ ts. form_from (named_forms x) fs (tokens_of x) ts (form_of x) e (f ts);
-  bare = b;
-  op = o;
-}
-
--- the first completer, and then the others
-pub headed : (s : CompleterSet) (ss : List CompleterSet) (x : Completer) (xs : List Completer) (name tail : List ℕ) → find (λ y. begins name (text_of y)) (members s) ≡ Some x → drop (length (text_of x)) name ≡ tail → completers_in ss tail ≡ Some xs → completers_in (s ∷ ss) name ≡ Some (x ∷ xs)
-headed s ss x xs name tail e d m = rw (e, d, m) refl
+clr_in : (clr : Bool) → list_any (is_same (when clr c.Clr)) (members set.DeallocClr) ≡ true
+clr_in true = refl
+clr_in false = refl
 
 -- the hints of a branch after its first completer
-pub branch_tail : (w : Whether) (many clr : Bool) → completers_in (set.Whether ∷ set.Prefetch ∷ set.DeallocClr ∷ []) (flat_map text_of (c.Whether w ∷ prefetch_hint many ∷ when clr c.Clr ∷ [])) ≡ Some (c.Whether w ∷ prefetch_hint many ∷ when clr c.Clr ∷ [])
-branch_tail wh.Sptk true true = refl
-branch_tail wh.Sptk true false = refl
-branch_tail wh.Sptk false true = refl
-branch_tail wh.Sptk false false = refl
-branch_tail wh.Spnt true true = refl
-branch_tail wh.Spnt true false = refl
-branch_tail wh.Spnt false true = refl
-branch_tail wh.Spnt false false = refl
-branch_tail wh.Dptk true true = refl
-branch_tail wh.Dptk true false = refl
-branch_tail wh.Dptk false true = refl
-branch_tail wh.Dptk false false = refl
-branch_tail wh.Dpnt true true = refl
-branch_tail wh.Dpnt true false = refl
-branch_tail wh.Dpnt false true = refl
-branch_tail wh.Dpnt false false = refl
-
--- which begin a part of their own
-pub branch_tail_ends : (w : Whether) (many clr : Bool) → ends_part (flat_map text_of (c.Whether w ∷ prefetch_hint many ∷ when clr c.Clr ∷ [])) ≡ true
-branch_tail_ends wh.Sptk many clr = refl
-branch_tail_ends wh.Spnt many clr = refl
-branch_tail_ends wh.Dptk many clr = refl
-branch_tail_ends wh.Dpnt many clr = refl
+pub hints_in : (w : ℕ) (many clr : Bool) → is_choice (set.Whether ∷ set.Prefetch ∷ set.DeallocClr ∷ []) (branch_hints w many clr) ≡ true
+hints_in w many clr = both _ _ (whether_in (eqb w 0) (eqb w 1) (eqb w 2)) (both _ _ (many_in many) (both _ _ (clr_in clr) refl))
 
 -- the hints' numbers come back
 pub many_back : (many : Bool) → is_many (prefetch_hint many) ≡ many
@@ -120,98 +65,55 @@ load_hints n h d = grind (arith, d)
 pub hint_back : (n : ℕ) → n ≤ 3 → n ≢ 2 → hint_of (c.Hint (cache_hint n)) ≡ n
 hint_back n h d = hint_cases n (load_hints n h d)
 
--- the completers of a load of 8 bytes
-pub load_fill_back : (k : LoadKind) (h : CacheHint) → completers_in (set.LoadTypeFill ∷ set.LoadHint ∷ []) (flat_map text_of (c.Load k ∷ c.Hint h ∷ [])) ≡ Some (c.Load k ∷ c.Hint h ∷ [])
-load_fill_back load.Plain hint.None = refl
-load_fill_back load.Plain hint.Nt1 = refl
-load_fill_back load.Plain hint.Nta = refl
-load_fill_back load.S hint.None = refl
-load_fill_back load.S hint.Nt1 = refl
-load_fill_back load.S hint.Nta = refl
-load_fill_back load.A hint.None = refl
-load_fill_back load.A hint.Nt1 = refl
-load_fill_back load.A hint.Nta = refl
-load_fill_back load.Sa hint.None = refl
-load_fill_back load.Sa hint.Nt1 = refl
-load_fill_back load.Sa hint.Nta = refl
-load_fill_back load.Bias hint.None = refl
-load_fill_back load.Bias hint.Nt1 = refl
-load_fill_back load.Bias hint.Nta = refl
-load_fill_back load.Acq hint.None = refl
-load_fill_back load.Acq hint.Nt1 = refl
-load_fill_back load.Acq hint.Nta = refl
-load_fill_back load.CClr hint.None = refl
-load_fill_back load.CClr hint.Nt1 = refl
-load_fill_back load.CClr hint.Nta = refl
-load_fill_back load.CNc hint.None = refl
-load_fill_back load.CNc hint.Nt1 = refl
-load_fill_back load.CNc hint.Nta = refl
-load_fill_back load.CClrAcq hint.None = refl
-load_fill_back load.CClrAcq hint.Nt1 = refl
-load_fill_back load.CClrAcq hint.Nta = refl
-load_fill_back load.Fill hint.None = refl
-load_fill_back load.Fill hint.Nt1 = refl
-load_fill_back load.Fill hint.Nta = refl
-
+-- the completers of a load
 abbrev pub is_fill : LoadKind → Bool
 is_fill load.Fill = true
 is_fill _ = false
 
--- and of one of fewer bytes
-pub load_plain_back : (k : LoadKind) (h : CacheHint) → is_fill k ≡ false → completers_in (set.LoadType ∷ set.LoadHint ∷ []) (flat_map text_of (c.Load k ∷ c.Hint h ∷ [])) ≡ Some (c.Load k ∷ c.Hint h ∷ [])
-load_plain_back load.Plain hint.None n = refl
-load_plain_back load.Plain hint.Nt1 n = refl
-load_plain_back load.Plain hint.Nta n = refl
-load_plain_back load.S hint.None n = refl
-load_plain_back load.S hint.Nt1 n = refl
-load_plain_back load.S hint.Nta n = refl
-load_plain_back load.A hint.None n = refl
-load_plain_back load.A hint.Nt1 n = refl
-load_plain_back load.A hint.Nta n = refl
-load_plain_back load.Sa hint.None n = refl
-load_plain_back load.Sa hint.Nt1 n = refl
-load_plain_back load.Sa hint.Nta n = refl
-load_plain_back load.Bias hint.None n = refl
-load_plain_back load.Bias hint.Nt1 n = refl
-load_plain_back load.Bias hint.Nta n = refl
-load_plain_back load.Acq hint.None n = refl
-load_plain_back load.Acq hint.Nt1 n = refl
-load_plain_back load.Acq hint.Nta n = refl
-load_plain_back load.CClr hint.None n = refl
-load_plain_back load.CClr hint.Nt1 n = refl
-load_plain_back load.CClr hint.Nta n = refl
-load_plain_back load.CNc hint.None n = refl
-load_plain_back load.CNc hint.Nt1 n = refl
-load_plain_back load.CNc hint.Nta n = refl
-load_plain_back load.CClrAcq hint.None n = refl
-load_plain_back load.CClrAcq hint.Nt1 n = refl
-load_plain_back load.CClrAcq hint.Nta n = refl
-load_plain_back load.Fill h n = cc
+cache_hint_in : (a b : Bool) → list_any (is_same (c.Hint (cond a hint.None (cond b hint.Nt1 hint.Nta)))) (members set.LoadHint) ≡ true
+cache_hint_in true b = refl
+cache_hint_in false true = refl
+cache_hint_in false false = refl
 
--- the hints of stores
-abbrev pub is_store_hint : CacheHint → Bool
-is_store_hint hint.Nt1 = false
-is_store_hint _ = true
+load_in : (k : LoadKind) → is_fill k ≡ false → list_any (is_same (c.Load k)) (members set.LoadType) ≡ true
+load_in load.Fill h = cc
+load_in k h = refl
 
--- the completers of a store of 8 bytes
-pub store_spill_back : (k : StoreKind) (h : CacheHint) → is_store_hint h ≡ true → completers_in (set.StoreTypeSpill ∷ set.StoreHint ∷ []) (flat_map text_of (c.Store k ∷ c.Hint h ∷ [])) ≡ Some (c.Store k ∷ c.Hint h ∷ [])
-store_spill_back store.Plain hint.None n = refl
-store_spill_back store.Plain hint.Nta n = refl
-store_spill_back store.Rel hint.None n = refl
-store_spill_back store.Rel hint.Nta n = refl
-store_spill_back store.Spill hint.None n = refl
-store_spill_back store.Spill hint.Nta n = refl
-store_spill_back k hint.Nt1 n = cc
+fill_in : (k : LoadKind) → list_any (is_same (c.Load k)) (members set.LoadTypeFill) ≡ true
+fill_in load.Plain = refl
+fill_in k = refl
 
+pub load_choice : (k : LoadKind) (h : ℕ) → is_fill k ≡ false → is_choice (set.LoadType ∷ set.LoadHint ∷ []) (c.Load k ∷ (c.Hint (cache_hint h)) ∷ []) ≡ true
+load_choice k h n = both _ _ (load_in k n) (both _ _ (cache_hint_in (eqb h 0) (eqb h 1)) refl)
+
+-- which may be a fill, of 8 bytes
+pub fill_choice : (k : LoadKind) (h : ℕ) → is_choice (set.LoadTypeFill ∷ set.LoadHint ∷ []) (c.Load k ∷ (c.Hint (cache_hint h)) ∷ []) ≡ true
+fill_choice k h = both _ _ (fill_in k) (both _ _ (cache_hint_in (eqb h 0) (eqb h 1)) refl)
+
+-- the completers of a store
 abbrev pub is_spill : StoreKind → Bool
 is_spill store.Spill = true
 is_spill _ = false
 
--- and of one of fewer bytes
-pub store_plain_back : (k : StoreKind) (h : CacheHint) → is_spill k ≡ false → is_store_hint h ≡ true → completers_in (set.StoreType ∷ set.StoreHint ∷ []) (flat_map text_of (c.Store k ∷ c.Hint h ∷ [])) ≡ Some (c.Store k ∷ c.Hint h ∷ [])
-store_plain_back store.Plain hint.None s n = refl
-store_plain_back store.Plain hint.Nta s n = refl
-store_plain_back store.Rel hint.None s n = refl
-store_plain_back store.Rel hint.Nta s n = refl
-store_plain_back store.Spill h s n = cc
-store_plain_back k hint.Nt1 s n = cc
+store_hint_in : (h : ℕ) → (h ≡ 0) ⊎ (h ≡ 3) → list_any (is_same (c.Hint (cache_hint h))) (members set.StoreHint) ≡ true
+store_hint_in h (inl e) = rw e refl
+store_hint_in h (inr e) = rw e refl
+
+store_in : (k : StoreKind) → is_spill k ≡ false → list_any (is_same (c.Store k)) (members set.StoreType) ≡ true
+store_in store.Spill h = cc
+store_in k h = refl
+
+spill_in : (k : StoreKind) → list_any (is_same (c.Store k)) (members set.StoreTypeSpill) ≡ true
+spill_in store.Plain = refl
+spill_in k = refl
+
+pub store_choice : (k : StoreKind) (h : ℕ) → is_spill k ≡ false → (h ≡ 0) ⊎ (h ≡ 3) → is_choice (set.StoreType ∷ set.StoreHint ∷ []) (c.Store k ∷ (c.Hint (cache_hint h)) ∷ []) ≡ true
+store_choice k h n g = both _ _ (store_in k n) (both _ _ (store_hint_in h g) refl)
+
+-- which may be a spill, of 8 bytes
+pub spill_choice : (k : StoreKind) (h : ℕ) → (h ≡ 0) ⊎ (h ≡ 3) → is_choice (set.StoreTypeSpill ∷ set.StoreHint ∷ []) (c.Store k ∷ (c.Hint (cache_hint h)) ∷ []) ≡ true
+spill_choice k h g = both _ _ (spill_in k) (both _ _ (store_hint_in h g) refl)
+
+pub store_hint_back : (h : ℕ) → (h ≡ 0) ⊎ (h ≡ 3) → hint_of (c.Hint (cache_hint h)) ≡ h
+store_hint_back h (inl e) = rw e refl
+store_hint_back h (inr e) = rw e refl

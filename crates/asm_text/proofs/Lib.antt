@@ -1,9 +1,9 @@
-mod Apart
+mod FirstForm
+mod ItemFacts
 mod CompletersBack
 mod DataLines
 mod FieldRanges
 mod Kept
-mod Labels
 mod LinesBack
 mod Mnemonic
 pub mod OperandTexts
@@ -24,10 +24,10 @@ mod ReadsBackX
 pub mod Short
 pub mod SlotLines
 mod Spaced
-mod TargetTexts
 mod Targets
 pub mod Untargeted
 mod WordLists
+mod Written
 pub mod Decided
 pub mod DecidedFormats
 mod SomeAnswer

@@ -19,10 +19,27 @@ use Rattle.asm_words.proofs.Bools.{left, right}
 use Rattle.asm_words.proofs.Lexing.{name_lexed}
 use Rattle.asm_words.proofs.Readings.{gr_reads, pr_reads, br_reads, decimal_reads, minus_reads, hex_reads, minus_hex_reads, decimal_is_name_bytes, decimal_is_plain, hex_is_plain, both_plain, decimal_lexed, minus_decimal_lexed, hex_lexed, minus_hex_lexed}
 use Rattle.asm_forms.specs.declared.items.Item.{Item}
-use Rattle.asm_forms.specs.Items.{is_label_item}
+use Rattle.asm_forms.specs.declared.items.Item.TheVariants.{Is, Takes}
+use Rattle.asm_forms.specs.Items.{mark_token, filled, is_label_item}
 use Rattle.asm_text.specs.Lines.{KindAndText, tokens, name_of, label_name}
-use Rattle.asm_text.specs.ReadBack.{IsPrinted}
+use Rattle.asm_text.proofs.Written.{IsPrinted}
 use Rattle.asm_text.specs.SlotTexts.{is_hex, label_text, token_text, operands_text}
+
+-- marks and operands in turn, as they are printed
+abbrev pub item_hex : Item → Bool
+item_hex (Is mark) = false
+item_hex (Takes kind) = is_hex kind
+
+abbrev pub tokens_text : ℕ → List Item → List Token → List ℕ
+tokens_text target [] ts = []
+tokens_text target (i ∷ is) [] = []
+tokens_text target (i ∷ is) (x ∷ xs) = token_text target (item_hex i) x ++ tokens_text target is xs
+
+pub filled_text : (target : ℕ) (is : List Item) (xs : List Token) → operands_text target is xs ≡ tokens_text target is (filled is xs)
+filled_text target [] xs = refl
+filled_text target (Is mark ∷ is) xs = ap (λ cs. token_text target false (mark_token mark) ++ cs) (filled_text target is xs)
+filled_text target (Takes kind ∷ is) [] = refl
+filled_text target (Takes kind ∷ is) (x ∷ xs) = ap (λ cs. token_text target (is_hex kind) x ++ cs) (filled_text target is xs)
 
 -- the kind of the word that an operand is printed as
 abbrev pub kind_of : Token → WordKind
@@ -60,7 +77,7 @@ are_apart (x ∷ y ∷ xs) = not (is_wordlike x && is_wordlike y) && are_apart (
 abbrev pub words_of : ℕ → List Item → List Token → List KindAndText
 words_of target [] xs = []
 words_of target (i ∷ is) [] = []
-words_of target (i ∷ is) (x ∷ xs) = (kind_of x, token_text target (is_hex i) x) ∷ words_of target is xs
+words_of target (i ∷ is) (x ∷ xs) = (kind_of x, token_text target (item_hex i) x) ∷ words_of target is xs
 
 -- the operand at the place of the first label
 abbrev pub label_token : List Item → List Token → Option Token
@@ -148,10 +165,10 @@ one_plain target true (t.Number false m) l p = hex_is_plain m p
 one_plain target true (t.Number true m) l p = hex_is_plain m p
 one_plain target hex x l p = refl
 
-pub operands_plain : (target : ℕ) (is : List Item) (xs : List Token) → target < 2 ^ 34 → AllByRecursion IsPrinted xs → has_only_plain (operands_text target is xs) ≡ true
+pub operands_plain : (target : ℕ) (is : List Item) (xs : List Token) → target < 2 ^ 34 → AllByRecursion IsPrinted xs → has_only_plain (tokens_text target is xs) ≡ true
 operands_plain target [] xs l p = refl
 operands_plain target (i ∷ is) [] l p = refl
-operands_plain target (i ∷ is) (x ∷ xs) l p = both_plain (token_text target (is_hex i) x) (operands_text target is xs) (one_plain target (is_hex i) x l p.0) (operands_plain target is xs l p.1)
+operands_plain target (i ∷ is) (x ∷ xs) l p = both_plain (token_text target (item_hex i) x) (tokens_text target is xs) (one_plain target (item_hex i) x l p.0) (operands_plain target is xs l p.1)
 
 -- a mark ends what stands before it
 mark_ends : (target : ℕ) (hex : Bool) (x : Token) (cs : List ℕ) → IsPrinted x → is_wordlike x ≡ false → is_end (token_text target hex x ++ cs) ≡ true
@@ -176,12 +193,12 @@ second true false e h = refl
 second false b e h = cc
 
 end_after : (target : ℕ) (is : List Item) (x : Token) (xs : List Token) (cs : List ℕ) → length is ≡ length xs → AllByRecursion IsPrinted xs → are_apart (x ∷ xs) ≡ true → is_wordlike x ≡ true → is_end cs ≡ true
-    → is_end (operands_text target is xs ++ cs) ≡ true
+    → is_end (tokens_text target is xs ++ cs) ≡ true
 end_after target [] x [] cs n p a w e = e
 end_after target [] x (y ∷ ys) cs n p a w e = cc
 end_after target (i ∷ is) x [] cs n p a w e = cc
 end_after target (i ∷ is) x (y ∷ ys) cs n p a w e =
-    rw (append_assoc (token_text target (is_hex i) y) (operands_text target is ys) cs) (mark_ends target (is_hex i) y (operands_text target is ys ++ cs) p.0 (second (is_wordlike x) (is_wordlike y) w (left _ (are_apart (y ∷ ys)) a)))
+    rw (append_assoc (token_text target (item_hex i) y) (tokens_text target is ys) cs) (mark_ends target (item_hex i) y (tokens_text target is ys ++ cs) p.0 (second (is_wordlike x) (is_wordlike y) w (left _ (are_apart (y ∷ ys)) a)))
 
 apart_tail : (x : Token) (xs : List Token) → are_apart (x ∷ xs) ≡ true → are_apart xs ≡ true
 apart_tail x [] a = refl
@@ -192,15 +209,15 @@ same_tail m n h = cc
 
 -- The text of the operands before an end is cut into a word for each operand.
 pub operands_lexed : (target : ℕ) (is : List Item) (xs : List Token) (cs : List ℕ) → target < 2 ^ 34 → length is ≡ length xs → AllByRecursion IsPrinted xs → are_apart xs ≡ true → is_end cs ≡ true
-    → lexed 0 (operands_text target is xs ++ cs) ≡ words_of target is xs ++ lexed 0 cs
+    → lexed 0 (tokens_text target is xs ++ cs) ≡ words_of target is xs ++ lexed 0 cs
 operands_lexed target [] [] cs l n p a e = refl
 operands_lexed target [] (x ∷ xs) cs l n p a e = cc
 operands_lexed target (i ∷ is) [] cs l n p a e = cc
 operands_lexed target (i ∷ is) (x ∷ xs) cs l n p a e =
     let m : length is ≡ length xs = same_tail _ _ n in
-    rw (append_assoc (token_text target (is_hex i) x) (operands_text target is xs) cs)
-    (one_lexed target (is_hex i) x (operands_text target is xs ++ cs) l p.0 (λ w. end_after target is x xs cs m p.1 a w e)
-    ∙ ap (λ ws. (kind_of x, token_text target (is_hex i) x) ∷ ws) (operands_lexed target is xs cs l m p.1 (apart_tail x xs a) e))
+    rw (append_assoc (token_text target (item_hex i) x) (tokens_text target is xs) cs)
+    (one_lexed target (item_hex i) x (tokens_text target is xs ++ cs) l p.0 (λ w. end_after target is x xs cs m p.1 a w e)
+    ∙ ap (λ ws. (kind_of x, token_text target (item_hex i) x) ∷ ws) (operands_lexed target is xs cs l m p.1 (apart_tail x xs a) e))
 
 -- what these words may be read as
 pub words_read : (target : ℕ) (is : List Item) (xs : List Token) (ws : List KindAndText) → target < 2 ^ 34 → length is ≡ length xs → AllByRecursion IsPrinted xs → tokens (words_of target is xs ++ ws) ≡ xs ++ tokens ws
@@ -208,11 +225,11 @@ words_read target [] [] ws l n p = refl
 words_read target [] (x ∷ xs) ws l n p = cc
 words_read target (i ∷ is) [] ws l n p = cc
 words_read target (i ∷ is) (x ∷ xs) ws l n p =
-    ap (λ y. y ∷ tokens (words_of target is xs ++ ws)) (one_reads target (is_hex i) x l p.0) ∙ ap (λ ys. x ∷ ys) (words_read target is xs ws l (same_tail _ _ n) p.1)
+    ap (λ y. y ∷ tokens (words_of target is xs ++ ws)) (one_reads target (item_hex i) x l p.0) ∙ ap (λ ys. x ∷ ys) (words_read target is xs ws l (same_tail _ _ n) p.1)
 
 -- The text of the operands before an end may be read as those operands.
 pub operands_back : (target : ℕ) (is : List Item) (xs : List Token) (cs : List ℕ) → target < 2 ^ 34 → length is ≡ length xs → AllByRecursion IsPrinted xs → are_apart xs ≡ true → is_end cs ≡ true
-    → tokens (lexed 0 (operands_text target is xs ++ cs)) ≡ xs ++ tokens (lexed 0 cs)
+    → tokens (lexed 0 (tokens_text target is xs ++ cs)) ≡ xs ++ tokens (lexed 0 cs)
 operands_back target is xs cs l n p a e = ap tokens (operands_lexed target is xs cs l n p a e) ∙ words_read target is xs (lexed 0 cs) l n p
 
 some_same : (x y : Token) → Some x ≡ Some y → x ≡ y
@@ -225,8 +242,8 @@ words_name : (target : ℕ) (is : List Item) (xs : List Token) (ws : List KindAn
 words_name target [] xs ws l h = cc
 words_name target (i ∷ is) [] ws l h = cc
 words_name target (i ∷ is) (x ∷ xs) ws l h =
-    elim (is_label_item i) as (λ b. cond b (Some x) (label_token is xs) ≡ Some t.Name → cond b (name_of (token_text target (is_hex i) x)) (label_name is (words_of target is xs ++ ws)) ≡ Some (label_text target)) [
-      | true ↦ λ k. name_at target (is_hex i) x l (some_same x t.Name k)
+    elim (is_label_item i) as (λ b. cond b (Some x) (label_token is xs) ≡ Some t.Name → cond b (name_of (token_text target (item_hex i) x)) (label_name is (words_of target is xs ++ ws)) ≡ Some (label_text target)) [
+      | true ↦ λ k. name_at target (item_hex i) x l (some_same x t.Name k)
       | false ↦ λ k. words_name target is xs ws l k
     ] h
 
@@ -234,17 +251,17 @@ words_no_name : (target : ℕ) (is : List Item) (xs : List Token) (ws : List Kin
 words_no_name target [] xs ws n h = refl
 words_no_name target (i ∷ is) [] ws n h = cc
 words_no_name target (i ∷ is) (x ∷ xs) ws n h =
-    elim (is_label_item i) as (λ b. cond b (Some x) (label_token is xs) ≡ None → cond b (name_of (token_text target (is_hex i) x)) (label_name is (words_of target is xs ++ ws)) ≡ None) [
+    elim (is_label_item i) as (λ b. cond b (Some x) (label_token is xs) ≡ None → cond b (name_of (token_text target (item_hex i) x)) (label_name is (words_of target is xs ++ ws)) ≡ None) [
       | true ↦ λ k. cc
       | false ↦ λ k. words_no_name target is xs ws (same_tail _ _ n) k
     ] h
 
 -- Where a name is printed at the place of the label, the name of the line is the label of the target.
 pub label_found : (target : ℕ) (is : List Item) (xs : List Token) (cs : List ℕ) → target < 2 ^ 34 → length is ≡ length xs → AllByRecursion IsPrinted xs → are_apart xs ≡ true → is_end cs ≡ true → label_token is xs ≡ Some t.Name
-    → label_name is (lexed 0 (operands_text target is xs ++ cs)) ≡ Some (label_text target)
+    → label_name is (lexed 0 (tokens_text target is xs ++ cs)) ≡ Some (label_text target)
 label_found target is xs cs l n p a e h = ap (label_name is) (operands_lexed target is xs cs l n p a e) ∙ words_name target is xs (lexed 0 cs) l h
 
 -- Where there is no place of a label, the line has no name.
 pub label_missing : (target : ℕ) (is : List Item) (xs : List Token) (cs : List ℕ) → target < 2 ^ 34 → length is ≡ length xs → AllByRecursion IsPrinted xs → are_apart xs ≡ true → is_end cs ≡ true → label_token is xs ≡ None
-    → label_name is (lexed 0 (operands_text target is xs ++ cs)) ≡ None
+    → label_name is (lexed 0 (tokens_text target is xs ++ cs)) ≡ None
 label_missing target is xs cs l n p a e h = ap (label_name is) (operands_lexed target is xs cs l n p a e) ∙ words_no_name target is xs (lexed 0 cs) n h

@@ -12,13 +12,12 @@ use Rattle.asm_words.specs.Registers.{numbered_register}
 use Rattle.asm_words.specs.Tokens.{token_of}
 use Rattle.asm_words.specs.Words.{words_from}
 use Rattle.asm_forms.specs.declared.choices.AccessSize.{AccessSize}
+use Rattle.asm_forms.specs.declared.choices.AccessSize.TheVariants as size
 use Rattle.asm_forms.specs.declared.form.Form.{Form}
 use Rattle.asm_forms.specs.declared.form.Form.TheVariants as form
-use Rattle.asm_forms.specs.declared.leading.LeadingWord.{LeadingWord}
-use Rattle.asm_forms.specs.Items.{is_long_name, begins_with_letter}
-use Rattle.asm_forms.specs.LeadingWords.{forms_of}
+use Rattle.asm_forms.specs.Items.{taken, is_long_name, begins_with_letter}
 use Rattle.asm_forms.specs.Matching.{is_spelled, reach, number_fault, fault_at, fault_of, read_form}
-use Rattle.asm_forms.specs.Naming.{mnemonic_of, named_in}
+use Rattle.asm_forms.specs.Naming.{named_forms}
 use Rattle.asm_forms.specs.Rows.{row_of}
 use Rattle.asm_text.specs.declared.line.Line.{Line}
 use Rattle.asm_text.specs.declared.line.Line.TheVariants as line
@@ -79,16 +78,19 @@ form_not forms operands tokens =
 -- slot lines: the predicate, the operands under it, and both
 predicate_not : (xs : List Token) → NotChar (predicate_of xs)
 predicate_not [] = tt
-predicate_not (x ∷ xs) = then_not _ _ (form_not (form.Predicate ∷ []) (x ∷ xs) (x ∷ xs)) (λ f. tt)
+predicate_not (x ∷ []) = tt
+predicate_not (x ∷ t.Pr p ∷ t.CloseParenthesis ∷ []) = tt
+predicate_not (x ∷ t.Pr p ∷ ys) = tt
+predicate_not (x ∷ y ∷ ys) = tt
 
-slot_under_not : (qp : ℕ) (forms : List Form) (rest : List ℕ) (xs : List Token) (after : List KindAndText) → NotChar (slot_under qp forms rest xs after)
-slot_under_not qp forms rest xs after =
+slot_under_not : (qp : ℕ) (forms : List Form) (name : List ℕ) (xs : List Token) (after : List KindAndText) → NotChar (slot_under qp forms name xs after)
+slot_under_not qp forms name xs after =
     then_not _ _ (form_not forms (without_stop xs) xs)
-    (λ f. then_not _ _ (or_not (op_of f (completers_or_none f rest) (without_stop xs)) fault.Form tt) (λ x. tt))
+    (λ f. then_not _ _ (or_not (op_of f (completers_or_none f name) (taken (row_of f).items (without_stop xs))) fault.Form tt) (λ x. tt))
 
-slot_not : (forms : List Form) (rest : List ℕ) (before after : List KindAndText) → NotChar (slot_of forms rest before after)
-slot_not forms rest before after =
-    then_not _ _ (predicate_not (tokens before)) (λ qp. slot_under_not qp forms rest (tokens after) after)
+slot_not : (forms : List Form) (name : List ℕ) (before after : List KindAndText) → NotChar (slot_of forms name before after)
+slot_not forms name before after =
+    then_not _ _ (predicate_not (tokens before)) (λ qp. slot_under_not qp forms name (tokens after) after)
 
 -- the numbers of a data line
 data_not : (z : AccessSize) (xs : List Token) → NotChar (data_of z xs)
@@ -105,8 +107,10 @@ named_not (Some name) value = tt
 directive_value_not : (f : Form) (after : List KindAndText) → NotChar (directive_value f after)
 directive_value_not form.Text after = tt
 directive_value_not form.Data after = tt
-directive_value_not form.Entry after = named_not (label_name (row_of form.Entry).1 after) (λ name. line.Entry name)
-directive_value_not form.Ignored after = tt
+directive_value_not form.Entry after = named_not (label_name (row_of form.Entry).items after) (λ name. line.Entry name)
+directive_value_not form.Global after = tt
+directive_value_not form.Proc after = tt
+directive_value_not form.Endp after = tt
 directive_value_not form.Skip after = tt
 directive_value_not _ after = tt
 
@@ -120,22 +124,26 @@ alone_not [] r h = h
 alone_not (b ∷ before) r h = tt
 
 -- lines by their leading words: the first form, the forms, the word
-formed_not : (f : Form) (forms : List Form) (rest : List ℕ) (before after : List KindAndText) → NotChar (formed f forms rest before after)
-formed_not (form.Numbers z) forms rest before after = alone_not before _ (data_not z (tokens after))
-formed_not form.Text forms rest before after = alone_not before _ (directive_not forms after)
-formed_not form.Data forms rest before after = alone_not before _ (directive_not forms after)
-formed_not form.Entry forms rest before after = alone_not before _ (directive_not forms after)
-formed_not form.Ignored forms rest before after = alone_not before _ (directive_not forms after)
-formed_not form.Skip forms rest before after = alone_not before _ (directive_not forms after)
-formed_not _ forms rest before after = slot_not forms rest before after
+formed_not : (f : Form) (forms : List Form) (name : List ℕ) (before after : List KindAndText) → NotChar (formed f forms name before after)
+formed_not form.Data1 forms name before after = alone_not before _ (data_not size.One (tokens after))
+formed_not form.Data2 forms name before after = alone_not before _ (data_not size.Two (tokens after))
+formed_not form.Data4 forms name before after = alone_not before _ (data_not size.Four (tokens after))
+formed_not form.Data8 forms name before after = alone_not before _ (data_not size.Eight (tokens after))
+formed_not form.Text forms name before after = alone_not before _ (directive_not forms after)
+formed_not form.Data forms name before after = alone_not before _ (directive_not forms after)
+formed_not form.Entry forms name before after = alone_not before _ (directive_not forms after)
+formed_not form.Global forms name before after = alone_not before _ (directive_not forms after)
+formed_not form.Proc forms name before after = alone_not before _ (directive_not forms after)
+formed_not form.Endp forms name before after = alone_not before _ (directive_not forms after)
+formed_not form.Skip forms name before after = alone_not before _ (directive_not forms after)
+formed_not _ forms name before after = slot_not forms name before after
 
-among_not : (forms : List Form) (rest : List ℕ) (before after : List KindAndText) → NotChar (among forms rest before after)
-among_not [] rest before after = tt
-among_not (f ∷ fs) rest before after = formed_not f (f ∷ fs) rest before after
+among_not : (forms : List Form) (name : List ℕ) (before after : List KindAndText) → NotChar (among forms name before after)
+among_not [] name before after = tt
+among_not (f ∷ fs) name before after = formed_not f (f ∷ fs) name before after
 
-worded_not : (o : Option (LeadingWord × List ℕ)) (before after : List KindAndText) → NotChar (worded o before after)
-worded_not None before after = tt
-worded_not (Some (word, rest)) before after = among_not (named_in (forms_of word) rest) rest before after
+worded_not : (name : List ℕ) (before after : List KindAndText) → NotChar (worded name before after)
+worded_not name before after = among_not (named_forms name) name before after
 
 -- lines by their leading marks: a mark alone, and `{` with its template's name
 marked_not : (value : Line) (before after : List KindAndText) → NotChar (marked value before after)
@@ -159,7 +167,7 @@ mark_led_not _ before after = tt
 
 -- lines by their leading words and marks, and by the place of these
 led_by_not : (w : KindAndText) (before after : List KindAndText) → NotChar (led_by w before after)
-led_by_not (kind.Name, text) before after = worded_not (mnemonic_of text) before after
+led_by_not (kind.Name, text) before after = worded_not text before after
 led_by_not (kind.Number, text) before after = tt
 led_by_not (kind.Mark, text) before after = mark_led_not (token_of kind.Mark text) before after
 

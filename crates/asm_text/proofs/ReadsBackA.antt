@@ -1,9 +1,6 @@
 -- The printed A instructions are read back.
-use Rattle.std.proofs.Common.{◌≡◌, refl, ℕ, ◌≤◌, ℤ, Bool, true, false, cond, [], ◌∷◌, IsSome, lit<}
+use Rattle.std.proofs.Common.{refl, ℕ, ◌≤◌, ℤ, Bool, true, false, IsSome, lit<}
 use Rattle.std.proofs.lemmas.Bool.{le-leb}
-use Rattle.asm_forms.specs.declared.form.Form.TheVariants as form
-use Rattle.asm_forms.specs.declared.leading.LeadingWord.TheVariants as word
-use Rattle.asm_forms.specs.LeadingWords.{forms_of}
 use Rattle.ia_insn.specs.declared.insn.Op.TheVariants as op
 use Rattle.ia_insn.specs.declared.choices.AluFn.{AluFn}
 use Rattle.ia_insn.specs.declared.choices.AluFn.TheVariants as alu
@@ -13,95 +10,123 @@ use Rattle.ia_insn.specs.declared.choices.CmpKind.{CmpKind}
 use Rattle.ia_insn.specs.declared.choices.CmpKind.TheVariants as cmp
 use Rattle.ia_insn.specs.Signed.{FitsSigned}
 use Rattle.ia_insn.specs.FormatsA.{imm8_codes, compare, parallel_op, zero_codes}
-use Rattle.asm_text.specs.ReadBack.{ReadsBack}
+use Rattle.asm_text.proofs.Written.{ReadsBack}
 use Rattle.asm_text.proofs.FieldRanges.{signed_back, is_below, is_short, has_imm8, has_imm14, has_imm22}
 
 -- A1
 pub alu_back : (f : AluFn) (r1 r2 r3 : ℕ) → ReadsBack (op.Alu f r1 r2 r3)
-alu_back alu.Add r1 r2 r3 = record { slot = λ before after. refl; completers = refl; form = λ ts. refl; bare = refl; op = refl }
-alu_back alu.Add1 r1 r2 r3 = record { slot = λ before after. refl; completers = refl; form = λ ts. refl; bare = refl; op = refl }
-alu_back alu.Sub r1 r2 r3 = record { slot = λ before after. refl; completers = refl; form = λ ts. refl; bare = refl; op = refl }
-alu_back alu.Sub1 r1 r2 r3 = record { slot = λ before after. refl; completers = refl; form = λ ts. refl; bare = refl; op = refl }
-alu_back alu.Addp4 r1 r2 r3 = record { slot = λ before after. refl; completers = refl; form = λ ts. refl; bare = refl; op = refl }
-alu_back alu.And r1 r2 r3 = record { slot = λ before after. refl; completers = refl; form = λ ts. refl; bare = refl; op = refl }
-alu_back alu.Andcm r1 r2 r3 = record { slot = λ before after. refl; completers = refl; form = λ ts. refl; bare = refl; op = refl }
-alu_back alu.Or r1 r2 r3 = record { slot = λ before after. refl; completers = refl; form = λ ts. refl; bare = refl; op = refl }
-alu_back alu.Xor r1 r2 r3 = record { slot = λ before after. refl; completers = refl; form = λ ts. refl; bare = refl; op = refl }
+alu_back alu.Add r1 r2 r3 = record { choice = refl; fits = refl; label = refl; slot = refl; bare = refl; op = refl }
+alu_back f r1 r2 r3 = record { choice = refl; fits = refl; label = refl; slot = refl; bare = refl; op = refl }
 
 -- A2
 pub shladd_back : (p4 : Bool) (r1 r2 count r3 : ℕ) → 1 ≤ count → count ≤ 4 → ReadsBack (op.ShlAdd p4 r1 r2 count r3)
-shladd_back true r1 r2 count r3 h l = record { slot = λ before after. refl; completers = refl; form = λ ts. rw (le-leb count 4 l, le-leb 1 count h) refl; bare = refl; op = rw (is_below count 4 256 l (lit< tt)) refl }
-shladd_back false r1 r2 count r3 h l = record { slot = λ before after. refl; completers = refl; form = λ ts. rw (le-leb count 4 l, le-leb 1 count h) refl; bare = refl; op = rw (is_below count 4 256 l (lit< tt)) refl }
+shladd_back true r1 r2 count r3 h l = record { choice = refl; fits = rw (le-leb count 4 l, le-leb 1 count h) refl; label = refl; slot = refl; bare = refl; op = rw (is_below count 4 256 l (lit< tt)) refl }
+shladd_back false r1 r2 count r3 h l = record { choice = refl; fits = rw (le-leb count 4 l, le-leb 1 count h) refl; label = refl; slot = refl; bare = refl; op = rw (is_below count 4 256 l (lit< tt)) refl }
 
 -- A3
 pub imm8_back : (f : AluFn) (r1 : ℕ) (imm : ℤ) (r3 : ℕ) → FitsSigned 8 imm → IsSome (imm8_codes f) → ReadsBack (op.AluImm8 f r1 imm r3)
-imm8_back alu.Sub r1 imm r3 h s = record { slot = λ before after. refl; completers = refl; form = λ ts. rw (has_imm8 imm h) refl; bare = refl; op = rw (is_short 8 9223372036854775808 imm h (lit< tt), signed_back imm) refl }
-imm8_back alu.And r1 imm r3 h s = record { slot = λ before after. refl; completers = refl; form = λ ts. rw (has_imm8 imm h) refl; bare = refl; op = rw (is_short 8 9223372036854775808 imm h (lit< tt), signed_back imm) refl }
-imm8_back alu.Andcm r1 imm r3 h s = record { slot = λ before after. refl; completers = refl; form = λ ts. rw (has_imm8 imm h) refl; bare = refl; op = rw (is_short 8 9223372036854775808 imm h (lit< tt), signed_back imm) refl }
-imm8_back alu.Or r1 imm r3 h s = record { slot = λ before after. refl; completers = refl; form = λ ts. rw (has_imm8 imm h) refl; bare = refl; op = rw (is_short 8 9223372036854775808 imm h (lit< tt), signed_back imm) refl }
-imm8_back alu.Xor r1 imm r3 h s = record { slot = λ before after. refl; completers = refl; form = λ ts. rw (has_imm8 imm h) refl; bare = refl; op = rw (is_short 8 9223372036854775808 imm h (lit< tt), signed_back imm) refl }
+imm8_back alu.Sub r1 imm r3 h s = record { choice = refl; fits = rw (has_imm8 imm h) refl; label = refl; slot = refl; bare = refl; op = rw (is_short 8 9223372036854775808 imm h (lit< tt), signed_back imm) refl }
+imm8_back alu.And r1 imm r3 h s = record { choice = refl; fits = rw (has_imm8 imm h) refl; label = refl; slot = refl; bare = refl; op = rw (is_short 8 9223372036854775808 imm h (lit< tt), signed_back imm) refl }
+imm8_back alu.Andcm r1 imm r3 h s = record { choice = refl; fits = rw (has_imm8 imm h) refl; label = refl; slot = refl; bare = refl; op = rw (is_short 8 9223372036854775808 imm h (lit< tt), signed_back imm) refl }
+imm8_back alu.Or r1 imm r3 h s = record { choice = refl; fits = rw (has_imm8 imm h) refl; label = refl; slot = refl; bare = refl; op = rw (is_short 8 9223372036854775808 imm h (lit< tt), signed_back imm) refl }
+imm8_back alu.Xor r1 imm r3 h s = record { choice = refl; fits = rw (has_imm8 imm h) refl; label = refl; slot = refl; bare = refl; op = rw (is_short 8 9223372036854775808 imm h (lit< tt), signed_back imm) refl }
 imm8_back f r1 imm r3 h s = cc
 
 -- A4
 pub imm14_back : (p4 : Bool) (r1 : ℕ) (imm : ℤ) (r3 : ℕ) → FitsSigned 14 imm → ReadsBack (op.AddImm14 p4 r1 imm r3)
-imm14_back true r1 imm r3 h = record { slot = λ before after. refl; completers = refl; form = λ ts. rw (has_imm14 imm h) refl; bare = refl; op = rw (is_short 14 9223372036854775808 imm h (lit< tt), signed_back imm) refl }
-imm14_back false r1 imm r3 h = record { slot = λ before after. refl; completers = refl; form = λ ts. rw (has_imm14 imm h) refl; bare = refl; op = rw (is_short 14 9223372036854775808 imm h (lit< tt), signed_back imm) refl }
+imm14_back true r1 imm r3 h = record { choice = refl; fits = rw (has_imm14 imm h) refl; label = refl; slot = refl; bare = refl; op = rw (is_short 14 9223372036854775808 imm h (lit< tt), signed_back imm) refl }
+imm14_back false r1 imm r3 h = record { choice = refl; fits = rw (has_imm14 imm h) refl; label = refl; slot = refl; bare = refl; op = rw (is_short 14 9223372036854775808 imm h (lit< tt), signed_back imm) refl }
 
 -- A5
 pub imm22_back : (r1 : ℕ) (imm : ℤ) (r3 : ℕ) → FitsSigned 22 imm → ReadsBack (op.AddImm22 r1 imm r3)
-imm22_back r1 imm r3 h = record { slot = λ before after. refl; completers = refl; form = λ ts. rw (has_imm22 imm h) refl; bare = refl; op = rw (is_short 22 9223372036854775808 imm h (lit< tt), signed_back imm) refl }
-
--- the forms of both compares
-compares : (four : Bool) → forms_of (cond four word.Cmp4 word.Cmp) ≡ form.Cmp four ∷ form.CmpParallel four ∷ form.CmpZero four ∷ form.CmpImm four ∷ form.CmpImmParallel four ∷ form.CmpImmLess four ∷ []
-compares true = refl
-compares false = refl
+imm22_back r1 imm r3 h = record { choice = refl; fits = rw (has_imm22 imm h) refl; label = refl; slot = refl; bare = refl; op = rw (is_short 22 9223372036854775808 imm h (lit< tt), signed_back imm) refl }
 
 -- A6
 pub cmp_back : (four : Bool) (k : CmpKind) (r : Rel) (p1 p2 r2 r3 : ℕ) → IsSome (compare k r) → ReadsBack (op.Cmp four r k p1 p2 r2 r3)
-cmp_back four cmp.Normal rel.Eq p1 p2 r2 r3 s = record { slot = λ before after. rw (compares four) refl; completers = refl; form = λ ts. rw (compares four) refl; bare = refl; op = refl }
-cmp_back four cmp.Normal rel.Lt p1 p2 r2 r3 s = record { slot = λ before after. rw (compares four) refl; completers = refl; form = λ ts. rw (compares four) refl; bare = refl; op = refl }
-cmp_back four cmp.Normal rel.Ltu p1 p2 r2 r3 s = record { slot = λ before after. rw (compares four) refl; completers = refl; form = λ ts. rw (compares four) refl; bare = refl; op = refl }
-cmp_back four cmp.Unc rel.Eq p1 p2 r2 r3 s = record { slot = λ before after. rw (compares four) refl; completers = refl; form = λ ts. rw (compares four) refl; bare = refl; op = refl }
-cmp_back four cmp.Unc rel.Lt p1 p2 r2 r3 s = record { slot = λ before after. rw (compares four) refl; completers = refl; form = λ ts. rw (compares four) refl; bare = refl; op = refl }
-cmp_back four cmp.Unc rel.Ltu p1 p2 r2 r3 s = record { slot = λ before after. rw (compares four) refl; completers = refl; form = λ ts. rw (compares four) refl; bare = refl; op = refl }
-cmp_back four cmp.And rel.Eq p1 p2 r2 r3 s = record { slot = λ before after. rw (compares four) refl; completers = refl; form = λ ts. rw (compares four) refl; bare = refl; op = refl }
-cmp_back four cmp.And rel.Ne p1 p2 r2 r3 s = record { slot = λ before after. rw (compares four) refl; completers = refl; form = λ ts. rw (compares four) refl; bare = refl; op = refl }
-cmp_back four cmp.Or rel.Eq p1 p2 r2 r3 s = record { slot = λ before after. rw (compares four) refl; completers = refl; form = λ ts. rw (compares four) refl; bare = refl; op = refl }
-cmp_back four cmp.Or rel.Ne p1 p2 r2 r3 s = record { slot = λ before after. rw (compares four) refl; completers = refl; form = λ ts. rw (compares four) refl; bare = refl; op = refl }
-cmp_back four cmp.OrAndcm rel.Eq p1 p2 r2 r3 s = record { slot = λ before after. rw (compares four) refl; completers = refl; form = λ ts. rw (compares four) refl; bare = refl; op = refl }
-cmp_back four cmp.OrAndcm rel.Ne p1 p2 r2 r3 s = record { slot = λ before after. rw (compares four) refl; completers = refl; form = λ ts. rw (compares four) refl; bare = refl; op = refl }
+cmp_back true cmp.Normal rel.Eq p1 p2 r2 r3 s = record { choice = refl; fits = refl; label = refl; slot = refl; bare = refl; op = refl }
+cmp_back false cmp.Normal rel.Eq p1 p2 r2 r3 s = record { choice = refl; fits = refl; label = refl; slot = refl; bare = refl; op = refl }
+cmp_back true cmp.Normal rel.Lt p1 p2 r2 r3 s = record { choice = refl; fits = refl; label = refl; slot = refl; bare = refl; op = refl }
+cmp_back false cmp.Normal rel.Lt p1 p2 r2 r3 s = record { choice = refl; fits = refl; label = refl; slot = refl; bare = refl; op = refl }
+cmp_back true cmp.Normal rel.Ltu p1 p2 r2 r3 s = record { choice = refl; fits = refl; label = refl; slot = refl; bare = refl; op = refl }
+cmp_back false cmp.Normal rel.Ltu p1 p2 r2 r3 s = record { choice = refl; fits = refl; label = refl; slot = refl; bare = refl; op = refl }
+cmp_back four cmp.Normal r p1 p2 r2 r3 s = cc
+cmp_back true cmp.Unc rel.Eq p1 p2 r2 r3 s = record { choice = refl; fits = refl; label = refl; slot = refl; bare = refl; op = refl }
+cmp_back false cmp.Unc rel.Eq p1 p2 r2 r3 s = record { choice = refl; fits = refl; label = refl; slot = refl; bare = refl; op = refl }
+cmp_back true cmp.Unc rel.Lt p1 p2 r2 r3 s = record { choice = refl; fits = refl; label = refl; slot = refl; bare = refl; op = refl }
+cmp_back false cmp.Unc rel.Lt p1 p2 r2 r3 s = record { choice = refl; fits = refl; label = refl; slot = refl; bare = refl; op = refl }
+cmp_back true cmp.Unc rel.Ltu p1 p2 r2 r3 s = record { choice = refl; fits = refl; label = refl; slot = refl; bare = refl; op = refl }
+cmp_back false cmp.Unc rel.Ltu p1 p2 r2 r3 s = record { choice = refl; fits = refl; label = refl; slot = refl; bare = refl; op = refl }
+cmp_back four cmp.Unc r p1 p2 r2 r3 s = cc
+cmp_back true cmp.And rel.Eq p1 p2 r2 r3 s = record { choice = refl; fits = refl; label = refl; slot = refl; bare = refl; op = refl }
+cmp_back false cmp.And rel.Eq p1 p2 r2 r3 s = record { choice = refl; fits = refl; label = refl; slot = refl; bare = refl; op = refl }
+cmp_back true cmp.And rel.Ne p1 p2 r2 r3 s = record { choice = refl; fits = refl; label = refl; slot = refl; bare = refl; op = refl }
+cmp_back false cmp.And rel.Ne p1 p2 r2 r3 s = record { choice = refl; fits = refl; label = refl; slot = refl; bare = refl; op = refl }
+cmp_back true cmp.Or rel.Eq p1 p2 r2 r3 s = record { choice = refl; fits = refl; label = refl; slot = refl; bare = refl; op = refl }
+cmp_back false cmp.Or rel.Eq p1 p2 r2 r3 s = record { choice = refl; fits = refl; label = refl; slot = refl; bare = refl; op = refl }
+cmp_back true cmp.Or rel.Ne p1 p2 r2 r3 s = record { choice = refl; fits = refl; label = refl; slot = refl; bare = refl; op = refl }
+cmp_back false cmp.Or rel.Ne p1 p2 r2 r3 s = record { choice = refl; fits = refl; label = refl; slot = refl; bare = refl; op = refl }
+cmp_back true cmp.OrAndcm rel.Eq p1 p2 r2 r3 s = record { choice = refl; fits = refl; label = refl; slot = refl; bare = refl; op = refl }
+cmp_back false cmp.OrAndcm rel.Eq p1 p2 r2 r3 s = record { choice = refl; fits = refl; label = refl; slot = refl; bare = refl; op = refl }
+cmp_back true cmp.OrAndcm rel.Ne p1 p2 r2 r3 s = record { choice = refl; fits = refl; label = refl; slot = refl; bare = refl; op = refl }
+cmp_back false cmp.OrAndcm rel.Ne p1 p2 r2 r3 s = record { choice = refl; fits = refl; label = refl; slot = refl; bare = refl; op = refl }
 cmp_back four k r p1 p2 r2 r3 s = cc
 
 -- A7
 pub cmp_zero_back : (four : Bool) (k : CmpKind) (r : Rel) (p1 p2 r3 : ℕ) → IsSome (parallel_op k) → IsSome (zero_codes r) → ReadsBack (op.CmpZero four r k p1 p2 r3)
-cmp_zero_back four cmp.And rel.Gt p1 p2 r3 s z = record { slot = λ before after. rw (compares four) refl; completers = refl; form = λ ts. rw (compares four) refl; bare = refl; op = refl }
-cmp_zero_back four cmp.And rel.Le p1 p2 r3 s z = record { slot = λ before after. rw (compares four) refl; completers = refl; form = λ ts. rw (compares four) refl; bare = refl; op = refl }
-cmp_zero_back four cmp.And rel.Ge p1 p2 r3 s z = record { slot = λ before after. rw (compares four) refl; completers = refl; form = λ ts. rw (compares four) refl; bare = refl; op = refl }
-cmp_zero_back four cmp.And rel.Lt p1 p2 r3 s z = record { slot = λ before after. rw (compares four) refl; completers = refl; form = λ ts. rw (compares four) refl; bare = refl; op = refl }
-cmp_zero_back four cmp.Or rel.Gt p1 p2 r3 s z = record { slot = λ before after. rw (compares four) refl; completers = refl; form = λ ts. rw (compares four) refl; bare = refl; op = refl }
-cmp_zero_back four cmp.Or rel.Le p1 p2 r3 s z = record { slot = λ before after. rw (compares four) refl; completers = refl; form = λ ts. rw (compares four) refl; bare = refl; op = refl }
-cmp_zero_back four cmp.Or rel.Ge p1 p2 r3 s z = record { slot = λ before after. rw (compares four) refl; completers = refl; form = λ ts. rw (compares four) refl; bare = refl; op = refl }
-cmp_zero_back four cmp.Or rel.Lt p1 p2 r3 s z = record { slot = λ before after. rw (compares four) refl; completers = refl; form = λ ts. rw (compares four) refl; bare = refl; op = refl }
-cmp_zero_back four cmp.OrAndcm rel.Gt p1 p2 r3 s z = record { slot = λ before after. rw (compares four) refl; completers = refl; form = λ ts. rw (compares four) refl; bare = refl; op = refl }
-cmp_zero_back four cmp.OrAndcm rel.Le p1 p2 r3 s z = record { slot = λ before after. rw (compares four) refl; completers = refl; form = λ ts. rw (compares four) refl; bare = refl; op = refl }
-cmp_zero_back four cmp.OrAndcm rel.Ge p1 p2 r3 s z = record { slot = λ before after. rw (compares four) refl; completers = refl; form = λ ts. rw (compares four) refl; bare = refl; op = refl }
-cmp_zero_back four cmp.OrAndcm rel.Lt p1 p2 r3 s z = record { slot = λ before after. rw (compares four) refl; completers = refl; form = λ ts. rw (compares four) refl; bare = refl; op = refl }
+cmp_zero_back true cmp.And rel.Gt p1 p2 r3 s z = record { choice = refl; fits = refl; label = refl; slot = refl; bare = refl; op = refl }
+cmp_zero_back false cmp.And rel.Gt p1 p2 r3 s z = record { choice = refl; fits = refl; label = refl; slot = refl; bare = refl; op = refl }
+cmp_zero_back true cmp.And rel.Le p1 p2 r3 s z = record { choice = refl; fits = refl; label = refl; slot = refl; bare = refl; op = refl }
+cmp_zero_back false cmp.And rel.Le p1 p2 r3 s z = record { choice = refl; fits = refl; label = refl; slot = refl; bare = refl; op = refl }
+cmp_zero_back true cmp.And rel.Ge p1 p2 r3 s z = record { choice = refl; fits = refl; label = refl; slot = refl; bare = refl; op = refl }
+cmp_zero_back false cmp.And rel.Ge p1 p2 r3 s z = record { choice = refl; fits = refl; label = refl; slot = refl; bare = refl; op = refl }
+cmp_zero_back true cmp.And rel.Lt p1 p2 r3 s z = record { choice = refl; fits = refl; label = refl; slot = refl; bare = refl; op = refl }
+cmp_zero_back false cmp.And rel.Lt p1 p2 r3 s z = record { choice = refl; fits = refl; label = refl; slot = refl; bare = refl; op = refl }
+cmp_zero_back true cmp.Or rel.Gt p1 p2 r3 s z = record { choice = refl; fits = refl; label = refl; slot = refl; bare = refl; op = refl }
+cmp_zero_back false cmp.Or rel.Gt p1 p2 r3 s z = record { choice = refl; fits = refl; label = refl; slot = refl; bare = refl; op = refl }
+cmp_zero_back true cmp.Or rel.Le p1 p2 r3 s z = record { choice = refl; fits = refl; label = refl; slot = refl; bare = refl; op = refl }
+cmp_zero_back false cmp.Or rel.Le p1 p2 r3 s z = record { choice = refl; fits = refl; label = refl; slot = refl; bare = refl; op = refl }
+cmp_zero_back true cmp.Or rel.Ge p1 p2 r3 s z = record { choice = refl; fits = refl; label = refl; slot = refl; bare = refl; op = refl }
+cmp_zero_back false cmp.Or rel.Ge p1 p2 r3 s z = record { choice = refl; fits = refl; label = refl; slot = refl; bare = refl; op = refl }
+cmp_zero_back true cmp.Or rel.Lt p1 p2 r3 s z = record { choice = refl; fits = refl; label = refl; slot = refl; bare = refl; op = refl }
+cmp_zero_back false cmp.Or rel.Lt p1 p2 r3 s z = record { choice = refl; fits = refl; label = refl; slot = refl; bare = refl; op = refl }
+cmp_zero_back true cmp.OrAndcm rel.Gt p1 p2 r3 s z = record { choice = refl; fits = refl; label = refl; slot = refl; bare = refl; op = refl }
+cmp_zero_back false cmp.OrAndcm rel.Gt p1 p2 r3 s z = record { choice = refl; fits = refl; label = refl; slot = refl; bare = refl; op = refl }
+cmp_zero_back true cmp.OrAndcm rel.Le p1 p2 r3 s z = record { choice = refl; fits = refl; label = refl; slot = refl; bare = refl; op = refl }
+cmp_zero_back false cmp.OrAndcm rel.Le p1 p2 r3 s z = record { choice = refl; fits = refl; label = refl; slot = refl; bare = refl; op = refl }
+cmp_zero_back true cmp.OrAndcm rel.Ge p1 p2 r3 s z = record { choice = refl; fits = refl; label = refl; slot = refl; bare = refl; op = refl }
+cmp_zero_back false cmp.OrAndcm rel.Ge p1 p2 r3 s z = record { choice = refl; fits = refl; label = refl; slot = refl; bare = refl; op = refl }
+cmp_zero_back true cmp.OrAndcm rel.Lt p1 p2 r3 s z = record { choice = refl; fits = refl; label = refl; slot = refl; bare = refl; op = refl }
+cmp_zero_back false cmp.OrAndcm rel.Lt p1 p2 r3 s z = record { choice = refl; fits = refl; label = refl; slot = refl; bare = refl; op = refl }
 cmp_zero_back four cmp.Normal r p1 p2 r3 s z = cc
 cmp_zero_back four cmp.Unc r p1 p2 r3 s z = cc
 cmp_zero_back four k r p1 p2 r3 s z = cc
 
 -- A8
 pub cmp_imm_back : (four : Bool) (k : CmpKind) (r : Rel) (p1 p2 : ℕ) (imm : ℤ) (r3 : ℕ) → FitsSigned 8 imm → IsSome (compare k r) → ReadsBack (op.CmpImm four r k p1 p2 imm r3)
-cmp_imm_back four cmp.Normal rel.Eq p1 p2 imm r3 h s = record { slot = λ before after. rw (compares four) refl; completers = refl; form = λ ts. rw (compares four, has_imm8 imm h) refl; bare = refl; op = rw (is_short 8 9223372036854775808 imm h (lit< tt), signed_back imm) refl }
-cmp_imm_back four cmp.Normal rel.Lt p1 p2 imm r3 h s = record { slot = λ before after. rw (compares four) refl; completers = refl; form = λ ts. rw (compares four, has_imm8 imm h) refl; bare = refl; op = rw (is_short 8 9223372036854775808 imm h (lit< tt), signed_back imm) refl }
-cmp_imm_back four cmp.Normal rel.Ltu p1 p2 imm r3 h s = record { slot = λ before after. rw (compares four) refl; completers = refl; form = λ ts. rw (compares four, has_imm8 imm h) refl; bare = refl; op = rw (is_short 8 9223372036854775808 imm h (lit< tt), signed_back imm) refl }
-cmp_imm_back four cmp.Unc rel.Eq p1 p2 imm r3 h s = record { slot = λ before after. rw (compares four) refl; completers = refl; form = λ ts. rw (compares four, has_imm8 imm h) refl; bare = refl; op = rw (is_short 8 9223372036854775808 imm h (lit< tt), signed_back imm) refl }
-cmp_imm_back four cmp.Unc rel.Lt p1 p2 imm r3 h s = record { slot = λ before after. rw (compares four) refl; completers = refl; form = λ ts. rw (compares four, has_imm8 imm h) refl; bare = refl; op = rw (is_short 8 9223372036854775808 imm h (lit< tt), signed_back imm) refl }
-cmp_imm_back four cmp.Unc rel.Ltu p1 p2 imm r3 h s = record { slot = λ before after. rw (compares four) refl; completers = refl; form = λ ts. rw (compares four, has_imm8 imm h) refl; bare = refl; op = rw (is_short 8 9223372036854775808 imm h (lit< tt), signed_back imm) refl }
-cmp_imm_back four cmp.And rel.Eq p1 p2 imm r3 h s = record { slot = λ before after. rw (compares four) refl; completers = refl; form = λ ts. rw (compares four, has_imm8 imm h) refl; bare = refl; op = rw (is_short 8 9223372036854775808 imm h (lit< tt), signed_back imm) refl }
-cmp_imm_back four cmp.And rel.Ne p1 p2 imm r3 h s = record { slot = λ before after. rw (compares four) refl; completers = refl; form = λ ts. rw (compares four, has_imm8 imm h) refl; bare = refl; op = rw (is_short 8 9223372036854775808 imm h (lit< tt), signed_back imm) refl }
-cmp_imm_back four cmp.Or rel.Eq p1 p2 imm r3 h s = record { slot = λ before after. rw (compares four) refl; completers = refl; form = λ ts. rw (compares four, has_imm8 imm h) refl; bare = refl; op = rw (is_short 8 9223372036854775808 imm h (lit< tt), signed_back imm) refl }
-cmp_imm_back four cmp.Or rel.Ne p1 p2 imm r3 h s = record { slot = λ before after. rw (compares four) refl; completers = refl; form = λ ts. rw (compares four, has_imm8 imm h) refl; bare = refl; op = rw (is_short 8 9223372036854775808 imm h (lit< tt), signed_back imm) refl }
-cmp_imm_back four cmp.OrAndcm rel.Eq p1 p2 imm r3 h s = record { slot = λ before after. rw (compares four) refl; completers = refl; form = λ ts. rw (compares four, has_imm8 imm h) refl; bare = refl; op = rw (is_short 8 9223372036854775808 imm h (lit< tt), signed_back imm) refl }
-cmp_imm_back four cmp.OrAndcm rel.Ne p1 p2 imm r3 h s = record { slot = λ before after. rw (compares four) refl; completers = refl; form = λ ts. rw (compares four, has_imm8 imm h) refl; bare = refl; op = rw (is_short 8 9223372036854775808 imm h (lit< tt), signed_back imm) refl }
+cmp_imm_back true cmp.Normal rel.Eq p1 p2 imm r3 h s = record { choice = refl; fits = rw (has_imm8 imm h) refl; label = refl; slot = refl; bare = refl; op = rw (is_short 8 9223372036854775808 imm h (lit< tt), signed_back imm) refl }
+cmp_imm_back false cmp.Normal rel.Eq p1 p2 imm r3 h s = record { choice = refl; fits = rw (has_imm8 imm h) refl; label = refl; slot = refl; bare = refl; op = rw (is_short 8 9223372036854775808 imm h (lit< tt), signed_back imm) refl }
+cmp_imm_back true cmp.Normal rel.Lt p1 p2 imm r3 h s = record { choice = refl; fits = rw (has_imm8 imm h) refl; label = refl; slot = refl; bare = refl; op = rw (is_short 8 9223372036854775808 imm h (lit< tt), signed_back imm) refl }
+cmp_imm_back false cmp.Normal rel.Lt p1 p2 imm r3 h s = record { choice = refl; fits = rw (has_imm8 imm h) refl; label = refl; slot = refl; bare = refl; op = rw (is_short 8 9223372036854775808 imm h (lit< tt), signed_back imm) refl }
+cmp_imm_back true cmp.Normal rel.Ltu p1 p2 imm r3 h s = record { choice = refl; fits = rw (has_imm8 imm h) refl; label = refl; slot = refl; bare = refl; op = rw (is_short 8 9223372036854775808 imm h (lit< tt), signed_back imm) refl }
+cmp_imm_back false cmp.Normal rel.Ltu p1 p2 imm r3 h s = record { choice = refl; fits = rw (has_imm8 imm h) refl; label = refl; slot = refl; bare = refl; op = rw (is_short 8 9223372036854775808 imm h (lit< tt), signed_back imm) refl }
+cmp_imm_back four cmp.Normal r p1 p2 imm r3 h s = cc
+cmp_imm_back true cmp.Unc rel.Eq p1 p2 imm r3 h s = record { choice = refl; fits = rw (has_imm8 imm h) refl; label = refl; slot = refl; bare = refl; op = rw (is_short 8 9223372036854775808 imm h (lit< tt), signed_back imm) refl }
+cmp_imm_back false cmp.Unc rel.Eq p1 p2 imm r3 h s = record { choice = refl; fits = rw (has_imm8 imm h) refl; label = refl; slot = refl; bare = refl; op = rw (is_short 8 9223372036854775808 imm h (lit< tt), signed_back imm) refl }
+cmp_imm_back true cmp.Unc rel.Lt p1 p2 imm r3 h s = record { choice = refl; fits = rw (has_imm8 imm h) refl; label = refl; slot = refl; bare = refl; op = rw (is_short 8 9223372036854775808 imm h (lit< tt), signed_back imm) refl }
+cmp_imm_back false cmp.Unc rel.Lt p1 p2 imm r3 h s = record { choice = refl; fits = rw (has_imm8 imm h) refl; label = refl; slot = refl; bare = refl; op = rw (is_short 8 9223372036854775808 imm h (lit< tt), signed_back imm) refl }
+cmp_imm_back true cmp.Unc rel.Ltu p1 p2 imm r3 h s = record { choice = refl; fits = rw (has_imm8 imm h) refl; label = refl; slot = refl; bare = refl; op = rw (is_short 8 9223372036854775808 imm h (lit< tt), signed_back imm) refl }
+cmp_imm_back false cmp.Unc rel.Ltu p1 p2 imm r3 h s = record { choice = refl; fits = rw (has_imm8 imm h) refl; label = refl; slot = refl; bare = refl; op = rw (is_short 8 9223372036854775808 imm h (lit< tt), signed_back imm) refl }
+cmp_imm_back four cmp.Unc r p1 p2 imm r3 h s = cc
+cmp_imm_back true cmp.And rel.Eq p1 p2 imm r3 h s = record { choice = refl; fits = rw (has_imm8 imm h) refl; label = refl; slot = refl; bare = refl; op = rw (is_short 8 9223372036854775808 imm h (lit< tt), signed_back imm) refl }
+cmp_imm_back false cmp.And rel.Eq p1 p2 imm r3 h s = record { choice = refl; fits = rw (has_imm8 imm h) refl; label = refl; slot = refl; bare = refl; op = rw (is_short 8 9223372036854775808 imm h (lit< tt), signed_back imm) refl }
+cmp_imm_back true cmp.And rel.Ne p1 p2 imm r3 h s = record { choice = refl; fits = rw (has_imm8 imm h) refl; label = refl; slot = refl; bare = refl; op = rw (is_short 8 9223372036854775808 imm h (lit< tt), signed_back imm) refl }
+cmp_imm_back false cmp.And rel.Ne p1 p2 imm r3 h s = record { choice = refl; fits = rw (has_imm8 imm h) refl; label = refl; slot = refl; bare = refl; op = rw (is_short 8 9223372036854775808 imm h (lit< tt), signed_back imm) refl }
+cmp_imm_back true cmp.Or rel.Eq p1 p2 imm r3 h s = record { choice = refl; fits = rw (has_imm8 imm h) refl; label = refl; slot = refl; bare = refl; op = rw (is_short 8 9223372036854775808 imm h (lit< tt), signed_back imm) refl }
+cmp_imm_back false cmp.Or rel.Eq p1 p2 imm r3 h s = record { choice = refl; fits = rw (has_imm8 imm h) refl; label = refl; slot = refl; bare = refl; op = rw (is_short 8 9223372036854775808 imm h (lit< tt), signed_back imm) refl }
+cmp_imm_back true cmp.Or rel.Ne p1 p2 imm r3 h s = record { choice = refl; fits = rw (has_imm8 imm h) refl; label = refl; slot = refl; bare = refl; op = rw (is_short 8 9223372036854775808 imm h (lit< tt), signed_back imm) refl }
+cmp_imm_back false cmp.Or rel.Ne p1 p2 imm r3 h s = record { choice = refl; fits = rw (has_imm8 imm h) refl; label = refl; slot = refl; bare = refl; op = rw (is_short 8 9223372036854775808 imm h (lit< tt), signed_back imm) refl }
+cmp_imm_back true cmp.OrAndcm rel.Eq p1 p2 imm r3 h s = record { choice = refl; fits = rw (has_imm8 imm h) refl; label = refl; slot = refl; bare = refl; op = rw (is_short 8 9223372036854775808 imm h (lit< tt), signed_back imm) refl }
+cmp_imm_back false cmp.OrAndcm rel.Eq p1 p2 imm r3 h s = record { choice = refl; fits = rw (has_imm8 imm h) refl; label = refl; slot = refl; bare = refl; op = rw (is_short 8 9223372036854775808 imm h (lit< tt), signed_back imm) refl }
+cmp_imm_back true cmp.OrAndcm rel.Ne p1 p2 imm r3 h s = record { choice = refl; fits = rw (has_imm8 imm h) refl; label = refl; slot = refl; bare = refl; op = rw (is_short 8 9223372036854775808 imm h (lit< tt), signed_back imm) refl }
+cmp_imm_back false cmp.OrAndcm rel.Ne p1 p2 imm r3 h s = record { choice = refl; fits = rw (has_imm8 imm h) refl; label = refl; slot = refl; bare = refl; op = rw (is_short 8 9223372036854775808 imm h (lit< tt), signed_back imm) refl }
 cmp_imm_back four k r p1 p2 imm r3 h s = cc

@@ -1,311 +1,82 @@
--- A canonical slot line has at most 240 bytes: a predicate at most 6, a mnemonic at most 56, operands at
--- most 140 and a stop at most 3.
+-- A canonical slot line has at most 119 bytes: two spaces, a predicate of at most 6, a mnemonic and operands of at
+-- most 107 together, a space between them, and a stop of at most 3.
 use Rattle.std.proofs.Common.{◌≡◌, refl, ap, ℕ, suc, zero, ◌+◌, ◌*◌, ◌/◌, ◌%◌, ◌<◌, ◌≤◌, ◌^◌, Bool, true, false, cond, leb, eqb, List, [], ◌∷◌, ◌++◌, length, Option, Some, None, arith, codes, lit<}
 use Rattle.std.specs.Prelude.{flat_map, IfSome}
-use Rattle.std.specs.List.{AllByRecursion}
+use Rattle.std.specs.List.{AllByRecursion, list_all}
 use Rattle.std.specs.Fmt.{decimal, digits, digit_glyph}
 use Rattle.std.proofs.lemmas.Fmt.{length-decimal-le}
 use Rattle.std.proofs.lemmas.Bool.{leb-true, leb-false}
 use Rattle.std.proofs.lemmas.List.{length-append}
-use Rattle.asm_words.specs.declared.limits.TheConstants.{LINE_LIMIT}
 use native.Mathlib.Nat.{pow-suc}
 use Rattle.ia_insn.specs.declared.insn.Insn.{Insn}
-use Rattle.ia_insn.specs.declared.insn.Op.{Op}
-use Rattle.ia_insn.specs.declared.insn.Op.TheVariants as op
 use Rattle.ia_insn.specs.declared.registers.Ar.TheVariants as ar
-use Rattle.ia_insn.specs.declared.choices.AluFn.TheVariants as alu
-use Rattle.ia_insn.specs.declared.choices.ShiftFn.TheVariants as shift
-use Rattle.ia_insn.specs.declared.choices.Update.TheVariants as update
-use Rattle.ia_insn.specs.declared.choices.BranchKind.TheVariants as branch
-use Rattle.ia_insn.specs.declared.choices.CmpKind.TheVariants as cmp
-use Rattle.ia_insn.specs.declared.choices.LoadKind.TheVariants as load
-use Rattle.ia_insn.specs.declared.choices.StoreKind.TheVariants as store
-use Rattle.ia_insn.specs.declared.choices.Unit.TheVariants as unit
 use Rattle.asm_words.specs.declared.tokens.Token.{Token}
 use Rattle.asm_words.specs.declared.tokens.Token.TheVariants as t
-use Rattle.asm_forms.specs.declared.choices.Relation.TheVariants as rel
-use Rattle.asm_forms.specs.declared.choices.Whether.TheVariants as wh
-use Rattle.asm_forms.specs.declared.choices.CacheHint.TheVariants as hint
-use Rattle.asm_forms.specs.declared.completer.Completer.{Completer}
-use Rattle.asm_forms.specs.declared.completer.Completer.TheVariants as c
-use Rattle.asm_forms.specs.declared.items.Item.{Item}
-use Rattle.asm_forms.specs.declared.leading.LeadingWord.{LeadingWord}
-use Rattle.asm_forms.specs.declared.leading.LeadingWord.TheVariants as word
-use Rattle.asm_forms.specs.Completers.{text_of}
-use Rattle.asm_forms.specs.LeadingWords.{word_text}
-use Rattle.asm_forms.specs.Rows.{row_of}
 use Rattle.asm_words.proofs.HexDigits.{hex_one, hex_step}
-use Rattle.asm_text.specs.Canonical.{word_of, form_of, completers_of, tokens_of}
-use Rattle.asm_text.specs.ReadBack.{IsPrinted}
+use Rattle.asm_forms.specs.declared.completer.Completer.{Completer}
+use Rattle.asm_forms.specs.declared.form.Form.{Form}
+use Rattle.asm_forms.specs.declared.items.Item.{Item}
+use Rattle.asm_forms.specs.declared.items.Item.TheVariants.{Is, Takes}
+use Rattle.asm_forms.specs.declared.items.Kind.{Kind}
+use Rattle.asm_forms.specs.declared.items.Kind.TheVariants as k
+use Rattle.asm_forms.specs.Completers.{text_of}
+use Rattle.asm_forms.specs.Items.{mark_token, filled, prints, fits}
+use Rattle.asm_forms.specs.Naming.{completers_in}
+use Rattle.asm_forms.specs.Rows.{rows, row_of}
+use Rattle.asm_forms.proofs.Bools.{left, right}
+use Rattle.asm_forms.proofs.Clear.{products}
+use Rattle.asm_forms.proofs.RowBack.{of_products}
+use Rattle.asm_forms.proofs.RowFacts.{of_row}
+use Rattle.asm_text.specs.declared.limits.TheConstants.{SLOT_LINE_LIMIT}
 use Rattle.asm_text.specs.SlotTexts.{is_hex, token_text, operands_text, or_zero, spaced, predicate_text, mnemonic_text, stop_text, slot_text, target_of}
-use Rattle.asm_text.proofs.OperandTexts.{is_wordlike}
+use Rattle.asm_text.proofs.Written.{form_of, completers_of, operands_of, items_of, tokens_of, name_of_op, ReadsBack, IsPrinted}
 
--- A leading word has at most 8 bytes.
-word_is_short : (w : LeadingWord) → length (word_text w) ≤ 8
-word_is_short word.Add = omega arith
-word_is_short word.Sub = omega arith
-word_is_short word.Addp4 = omega arith
-word_is_short word.And = omega arith
-word_is_short word.Andcm = omega arith
-word_is_short word.Or = omega arith
-word_is_short word.Xor = omega arith
-word_is_short word.Shladd = omega arith
-word_is_short word.Shladdp4 = omega arith
-word_is_short word.Adds = omega arith
-word_is_short word.Addl = omega arith
-word_is_short word.Cmp = omega arith
-word_is_short word.Cmp4 = omega arith
-word_is_short word.Shr = omega arith
-word_is_short word.Shl = omega arith
-word_is_short word.Popcnt = omega arith
-word_is_short word.Shrp = omega arith
-word_is_short word.Extr = omega arith
-word_is_short word.Dep = omega arith
-word_is_short word.Tbit = omega arith
-word_is_short word.Tnat = omega arith
-word_is_short word.Chk = omega arith
-word_is_short word.Mov = omega arith
-word_is_short word.Zxt1 = omega arith
-word_is_short word.Zxt2 = omega arith
-word_is_short word.Zxt4 = omega arith
-word_is_short word.Sxt1 = omega arith
-word_is_short word.Sxt2 = omega arith
-word_is_short word.Sxt4 = omega arith
-word_is_short word.Ld1 = omega arith
-word_is_short word.Ld2 = omega arith
-word_is_short word.Ld4 = omega arith
-word_is_short word.Ld8 = omega arith
-word_is_short word.St1 = omega arith
-word_is_short word.St2 = omega arith
-word_is_short word.St4 = omega arith
-word_is_short word.St8 = omega arith
-word_is_short word.Invala = omega arith
-word_is_short word.Mf = omega arith
-word_is_short word.Alloc = omega arith
-word_is_short word.Br = omega arith
-word_is_short word.Clrrrb = omega arith
-word_is_short word.Movl = omega arith
-word_is_short word.Break = omega arith
-word_is_short word.Nop = omega arith
-word_is_short word.Hint = omega arith
-word_is_short word.Text = omega arith
-word_is_short word.Data = omega arith
-word_is_short word.Entry = omega arith
-word_is_short word.Global = omega arith
-word_is_short word.Proc = omega arith
-word_is_short word.Endp = omega arith
-word_is_short word.Skip = omega arith
-word_is_short word.Data1 = omega arith
-word_is_short word.Data2 = omega arith
-word_is_short word.Data4 = omega arith
-word_is_short word.Data8 = omega arith
+-- the most bytes of the text of a token
+abbrev token_room : Token → ℕ
+token_room (t.Gr n) = 4
+token_room (t.Pr n) = 3
+token_room (t.Br n) = 2
+token_room (t.Ar a) = 7
+token_room t.Predicates = 2
+token_room t.RotatingPredicates = 6
+token_room t.Ip = 2
+token_room t.Name = 12
+token_room (t.Number negative m) = 21
+token_room _ = 1
 
--- A completer has at most 12 bytes.
-completer_is_short : (completer : Completer) → length (text_of completer) ≤ 12
-completer_is_short c.Absent = omega arith
-completer_is_short (c.Relation rel.Eq) = omega arith
-completer_is_short (c.Relation rel.Ne) = omega arith
-completer_is_short (c.Relation rel.Lt) = omega arith
-completer_is_short (c.Relation rel.Le) = omega arith
-completer_is_short (c.Relation rel.Gt) = omega arith
-completer_is_short (c.Relation rel.Ge) = omega arith
-completer_is_short (c.Relation rel.Ltu) = omega arith
-completer_is_short (c.Relation rel.Leu) = omega arith
-completer_is_short (c.Relation rel.Gtu) = omega arith
-completer_is_short (c.Relation rel.Geu) = omega arith
-completer_is_short (c.Compare cmp.Normal) = omega arith
-completer_is_short (c.Compare cmp.Unc) = omega arith
-completer_is_short (c.Compare cmp.And) = omega arith
-completer_is_short (c.Compare cmp.Or) = omega arith
-completer_is_short (c.Compare cmp.OrAndcm) = omega arith
-completer_is_short c.U = omega arith
-completer_is_short c.Z = omega arith
-completer_is_short c.Nz = omega arith
-completer_is_short c.S = omega arith
-completer_is_short c.A = omega arith
-completer_is_short c.Nc = omega arith
-completer_is_short c.Clr = omega arith
-completer_is_short c.Ret = omega arith
-completer_is_short (c.Whether wh.Sptk) = omega arith
-completer_is_short (c.Whether wh.Spnt) = omega arith
-completer_is_short (c.Whether wh.Dptk) = omega arith
-completer_is_short (c.Whether wh.Dpnt) = omega arith
-completer_is_short c.Imp = omega arith
-completer_is_short (c.Load load.Plain) = omega arith
-completer_is_short (c.Load load.S) = omega arith
-completer_is_short (c.Load load.A) = omega arith
-completer_is_short (c.Load load.Sa) = omega arith
-completer_is_short (c.Load load.Bias) = omega arith
-completer_is_short (c.Load load.Acq) = omega arith
-completer_is_short (c.Load load.CClr) = omega arith
-completer_is_short (c.Load load.CNc) = omega arith
-completer_is_short (c.Load load.CClrAcq) = omega arith
-completer_is_short (c.Load load.Fill) = omega arith
-completer_is_short (c.Store store.Plain) = omega arith
-completer_is_short (c.Store store.Rel) = omega arith
-completer_is_short (c.Store store.Spill) = omega arith
-completer_is_short (c.Hint hint.None) = omega arith
-completer_is_short (c.Hint hint.Nt1) = omega arith
-completer_is_short (c.Hint hint.Nta) = omega arith
-completer_is_short c.E = omega arith
-completer_is_short c.Cond = omega arith
-completer_is_short (c.Loop branch.Wexit) = omega arith
-completer_is_short (c.Loop branch.Wtop) = omega arith
-completer_is_short (c.Loop branch.Cloop) = omega arith
-completer_is_short (c.Loop branch.Cexit) = omega arith
-completer_is_short (c.Loop branch.Ctop) = omega arith
-completer_is_short c.Call = omega arith
-completer_is_short c.Few = omega arith
-completer_is_short c.Many = omega arith
-completer_is_short c.Pr = omega arith
-completer_is_short (c.Unit unit.M) = omega arith
-completer_is_short (c.Unit unit.I) = omega arith
-completer_is_short (c.Unit unit.F) = omega arith
-completer_is_short (c.Unit unit.B) = omega arith
-completer_is_short (c.Unit unit.X) = omega arith
-completer_is_short (c.Loop branch.Cond) = omega arith
-completer_is_short (c.Unit unit.L) = omega arith
+-- and of an operand of a kind
+abbrev kind_room : Kind → ℕ
+kind_room k.Gr = 4
+kind_room k.Pr = 3
+kind_room k.Br = 2
+kind_room k.Ar = 7
+kind_room k.Label = 12
+kind_room (k.Number field) = 21
 
--- Completers have at most 12 bytes each.
-completers_are_short : (cs : List Completer) → length (flat_map text_of cs) ≤ 12 * length cs
-completers_are_short [] = omega arith
-completers_are_short (completer ∷ cs) =
-    let one = completer_is_short completer in
-    let more = completers_are_short cs in
-    let both = length-append (text_of completer) (flat_map text_of cs) in
-    omega (arith, one, more, both)
+abbrev items_room : List Item → ℕ
+items_room [] = 0
+items_room (Is mark ∷ is) = token_room (mark_token mark) + items_room is
+items_room (Takes kind ∷ is) = kind_room kind + items_room is
 
--- An instruction has at most 4 completers.
-completers_are_few : (x : Op) → length (completers_of x) ≤ 4
-completers_are_few (op.Alu f r1 r2 r3) = omega arith
-completers_are_few (op.ShlAdd p4 r1 r2 count r3) = omega arith
-completers_are_few (op.AluImm8 f r1 imm r3) = omega arith
-completers_are_few (op.AddImm14 p4 r1 imm r3) = omega arith
-completers_are_few (op.AddImm22 r1 imm r3) = omega arith
-completers_are_few (op.Cmp four rel kind p1 p2 r2 r3) = omega arith
-completers_are_few (op.CmpZero four rel kind p1 p2 r3) = omega arith
-completers_are_few (op.CmpImm four rel kind p1 p2 imm r3) = omega arith
-completers_are_few (op.ShiftVar shift.Shl r1 value count) = omega arith
-completers_are_few (op.ShiftVar shift.Shr r1 value count) = omega arith
-completers_are_few (op.ShiftVar shift.ShrU r1 value count) = omega arith
-completers_are_few (op.Popcnt r1 r3) = omega arith
-completers_are_few (op.Shrp r1 r2 r3 count) = omega arith
-completers_are_few (op.Extr signed r1 r3 lowest len) = omega arith
-completers_are_few (op.DepZ r1 r2 lowest len) = omega arith
-completers_are_few (op.DepZImm r1 imm lowest len) = omega arith
-completers_are_few (op.DepImm r1 ones r3 lowest len) = omega arith
-completers_are_few (op.Dep r1 r2 r3 lowest len) = omega arith
-completers_are_few (op.Tbit unc p1 p2 r3 lowest) = omega arith
-completers_are_few (op.Tnat unc p1 p2 r3) = omega arith
-completers_are_few (op.ChkS unit r2 disp) = omega arith
-completers_are_few (op.MovToBr b1 r2 ret imp wh tag) = omega arith
-completers_are_few (op.MovFromBr r1 b2) = omega arith
-completers_are_few (op.MovToPr r2 mask) = omega arith
-completers_are_few (op.MovToPrRot imm) = omega arith
-completers_are_few (op.MovFromIp r1) = omega arith
-completers_are_few (op.MovFromPr r1) = omega arith
-completers_are_few (op.MovToAr ar r2) = omega arith
-completers_are_few (op.MovToArImm ar imm) = omega arith
-completers_are_few (op.MovFromAr r1 ar) = omega arith
-completers_are_few (op.Ext signed size r1 r3) = omega arith
-completers_are_few (op.Load size kind hint r1 r3 update) = omega arith
-completers_are_few (op.Store size kind hint r3 r2 update) = omega arith
-completers_are_few (op.ChkA clear r1 disp) = omega arith
-completers_are_few op.Invala = omega arith
-completers_are_few op.Mf = omega arith
-completers_are_few (op.InvalaE r1) = omega arith
-completers_are_few (op.Alloc r1 sof sol sor) = omega arith
-completers_are_few (op.Br kind wh many clr disp) = omega arith
-completers_are_few (op.BrCall b1 wh many clr disp) = omega arith
-completers_are_few (op.BrInd b2 wh many clr) = omega arith
-completers_are_few (op.BrRet b2 wh many clr) = omega arith
-completers_are_few (op.BrCallInd b1 b2 wh many clr) = omega arith
-completers_are_few (op.Clrrrb true) = omega arith
-completers_are_few (op.Clrrrb false) = omega arith
-completers_are_few (op.Movl r1 imm) = omega arith
-completers_are_few (op.Break unit imm) = omega arith
-completers_are_few (op.Nop unit imm) = omega arith
-completers_are_few (op.Hint unit imm) = omega arith
+kind_fits : (kind : Kind) (x : Token) → prints kind x ≡ true → token_room x ≡ kind_room kind
+kind_fits k.Gr (t.Gr n) h = refl
+kind_fits k.Pr (t.Pr n) h = refl
+kind_fits k.Br (t.Br n) h = refl
+kind_fits k.Ar (t.Ar a) h = refl
+kind_fits k.Label t.Name h = refl
+kind_fits (k.Number field) (t.Number negative m) h = refl
+kind_fits kind x h = cc
 
--- A mnemonic has at most 56 bytes.
-mnemonic_is_short : (x : Op) → length (mnemonic_text (word_of x) (completers_of x)) ≤ 56
-mnemonic_is_short x =
-    let w = word_is_short (word_of x) in
-    let cs = completers_are_short (completers_of x) in
-    let few = completers_are_few x in
-    let both = length-append (word_text (word_of x)) (flat_map text_of (completers_of x)) in
-    omega (arith, w, cs, few, both)
+-- The word of a row, any completers of its sets and its operands have at most 107 bytes.
+rows_short : list_all (λ r. list_all (λ cs. leb (length r.word + length (flat_map text_of cs) + items_room r.items) 107) (products r.sets)) rows ≡ true
+rows_short = refl
 
--- the bytes that there is room for: 21 for a register, a name or a number, and one for a mark
-abbrev one_room : Token → ℕ
-one_room x = cond (is_wordlike x) 21 1
-
--- and those for all operands
-abbrev room : List Token → ℕ
-room [] = 0
-room (x ∷ xs) = one_room x + room xs
-
--- The operands of an instruction have room for at most 140 bytes.
-operands_room : (x : Op) → room (tokens_of x) ≤ 140
-operands_room (op.Alu alu.Add r1 r2 r3) = omega arith
-operands_room (op.Alu alu.Add1 r1 r2 r3) = omega arith
-operands_room (op.Alu alu.Sub r1 r2 r3) = omega arith
-operands_room (op.Alu alu.Sub1 r1 r2 r3) = omega arith
-operands_room (op.Alu alu.Addp4 r1 r2 r3) = omega arith
-operands_room (op.Alu alu.And r1 r2 r3) = omega arith
-operands_room (op.Alu alu.Andcm r1 r2 r3) = omega arith
-operands_room (op.Alu alu.Or r1 r2 r3) = omega arith
-operands_room (op.Alu alu.Xor r1 r2 r3) = omega arith
-operands_room (op.ShlAdd p4 r1 r2 count r3) = omega arith
-operands_room (op.AluImm8 f r1 imm r3) = omega arith
-operands_room (op.AddImm14 p4 r1 imm r3) = omega arith
-operands_room (op.AddImm22 r1 imm r3) = omega arith
-operands_room (op.Cmp four rel kind p1 p2 r2 r3) = omega arith
-operands_room (op.CmpZero four rel kind p1 p2 r3) = omega arith
-operands_room (op.CmpImm four rel kind p1 p2 imm r3) = omega arith
-operands_room (op.ShiftVar f r1 value count) = omega arith
-operands_room (op.Popcnt r1 r3) = omega arith
-operands_room (op.Shrp r1 r2 r3 count) = omega arith
-operands_room (op.Extr signed r1 r3 lowest len) = omega arith
-operands_room (op.DepZ r1 r2 lowest len) = omega arith
-operands_room (op.DepZImm r1 imm lowest len) = omega arith
-operands_room (op.DepImm r1 true r3 lowest len) = omega arith
-operands_room (op.DepImm r1 false r3 lowest len) = omega arith
-operands_room (op.Dep r1 r2 r3 lowest len) = omega arith
-operands_room (op.Tbit unc p1 p2 r3 lowest) = omega arith
-operands_room (op.Tnat unc p1 p2 r3) = omega arith
-operands_room (op.ChkS unit r2 disp) = omega arith
-operands_room (op.MovToBr b1 r2 ret imp wh tag) = omega arith
-operands_room (op.MovFromBr r1 b2) = omega arith
-operands_room (op.MovToPr r2 mask) = omega arith
-operands_room (op.MovToPrRot imm) = omega arith
-operands_room (op.MovFromIp r1) = omega arith
-operands_room (op.MovFromPr r1) = omega arith
-operands_room (op.MovToAr ar r2) = omega arith
-operands_room (op.MovToArImm ar imm) = omega arith
-operands_room (op.MovFromAr r1 ar) = omega arith
-operands_room (op.Ext signed size r1 r3) = omega arith
-operands_room (op.Load size kind hint r1 r3 update.None) = omega arith
-operands_room (op.Load size kind hint r1 r3 (update.Reg r2)) = omega arith
-operands_room (op.Load size kind hint r1 r3 (update.Imm imm)) = omega arith
-operands_room (op.Store size kind hint r3 r2 update.None) = omega arith
-operands_room (op.Store size kind hint r3 r2 (update.Reg r)) = omega arith
-operands_room (op.Store size kind hint r3 r2 (update.Imm imm)) = omega arith
-operands_room (op.ChkA clear r1 disp) = omega arith
-operands_room op.Invala = omega arith
-operands_room op.Mf = omega arith
-operands_room (op.InvalaE r1) = omega arith
-operands_room (op.Alloc r1 sof sol sor) = omega arith
-operands_room (op.Br kind wh many clr disp) = omega arith
-operands_room (op.BrCall b1 wh many clr disp) = omega arith
-operands_room (op.BrInd b2 wh many clr) = omega arith
-operands_room (op.BrRet b2 wh many clr) = omega arith
-operands_room (op.BrCallInd b1 b2 wh many clr) = omega arith
-operands_room (op.Clrrrb pred_only) = omega arith
-operands_room (op.Movl r1 imm) = omega arith
-operands_room (op.Break unit imm) = omega arith
-operands_room (op.Nop unit imm) = omega arith
-operands_room (op.Hint unit imm) = omega arith
+row_is_short : (f : Form) (cs : List Completer) → completers_in (row_of f).sets (flat_map text_of cs) ≡ Some cs → length (mnemonic_text f cs) + items_room (row_of f).items ≤ 107
+row_is_short f cs h =
+    let each = of_row (λ r. list_all (λ ds. leb (length r.word + length (flat_map text_of ds) + items_room r.items) 107) (products r.sets)) f rows_short in
+    let all = leb-true _ _ (of_products (λ ds. leb (length (row_of f).word + length (flat_map text_of ds) + items_room (row_of f).items) 107) (row_of f).sets (flat_map text_of cs) cs each h) in
+    let both = length-append (row_of f).word (flat_map text_of cs) in
+    omega (arith, all, both)
 
 -- A number of 64 bits has at most 20 decimal digits.
 decimal_is_short : (n : ℕ) → n < 2 ^ 64 → length (decimal n) ≤ 20
@@ -328,10 +99,10 @@ hex_is_short (suc k) n h l =
     hex_either (leb 16 n) n (suc k) refl l (hex_is_short k (n / 16) m (omega (arith, l)))
 
 -- The text of an operand fits in its room.
-token_is_short : (target : ℕ) (hex : Bool) (x : Token) → target < 2 ^ 34 → IsPrinted x → length (token_text target hex x) ≤ one_room x
-token_is_short target hex (t.Gr n) l p = let d = decimal_is_short n (omega arith) in omega (arith, d)
-token_is_short target hex (t.Pr n) l p = let d = decimal_is_short n (omega arith) in omega (arith, d)
-token_is_short target hex (t.Br n) l p = let d = decimal_is_short n (omega arith) in omega (arith, d)
+token_is_short : (target : ℕ) (hex : Bool) (x : Token) → target < 2 ^ 34 → IsPrinted x → length (token_text target hex x) ≤ token_room x
+token_is_short target hex (t.Gr n) l p = let d = length-decimal-le 3 n (lit< tt) (omega arith) (omega arith) in omega (arith, d)
+token_is_short target hex (t.Pr n) l p = let d = length-decimal-le 2 n (lit< tt) (omega arith) (omega arith) in omega (arith, d)
+token_is_short target hex (t.Br n) l p = let d = length-decimal-le 1 n (lit< tt) (omega arith) (omega arith) in omega (arith, d)
 token_is_short target hex (t.Ar ar.Unat) l p = omega arith
 token_is_short target hex (t.Ar ar.Pfs) l p = omega arith
 token_is_short target hex (t.Ar ar.Lc) l p = omega arith
@@ -339,7 +110,7 @@ token_is_short target hex (t.Ar ar.Ec) l p = omega arith
 token_is_short target hex t.Predicates l p = omega arith
 token_is_short target hex t.RotatingPredicates l p = omega arith
 token_is_short target hex t.Ip l p = omega arith
-token_is_short target hex t.Name l p = let d = decimal_is_short target (omega arith) in omega (arith, d)
+token_is_short target hex t.Name l p = let d = length-decimal-le 11 target (lit< tt) (omega arith) (omega arith) in omega (arith, d)
 token_is_short target false (t.Number false m) l p = let d = decimal_is_short m p in omega (arith, d)
 token_is_short target false (t.Number true m) l p = let d = decimal_is_short m p in omega (arith, d)
 token_is_short target true (t.Number false m) l p = let d = hex_is_short 15 m (omega arith) p in omega (arith, d)
@@ -351,14 +122,20 @@ token_is_short target hex t.CloseBracket l p = omega arith
 token_is_short target hex x l p = absurd p
 
 -- The text of operands fits in their room.
-operands_are_short : (target : ℕ) (is : List Item) (xs : List Token) → target < 2 ^ 34 → AllByRecursion IsPrinted xs → length (operands_text target is xs) ≤ room xs
-operands_are_short target [] xs l p = omega arith
-operands_are_short target (i ∷ is) [] l p = omega arith
-operands_are_short target (i ∷ is) (x ∷ xs) l p =
-    let one = token_is_short target (is_hex i) x l p.0 in
-    let more = operands_are_short target is xs l p.1 in
-    let both = length-append (token_text target (is_hex i) x) (operands_text target is xs) in
+operands_are_short : (target : ℕ) (is : List Item) (xs : List Token) → target < 2 ^ 34 → fits is xs ≡ true → AllByRecursion IsPrinted (filled is xs) → length (operands_text target is xs) ≤ items_room is
+operands_are_short target [] xs l h p = omega arith
+operands_are_short target (Is mark ∷ is) xs l h p =
+    let one = token_is_short target false (mark_token mark) l p.0 in
+    let more = operands_are_short target is xs l h p.1 in
+    let both = length-append (token_text target false (mark_token mark)) (operands_text target is xs) in
     omega (arith, one, more, both)
+operands_are_short target (Takes kind ∷ is) [] l h p = omega arith
+operands_are_short target (Takes kind ∷ is) (x ∷ xs) l h p =
+    let one = token_is_short target (is_hex kind) x l p.0 in
+    let same = kind_fits kind x (left (prints kind x) (fits is xs) h) in
+    let more = operands_are_short target is xs l (right (prints kind x) (fits is xs) h) p.1 in
+    let both = length-append (token_text target (is_hex kind) x) (operands_text target is xs) in
+    omega (arith, one, same, more, both)
 
 -- the space before operands is one byte
 spaced_is_short : (cs : List ℕ) → length (spaced cs) ≤ suc (length cs)
@@ -379,25 +156,25 @@ guard_is_short false qp h =
     omega (arith, d, both)
 
 -- the parts of a line, by their lengths
-parts_are_short : (pr m d s : List ℕ) → length pr ≤ 6 → length m ≤ 56 → length d ≤ 141 → length s ≤ 3 → length (codes "  " ++ pr ++ m ++ d ++ s) ≤ LINE_LIMIT
-parts_are_short pr m d s hp hm hd hs =
+parts_are_short : (pr m d s : List ℕ) → length pr ≤ 6 → length m + length d ≤ 108 → length s ≤ 3 → length (codes "  " ++ pr ++ m ++ d ++ s) ≤ SLOT_LINE_LIMIT
+parts_are_short pr m d s hp hd hs =
     let a = length-append (pr ++ m ++ d) s in
     let b = length-append (pr ++ m) d in
     let e = length-append pr m in
-    omega (arith, hp, hm, hd, hs, a, b, e)
+    omega (arith, hp, hd, hs, a, b, e)
 
 -- 0 counts where there is no target
 small_target : (target : Option ℕ) → IfSome target (λ n. n < 2 ^ 34) → or_zero target < 2 ^ 34
 small_target None h = omega arith
 small_target (Some n) h = h
 
--- The canonical line of an instruction whose operands can be printed has at most 240 bytes.
-pub slot_line_is_short : (i : Insn) (bundle : ℕ) (stop : Bool) → AllByRecursion IsPrinted (tokens_of i.op) → length (row_of (form_of i.op)).1 ≡ length (tokens_of i.op) → i.qp < 64
-    → IfSome (target_of bundle i.op) (λ n. n < 2 ^ 34) → length (slot_text i bundle stop) ≤ LINE_LIMIT
-slot_line_is_short i bundle stop printed same small near =
-    let text = operands_text (or_zero (target_of bundle i.op)) (row_of (form_of i.op)).1 (tokens_of i.op) in
-    let fits = operands_are_short (or_zero (target_of bundle i.op)) (row_of (form_of i.op)).1 (tokens_of i.op) (small_target (target_of bundle i.op) near) printed in
-    let all = operands_room i.op in
+-- The canonical line of an instruction that is read back and whose operands can be printed is short.
+pub slot_line_is_short : (i : Insn) (bundle : ℕ) (stop : Bool) → ReadsBack i.op → AllByRecursion IsPrinted (tokens_of i.op) → i.qp < 64 → IfSome (target_of bundle i.op) (λ n. n < 2 ^ 34) → length (slot_text i bundle stop) ≤ SLOT_LINE_LIMIT
+slot_line_is_short i bundle stop back printed small near =
+    let target = or_zero (target_of bundle i.op) in
+    let text = operands_text target (items_of i.op) (operands_of i.op) in
+    let operands = operands_are_short target (items_of i.op) (operands_of i.op) (small_target (target_of bundle i.op) near) back.fits printed in
+    let row = row_is_short (form_of i.op) (completers_of i.op) back.choice in
     let gap = spaced_is_short text in
-    parts_are_short (predicate_text i.qp) (mnemonic_text (word_of i.op) (completers_of i.op)) (spaced text) (stop_text stop)
-    (guard_is_short (eqb i.qp 0) i.qp small) (mnemonic_is_short i.op) (omega (arith, fits, all, gap)) (stop_is_short stop)
+    parts_are_short (predicate_text i.qp) (name_of_op i.op) (spaced text) (stop_text stop)
+    (guard_is_short (eqb i.qp 0) i.qp small) (omega (arith, operands, row, gap)) (stop_is_short stop)

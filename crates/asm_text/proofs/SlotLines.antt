@@ -1,7 +1,7 @@
 -- A printed slot line is read as the instruction that was printed, and its stop.
 use Rattle.std.proofs.Common.{◌≡◌, refl, sym, ◌∙◌, ap, ℕ, zero, suc, ◌-◌, ◌<◌, ◌^◌, Bool, true, false, ◌&&◌, not, cond, eqb, List, [], ◌∷◌, ◌++◌, length, take, Option, Some, None, Ok, Result, arith, append_assoc, append-nil, codes}
-use Rattle.std.specs.Prelude.{ℤ, is_some, IfSome, unwrap_or, slice_get}
-use Rattle.std.specs.List.{AllByRecursion}
+use Rattle.std.specs.Prelude.{flat_map, IfSome, unwrap_or, slice_get}
+use Rattle.std.specs.List.{AllByRecursion, find}
 use Rattle.std.specs.Option.{option_map}
 use Rattle.std.specs.Str.{bytes_eq}
 use Rattle.std.specs.Fmt.{decimal}
@@ -22,23 +22,29 @@ use Rattle.asm_words.proofs.Lexing.{name_lexed}
 use Rattle.asm_words.proofs.Readings.{pr_reads, decimal_is_name_bytes, decimal_is_plain, name_bytes_are_plain, both_plain}
 use Rattle.asm_forms.specs.declared.form.Form.{Form}
 use Rattle.asm_forms.specs.declared.items.Item.{Item}
-use Rattle.asm_forms.specs.Items.{is_stop}
-use Rattle.asm_forms.specs.Matching.{read_form}
-use Rattle.asm_forms.specs.Naming.{mnemonic_of}
+use Rattle.asm_forms.specs.Items.{is_stop, taken}
+use Rattle.asm_forms.specs.declared.completer.Completer.{Completer}
+use Rattle.asm_forms.specs.Completers.{text_of}
+use Rattle.asm_forms.specs.Matching.{is_spelled, read_form}
+use Rattle.asm_forms.specs.Naming.{completers_in, named_forms}
 use Rattle.asm_forms.specs.Rows.{row_of}
+use Rattle.asm_forms.proofs.Fits.{taken_back}
+use Rattle.asm_forms.proofs.RowBack.{past_front, row_back}
 use Rattle.ia_insn.specs.declared.insn.Insn.{Insn}
 use Rattle.ia_insn.specs.declared.insn.Op.{Op}
 use Rattle.ia_insn.specs.Targets.{displacement}
 use Rattle.asm_text.specs.declared.line.Draft.{Draft}
 use Rattle.asm_text.specs.declared.line.Line.{Line}
 use Rattle.asm_text.specs.declared.line.Line.TheVariants as line
-use Rattle.asm_text.specs.Canonical.{word_of, form_of, completers_of, tokens_of}
 use Rattle.asm_text.specs.Instructions.{op_of}
 use Rattle.asm_text.specs.Lines.{◌>>=◌, or_fault, KindAndText, tokens, label_name, is_open, is_close, lead_at, led_at, is_some_stop, ends_in_stop, without_stop, predicate_of, is_bare, draft_of, completers_or_none, slot_of, worded, led, is_name_word, is_colon, value_of, reading_of}
-use Rattle.asm_text.specs.ReadBack.{untargeted, completers_text, named_forms, ReadsBack, IsPrinted}
-use Rattle.asm_text.specs.SlotTexts.{label_text, operands_text, spaced, mnemonic_text, predicate_text, stop_text, target_of, or_zero, slot_text}
-use Rattle.asm_text.proofs.Mnemonic.{mnemonic_back, completers_end, mnemonic_bytes, mnemonic_lexed}
-use Rattle.asm_text.proofs.OperandTexts.{are_apart, label_token, operands_plain, operands_back, label_found, label_missing}
+use Rattle.asm_text.specs.ReadBack.{untargeted}
+use Rattle.asm_text.specs.SlotTexts.{label_text, spaced, mnemonic_text, predicate_text, stop_text, target_of, or_zero, slot_text}
+use Rattle.asm_text.proofs.FirstForm.{slot_first, named_slots}
+use Rattle.asm_text.proofs.Mnemonic.{mnemonic_bytes, mnemonic_lexed}
+use Rattle.asm_text.proofs.ItemFacts.{as_many, row_apart, label_token_of}
+use Rattle.asm_text.proofs.OperandTexts.{are_apart, label_token, tokens_text, filled_text, operands_plain, operands_back, label_found, label_missing}
+use Rattle.asm_text.proofs.Written.{form_of, completers_of, operands_of, items_of, tokens_of, name_of_op, ReadsBack, IsPrinted}
 
 -- A name is never read as `(`.
 abbrev some_open : Option Token → Bool
@@ -187,42 +193,57 @@ joined : (q : Result ℕ LineFault) (r : Result Form LineFault) (build : Form �
     → q ≡ Ok qp → r ≡ Ok f → build f ≡ Some x → drafted f qp x ≡ d → e ≡ stop → slot_by q r build drafted e ≡ Ok (line.Slot d stop)
 joined q r build drafted e qp f x d stop eq er eb ed ee = rw (eq, er, eb, ed, ee) refl
 
+-- what is found among the forms is read
+found_read : (forms : List Form) (operands ts : List Token) (f : Form) → find (is_spelled operands) forms ≡ Some f → read_form forms operands ts ≡ Ok f
+found_read forms operands ts f h = rw h refl
+
+-- the completers after a word are those of the form
+own_completers : (f : Form) (cs : List Completer) → completers_in (row_of f).sets (flat_map text_of cs) ≡ Some cs → completers_or_none f (mnemonic_text f cs) ≡ cs
+own_completers f cs h =
+    ap (λ text. unwrap_or (completers_in (row_of f).sets text) []) (past_front (row_of f).word (flat_map text_of cs)) ∙ ap (λ o. unwrap_or o []) h
+
 -- The words after the leading one are read as the instruction that was printed.
 slot_reads : (x : Op) (before after : List KindAndText) (qp : ℕ) (name : Option (List ℕ)) (stop : Bool) → ReadsBack x → AllByRecursion IsPrinted (tokens_of x) → predicate_of (tokens before) ≡ Ok qp
-    → tokens after ≡ tokens_of x ++ stops stop → label_name (row_of (form_of x)).1 after ≡ name
-    → slot_of (named_forms x) (completers_text x) before after ≡ Ok (line.Slot (draft qp (untargeted x) name false) stop)
+    → tokens after ≡ tokens_of x ++ stops stop → label_name (items_of x) after ≡ name
+    → slot_of (named_forms (name_of_op x)) (name_of_op x) before after ≡ Ok (line.Slot (draft qp (untargeted x) name false) stop)
 slot_reads x before after qp name stop back printed p seen n =
+    let forms = named_forms (name_of_op x) in
+    let f = form_of x in
     let w : without_stop (tokens after) ≡ tokens_of x = ap without_stop seen ∙ without (tokens_of x) stop printed in
-    let cs : completers_or_none (form_of x) (completers_text x) ≡ completers_of x = ap (λ o. unwrap_or o []) back.completers in
-    let bare : is_bare (form_of x) (completers_or_none (form_of x) (completers_text x)) ≡ false = ap (is_bare (form_of x)) cs ∙ back.bare in
-    joined (predicate_of (tokens before)) (read_form (named_forms x) (without_stop (tokens after)) (tokens after))
-    (λ f. op_of f (completers_or_none f (completers_text x)) (without_stop (tokens after)))
-    (λ f q y. draft_of f (completers_or_none f (completers_text x)) q after y) (ends_in_stop (tokens after))
-    qp (form_of x) (untargeted x) (draft qp (untargeted x) name false) stop
+    let found : find (is_spelled (tokens_of x)) forms ≡ Some f = row_back f (completers_of x) (operands_of x) back.choice back.fits in
+    let cs : completers_or_none f (name_of_op x) ≡ completers_of x = own_completers f (completers_of x) back.choice in
+    let xs : taken (items_of x) (without_stop (tokens after)) ≡ operands_of x = ap (taken (items_of x)) w ∙ taken_back (items_of x) (operands_of x) back.fits in
+    let bare : is_bare f (completers_or_none f (name_of_op x)) ≡ false = ap (is_bare f) cs ∙ back.bare in
+    joined (predicate_of (tokens before)) (read_form forms (without_stop (tokens after)) (tokens after))
+    (λ g. op_of g (completers_or_none g (name_of_op x)) (taken (row_of g).items (without_stop (tokens after))))
+    (λ g q y. draft_of g (completers_or_none g (name_of_op x)) q after y) (ends_in_stop (tokens after))
+    qp f (untargeted x) (draft qp (untargeted x) name false) stop
     p
-    (ap (λ ys. read_form (named_forms x) ys (tokens after)) w ∙ back.form (tokens after))
-    (ap (op_of (form_of x) (completers_or_none (form_of x) (completers_text x))) w ∙ ap (λ q. op_of (form_of x) q (tokens_of x)) cs ∙ back.op)
-    (same_draft qp (untargeted x) (label_name (row_of (form_of x)).1 after) name (is_bare (form_of x) (completers_or_none (form_of x) (completers_text x))) n bare)
+    (ap (λ ys. read_form forms ys (tokens after)) w ∙ found_read forms (tokens_of x) (tokens after) f found)
+    (ap (op_of f (completers_or_none f (name_of_op x))) xs ∙ ap (λ q. op_of f q (operands_of x)) cs ∙ back.op)
+    (same_draft qp (untargeted x) (label_name (items_of x) after) name (is_bare f (completers_or_none f (name_of_op x))) n bare)
     (ap ends_in_stop seen ∙ ends_with (tokens_of x) stop printed)
 
 -- and so with the mnemonic before them
 worded_reads : (x : Op) (before after : List KindAndText) (qp : ℕ) (name : Option (List ℕ)) (stop : Bool) → ReadsBack x → AllByRecursion IsPrinted (tokens_of x) → predicate_of (tokens before) ≡ Ok qp
-    → tokens after ≡ tokens_of x ++ stops stop → label_name (row_of (form_of x)).1 after ≡ name
-    → worded (mnemonic_of (mnemonic_text (word_of x) (completers_of x))) before after ≡ Ok (line.Slot (draft qp (untargeted x) name false) stop)
+    → tokens after ≡ tokens_of x ++ stops stop → label_name (items_of x) after ≡ name
+    → worded (name_of_op x) before after ≡ Ok (line.Slot (draft qp (untargeted x) name false) stop)
 worded_reads x before after qp name stop back printed p seen n =
-    ap (λ r. worded r before after) (mnemonic_back (word_of x) (completers_text x) (completers_end (completers_of x))) ∙ back.slot before after ∙ slot_reads x before after qp name stop back printed p seen n
+    let found = row_back (form_of x) (completers_of x) (operands_of x) back.choice back.fits in
+    slot_first (named_forms (name_of_op x)) (is_spelled (tokens_of x)) (form_of x) (name_of_op x) before after (named_slots (form_of x) (completers_of x) back.slot) found
+    ∙ slot_reads x before after qp name stop back printed p seen n
 
 led_from : (ws : List KindAndText) (k : ℕ) → lead_at (tokens ws) ≡ Some k → led ws ≡ led_at ws (Some k)
 led_from ws k e = ap (led_at ws) e
 
 -- A line with no predicate: the mnemonic and what follows it.
 plain_value : (x : Op) (rest : List ℕ) (name : Option (List ℕ)) (stop : Bool) → ReadsBack x → AllByRecursion IsPrinted (tokens_of x) → is_end rest ≡ true
-    → tokens (lexed 0 rest) ≡ tokens_of x ++ stops stop → label_name (row_of (form_of x)).1 (lexed 0 rest) ≡ name
-    → value_of (lexed 0 (mnemonic_text (word_of x) (completers_of x) ++ rest)) ≡ Ok (line.Slot (draft 0 (untargeted x) name false) stop)
+    → tokens (lexed 0 rest) ≡ tokens_of x ++ stops stop → label_name (items_of x) (lexed 0 rest) ≡ name
+    → value_of (lexed 0 (name_of_op x ++ rest)) ≡ Ok (line.Slot (draft 0 (untargeted x) name false) stop)
 plain_value x rest name stop back printed e seen n =
-    let m = mnemonic_text (word_of x) (completers_of x) in
+    let m = name_of_op x in
     let ws = lexed 0 rest in
-    ap value_of (mnemonic_lexed (word_of x) (completers_of x) rest e)
+    ap value_of (mnemonic_lexed (form_of x) (completers_of x) rest e)
     ∙ no_label (kind.Name, m) ws (ap begins_colon seen ∙ operands_begin (tokens_of x) stop printed)
     ∙ led_from ((kind.Name, m) ∷ ws) 0 (lead_first m ws)
     ∙ worded_reads x [] ws 0 name stop back printed refl seen n
@@ -234,23 +255,23 @@ guarded_lexed qp after small =
 
 -- A line with a predicate before the mnemonic.
 guarded_value : (x : Op) (qp : ℕ) (rest : List ℕ) (name : Option (List ℕ)) (stop : Bool) → ReadsBack x → AllByRecursion IsPrinted (tokens_of x) → qp < 64 → is_end rest ≡ true
-    → tokens (lexed 0 rest) ≡ tokens_of x ++ stops stop → label_name (row_of (form_of x)).1 (lexed 0 rest) ≡ name
-    → value_of (lexed 0 (codes "(p" ++ decimal qp ++ codes ") " ++ (mnemonic_text (word_of x) (completers_of x) ++ rest))) ≡ Ok (line.Slot (draft qp (untargeted x) name false) stop)
+    → tokens (lexed 0 rest) ≡ tokens_of x ++ stops stop → label_name (items_of x) (lexed 0 rest) ≡ name
+    → value_of (lexed 0 (codes "(p" ++ decimal qp ++ codes ") " ++ (name_of_op x ++ rest))) ≡ Ok (line.Slot (draft qp (untargeted x) name false) stop)
 guarded_value x qp rest name stop back printed small e seen n =
-    let m = mnemonic_text (word_of x) (completers_of x) in
+    let m = name_of_op x in
     let ws = lexed 0 rest in
     let before : List KindAndText = (kind.Mark, codes "(") ∷ (kind.Name, 112 ∷ decimal qp) ∷ (kind.Mark, codes ")") ∷ [] in
     let reads = pr_reads qp small in
     let cut : lexed 0 (codes "(p" ++ decimal qp ++ codes ") " ++ (m ++ rest)) ≡ (kind.Mark, codes "(") ∷ (kind.Name, 112 ∷ decimal qp) ∷ (kind.Mark, codes ")") ∷ (kind.Name, m) ∷ ws =
-    guarded_lexed qp (m ++ rest) small ∙ ap (λ y. (kind.Mark, codes "(") ∷ (kind.Name, 112 ∷ decimal qp) ∷ (kind.Mark, codes ")") ∷ y) (mnemonic_lexed (word_of x) (completers_of x) rest e) in
+    guarded_lexed qp (m ++ rest) small ∙ ap (λ y. (kind.Mark, codes "(") ∷ (kind.Name, 112 ∷ decimal qp) ∷ (kind.Mark, codes ")") ∷ y) (mnemonic_lexed (form_of x) (completers_of x) rest e) in
     let qualified : predicate_of (tokens before) ≡ Ok qp = ap (λ y. predicate_of (t.OpenParenthesis ∷ y ∷ t.CloseParenthesis ∷ [])) reads in
     ap value_of cut
     ∙ led_from ((kind.Mark, codes "(") ∷ (kind.Name, 112 ∷ decimal qp) ∷ (kind.Mark, codes ")") ∷ (kind.Name, m) ∷ ws) 3 (lead_fourth (token_of kind.Name (112 ∷ decimal qp)) (token_of kind.Name m ∷ tokens ws) (ap is_close reads))
     ∙ worded_reads x before ws qp name stop back printed qualified seen n
 
 predicated : (b : Bool) (x : Op) (qp : ℕ) (rest : List ℕ) (name : Option (List ℕ)) (stop : Bool) → eqb qp 0 ≡ b → ReadsBack x → AllByRecursion IsPrinted (tokens_of x) → qp < 64 → is_end rest ≡ true
-    → tokens (lexed 0 rest) ≡ tokens_of x ++ stops stop → label_name (row_of (form_of x)).1 (lexed 0 rest) ≡ name
-    → value_of (lexed 0 (cond b [] (codes "(p" ++ decimal qp ++ codes ") ") ++ (mnemonic_text (word_of x) (completers_of x) ++ rest))) ≡ Ok (line.Slot (draft qp (untargeted x) name false) stop)
+    → tokens (lexed 0 rest) ≡ tokens_of x ++ stops stop → label_name (items_of x) (lexed 0 rest) ≡ name
+    → value_of (lexed 0 (cond b [] (codes "(p" ++ decimal qp ++ codes ") ") ++ (name_of_op x ++ rest))) ≡ Ok (line.Slot (draft qp (untargeted x) name false) stop)
 predicated true x qp rest name stop z back printed small e seen n =
     plain_value x rest name stop back printed e seen n ∙ ap (λ q. Ok (line.Slot (draft q (untargeted x) name false) stop)) (sym (eqb-true qp 0 z))
 predicated false x qp rest name stop z back printed small e seen n = guarded_value x qp rest name stop back printed small e seen n
@@ -279,7 +300,7 @@ small_target (Some n) h = h
 
 -- the name of the line is the label of the target, where there is one
 label_back : (is : List Item) (xs : List Token) (cs : List ℕ) (target : Option ℕ) → IfSome target (λ n. n < 2 ^ 34) → length is ≡ length xs → AllByRecursion IsPrinted xs → are_apart xs ≡ true → is_end cs ≡ true
-    → label_token is xs ≡ option_map (λ n. t.Name) target → label_name is (lexed 0 (operands_text (or_zero target) is xs ++ cs)) ≡ option_map label_text target
+    → label_token is xs ≡ option_map (λ n. t.Name) target → label_name is (lexed 0 (tokens_text (or_zero target) is xs ++ cs)) ≡ option_map label_text target
 label_back is xs cs None l n p a e h = label_missing 0 is xs cs (small_target None tt) n p a e h
 label_back is xs cs (Some m) l n p a e h = label_found m is xs cs l n p a e h
 
@@ -312,13 +333,13 @@ read_plain bytes h = chosen (has_only_plain bytes) _ _ h ∙ ap value_of (words_
 
 -- the operands of a line by the number of their target
 line_back : (x : Op) (qp : ℕ) (target : Option ℕ) (stop : Bool) → ReadsBack x → AllByRecursion IsPrinted (tokens_of x) → qp < 64 → are_apart (tokens_of x) ≡ true
-    → length (row_of (form_of x)).1 ≡ length (tokens_of x) → IfSome target (λ n. n < 2 ^ 34) → label_token (row_of (form_of x)).1 (tokens_of x) ≡ option_map (λ n. t.Name) target
-    → reading_of (codes "  " ++ predicate_text qp ++ mnemonic_text (word_of x) (completers_of x) ++ spaced (operands_text (or_zero target) (row_of (form_of x)).1 (tokens_of x)) ++ stop_text stop)
+    → length (items_of x) ≡ length (tokens_of x) → IfSome target (λ n. n < 2 ^ 34) → label_token (items_of x) (tokens_of x) ≡ option_map (λ n. t.Name) target
+    → reading_of (codes "  " ++ predicate_text qp ++ name_of_op x ++ spaced (tokens_text (or_zero target) (items_of x) (tokens_of x)) ++ stop_text stop)
     ≡ Ok (line.Slot (draft qp (untargeted x) (option_map label_text target) false) stop)
 line_back x qp target stop back printed small apart same near names =
-    let is = (row_of (form_of x)).1 in
-    let m = mnemonic_text (word_of x) (completers_of x) in
-    let text = operands_text (or_zero target) is (tokens_of x) in
+    let is = (items_of x) in
+    let m = name_of_op x in
+    let text = tokens_text (or_zero target) is (tokens_of x) in
     let rest = spaced text ++ stop_text stop in
     let l : or_zero target < 2 ^ 34 = small_target target near in
     let seen : tokens (lexed 0 rest) ≡ tokens_of x ++ stops stop =
@@ -326,7 +347,7 @@ line_back x qp target stop back printed small apart same near names =
     let name : label_name is (lexed 0 rest) ≡ option_map label_text target =
     ap (label_name is) (spaced_lexed text (stop_text stop)) ∙ label_back is (tokens_of x) (stop_text stop) target near same printed apart (stop_ends stop) names in
     read_plain (codes "  " ++ predicate_text qp ++ m ++ spaced text ++ stop_text stop)
-    (parts_plain (predicate_text qp) m text stop (predicate_plain (eqb qp 0) qp small) (name_bytes_are_plain m (mnemonic_bytes (word_of x) (completers_of x))) (operands_plain (or_zero target) is (tokens_of x) l printed))
+    (parts_plain (predicate_text qp) m text stop (predicate_plain (eqb qp 0) qp small) (name_bytes_are_plain m (mnemonic_bytes (form_of x) (completers_of x))) (operands_plain (or_zero target) is (tokens_of x) l printed))
     ∙ ap value_of (parts_lexed (predicate_text qp) m (spaced text) (stop_text stop))
     ∙ predicated (eqb qp 0) x qp rest (option_map label_text target) stop refl back printed small (tail_ends text stop) seen name
 
@@ -337,16 +358,12 @@ map_twice c f (Some a) = refl
 names_of : (bundle : ℕ) (x : Op) → option_map (λ d. t.Name) (displacement x) ≡ option_map (λ n. t.Name) (target_of bundle x)
 names_of bundle x = map_twice t.Name _ (displacement x)
 
--- The premise on the label, from what is known with and without a displacement.
-pub label_where : (d : Option ℤ) (r : Option Token) → (d ≡ None → r ≡ None) → (is_some d ≡ true → r ≡ Some t.Name) → r ≡ option_map (λ disp. t.Name) d
-label_where None r f g = f refl
-label_where (Some disp) r f g = g refl
-
 -- The canonical line of an instruction is read as that instruction, with the label of its target for the
 -- displacement, and its stop.
-pub slot_line_back : (i : Insn) (bundle : ℕ) (stop : Bool) → ReadsBack i.op → AllByRecursion IsPrinted (tokens_of i.op) → i.qp < 64 → are_apart (tokens_of i.op) ≡ true
-    → length (row_of (form_of i.op)).1 ≡ length (tokens_of i.op) → IfSome (target_of bundle i.op) (λ n. n < 2 ^ 34)
-    → label_token (row_of (form_of i.op)).1 (tokens_of i.op) ≡ option_map (λ disp. t.Name) (displacement i.op)
+pub slot_line_back : (i : Insn) (bundle : ℕ) (stop : Bool) → ReadsBack i.op → AllByRecursion IsPrinted (tokens_of i.op) → i.qp < 64 → IfSome (target_of bundle i.op) (λ n. n < 2 ^ 34)
     → reading_of (slot_text i bundle stop) ≡ Ok (line.Slot (record { insn = record { qp = i.qp; op = untargeted i.op }; target = option_map label_text (target_of bundle i.op); bare = false }) stop)
-slot_line_back i bundle stop back printed small apart same near names =
-    line_back i.op i.qp (target_of bundle i.op) stop back printed small apart same near (names ∙ names_of bundle i.op)
+slot_line_back i bundle stop back printed small near =
+    let f = form_of i.op in
+    let names = label_token_of f (operands_of i.op) (displacement i.op) back.fits back.label in
+    ap (λ text. reading_of (codes "  " ++ predicate_text i.qp ++ name_of_op i.op ++ spaced text ++ stop_text stop)) (filled_text (or_zero (target_of bundle i.op)) (items_of i.op) (operands_of i.op))
+    ∙ line_back i.op i.qp (target_of bundle i.op) stop back printed small (row_apart f (operands_of i.op) back.fits) (as_many (items_of i.op) (operands_of i.op) back.fits) near (names ∙ names_of bundle i.op)

@@ -1,12 +1,16 @@
 -- What the words of a line say, by how many there are and by the place of the leading one.
-use Rattle.std.proofs.Common.{◌≡◌, ◌≤◌, ◌<◌, ◌∙◌, sym, ap, refl, ℕ, ◌+◌, true, List, [], ◌∷◌, length, take, drop, get_or, slice_get, slice_range, Some, Err, arith}
+use Rattle.std.proofs.Common.{◌≡◌, ◌≤◌, ◌<◌, ◌∙◌, sym, ap, refl, ℕ, ◌+◌, true, List, [], ◌∷◌, length, take, drop, get_or, slice_get, slice_range, Some, Err, Result, arith}
 use Rattle.std.proofs.lemmas.List.{take-map, drop-map}
 use Rattle.std.proofs.lemmas.Option.{slice_get-map, slice_get-get_or}
 use Rattle.asm_words.specs.declared.word.Word.{Word}
+use Rattle.asm_words.specs.declared.word.WordKind.{WordKind}
+use Rattle.asm_words.specs.declared.word.WordKind.TheVariants as kind
+use Rattle.asm_words.specs.declared.fault.LineFault.{LineFault}
 use Rattle.asm_words.specs.declared.fault.LineFault.TheVariants as fault
 use Rattle.asm_words.specs.Bytes.{has_only_plain}
 use Rattle.asm_words.specs.Words.{words_from}
-use Rattle.asm_text.specs.Lines.{KindAndText, texts, value_of, led, led_at, led_by, label_of, reading_of}
+use Rattle.asm_text.specs.declared.line.Line.{Line}
+use Rattle.asm_text.specs.Lines.{KindAndText, texts, value_of, led, led_at, led_by, worded, label_of, reading_of}
 
 -- a label has nothing after its colon
 pub label_alone : (text line : List ℕ) (ws : List Word) → 1 ≤ length ws → Err fault.Form ≡ label_of text (texts line ws)
@@ -28,6 +32,10 @@ led_there line ws before after k d h front rest =
     let b : take k (texts line ws) ≡ texts line before = take-map view k ws ∙ ap (texts line) (sym front) in
     let a : drop (k + 1) (texts line ws) ≡ texts line after = drop-map view (k + 1) ws ∙ ap (texts line) (sym rest) in
     rw (there, b, a) refl
+
+-- a line that a name leads
+pub led_name : (k : WordKind) (text part : List ℕ) (before after : List KindAndText) (r : Result Line LineFault) → k ≡ kind.Name → text ≡ part → r ≡ worded text before after → r ≡ led_by (k, part) before after
+led_name k text part before after r e t h = h ∙ ap (λ w. worded w before after) t ∙ ap (λ q. led_by (q, part) before after) (sym e)
 
 -- the words of a line are read by their kinds and texts
 pub read_by_text : (line : List ℕ) (ws : List Word) → ws ≡ words_from 0 0 line → has_only_plain line ≡ true → value_of (texts line ws) ≡ reading_of line

@@ -23,14 +23,14 @@ use Rattle.asm_forms.specs.declared.completer.Completer.{Completer}
 use Rattle.asm_forms.specs.declared.form.Form.{Form}
 use Rattle.asm_forms.specs.declared.form.Form.TheVariants as form
 use Rattle.asm_forms.specs.declared.items.Item.{Item}
-use Rattle.asm_forms.specs.declared.items.Item.TheVariants as item
+use Rattle.asm_forms.specs.declared.items.Item.TheVariants.{Is, Takes}
+use Rattle.asm_forms.specs.declared.items.Mark.TheVariants as mark
+use Rattle.asm_forms.specs.declared.items.Kind.TheVariants as takes
 use Rattle.asm_forms.specs.declared.items.NumberField.{NumberField}
 use Rattle.asm_forms.specs.declared.items.NumberField.TheVariants as field
-use Rattle.asm_forms.specs.declared.leading.LeadingWord.{LeadingWord}
-use Rattle.asm_forms.specs.Items.{accepts, is_label_item, is_stop}
-use Rattle.asm_forms.specs.LeadingWords.{forms_of}
+use Rattle.asm_forms.specs.Items.{accepts, taken, is_label_item, is_stop}
 use Rattle.asm_forms.specs.Matching.{fault_at, read_form}
-use Rattle.asm_forms.specs.Naming.{completers_in, mnemonic_of, named_in}
+use Rattle.asm_forms.specs.Naming.{completers, named_forms}
 use Rattle.asm_forms.specs.Rows.{row_of}
 use Rattle.ia_insn.specs.declared.insn.Op.{Op}
 use Rattle.ia_insn.specs.Listed.{IsListed}
@@ -40,7 +40,7 @@ use Rattle.asm_text.specs.declared.line.Draft.{Draft}
 use Rattle.asm_text.specs.declared.line.Shape.{Shape}
 use Rattle.asm_text.specs.declared.line.Shape.TheVariants as shape
 use Rattle.asm_text.specs.Instructions.{op_of}
-use Rattle.asm_text.specs.Operands.{pr_at, u32_at, magnitude, is_negative, wrapped, bytes, completer_at, is_present}
+use Rattle.asm_text.specs.Operands.{u32_at, magnitude, is_negative, wrapped, bytes, completer_at, is_present}
 
 infixl 10 ◌>>=◌
 abbrev pub ◌>>=◌ : {A B : Type 0} → Result A LineFault → (A → Result B LineFault) → Result B LineFault
@@ -105,10 +105,13 @@ ends_in_stop xs = is_some_stop (slice_get xs (length xs - 1))
 abbrev pub without_stop : List Token → List Token
 without_stop xs = if ends_in_stop xs then take (length xs - 1) xs else xs
 
--- p0 where no predicate stands before the leading word
+-- The qualifying predicate: a register between parentheses, and p0 where no word stands before the leading one.
 abbrev pub predicate_of : List Token → Result ℕ LineFault
 predicate_of [] = Ok 0
-predicate_of (x ∷ xs) = read_form (form.Predicate ∷ []) (x ∷ xs) (x ∷ xs) >>= λ f. Ok (pr_at (x ∷ xs) 1)
+predicate_of (x ∷ []) = Err fault.Form
+predicate_of (x ∷ t.Pr p ∷ t.CloseParenthesis ∷ []) = Ok p
+predicate_of (x ∷ t.Pr p ∷ ys) = Err fault.Form
+predicate_of (x ∷ y ∷ ys) = Err fault.Register
 
 -- the unit letter is missing
 abbrev pub is_bare : Form → List Completer → Bool
@@ -123,23 +126,22 @@ is_bare _ cs = false
 
 abbrev pub draft_of : Form → List Completer → ℕ → List KindAndText → Op → Draft
 draft_of f cs qp after x =
-    record { insn = record { qp = qp; op = x }; target = label_name (row_of f).1 after; bare = is_bare f cs }
+    record { insn = record { qp = qp; op = x }; target = label_name (row_of f).items after; bare = is_bare f cs }
 
 abbrev pub completers_or_none : Form → List ℕ → List Completer
-completers_or_none f rest = unwrap_or (completers_in (row_of f).0 rest) []
+completers_or_none f name = unwrap_or (completers f name) []
 
--- A slot line under a predicate by its tokens after the leading word. `rest` is what follows the leading
--- word within its name.
+-- A slot line under a predicate by its name and the tokens after that.
 abbrev pub slot_under : ℕ → List Form → List ℕ → List Token → List KindAndText → Result Line LineFault
-slot_under qp forms rest xs after = do
+slot_under qp forms name xs after = do
   f ← read_form forms (without_stop xs) xs
-  x ← or_fault (op_of f (completers_or_none f rest) (without_stop xs)) fault.Form
-  Ok (line.Slot (draft_of f (completers_or_none f rest) qp after x) (ends_in_stop xs))
+  x ← or_fault (op_of f (completers_or_none f name) (taken (row_of f).items (without_stop xs))) fault.Form
+  Ok (line.Slot (draft_of f (completers_or_none f name) qp after x) (ends_in_stop xs))
 
 -- a slot line: the predicate is read first, and then the operands
 abbrev pub slot_of : List Form → List ℕ → List KindAndText → List KindAndText → Result Line LineFault
-slot_of forms rest before after =
-    predicate_of (tokens before) >>= λ qp. slot_under qp forms rest (tokens after) after
+slot_of forms name before after =
+    predicate_of (tokens before) >>= λ qp. slot_under qp forms name (tokens after) after
 
 -- A data line has 1 to 32 numbers in turn with commas.
 abbrev pub data_field : AccessSize → NumberField
@@ -149,7 +151,7 @@ data_field size.Four = field.Data4
 data_field size.Eight = field.Imm64
 
 abbrev pub data_item : NumberField → ℕ → Item
-data_item f at = if at % 2 == 0 then item.Number f else item.Comma
+data_item f at = if at % 2 == 0 then Takes (takes.Number f) else Is mark.Comma
 
 -- on how many tokens from the place on there are numbers and commas in turn
 abbrev pub agreed_data : NumberField → ℕ → List Token → ℕ
@@ -182,8 +184,10 @@ named (Some name) value = Ok (value name)
 abbrev pub directive_value : Form → List KindAndText → Result Line LineFault
 directive_value form.Text after = Ok line.Text
 directive_value form.Data after = Ok line.Data
-directive_value form.Entry after = named (label_name (row_of form.Entry).1 after) (λ name. line.Entry name)
-directive_value form.Ignored after = Ok line.Ignored
+directive_value form.Entry after = named (label_name (row_of form.Entry).items after) (λ name. line.Entry name)
+directive_value form.Global after = Ok line.Ignored
+directive_value form.Proc after = Ok line.Ignored
+directive_value form.Endp after = Ok line.Ignored
 directive_value form.Skip after = Ok (line.Skip (u32_at (tokens after) 0))
 directive_value _ after = Err fault.Form
 
@@ -196,22 +200,27 @@ alone [] value = value
 alone (b ∷ before) value = Err fault.Form
 
 abbrev pub formed : Form → List Form → List ℕ → List KindAndText → List KindAndText → Result Line LineFault
-formed (form.Numbers z) forms rest before after = alone before (data_of z (tokens after))
-formed form.Text forms rest before after = alone before (directive_of forms after)
-formed form.Data forms rest before after = alone before (directive_of forms after)
-formed form.Entry forms rest before after = alone before (directive_of forms after)
-formed form.Ignored forms rest before after = alone before (directive_of forms after)
-formed form.Skip forms rest before after = alone before (directive_of forms after)
-formed _ forms rest before after = slot_of forms rest before after
+formed form.Data1 forms name before after = alone before (data_of size.One (tokens after))
+formed form.Data2 forms name before after = alone before (data_of size.Two (tokens after))
+formed form.Data4 forms name before after = alone before (data_of size.Four (tokens after))
+formed form.Data8 forms name before after = alone before (data_of size.Eight (tokens after))
+formed form.Text forms name before after = alone before (directive_of forms after)
+formed form.Data forms name before after = alone before (directive_of forms after)
+formed form.Entry forms name before after = alone before (directive_of forms after)
+formed form.Global forms name before after = alone before (directive_of forms after)
+formed form.Proc forms name before after = alone before (directive_of forms after)
+formed form.Endp forms name before after = alone before (directive_of forms after)
+formed form.Skip forms name before after = alone before (directive_of forms after)
+formed _ forms name before after = slot_of forms name before after
 
--- a line whose leading word names these forms, the first of which decides what the line is
+-- a line whose leading name names these forms, the first of which decides what the line is
 abbrev pub among : List Form → List ℕ → List KindAndText → List KindAndText → Result Line LineFault
-among [] rest before after = Err fault.Name
-among (f ∷ fs) rest before after = formed f (f ∷ fs) rest before after
+among [] name before after = Err fault.Name
+among (f ∷ fs) name before after = formed f (f ∷ fs) name before after
 
-abbrev pub worded : Option (LeadingWord × List ℕ) → List KindAndText → List KindAndText → Result Line LineFault
-worded None before after = Err fault.Name
-worded (Some (word, rest)) before after = among (named_in (forms_of word) rest) rest before after
+-- a line that a name leads
+abbrev pub worded : List ℕ → List KindAndText → List KindAndText → Result Line LineFault
+worded name before after = among (named_forms name) name before after
 
 -- a mark that stands alone
 abbrev pub marked : Line → List KindAndText → List KindAndText → Result Line LineFault
@@ -255,7 +264,7 @@ mark_led t.OpenBrace before after = opened before after
 mark_led _ before after = Err fault.Name
 
 abbrev pub led_by : KindAndText → List KindAndText → List KindAndText → Result Line LineFault
-led_by (kind.Name, text) before after = worded (mnemonic_of text) before after
+led_by (kind.Name, text) before after = worded text before after
 led_by (kind.Number, text) before after = Err fault.Name
 led_by (kind.Mark, text) before after = mark_led (token_of kind.Mark text) before after
 
@@ -305,7 +314,10 @@ pub record LineOf (bytes : List ℕ) (value : Line) : Type 0 where
   pub reading : reading_of bytes ≡ Ok value
   pub listed : IsListedLine value
 
--- The line has this first fault: Form where all is read and the instruction isn't listed.
+-- The line has this first fault. The stages, each of which comes to the next where it has no fault: a byte that is
+-- none of a line's (Char); the leading word (Name); the tokens of a predicate before it (Register, Form); the tokens
+-- after it from left to right, by the one rule of `fault_of` for all forms (Register, Number, Range, Form); and Form
+-- where all is read and the completers and operands make no listed instruction.
 abbrev pub FaultOf : List ℕ → LineFault → Type 0
 FaultOf bytes e =
     (reading_of bytes ≡ Err e)

@@ -6,13 +6,15 @@ use Rattle.std.specs.Fmt.{digits}
 use Rattle.asm_words.specs.declared.tokens.Token.{Token}
 use Rattle.asm_words.specs.declared.tokens.Token.TheVariants as t
 use Rattle.asm_forms.specs.declared.items.Item.{Item}
-use Rattle.asm_forms.specs.declared.items.Item.TheVariants as i
+use Rattle.asm_forms.specs.declared.items.Item.TheVariants.{Is, Takes}
+use Rattle.asm_forms.specs.declared.items.Kind.{Kind}
+use Rattle.asm_forms.specs.declared.items.Kind.TheVariants as takes
 use Rattle.asm_forms.specs.declared.items.NumberField.{NumberField}
 use Rattle.asm_forms.specs.declared.items.NumberField.TheVariants as field
 use Rattle.asm_forms.specs.declared.completer.Completer.{Completer}
-use Rattle.asm_forms.specs.declared.leading.LeadingWord.{LeadingWord}
+use Rattle.asm_forms.specs.declared.form.Form.{Form}
 use Rattle.asm_forms.specs.Completers.{text_of}
-use Rattle.asm_forms.specs.LeadingWords.{word_text}
+use Rattle.asm_forms.specs.Items.{mark_token}
 use Rattle.asm_forms.specs.Rows.{row_of}
 use Rattle.ia_insn.specs.declared.insn.Insn.{Insn}
 use Rattle.ia_insn.specs.declared.insn.Op.{Op}
@@ -20,7 +22,7 @@ use Rattle.ia_insn.specs.declared.registers.Ar.{Ar}
 use Rattle.ia_insn.specs.declared.registers.Ar.TheVariants as ar
 use Rattle.ia_insn.specs.Targets.{displacement}
 use Rattle.ia_insn.specs.Texts.{gr_text, pr_text, br_text}
-use Rattle.asm_text.specs.Canonical.{word_of, form_of, completers_of, tokens_of}
+use Rattle.asm_text.specs.Canonical.{syntax_of}
 
 -- the fields whose numbers are printed in hexadecimal: masks, and the numbers of movl, break, nop and hint
 abbrev is_hex_field : NumberField → Bool
@@ -30,8 +32,8 @@ is_hex_field field.Imm62 = true
 is_hex_field field.Imm64 = true
 is_hex_field _ = false
 
-abbrev pub is_hex : Item → Bool
-is_hex (i.Number f) = is_hex_field f
+abbrev pub is_hex : Kind → Bool
+is_hex (takes.Number f) = is_hex_field f
 is_hex _ = false
 
 abbrev pub ar_text : Ar → List ℕ
@@ -66,18 +68,20 @@ token_text target hex t.OpenBracket = codes "["
 token_text target hex t.CloseBracket = codes "]"
 token_text target hex _ = []
 
+-- the marks and the operands of a form, item by item
 abbrev pub operands_text : ℕ → List Item → List Token → List ℕ
-operands_text target [] ts = []
-operands_text target (i ∷ is) [] = []
-operands_text target (i ∷ is) (x ∷ xs) = token_text target (is_hex i) x ++ operands_text target is xs
+operands_text target [] xs = []
+operands_text target (Is mark ∷ is) xs = token_text target false (mark_token mark) ++ operands_text target is xs
+operands_text target (Takes kind ∷ is) [] = []
+operands_text target (Takes kind ∷ is) (x ∷ xs) = token_text target (is_hex kind) x ++ operands_text target is xs
 
 -- after one space, where there are operands
 abbrev pub spaced : List ℕ → List ℕ
 spaced [] = []
 spaced (c ∷ cs) = 32 ∷ c ∷ cs
 
-abbrev pub mnemonic_text : LeadingWord → List Completer → List ℕ
-mnemonic_text word completers = word_text word ++ flat_map text_of completers
+abbrev pub mnemonic_text : Form → List Completer → List ℕ
+mnemonic_text form completers = (row_of form).word ++ flat_map text_of completers
 
 abbrev pub predicate_text : ℕ → List ℕ
 predicate_text qp = if qp == 0 then [] else codes "(p" ++ decimal qp ++ codes ") "
@@ -101,9 +105,12 @@ or_zero (Some n) = n
 abbrev pub HasTarget : ℕ → Op → Type 0
 HasTarget bundle x = IfSome (displacement x) (λ disp. pos 0 ≤ℤ (pos bundle +ℤ disp))
 
+-- a slot line by its target, its predicate, and the form, the completers and the operands of its instruction
+abbrev pub line_text : ℕ → ℕ → Form → List Completer → List Token → Bool → List ℕ
+line_text target qp form completers operands stop =
+    codes "  " ++ predicate_text qp ++ mnemonic_text form completers ++ spaced (operands_text target (row_of form).items operands) ++ stop_text stop
+
 -- the slot line of an instruction in a bundle, without its line feed
 abbrev pub slot_text : Insn → ℕ → Bool → List ℕ
 slot_text insn bundle stop =
-    codes "  " ++ predicate_text insn.qp ++ mnemonic_text (word_of insn.op) (completers_of insn.op)
-    ++ spaced (operands_text (or_zero (target_of bundle insn.op)) (row_of (form_of insn.op)).1 (tokens_of insn.op))
-    ++ stop_text stop
+    line_text (or_zero (target_of bundle insn.op)) insn.qp (syntax_of insn.op).form (syntax_of insn.op).completers (syntax_of insn.op).operands stop

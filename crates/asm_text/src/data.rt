@@ -7,7 +7,7 @@ ghost use Rattle.asm_text.specs.Operands.{wrapped, bytes, is_negative, magnitude
 use crate::line::{Line, Values};
 use crate::operands::{bytes, wrapped_below};
 use arrayvec::ArrayVec;
-use asm_forms::{AccessSize, Item, NumberField, accepts, fault_at};
+use asm_forms::{AccessSize, Item, Kind, Mark, NumberField, accepts, fault_at};
 use asm_words::{LineFault, Token};
 
 /// The field of a number of this size.
@@ -27,9 +27,9 @@ fn data_item(field: NumberField, at: usize) -> Item
     ensures { result ≡ data_item field at }
 {
     if at % 2 == 0 {
-        Item::Number(field)
+        Item::Takes(Kind::Number(field))
     } else {
-        Item::Comma
+        Item::Is(Mark::Comma)
     }
 }
 

@@ -1,12 +1,12 @@
 //! Laws of lines, each the contract of a function that does nothing.
 
 ghost use Rattle.std.specs.Prelude.{◌≡◌, ◌↔◌, ℕ, ◌<◌, ◌≤◌, ◌^◌, Bool, false, List, length};
-ghost use Rattle.asm_words.specs.declared.limits.TheConstants.{LINE_LIMIT};
 ghost use Rattle.ia_insn.specs.declared.insn.Insn.{Insn};
 ghost use Rattle.ia_insn.specs.Listed.{IsListed};
 ghost use Rattle.asm_words.specs.declared.fault.LineFault.TheVariants as fault;
 ghost use Rattle.asm_words.specs.Bytes.{has_only_plain};
 ghost use Rattle.asm_words.specs.Words.{words_from};
+ghost use Rattle.asm_text.specs.declared.limits.TheConstants.{SLOT_LINE_LIMIT};
 ghost use Rattle.asm_text.specs.Lines.{LineOf, FaultOf, texts, reading_of};
 ghost use Rattle.asm_text.specs.OneAnswer.{HasOneValue, HasOneFault, HasNoFault};
 ghost use Rattle.asm_text.specs.ReadBack.{printed_line};
@@ -26,13 +26,13 @@ pub fn line_or_fault()
 {}
 
 /// The law that the canonical line of a listed instruction reads as the instruction under its predicate,
-/// with its stop, and the label of its target where it has one; and that it is short enough for
-/// [`read_line`](crate::read_line). The displacement counts 0 until the name is put in. It does nothing.
+/// with its stop, and the label of its target where it has one; and that it has at most 119 bytes, which is less
+/// than [`read_line`](crate::read_line) takes. The displacement counts 0 until the name is put in. It does nothing.
 pub fn printed_slots_are_read_back()
     ensures back { (insn : Insn) (bundle : ℕ) (stop : Bool) → IsListed insn → bundle < 2 ^ 32
         → LineOf (slot_text insn bundle stop) (printed_line insn bundle stop) }
     ensures short { (insn : Insn) (bundle : ℕ) (stop : Bool) → IsListed insn → bundle < 2 ^ 32
-        → length (slot_text insn bundle stop) ≤ LINE_LIMIT }
+        → length (slot_text insn bundle stop) ≤ SLOT_LINE_LIMIT }
 {}
 
 /// The law that lines with the same words say the same. It does nothing.

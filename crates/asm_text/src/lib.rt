@@ -1,17 +1,17 @@
 //! One line of assembly text both ways.
 //!
-//! A line is cut into words, and the leading word with its completers names one or more forms.
-//! `reading` finds the form that the operands have and the line's value, or the first fault;
-//! `instruction` is the table of what each form means. `canonical` and `canonical_tokens` are
-//! the table of how each instruction is printed, and `printing` prints it. Both tables stand in the order of the manual's formats.
+//! A line is cut into words, and the leading name names one or more forms. `reading` finds the form that the
+//! operands have and the line's value, or the first fault. Two tables know the fields of instructions:
+//! `instruction` has what each form means, and `canonical` how each instruction is printed. Everything else
+//! goes by the rows of the forms.
 #![tactic(auto)]
 
 mod buffers;
 mod canonical;
-mod canonical_tokens;
 mod data;
 mod instruction;
 mod laws;
+pub mod limits;
 mod line;
 mod numerals;
 mod operands;

@@ -4,14 +4,12 @@ ghost use Rattle.std.specs.Prelude.{◌≡◌, ◌++◌, ◌∷◌, ◌<◌, OnO
 ghost use Rattle.std.specs.Io.{StartsWith};
 ghost use Rattle.asm_forms.specs.Completers.{text_of};
 ghost use Rattle.ia_insn.specs.Listed.{IsListed};
-ghost use Rattle.asm_text.specs.Canonical.{word_of, form_of, completers_of, tokens_of};
-ghost use Rattle.asm_text.specs.SlotTexts.{is_hex, ar_text, number_text, label_text, token_text, operands_text, spaced, mnemonic_text, predicate_text, stop_text, target_of, HasTarget, slot_text};
-ghost use Rattle.asm_forms.specs.Rows.{row_of};
+ghost use Rattle.asm_text.specs.Canonical.{syntax_of};
+ghost use Rattle.asm_text.specs.SlotTexts.{is_hex, ar_text, number_text, label_text, token_text, operands_text, spaced, mnemonic_text, predicate_text, stop_text, target_of, or_zero, HasTarget, line_text, slot_text};
 
-use crate::canonical::{completers_of, form_of, word_of};
-use crate::canonical_tokens::tokens_of;
+use crate::canonical::{Syntax, syntax_of};
 use crate::numerals::{push_bytes, push_decimal, push_hex};
-use asm_forms::{Completer, Item, NumberField, row, text, word_text};
+use asm_forms::{Completer, Form, Item, Kind, NumberField, mark_token, text};
 use asm_words::Token;
 use ia_insn::{Ar, Insn, Op, Place, Pr};
 use std::alloc::AllocError;
@@ -84,13 +82,13 @@ fn push_token(out: &mut Vec<u8>, target: u64, hex: bool, token: Token) -> Result
     }
 }
 
-/// Whether the numbers of the field are printed in hexadecimal: masks, and the numbers of movl,
-/// break, nop and hint.
-fn is_hex(item: Item) -> bool
-    ensures { result ≡ is_hex item }
+/// Whether the numbers of the kind are printed in hexadecimal: masks, and the numbers of movl, break, nop
+/// and hint.
+fn is_hex(kind: Kind) -> bool
+    ensures { result ≡ is_hex kind }
 {
-    match item {
-        Item::Number(field) => matches!(
+    match kind {
+        Kind::Number(field) => matches!(
             field,
             NumberField::Mask | NumberField::Imm21 | NumberField::Imm62 | NumberField::Imm64
         ),
@@ -98,23 +96,28 @@ fn is_hex(item: Item) -> bool
     }
 }
 
+/// The marks and the operands of a form, item by item.
 #[tactic(auto, using(crate::proofs::Kept::kept_before))]
-fn push_tokens(
+fn push_items(
     out: &mut Vec<u8>,
     target: u64,
     items: &[Item],
-    tokens: &[Token],
+    operands: &[Token],
 ) -> Result<(), AllocError>
-    ensures ok { OnOk result (out.new.items ≡ out.old.items ++ operands_text target items.now tokens.now) }
+    ensures ok { OnOk result (out.new.items ≡ out.old.items ++ operands_text target items.now operands.now) }
     ensures err { OnErr result (StartsWith out.new.items out.old.items) }
 {
     match items {
         [] => Ok(()),
-        [item, items @ ..] => match tokens {
+        [Item::Is(mark), items @ ..] => {
+            push_token(out, target, false, mark_token(*mark))?;
+            push_items(out, target, items, operands)
+        }
+        [Item::Takes(kind), items @ ..] => match operands {
             [] => Ok(()),
-            [token, tokens @ ..] => {
-                push_token(out, target, is_hex(*item), *token)?;
-                push_tokens(out, target, items, tokens)
+            [operand, operands @ ..] => {
+                push_token(out, target, is_hex(*kind), *operand)?;
+                push_items(out, target, items, operands)
             }
         },
     }
@@ -136,13 +139,12 @@ fn push_completers(out: &mut Vec<u8>, completers: &[Completer]) -> Result<(), Al
 }
 
 #[tactic(auto, using(crate::proofs::Kept::kept_before))]
-fn push_mnemonic(out: &mut Vec<u8>, op: &Op) -> Result<(), AllocError>
-    ensures ok { OnOk result (out.new.items ≡ out.old.items ++ mnemonic_text (word_of op.now) (completers_of op.now)) }
+fn push_mnemonic(out: &mut Vec<u8>, form: Form, completers: &[Completer]) -> Result<(), AllocError>
+    ensures ok { OnOk result (out.new.items ≡ out.old.items ++ mnemonic_text form completers.now) }
     ensures err { OnErr result (StartsWith out.new.items out.old.items) }
 {
-    push_bytes(out, word_text(word_of(op)))?;
-    let completers = completers_of(op);
-    push_completers(out, completers.as_slice())
+    push_bytes(out, form.word())?;
+    push_completers(out, completers)
 }
 
 /// The bundle of the target of a direct branch or check.
@@ -170,31 +172,31 @@ fn push_predicate(out: &mut Vec<u8>, qp: Pr) -> Result<(), AllocError>
     push_bytes(out, b") ")
 }
 
-/// The operands after one space, where there are operands.
+/// The marks and the operands after one space, where there are any.
 #[tactic(auto, using(crate::proofs::Kept::kept_before, crate::proofs::Spaced::spaced_nothing, crate::proofs::Spaced::spaced_something))]
-fn push_operands(out: &mut Vec<u8>, target: u64, op: &Op) -> Result<(), AllocError>
-    ensures ok { OnOk result (out.new.items ≡ out.old.items ++ spaced (operands_text target (row_of (form_of op.now)).1 (tokens_of op.now))) }
+fn push_operands(
+    out: &mut Vec<u8>,
+    target: u64,
+    items: &[Item],
+    operands: &[Token],
+) -> Result<(), AllocError>
+    ensures ok { OnOk result (out.new.items ≡ out.old.items ++ spaced (operands_text target items.now operands.now)) }
     ensures err { OnErr result (StartsWith out.new.items out.old.items) }
 {
-    let (_, items) = row(form_of(op));
-    let tokens = tokens_of(op);
     let before = out.len();
     push_bytes(out, b" ")?;
     let start = out.len();
-    push_tokens(out, target, items, tokens.as_slice())?;
+    push_items(out, target, items, operands)?;
     if out.len() == start {
         out.truncate(before);
     }
     Ok(())
 }
 
-/// The operands and a stop.
-#[tactic(auto, using(crate::proofs::Kept::kept_before))]
-fn push_end(out: &mut Vec<u8>, target: u64, op: &Op, stop: bool) -> Result<(), AllocError>
-    ensures ok { OnOk result (out.new.items ≡ out.old.items ++ (spaced (operands_text target (row_of (form_of op.now)).1 (tokens_of op.now)) ++ stop_text stop)) }
+fn push_stop(out: &mut Vec<u8>, stop: bool) -> Result<(), AllocError>
+    ensures ok { OnOk result (out.new.items ≡ out.old.items ++ stop_text stop) }
     ensures err { OnErr result (StartsWith out.new.items out.old.items) }
 {
-    push_operands(out, target, op)?;
     if stop {
         push_bytes(out, b" ;;")
     } else {
@@ -202,19 +204,43 @@ fn push_end(out: &mut Vec<u8>, target: u64, op: &Op, stop: bool) -> Result<(), A
     }
 }
 
-#[tactic(auto, using(crate::proofs::Kept::kept_before, crate::proofs::TargetTexts::with_target, crate::proofs::TargetTexts::without_target))]
+/// A slot line by how its instruction is printed.
+#[tactic(auto, using(crate::proofs::Kept::kept_before))]
+fn push_syntax(
+    out: &mut Vec<u8>,
+    target: u64,
+    qp: Pr,
+    syntax: &Syntax,
+    stop: bool,
+) -> Result<(), AllocError>
+    ensures ok { OnOk result (out.new.items ≡ out.old.items ++ line_text target qp syntax.now.form syntax.now.completers.items syntax.now.operands.items stop) }
+    ensures err { OnErr result (StartsWith out.new.items out.old.items) }
+{
+    push_bytes(out, b"  ")?;
+    push_predicate(out, qp)?;
+    push_mnemonic(out, syntax.form, syntax.completers.as_slice())?;
+    push_operands(out, target, syntax.form.items(), syntax.operands.as_slice())?;
+    push_stop(out, stop)
+}
+
+/// The bundle of the target, and 0 where there is none.
+fn target_or_zero(bundle: u32, op: &Op) -> u64
+    requires { HasTarget bundle op.now }
+    ensures { result ≡ or_zero (target_of bundle op.now) }
+{
+    match target_of(bundle, op) {
+        Some(target) => target,
+        None => 0,
+    }
+}
+
 fn push_slot(out: &mut Vec<u8>, bundle: u32, insn: &Insn, stop: bool) -> Result<(), AllocError>
     requires { HasTarget bundle insn.now.op }
     ensures ok { OnOk result (out.new.items ≡ out.old.items ++ slot_text insn.now bundle stop) }
     ensures err { OnErr result (StartsWith out.new.items out.old.items) }
 {
-    push_bytes(out, b"  ")?;
-    push_predicate(out, insn.qp)?;
-    push_mnemonic(out, &insn.op)?;
-    match target_of(bundle, &insn.op) {
-        Some(target) => push_end(out, target, &insn.op, stop),
-        None => push_end(out, 0, &insn.op, stop),
-    }
+    let target = target_or_zero(bundle, &insn.op);
+    push_syntax(out, target, insn.qp, &syntax_of(&insn.op), stop)
 }
 
 /// Appends the canonical slot line of an instruction, without its line feed. The instruction is a

@@ -2,8 +2,6 @@
 
 ghost use Rattle.std.specs.Prelude.{◌≡◌, ◌≤◌, ◌<◌, ◌+◌, ◌-◌, ◌*◌, ◌^◌, ◌↔◌, IsTrue, IfOk, IfErr, IfSome, length, take, drop, map, slice_get, slice_range, Some, true, false};
 ghost use Rattle.asm_words.specs.declared.limits.TheConstants.{LINE_LIMIT};
-ghost use Rattle.asm_forms.specs.LeadingWords.{forms_of};
-ghost use Rattle.asm_forms.specs.Naming.{mnemonic_of, named_in};
 ghost use Rattle.asm_words.specs.Tokens.{token_of};
 ghost use Rattle.asm_words.specs.Words.{pick};
 ghost use Rattle.asm_text.specs.Lines.{AreParts, texts, tokens, name_of, label_name, lead_at, past_parenthesis, ends_in_stop, without_stop, predicate_of, is_bare, completers_or_none, slot_under, slot_of, directive_value, directive_of, alone, data_of, among, worded, marked, shape_of, opened, mark_led, led_by, led, led_at, is_colon, is_open, is_close, label_of, value_of, reading_of, IsListedLine, LineOf, FaultOf};
@@ -12,11 +10,10 @@ use crate::buffers::{LineBuffers, Tokens};
 use crate::data::data_of;
 use crate::instruction::op_of;
 use crate::line::{Draft, Line};
-use crate::operands::{is_present_at, pr_at, u32_at};
+use crate::operands::{is_present_at, u32_at};
 use crate::shape::shape_of;
 use asm_forms::{
-    AccessSize, Completer, Completers, Form, Item, LeadingWord, completers, leading_word, named,
-    read_form, row,
+    AccessSize, Completer, Completers, Form, Item, Kind, completers, named, read_form, taken,
 };
 use asm_words::limits::LINE_LIMIT;
 use asm_words::{LineFault, Name, Token, Word, WordKind, numbered_register, token, words_into};
@@ -101,21 +98,27 @@ fn without_stop(tokens: &[Token]) -> &[Token]
     }
 }
 
-/// The qualifying predicate, p0 where no word stands before the leading one.
+/// The qualifying predicate: a register between parentheses, and p0 where no word stands before the leading
+/// one.
+fn predicate_of(tokens: &[Token]) -> Result<Pr, LineFault>
+    ensures { result ≡ predicate_of tokens.now }
+{
+    match tokens {
+        [] => Ok(Pr::default()),
+        [_, Token::Pr(register), Token::CloseParenthesis] => Ok(*register),
+        [_] | [_, Token::Pr(_), ..] => Err(LineFault::Form),
+        [_, _, ..] => Err(LineFault::Register),
+    }
+}
+
+/// The qualifying predicate of the words before the leading one.
 fn predicate(line: &[u8], before: &[Word], buffer: &mut Tokens) -> Result<Pr, LineFault>
     requires few { length before.now ≤ LINE_LIMIT }
     requires parts { AreParts line.now before.now }
     ensures { result ≡ predicate_of (tokens (texts line.now before.now)) }
 {
-    match before {
-        [] => Ok(Pr::default()),
-        [_, ..] => {
-            tokens_into(line, before, buffer);
-            let tokens = buffer.as_slice();
-            read_form(&[Form::Predicate], tokens, tokens)?;
-            Ok(pr_at(tokens, 1))
-        }
-    }
+    tokens_into(line, before, buffer);
+    predicate_of(buffer.as_slice())
 }
 
 /// Whether the unit letter is missing.
@@ -130,11 +133,11 @@ fn is_bare(form: Form, completers: &[Completer]) -> bool
     }
 }
 
-/// The completers of the form that this text is, and none where it is none.
-fn completers_or_none(form: Form, rest: &[u8]) -> Completers
-    ensures { result.items ≡ completers_or_none form rest.now }
+/// The completers of the form in the name, and none where it has others.
+fn completers_or_none(form: Form, name: &[u8]) -> Completers
+    ensures { result.items ≡ completers_or_none form name.now }
 {
-    match completers(form, rest) {
+    match completers(form, name) {
         Some(completers) => completers,
         None => Completers::new(),
     }
@@ -153,31 +156,30 @@ fn label_name(line: &[u8], items: &[Item], words: &[Word]) -> Option<Name>
     ensures { result ≡ label_name items.now (texts line.now words.now) }
 {
     match (items, words) {
-        ([Item::Label, ..], [word, ..]) => name_of(word.text(line)),
+        ([Item::Takes(Kind::Label), ..], [word, ..]) => name_of(word.text(line)),
         ([_, items @ ..], [_, words @ ..]) => label_name(line, items, words),
         _ => None,
     }
 }
 
-/// A slot line under a predicate by its tokens after the leading word, where `rest` is what follows the
-/// leading word within its name.
+/// A slot line under a predicate by its name and the tokens after that.
 fn slot_under(
     qp: Pr,
     forms: &[Form],
-    rest: &[u8],
+    name: &[u8],
     tokens: &[Token],
     line: &[u8],
     words: &[Word],
 ) -> Result<Line, LineFault>
     requires { AreParts line.now words.now }
-    ensures { result ≡ slot_under qp forms.now rest.now tokens.now (texts line.now words.now) }
+    ensures { result ≡ slot_under qp forms.now name.now tokens.now (texts line.now words.now) }
 {
     let operands = without_stop(tokens);
     let form = read_form(forms, operands, tokens)?;
-    let completers = completers_or_none(form, rest);
-    match op_of(form, &completers, operands) {
+    let completers = completers_or_none(form, name);
+    match op_of(form, &completers, &taken(form.items(), operands)) {
         Some(op) => {
-            let target = label_name(line, row(form).1, words);
+            let target = label_name(line, form.items(), words);
             let bare = is_bare(form, &completers);
             let draft = Draft {
                 insn: Insn { qp, op },
@@ -207,11 +209,11 @@ fn directive_value(
     match form {
         Form::Text => Ok(Line::Text),
         Form::Data => Ok(Line::Data),
-        Form::Entry => match label_name(line, row(Form::Entry).1, words) {
+        Form::Entry => match label_name(line, Form::Entry.items(), words) {
             Some(name) => Ok(Line::Entry { name }),
             None => Err(LineFault::Form),
         },
-        Form::Ignored => Ok(Line::Ignored),
+        Form::Global | Form::Proc | Form::Endp => Ok(Line::Ignored),
         Form::Skip => Ok(Line::Skip {
             count: u32_at(operands, 0),
         }),
@@ -239,7 +241,7 @@ fn directive_of(
 /// A slot line, by its forms.
 fn slot_of(
     forms: &[Form],
-    rest: &[u8],
+    name: &[u8],
     line: &[u8],
     before: &[Word],
     after: &[Word],
@@ -247,11 +249,11 @@ fn slot_of(
 ) -> Result<Line, LineFault>
     requires few { (length before.now ≤ LINE_LIMIT) × (length after.now ≤ LINE_LIMIT) }
     requires parts { AreParts line.now before.now × AreParts line.now after.now }
-    ensures { result ≡ slot_of forms.now rest.now (texts line.now before.now) (texts line.now after.now) }
+    ensures { result ≡ slot_of forms.now name.now (texts line.now before.now) (texts line.now after.now) }
 {
     let qp = predicate(line, before, buffer)?;
     tokens_into(line, after, buffer);
-    slot_under(qp, forms, rest, buffer.as_slice(), line, after)
+    slot_under(qp, forms, name, buffer.as_slice(), line, after)
 }
 
 /// A data line, before which no predicate stands.
@@ -293,10 +295,10 @@ fn directive_line(
     }
 }
 
-/// A line whose leading word names these forms, the first of which decides what the line is.
+/// A line whose leading name names these forms, the first of which decides what the line is.
 fn among(
     forms: &[Form],
-    rest: &[u8],
+    name: &[u8],
     line: &[u8],
     before: &[Word],
     after: &[Word],
@@ -304,16 +306,25 @@ fn among(
 ) -> Result<Line, LineFault>
     requires few { (length before.now ≤ LINE_LIMIT) × (length after.now ≤ LINE_LIMIT) }
     requires parts { AreParts line.now before.now × AreParts line.now after.now }
-    ensures { result ≡ among forms.now rest.now (texts line.now before.now) (texts line.now after.now) }
+    ensures { result ≡ among forms.now name.now (texts line.now before.now) (texts line.now after.now) }
 {
     match forms {
         [] => Err(LineFault::Name),
-        [Form::Numbers { size }, ..] => data_line(*size, line, before, after, buffer),
+        [Form::Data1, ..] => data_line(AccessSize::One, line, before, after, buffer),
+        [Form::Data2, ..] => data_line(AccessSize::Two, line, before, after, buffer),
+        [Form::Data4, ..] => data_line(AccessSize::Four, line, before, after, buffer),
+        [Form::Data8, ..] => data_line(AccessSize::Eight, line, before, after, buffer),
         [
-            Form::Text | Form::Data | Form::Entry | Form::Ignored | Form::Skip,
+            Form::Text
+            | Form::Data
+            | Form::Entry
+            | Form::Global
+            | Form::Proc
+            | Form::Endp
+            | Form::Skip,
             ..
         ] => directive_line(forms, line, before, after, buffer),
-        [_, ..] => slot_of(forms, rest, line, before, after, buffer),
+        [_, ..] => slot_of(forms, name, line, before, after, buffer),
     }
 }
 
@@ -327,12 +338,9 @@ fn worded(
 ) -> Result<Line, LineFault>
     requires few { (length before.now ≤ LINE_LIMIT) × (length after.now ≤ LINE_LIMIT) }
     requires parts { AreParts line.now before.now × AreParts line.now after.now }
-    ensures { result ≡ worded (mnemonic_of name.now) (texts line.now before.now) (texts line.now after.now) }
+    ensures { result ≡ worded name.now (texts line.now before.now) (texts line.now after.now) }
 {
-    match leading_word(name) {
-        Some((word, rest)) => among(&named(word, rest), rest, line, before, after, buffer),
-        None => Err(LineFault::Name),
-    }
+    among(&named(name), name, line, before, after, buffer)
 }
 
 /// A mark that stands alone.

@@ -1,0 +1,95 @@
+-- What the items of a row say of the tokens that operands which fit them make: how many there are, that none run
+-- together, which is the label, and that they can be printed.
+use Rattle.std.proofs.Common.{◌≡◌, refl, ◌∙◌, ap, Bool, true, false, not, ◌&&◌, cond, List, [], ◌∷◌, length, Option, Some, None, is_some, lit<}
+use Rattle.std.specs.Prelude.{ℤ}
+use Rattle.std.specs.Option.{option_map}
+use Rattle.std.specs.List.{AllByRecursion, list_all, list_any}
+use Rattle.asm_words.specs.declared.tokens.Token.{Token}
+use Rattle.asm_words.specs.declared.tokens.Token.TheVariants as t
+use Rattle.asm_forms.specs.declared.form.Form.{Form}
+use Rattle.asm_forms.specs.declared.items.Item.{Item}
+use Rattle.asm_forms.specs.declared.items.Item.TheVariants.{Is, Takes}
+use Rattle.asm_forms.specs.declared.items.Kind.TheVariants as k
+use Rattle.asm_forms.specs.declared.items.Mark.{Mark}
+use Rattle.asm_forms.specs.declared.items.Mark.TheVariants as m
+use Rattle.asm_forms.specs.Items.{mark_token, filled, prints, fits, is_label_item}
+use Rattle.asm_forms.specs.Rows.{rows, row_of}
+use Rattle.asm_forms.proofs.Bools.{left, right, both}
+use Rattle.asm_forms.proofs.RowFacts.{of_row}
+use Rattle.asm_text.proofs.OperandTexts.{is_wordlike, are_apart, label_token}
+use Rattle.asm_text.proofs.Written.{IsPrinted}
+
+-- a token for each item
+pub as_many : (is : List Item) (xs : List Token) → fits is xs ≡ true → length is ≡ length (filled is xs)
+as_many [] xs h = refl
+as_many (Is mark ∷ is) xs h = rw (as_many is xs h) refl
+as_many (Takes kind ∷ is) [] h = cc
+as_many (Takes kind ∷ is) (x ∷ xs) h = rw (as_many is xs (right (prints kind x) _ h)) refl
+
+-- no two words next to one another
+abbrev pub is_run : Item → Bool
+is_run (Is mark) = is_wordlike (mark_token mark)
+is_run (Takes kind) = true
+
+abbrev pub items_apart : List Item → Bool
+items_apart [] = true
+items_apart (i ∷ []) = true
+items_apart (i ∷ j ∷ is) = not (is_run i && is_run j) && items_apart (j ∷ is)
+
+rows_apart : list_all (λ r. items_apart r.items) rows ≡ true
+rows_apart = refl
+
+first_of_two : (a b : Bool) → not (a && true) ≡ true → not (a && b) ≡ true
+first_of_two false b h = refl
+first_of_two true b h = cc
+
+second_of_two : (a b : Bool) → not (true && b) ≡ true → not (a && b) ≡ true
+second_of_two true b h = h
+second_of_two false b h = refl
+
+apart : (is : List Item) (xs : List Token) → fits is xs ≡ true → items_apart is ≡ true → are_apart (filled is xs) ≡ true
+apart [] xs h e = refl
+apart (Is a ∷ []) xs h e = refl
+apart (Takes kind ∷ []) [] h e = cc
+apart (Takes kind ∷ []) (x ∷ xs) h e = refl
+apart (Is a ∷ Is b ∷ is) xs h e = both _ _ (left _ _ e) (apart (Is b ∷ is) xs h (right _ _ e))
+apart (Is a ∷ Takes kind ∷ is) [] h e = cc
+apart (Is a ∷ Takes kind ∷ is) (x ∷ xs) h e = both _ _ (first_of_two (is_wordlike (mark_token a)) (is_wordlike x) (left _ _ e)) (apart (Takes kind ∷ is) (x ∷ xs) h (right _ _ e))
+apart (Takes kind ∷ is) [] h e = cc
+apart (Takes kind ∷ Is b ∷ is) (x ∷ xs) h e = both _ _ (second_of_two (is_wordlike x) (is_wordlike (mark_token b)) (left _ _ e)) (apart (Is b ∷ is) xs (right _ _ h) (right _ _ e))
+apart (Takes kind ∷ Takes other ∷ is) (x ∷ xs) h e = cc
+
+pub row_apart : (f : Form) (xs : List Token) → fits (row_of f).items xs ≡ true → are_apart (filled (row_of f).items xs) ≡ true
+row_apart f xs h = apart (row_of f).items xs h (of_row (λ r. items_apart r.items) f rows_apart)
+
+-- the token at the place of the label is a name, where there is a label
+label_printed : (x : Token) → prints k.Label x ≡ true → x ≡ t.Name
+label_printed t.Name h = refl
+label_printed x h = cc
+
+label_at : (is : List Item) (xs : List Token) → fits is xs ≡ true → label_token is (filled is xs) ≡ cond (list_any is_label_item is) (Some t.Name) None
+label_at [] xs h = refl
+label_at (Is mark ∷ is) xs h = label_at is xs h
+label_at (Takes kind ∷ is) [] h = cc
+label_at (Takes k.Label ∷ is) (x ∷ xs) h = ap Some (label_printed x (left _ _ h))
+label_at (Takes kind ∷ is) (x ∷ xs) h = label_at is xs (right _ _ h)
+
+name_where : (d : Option ℤ) → cond (is_some d) (Some t.Name) None ≡ option_map (λ disp. t.Name) d
+name_where None = refl
+name_where (Some disp) = refl
+
+pub label_token_of : (f : Form) (xs : List Token) (d : Option ℤ) → fits (row_of f).items xs ≡ true → list_any is_label_item (row_of f).items ≡ is_some d → label_token (row_of f).items (filled (row_of f).items xs) ≡ option_map (λ disp. t.Name) d
+label_token_of f xs d h e = label_at (row_of f).items xs h ∙ ap (λ b. cond b (Some t.Name) None) e ∙ name_where d
+
+-- marks can be printed
+mark_printed : (mark : Mark) → IsPrinted (mark_token mark)
+mark_printed m.Equals = tt
+mark_printed m.R0 = lit< tt
+mark_printed m.One = lit< tt
+mark_printed mark = tt
+
+pub all_printed : (is : List Item) (xs : List Token) → AllByRecursion IsPrinted xs → AllByRecursion IsPrinted (filled is xs)
+all_printed [] xs h = tt
+all_printed (Is mark ∷ is) xs h = (mark_printed mark, all_printed is xs h)
+all_printed (Takes kind ∷ is) [] h = tt
+all_printed (Takes kind ∷ is) (x ∷ xs) h = (h.0, all_printed is xs h.1)
