@@ -10,7 +10,7 @@ use Rattle.ia64_top.specs.declared.words.Command.{Command}
 use Rattle.ia64_top.specs.declared.words.Command.TheVariants as command
 use Rattle.ia64_top.specs.declared.words.Command.TheVariants.{Check, Run, Watch, Trial}
 use Rattle.ia64_top.specs.declared.status.Status.{Status}
-use Rattle.ia64_top.specs.declared.status.Status.TheVariants.{Done, Violated, Refused, TooLong, Limit, Faulted}
+use Rattle.ia64_top.specs.declared.status.Status.TheVariants.{Words, Done, Violated, Refused, TooLong, Limit, Faulted}
 use Rattle.ia64_top.specs.Words.{command_of, Judges, groups_of, IsTrial, IsWatch}
 use Rattle.ia64_top.specs.Inputs.{IsReadOf}
 use Rattle.ia64_top.specs.Watching.{RanNothing, IsNotRun, HaveWatched, HaveWatchedPart}
@@ -49,14 +49,6 @@ output_within command ws all read bytes status is within o =
 output_of : (words : List (List ℕ)) (command : Command) (ws : List WatchState) (all read bytes : List ℕ) (status : Status) → command_of words ≡ Some command → IsReadOf command read all → length read ≤ INPUT_LIMIT → IsCommandOutput command ws read bytes status → IsOutput words ws all bytes status
 output_of words command ws all read bytes status e is within o = rw e (output_within command ws all read bytes status is within o)
 
--- and back
-within_back : (command : Command) (ws : List WatchState) (all read bytes : List ℕ) (status : Status) → IsReadOf command read all → length read ≤ INPUT_LIMIT
-    → MatchBool (is_too_long command all) (IsSilent TooLong bytes status) (IsCommandOutput command ws all bytes status) → IsCommandOutput command ws read bytes status
-within_back (Trial seed bundles) ws all read bytes status is within o = o
-within_back command ws all read bytes status is within o =
-    let whole = subst (λ i. MatchBool (is_too_long command i) (IsSilent TooLong bytes status) (IsCommandOutput command ws i bytes status)) (sym is) o in
-    rw (le-ltb INPUT_LIMIT (length read) within) at whole
-
 -- A longer input is too long, where it is read.
 beyond_within : (command : Command) (ws : List WatchState) (input : List ℕ) → ¬ IsTrial (Some command) → INPUT_LIMIT < length input
     → MatchBool (is_too_long command input) (IsSilent TooLong [] TooLong) (IsCommandOutput command ws input [] TooLong)
@@ -69,6 +61,11 @@ output_beyond words command ws input e reads beyond = rw e (beyond_within comman
 pub too_long : (words : List (List ℕ)) (command : Command) (ws : List WatchState) (left given : Option (List ℕ)) → command_of words ≡ Some command → ¬ IsTrial (Some command) → IfSome left (λ l. INPUT_LIMIT < length l) → IfSome left (λ input. GivesOutput words ws input given given TooLong)
 too_long words command ws None given e reads h = tt
 too_long words command ws (Some input) given e reads h = ([], output_beyond words command ws input e reads h, Appends-nil given)
+
+-- words that are no command write nothing
+pub no_command : (words : List (List ℕ)) (ws : List WatchState) (left given : Option (List ℕ)) → command_of words ≡ None → IfSome left (λ input. GivesOutput words ws input given given Words)
+no_command words ws None given e = tt
+no_command words ws (Some input) given e = ([], rw e (refl, refl), Appends-nil given)
 
 pub answered : (words : List (List ℕ)) (command : Command) (ws : List WatchState) (left given new : Option (List ℕ)) (input bytes : List ℕ) (status : Status) → command_of words ≡ Some command → IfSome left (IsReadOf command input) → length input ≤ INPUT_LIMIT → IsCommandOutput command ws input bytes status → Appends given new bytes → IfSome left (λ i. GivesOutput words ws i given new status)
 answered words command ws None given new input bytes status e whole within o appended = tt
@@ -138,16 +135,6 @@ judged_within words command (Some l) input status e whole h =
     λ other f judges.
     let mine : Judges command = subst Judges (same_command words other command f e) judges in
     of_whole (λ p. (status ≡ Violated) ↔ (¬ IsFree p)) l input (judged_whole command input l mine whole) (h mine)
-
--- no other status is stated for the words and the input than the command's
-output_back : (words : List (List ℕ)) (command : Command) (ws : List WatchState) (all read bytes : List ℕ) (status : Status) → command_of words ≡ Some command → IsReadOf command read all → length read ≤ INPUT_LIMIT → IsOutput words ws all bytes status → IsCommandOutput command ws read bytes status
-output_back words command ws all read bytes status e is within o = within_back command ws all read bytes status is within (rw e at o)
-
-pub only_within : (words : List (List ℕ)) (command : Command) (ws : List WatchState) (left : Option (List ℕ)) (input : List ℕ) (status : Status) → command_of words ≡ Some command → IfSome left (IsReadOf command input) → length input ≤ INPUT_LIMIT
-    → ((bytes : List ℕ) (other : Status) → IsCommandOutput command ws input bytes other → other ≡ status) → IfSome left (λ i. (bytes : List ℕ) (other : Status) → IsOutput words ws i bytes other → other ≡ status)
-only_within words command ws None input status e whole within only = tt
-only_within words command ws (Some l) input status e whole within only =
-    λ bytes other o. only bytes other (output_back words command ws l input bytes other e whole within o)
 
 -- What is run: the end of the run tells the status.
 abbrev TellsEnd : List (List ℕ) → Status → List ℕ → Type 0

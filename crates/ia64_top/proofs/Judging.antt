@@ -1,5 +1,5 @@
 -- What is stated of `check`.
-use Rattle.std.proofs.Common.{◌≡◌, ℕ, ◌≤◌, inl, inr, List, [], ◌∷◌, length, refl, sym, ◌∙◌, subst, arith}
+use Rattle.std.proofs.Common.{◌≡◌, ℕ, ◌≤◌, inl, inr, List, [], ◌∷◌, length, refl, sym, subst, arith}
 use Rattle.std.specs.Prelude.{◌↔◌, Contains}
 use Rattle.ia_insn.specs.Programs.{Program, IsProgram}
 use Rattle.group_checker.specs.declared.violation.Violation.{Violation}
@@ -13,7 +13,7 @@ use Rattle.ia64_top.specs.Judgements.{verdict_status, IsJudgement}
 use Rattle.ia64_top.specs.Texts.{verdict_text}
 use Rattle.ia64_top.specs.Readings.{Reading, IsRefusal}
 use Rattle.ia64_top.specs.Output.{IsCheckedAs}
-use Rattle.ia64_top.proofs.Outputs.{GivesOne, RefusesNone, IsTold, TellsOne, holds_where_told, only_told}
+use Rattle.ia64_top.proofs.Outputs.{GivesOne, RefusesNone, IsTold, holds_where_told}
 
 some_of : (all : List Violation) → 1 ≤ length all → (v : Violation) × Contains all v
 some_of [] l = absurd (omega arith)
@@ -32,11 +32,6 @@ violated_of_verdict : (p : Program) (v : Verdict) → IsVerdict p v → ((verdic
 violated_of_verdict p Accepted exact = (λ e. cc, λ n. absurd (n exact))
 violated_of_verdict p (Violations r) exact = (λ e. not_free p r exact, λ n. refl)
 
--- and has one status
-one_of_verdicts : (p : Program) (v w : Verdict) → IsVerdict p v → IsVerdict p w → verdict_status w ≡ verdict_status v
-one_of_verdicts p Accepted w mine other = (done_of_verdict p w other).1 mine
-one_of_verdicts p (Violations r) w mine other = (violated_of_verdict p w other).1 (not_free p r mine)
-
 -- a verdict as it is printed and answered
 pub judgement_of : (p : Program) (v : Verdict) (bytes : List ℕ) (status : Status) → IsProgram p → IsVerdict p v → (bytes ≡ verdict_text v) × (status ≡ verdict_status v) → IsJudgement p bytes status
 judgement_of p v bytes status program exact told = record { program = program; verdict = v; exact = exact; printed = told.0; tells = told.1 }
@@ -46,9 +41,6 @@ done_of_judgement p bytes status j = subst (λ s. (s ≡ Done) ↔ IsFree p) (sy
 
 pub violated_of_judgement : (p : Program) (bytes : List ℕ) (status : Status) → IsJudgement p bytes status → ((status ≡ Violated) ↔ (¬ IsFree p))
 violated_of_judgement p bytes status j = subst (λ s. (s ≡ Violated) ↔ (¬ IsFree p)) (sym j.tells) (violated_of_verdict p j.verdict j.exact)
-
-one_judgement : TellsOne IsJudgement
-one_judgement p mine bytes status other m o = o.tells ∙ one_of_verdicts p m.verdict o.verdict m.exact o.exact ∙ sym m.tells
 
 -- what is checked of an input that is refused
 pub is_checked_refusal : (r : Reading) (input bytes : List ℕ) (status : Status) → IsRefusal r input bytes status → IsCheckedAs r input bytes status
@@ -64,7 +56,7 @@ pub check_of_program : (r : Reading) (input : List ℕ) (p : Program) (bytes : L
 check_of_program r input p bytes status g o = by_verdict r input p bytes status o.verdict g o.tells o
 
 -- each row tells the judgement of the program, or the refusal
-told_of_check : (r : Reading) (input bytes : List ℕ) (status : Status) → IsCheckedAs r input bytes status → IsTold r IsJudgement input bytes status
+pub told_of_check : (r : Reading) (input bytes : List ℕ) (status : Status) → IsCheckedAs r input bytes status → IsTold r IsJudgement input bytes status
 told_of_check r input bytes Done o = inl o
 told_of_check r input bytes Violated o = inl o
 told_of_check r input bytes Refused o = inr (o, refl)
@@ -80,9 +72,3 @@ pub violated_where_not_free : (r : Reading) → GivesOne r → RefusesNone r →
     → (p : Program) → r.Gives input p → ((status ≡ Violated) ↔ (¬ IsFree p))
 violated_where_not_free r one none input bytes status o =
     holds_where_told r IsJudgement (λ p s. (s ≡ Violated) ↔ (¬ IsFree p)) violated_of_judgement one none input bytes status (told_of_check r input bytes status o)
-
--- no other status is stated for what is checked
-pub only_checked : (r : Reading) → GivesOne r → RefusesNone r → (input mine : List ℕ) (status : Status) → IsCheckedAs r input mine status
-    → (bytes : List ℕ) (other : Status) → IsCheckedAs r input bytes other → other ≡ status
-only_checked r one none input mine status m bytes other o =
-    only_told r IsJudgement one_judgement one none input mine bytes status other (told_of_check r input mine status m) (told_of_check r input bytes other o)

@@ -4,6 +4,7 @@ mod Printing
 mod Outputs
 mod Judging
 mod Running
+mod OneOutput
 mod Answering
 mod Causes
 mod Trying

@@ -1,11 +1,11 @@
--- One output is stated for an input.
-use Rattle.std.proofs.Common.{◌≡◌, ℕ, inl, inr, List, refl, sym, ◌∙◌, subst}
+-- What is stated of what an input is read as.
+use Rattle.std.proofs.Common.{◌≡◌, ℕ, inl, inr, List, sym, subst}
 use Rattle.std.specs.Prelude.{◌⊎◌, IfOk, MatchResult, Result, Ok, Err}
 use Rattle.ia_insn.specs.Programs.{Program}
 use Rattle.image_form.specs.Laws.{OneProgram, NoFaultWhereSpelled, NoFaultWhereRaw}
 use Rattle.asm_build.specs.Laws.{OneTextProgram, NoFaultWhereRead}
 use Rattle.ia64_top.specs.declared.status.Status.{Status}
-use Rattle.ia64_top.specs.declared.status.Status.TheVariants.{Done, Refused}
+use Rattle.ia64_top.specs.declared.status.Status.TheVariants.{Refused}
 use Rattle.ia64_top.specs.declared.answer.Answer.{Answer}
 use Rattle.ia64_top.specs.Readings.{Reading, IsRefusal, as_image, as_bundles, as_text, as_either, BeginsAsImage}
 use Rattle.ia64_top.specs.Output.{IsMadeOutput}
@@ -55,31 +55,6 @@ pub holds_where_told : (r : Reading) (Tells : Program → List ℕ → Status �
     → GivesOne r → RefusesNone r → (input bytes : List ℕ) (status : Status) → IsTold r Tells input bytes status → (p : Program) → r.Gives input p → P p status
 holds_where_told r Tells P holds one none input bytes status (inl t) p g = subst (λ x. P x status) (one input t.0 p t.1 g) (holds t.0 bytes status t.2)
 holds_where_told r Tells P holds one none input bytes status (inr t) p g = absurd (none input p bytes g t.0)
-
--- One status is told of a program.
-abbrev pub TellsOne : (Program → List ℕ → Status → Type 0) → Type 0
-TellsOne Tells = (p : Program) (mine bytes : List ℕ) (status other : Status) → Tells p mine status → Tells p bytes other → other ≡ status
-
--- And so one is told of an input.
-pub only_told : (r : Reading) (Tells : Program → List ℕ → Status → Type 0) → TellsOne Tells
-    → GivesOne r → RefusesNone r → (input mine bytes : List ℕ) (status other : Status) → IsTold r Tells input mine status → IsTold r Tells input bytes other → other ≡ status
-only_told r Tells single one none input mine bytes status other (inl m) (inl o) = single m.0 mine bytes status other m.2 (subst (λ x. Tells x bytes other) (one input o.0 m.0 o.1 m.1) o.2)
-only_told r Tells single one none input mine bytes status other (inl m) (inr o) = absurd (none input m.0 bytes m.1 o.0)
-only_told r Tells single one none input mine bytes status other (inr m) (inl o) = absurd (none input o.0 mine o.1 m.0)
-only_told r Tells single one none input mine bytes status other (inr m) (inr o) = o.1 ∙ sym m.1
-
--- What is made of an input that is read has no other status, and neither has what is refused.
-pub only_made : (r : Reading) (Makes : Program → List ℕ → Type 0) → RefusesNone r → (input : List ℕ) (p : Program) → r.Gives input p
-    → (bytes : List ℕ) (other : Status) → IsMadeOutput r Makes input bytes other → other ≡ Done
-only_made r Makes none input p given bytes Done o = refl
-only_made r Makes none input p given bytes Refused o = absurd (none input p bytes given o)
-only_made r Makes none input p given bytes other o = absurd o
-
-pub only_refused : (r : Reading) (Makes : Program → List ℕ → Type 0) → RefusesNone r → (input mine : List ℕ) → r.Refuses input mine
-    → (bytes : List ℕ) (other : Status) → IsMadeOutput r Makes input bytes other → other ≡ Refused
-only_refused r Makes none input mine refused bytes Done o = absurd (none input o.0 mine o.1 refused)
-only_refused r Makes none input mine refused bytes Refused o = refl
-only_refused r Makes none input mine refused bytes other o = absurd o
 
 -- the output of a refusal
 pub is_refusal : (r : Reading) (Makes : Program → List ℕ → Type 0) (input bytes : List ℕ) (status : Status) → r.Refuses input bytes → status ≡ Refused

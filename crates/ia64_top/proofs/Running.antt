@@ -25,13 +25,13 @@ use Rattle.ia64_top.specs.Readings.{Reading, IsRefusal, as_either}
 use Rattle.std.specs.Prelude.{Some}
 use Rattle.ia64_top.specs.declared.words.Command.{Command}
 use Rattle.ia64_top.specs.declared.words.Command.TheVariants as command
-use Rattle.ia64_top.specs.Words.{groups_of}
+use Rattle.ia64_top.specs.Words.{groups_of, Judges}
 use Rattle.ia64_top.specs.Output.{IsAcceptedAs, IsUnrunAs, IsRunAs, IsCommandOutput}
-use Rattle.ia64_top.proofs.Outputs.{GivesOne, RefusesNone, IsTold, TellsOne, holds_where_told, only_told}
-use Rattle.ia64_top.proofs.Judging.{violated_of_judgement}
+use Rattle.ia64_top.proofs.Outputs.{GivesOne, RefusesNone, IsTold, holds_where_told}
+use Rattle.ia64_top.proofs.Judging.{violated_of_judgement, done_where_free, violated_where_not_free}
 
 -- What is answered of a program: its run, or its verdict where it has violations.
-abbrev IsRunAnswer : (Run → List ℕ) → ℕ → Program → List ℕ → Status → Type 0
+abbrev pub IsRunAnswer : (Run → List ℕ) → ℕ → Program → List ℕ → Status → Type 0
 IsRunAnswer text groups p bytes status = IsRunOf text p groups bytes status ⊎ IsJudgedViolated p bytes status
 
 pub is_run_refusal : (text : Run → List ℕ) (groups : ℕ) (r : Reading) (input bytes : List ℕ) (status : Status) → IsRefusal r input bytes status → IsRunAs text groups r input bytes status
@@ -49,7 +49,7 @@ run_of_program text groups r input p bytes status g (inl o) = by_end text groups
 run_of_program text groups r input p bytes status g (inr o) = subst (λ s. IsJudgement p bytes s → IsRunAs text groups r input bytes s) (sym o.1) (λ j. (p, g, j)) o.0
 
 -- each row tells the answer of the program, or the refusal
-told_of_run : (text : Run → List ℕ) (groups : ℕ) (r : Reading) (input bytes : List ℕ) (status : Status) → IsRunAs text groups r input bytes status → IsTold r (IsRunAnswer text groups) input bytes status
+pub told_of_run : (text : Run → List ℕ) (groups : ℕ) (r : Reading) (input bytes : List ℕ) (status : Status) → IsRunAs text groups r input bytes status → IsTold r (IsRunAnswer text groups) input bytes status
 told_of_run text groups r input bytes Done o = inl (o.0, o.1, inl o.2)
 told_of_run text groups r input bytes Violated o = inl (o.0, o.1, inr (o.2, refl))
 told_of_run text groups r input bytes Limit o = inl (o.0, o.1, inl o.2)
@@ -72,26 +72,16 @@ end_of_answer : (text : Run → List ℕ) (groups : ℕ) (p : Program) (bytes : 
 end_of_answer text groups p bytes status (inl o) free = o.ends
 end_of_answer text groups p bytes status (inr o) free = absurd ((violated_of_judgement p bytes status o.0).0 o.1 free)
 
-one_answer : (text : Run → List ℕ) (groups : ℕ) → TellsOne (IsRunAnswer text groups)
-one_answer text groups p mine bytes status other (inl m) o = end_of_answer text groups p bytes other o m.free ∙ sym m.ends
-one_answer text groups p mine bytes status other (inr m) o = (violated_of_answer text groups p bytes other o).1 ((violated_of_judgement p mine status m.0).0 m.1) ∙ sym m.1
-
-pub status_of_run : (text : Run → List ℕ) (groups : ℕ) (r : Reading) → GivesOne r → RefusesNone r → (input bytes : List ℕ) (status : Status) → IsRunAs text groups r input bytes status
+status_of_run : (text : Run → List ℕ) (groups : ℕ) (r : Reading) → GivesOne r → RefusesNone r → (input bytes : List ℕ) (status : Status) → IsRunAs text groups r input bytes status
     → (p : Program) → r.Gives input p → IsFree p → status ≡ end_status (run_of p groups).end
 status_of_run text groups r one none input bytes status o =
     holds_where_told r (IsRunAnswer text groups) (λ p s. IsFree p → s ≡ end_status (run_of p groups).end) (end_of_answer text groups) one none input bytes status (told_of_run text groups r input bytes status o)
 
 -- `Violated` is the answer exactly where the program isn't free
-pub run_violated_where_not_free : (text : Run → List ℕ) (groups : ℕ) (r : Reading) → GivesOne r → RefusesNone r → (input bytes : List ℕ) (status : Status) → IsRunAs text groups r input bytes status
+run_violated_where_not_free : (text : Run → List ℕ) (groups : ℕ) (r : Reading) → GivesOne r → RefusesNone r → (input bytes : List ℕ) (status : Status) → IsRunAs text groups r input bytes status
     → (p : Program) → r.Gives input p → ((status ≡ Violated) ↔ (¬ IsFree p))
 run_violated_where_not_free text groups r one none input bytes status o =
     holds_where_told r (IsRunAnswer text groups) (λ p s. (s ≡ Violated) ↔ (¬ IsFree p)) (violated_of_answer text groups) one none input bytes status (told_of_run text groups r input bytes status o)
-
--- no other status is stated for what is run
-pub only_run : (text : Run → List ℕ) (groups : ℕ) (r : Reading) → GivesOne r → RefusesNone r → (input mine : List ℕ) (status : Status) → IsRunAs text groups r input mine status
-    → (bytes : List ℕ) (other : Status) → IsRunAs text groups r input bytes other → other ≡ status
-only_run text groups r one none input mine status m bytes other o =
-    only_told r (IsRunAnswer text groups) (one_answer text groups) one none input mine bytes status other (told_of_run text groups r input mine status m) (told_of_run text groups r input bytes other o)
 
 -- What is answered to an input that isn't run, and of the accepted program that is.
 pub unrun_is : (text : Run → List ℕ) (groups : ℕ) (r : Reading) (input bytes : List ℕ) (status : Status) → IsUnrunAs r input bytes status → IsRunAs text groups r input bytes status
@@ -129,23 +119,28 @@ not_accepted one none input bytes status (inl refused) p gives free = none input
 not_accepted one none input bytes status (inr o) p gives free =
     let violated = o.2 in (violated_of_judgement o.0 bytes status violated.0).0 violated.1 (subst IsFree (one input p o.0 gives o.1) free)
 
--- What is answered to a command that is `run`, or `watch`.
-pub run_only : GivesOne as_either → RefusesNone as_either → (groups : ℕ) (c : Command) (ws : List WatchState) (input mine : List ℕ) (status : Status) → c ≡ command.Run groups → IsRunAs run_text groups as_either input mine status
-    → (bytes : List ℕ) (other : Status) → IsCommandOutput c ws input bytes other → other ≡ status
-run_only one none groups c ws input mine status is m bytes other o =
-    only_run run_text groups as_either one none input mine status m bytes other (subst (λ k. IsCommandOutput k ws input bytes other) is o)
+-- What is told of the program that a command reads.
+pub accepted_of : GivesOne as_either → RefusesNone as_either → (c : Command) (ws : List WatchState) (input bytes : List ℕ) (status : Status) → IsCommandOutput c ws input bytes status
+    → c ≡ command.Check → (p : Program) → as_either.Gives input p → ((status ≡ Done) ↔ IsFree p)
+accepted_of one none c ws input bytes status o is = done_where_free as_either one none input bytes status (subst (λ k. IsCommandOutput k ws input bytes status) is o)
 
-pub watch_only : GivesOne as_either → RefusesNone as_either → (groups : ℕ) (c : Command) (ws : List WatchState) (input mine : List ℕ) (status : Status) → c ≡ command.Watch groups → IsRunAs (watch_text ws) groups as_either input mine status
-    → (bytes : List ℕ) (other : Status) → IsCommandOutput c ws input bytes other → other ≡ status
-watch_only one none groups c ws input mine status is m bytes other o =
-    only_run (watch_text ws) groups as_either one none input mine status m bytes other (subst (λ k. IsCommandOutput k ws input bytes other) is o)
+pub judged_of : GivesOne as_either → RefusesNone as_either → (c : Command) (ws : List WatchState) (input bytes : List ℕ) (status : Status) → IsCommandOutput c ws input bytes status
+    → Judges c → (p : Program) → as_either.Gives input p → ((status ≡ Violated) ↔ (¬ IsFree p))
+judged_of one none command.Check ws input bytes status o judges = violated_where_not_free as_either one none input bytes status o
+judged_of one none (command.Run groups) ws input bytes status o judges = run_violated_where_not_free run_text groups as_either one none input bytes status o
+judged_of one none (command.Watch groups) ws input bytes status o judges = run_violated_where_not_free (watch_text ws) groups as_either one none input bytes status o
+judged_of one none c ws input bytes status o judges = absurd judges
 
-pub ended_so : GivesOne as_either → RefusesNone as_either → (text : Run → List ℕ) (groups : ℕ) (c : Command) (input bytes : List ℕ) (status : Status) → groups_of c ≡ Some groups → IsRunAs text groups as_either input bytes status
-    → (k : ℕ) → groups_of c ≡ Some k → (p : Program) → as_either.Gives input p → IsFree p → status ≡ end_status (run_of p k).end
-ended_so one none text groups c input bytes status mine o k its p gives free =
-    let some : Some groups ≡ Some k = sym mine ∙ its in
-    let same : groups ≡ k = cc in
-    status_of_run text groups as_either one none input bytes status o p gives free ∙ ap (λ n. end_status (run_of p n).end) same
+same_groups : (n groups : ℕ) → Some n ≡ Some groups → n ≡ groups
+same_groups n groups e = cc
+
+pub ended_of : GivesOne as_either → RefusesNone as_either → (c : Command) (ws : List WatchState) (input bytes : List ℕ) (status : Status) → IsCommandOutput c ws input bytes status
+    → (groups : ℕ) → groups_of c ≡ Some groups → (p : Program) → as_either.Gives input p → IsFree p → status ≡ end_status (run_of p groups).end
+ended_of one none (command.Run n) ws input bytes status o groups runs p gives free =
+    status_of_run run_text n as_either one none input bytes status o p gives free ∙ ap (λ k. end_status (run_of p k).end) (same_groups n groups runs)
+ended_of one none (command.Watch n) ws input bytes status o groups runs p gives free =
+    status_of_run (watch_text ws) n as_either one none input bytes status o p gives free ∙ ap (λ k. end_status (run_of p k).end) (same_groups n groups runs)
+ended_of one none c ws input bytes status o groups runs p gives free = cc
 
 -- One number of groups is that of `watch`.
 pub of_watch : (P : ℕ → Type 0) (groups : ℕ) (c : Command) → c ≡ command.Watch groups → P groups → (k : ℕ) → c ≡ command.Watch k → P k

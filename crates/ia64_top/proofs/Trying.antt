@@ -38,18 +38,6 @@ violated_of_trial seed bundles bytes Done o = (λ e. cc, λ n. absurd (n o.free)
 violated_of_trial seed bundles bytes Violated o = violated_of_judgement (trial_program seed bundles) bytes Violated o
 violated_of_trial seed bundles bytes status o = absurd o
 
--- no other status is stated
-only_trial : (seed bundles : ℕ) (mine : List ℕ) (status : Status) → IsTrialOutput seed bundles mine status
-    → (bytes : List ℕ) (other : Status) → IsTrialOutput seed bundles bytes other → other ≡ status
-only_trial seed bundles mine Done m bytes other o = (done_of_trial seed bundles bytes other o).1 m.free
-only_trial seed bundles mine Violated m bytes other o = (violated_of_trial seed bundles bytes other o).1 ((violated_of_judgement (trial_program seed bundles) mine Violated m).0 refl)
-only_trial seed bundles mine status m bytes other o = absurd m
-
-pub trial_only : (seed bundles : ℕ) (c : Command) (ws : List WatchState) (input mine : List ℕ) (status : Status) → c ≡ Trial seed bundles → IsTrialOutput seed bundles mine status
-    → (bytes : List ℕ) (other : Status) → IsCommandOutput c ws input bytes other → other ≡ status
-trial_only seed bundles c ws input mine status is m bytes other o =
-    only_trial seed bundles mine status m bytes other (subst (λ k. IsCommandOutput k ws input bytes other) is o)
-
 ends_of_trial : (seed bundles : ℕ) (bytes : List ℕ) (status : Status) → IsTrialOutput seed bundles bytes status → EndsTrial status
 ends_of_trial seed bundles bytes Done o = tt
 ends_of_trial seed bundles bytes Violated o = tt

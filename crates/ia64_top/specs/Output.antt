@@ -123,6 +123,12 @@ IsOutput words watchers input bytes status = MatchOption (command_of words) (IsS
     (λ command. MatchBool (is_too_long command input) (IsSilent TooLong bytes status)
     (IsCommandOutput command watchers input bytes status))
 
+-- For words, watchers and an input there is at most one output, with one status.
+abbrev pub OneOutput : Type 0
+OneOutput =
+    (words : List (List ℕ)) (watchers : List WatchState) (input bytes others : List ℕ) (status other : Status)
+    → IsOutput words watchers input bytes status → IsOutput words watchers input others other → (others ≡ bytes) × (other ≡ status)
+
 -- The sink got the bytes of the output of this status.
 abbrev pub GivesOutput : List (List ℕ) → List WatchState → List ℕ → Option (List ℕ) → Option (List ℕ) → Status → Type 0
 GivesOutput words watchers input old new status =

@@ -1,16 +1,15 @@
 //! The answers of the commands.
 
-ghost use Rattle.std.specs.Prelude.{◌≡◌, ◌≢◌, ◌↔◌, ◌≤◌, ℕ, List, length, map, IfOk, OnOk, OnErr, MatchResult, Some};
-ghost use Rattle.ia_insn.specs.Programs.{Program as Parts};
+ghost use Rattle.std.specs.Prelude.{◌≡◌, ◌≢◌, ◌≤◌, ℕ, length, map, IfOk, OnOk, OnErr, MatchResult, Some};
 ghost use Rattle.image_form.specs.Images.{Spells};
 ghost use Rattle.asm_build.specs.Listing.{IsListing};
 ghost use Rattle.ia64_top.specs.declared.limits.TheConstants.{GROUP_LIMIT, INPUT_LIMIT};
-ghost use Rattle.ia64_top.specs.Words.{HasNumbersInRange, Judges, groups_of, IsWatch};
+ghost use Rattle.ia64_top.specs.Words.{HasNumbersInRange, IsWatch};
 ghost use Rattle.group_checker.specs.Reports.{IsFree};
 ghost use Rattle.ia64_top.specs.Judgements.{IsJudgement, verdict_status};
 ghost use Rattle.ia64_top.specs.Output.{IsCanonical, IsMadeOutput, IsCheckedAs, IsAcceptedAs, IsUnrunAs, IsRunAs, IsCommandOutput};
 ghost use Rattle.ia64_top.specs.Readings.{as_image, as_bundles, as_text, as_either, IsRefusal};
-ghost use Rattle.ia64_top.specs.Runs.{run_of, end_status, watch_text, IsRunOf};
+ghost use Rattle.ia64_top.specs.Runs.{end_status, watch_text, IsRunOf};
 ghost use Rattle.ia_meaning.specs.Runs.{run_text};
 ghost use Rattle.watch_seam.specs.Watching.{HaveRoom};
 ghost use Rattle.ia64_top.specs.Watching.{RanNothing, HaveWatched, HaveWatchedPart};
@@ -30,8 +29,7 @@ use group_checker::{Verdict, check, law_orders};
 use ia_insn::{End, Program};
 use ia_meaning::progress_is_run;
 use image_form::{
-    ImageFault, is_image, no_fault_where_raw, no_fault_where_spelled, one_program, read_image,
-    wrap_raw, write_image,
+    ImageFault, is_image, no_fault_where_spelled, one_program, read_image, wrap_raw, write_image,
 };
 use state_text::state_text;
 use std::alloc::{AllocError, Global};
@@ -74,10 +72,8 @@ fn refuse_text(alloc: Global, error: TextError) -> Result<Answer, AllocError>
 /// The answer of `build` to an input within the limit.
 fn build_input(alloc: Global, input: &[u8]) -> Result<Answer, AllocError>
     requires { length input.now ≤ INPUT_LIMIT }
-    ensures output { IfOk result (λ answer. IsMadeOutput as_text Spells input.now answer.bytes.items answer.status) }
-    ensures only { IfOk result (λ answer. (bytes : List ℕ) (status : Status) → IsMadeOutput as_text Spells input.now bytes status → status ≡ answer.status) }
+    ensures { IfOk result (λ answer. IsMadeOutput as_text Spells input.now answer.bytes.items answer.status) }
 {
-    no_fault_where_read();
     match assemble(alloc, input) {
         Ok(program) => Ok(Answer {
             bytes: write_image(alloc, &program)?,
@@ -89,10 +85,8 @@ fn build_input(alloc: Global, input: &[u8]) -> Result<Answer, AllocError>
 
 /// The answer of `show` to an input within the limit.
 fn show_input(alloc: Global, input: &[u8]) -> Result<Answer, AllocError>
-    ensures output { IfOk result (λ answer. IsMadeOutput as_image IsCanonical input.now answer.bytes.items answer.status) }
-    ensures only { IfOk result (λ answer. (bytes : List ℕ) (status : Status) → IsMadeOutput as_image IsCanonical input.now bytes status → status ≡ answer.status) }
+    ensures { IfOk result (λ answer. IsMadeOutput as_image IsCanonical input.now answer.bytes.items answer.status) }
 {
-    no_fault_where_spelled();
     match read_image(alloc, input) {
         Ok(program) => Ok(Answer {
             bytes: disassemble(alloc, &program)?,
@@ -104,10 +98,8 @@ fn show_input(alloc: Global, input: &[u8]) -> Result<Answer, AllocError>
 
 /// The answer of `list` to an input within the limit.
 fn list_input(alloc: Global, input: &[u8]) -> Result<Answer, AllocError>
-    ensures output { IfOk result (λ answer. IsMadeOutput as_image IsListing input.now answer.bytes.items answer.status) }
-    ensures only { IfOk result (λ answer. (bytes : List ℕ) (status : Status) → IsMadeOutput as_image IsListing input.now bytes status → status ≡ answer.status) }
+    ensures { IfOk result (λ answer. IsMadeOutput as_image IsListing input.now answer.bytes.items answer.status) }
 {
-    no_fault_where_spelled();
     match read_image(alloc, input) {
         Ok(program) => Ok(Answer {
             bytes: list(alloc, &program)?,
@@ -119,10 +111,8 @@ fn list_input(alloc: Global, input: &[u8]) -> Result<Answer, AllocError>
 
 /// The answer of `wrap` to an input within the limit.
 fn wrap_input(alloc: Global, input: &[u8]) -> Result<Answer, AllocError>
-    ensures output { IfOk result (λ answer. IsMadeOutput as_bundles Spells input.now answer.bytes.items answer.status) }
-    ensures only { IfOk result (λ answer. (bytes : List ℕ) (status : Status) → IsMadeOutput as_bundles Spells input.now bytes status → status ≡ answer.status) }
+    ensures { IfOk result (λ answer. IsMadeOutput as_bundles Spells input.now answer.bytes.items answer.status) }
 {
-    no_fault_where_raw();
     match wrap_raw(alloc, input) {
         Ok(program) => Ok(Answer {
             bytes: write_image(alloc, &program)?,
@@ -195,8 +185,8 @@ fn take(alloc: Global, input: &[u8]) -> Result<Result<Program, Answer>, AllocErr
     }
 }
 
-/// The answer of `check` to an image or a text.
-fn check_either(alloc: Global, input: &[u8]) -> Result<Answer, AllocError>
+/// The answer of `check` to an input within the limit.
+fn check_input(alloc: Global, input: &[u8]) -> Result<Answer, AllocError>
     requires { length input.now ≤ INPUT_LIMIT }
     ensures { IfOk result (λ answer. IsCheckedAs as_either input.now answer.bytes.items answer.status) }
 {
@@ -204,21 +194,6 @@ fn check_either(alloc: Global, input: &[u8]) -> Result<Answer, AllocError>
         Ok(program) => check_program(alloc, &program),
         Err(answer) => Ok(answer),
     }
-}
-
-/// The answer of `check` to an input within the limit.
-fn check_input(alloc: Global, input: &[u8]) -> Result<Answer, AllocError>
-    requires { length input.now ≤ INPUT_LIMIT }
-    ensures output { IfOk result (λ answer. IsCheckedAs as_either input.now answer.bytes.items answer.status) }
-    ensures only { IfOk result (λ answer. (bytes : List ℕ) (status : Status) → IsCheckedAs as_either input.now bytes status → status ≡ answer.status) }
-    ensures accepted { IfOk result (λ answer. (p : Parts) → as_either.Gives input.now p → ((answer.status ≡ Status.Done) ↔ IsFree p)) }
-    ensures judged { IfOk result (λ answer. (p : Parts) → as_either.Gives input.now p → ((answer.status ≡ Status.Violated) ↔ (¬ IsFree p))) }
-{
-    one_program();
-    one_text_program();
-    no_fault_where_spelled();
-    no_fault_where_read();
-    check_either(alloc, input)
 }
 
 /// How a call ends whose run ended so: a `break` ends a run that is done.
@@ -359,20 +334,12 @@ pub(crate) fn respond(
     requires within { length input.now ≤ INPUT_LIMIT }
     requires room { HaveRoom (map (λ b. state b) watchers.old.items) }
     ensures output { IfOk result (λ answer. IsCommandOutput command (map (λ b. state b) watchers.old.items) input.now answer.bytes.items answer.status) }
-    ensures only { IfOk result (λ answer. (bytes : List ℕ) (status : Status) → IsCommandOutput command (map (λ b. state b) watchers.old.items) input.now bytes status → status ≡ answer.status) }
-    ensures accepted { IfOk result (λ answer. command ≡ Command.Check → (p : Parts) → as_either.Gives input.now p → ((answer.status ≡ Status.Done) ↔ IsFree p)) }
-    ensures judged { IfOk result (λ answer. Judges command → (p : Parts) → as_either.Gives input.now p → ((answer.status ≡ Status.Violated) ↔ (¬ IsFree p))) }
-    ensures ended { IfOk result (λ answer. (groups : ℕ) → groups_of command ≡ Some groups → (p : Parts) → as_either.Gives input.now p → IsFree p → answer.status ≡ end_status (run_of p groups).end) }
     ensures watched { OnOk result ((groups : ℕ) → command ≡ Command.Watch groups → HaveWatched groups input.now (map (λ b. state b) watchers.old.items) (map (λ b. state b) watchers.new.items)) }
     ensures not_run { IfOk result (λ answer. RanNothing answer.status → watchers.new ≡ watchers.old) }
     ensures still_room { OnOk result (HaveRoom (map (λ b. state b) watchers.new.items)) }
     ensures cut_short { OnErr result ((groups : ℕ) → command ≡ Command.Watch groups → HaveWatchedPart groups input.now (map (λ b. state b) watchers.old.items) (map (λ b. state b) watchers.new.items)) }
     ensures only_watch { ¬ IsWatch (Some command) → watchers.new ≡ watchers.old }
 {
-    one_program();
-    one_text_program();
-    no_fault_where_spelled();
-    no_fault_where_read();
     match command {
         Command::Build => build_input(alloc, input),
         Command::Show => show_input(alloc, input),

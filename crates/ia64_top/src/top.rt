@@ -2,7 +2,7 @@
 
 ghost use Rattle.std.specs.Prelude.{◌≡◌, ◌≢◌, ◌≤◌, ◌+◌, ◌↔◌, ◌⊎◌, ℕ, List, false, map, None, Some, IsSome, IfSome, IfOk, IfErr, OnOk};
 ghost use Rattle.std.specs.Prelude.{vec_len, IsErrOf};
-ghost use Rattle.std.specs.Io.KnownBytes.{IsAtEnd};
+ghost use Rattle.std.specs.Io.KnownBytes.{Appends, IsAtEnd};
 ghost use Rattle.io_seam.specs.declared.whole.ReadError.{ReadError};
 ghost use Rattle.io_seam.specs.Faults.{Rose};
 ghost use Rattle.io_seam.specs.Bytes.{LosesFirst, LosesAtMost};
@@ -21,6 +21,7 @@ ghost use Rattle.ia64_top.specs.Watching.{RanNothing, IsNotRun, HaveWatched, Hav
 ghost use Rattle.ia64_top.specs.Output.{is_too_long, IsWithinLimit, IsProgramOf, IsUnreadable, printed_run, IsOutput, GivesOutput, GivesPart, GivesClashes, GivesTrial, GivesTrialPart, GivesRunOfEveryOrder};
 
 use crate::answer::respond;
+use crate::laws::one_output;
 use crate::limits::INPUT_LIMIT;
 use crate::status::Status;
 use crate::words::{Command, Words};
@@ -81,9 +82,10 @@ pub fn ia64<S: Source, K: Sink>(
     ensures output { IsAnswer result → IfSome (S.left source.old) (λ input.
         GivesOutput words.now (map (λ b. state b) watchers.old.items) input (K.given sink.old) (K.given sink.new) result) }
 
-    // No other status is stated for them, so each comes exactly where its row says.
+    // No other bytes and no other status are stated for them, so each status comes exactly where its row says.
     ensures only { IsAnswer result → IfSome (S.left source.old) (λ input.
-        (bytes : List ℕ) (status : Status) → IsOutput words.now (map (λ b. state b) watchers.old.items) input bytes status → status ≡ result) }
+        (bytes : List ℕ) (status : Status) → IsOutput words.now (map (λ b. state b) watchers.old.items) input bytes status →
+        (status ≡ result) × Appends (K.given sink.old) (K.given sink.new) bytes) }
 
     // An input is refused exactly where the command's way of reading finds no program in it.
     ensures refused { IsAnswer result → IfSome (S.left source.old) (λ input. (command : Command) →
@@ -199,6 +201,7 @@ pub fn ia64<S: Source, K: Sink>(
     no_fault_where_read();
     law_orders();
     zero_is_start();
+    one_output();
     let Some(command) = words.command() else {
         return Status::Words;
     };

@@ -1,9 +1,12 @@
 use Rattle.std.proofs.Common.{◌≤◌, length, Err, Some, sym, ap, subst, arith}
 use Rattle.ia64_top.specs.Words.{IsTrial}
+use Rattle.ia64_top.specs.declared.status.Status.TheVariants.{Words, TooLong}
 use Rattle.ia64_top.specs.declared.limits.TheConstants.{INPUT_LIMIT}
-use Rattle.ia64_top.proofs.Outputs.{either_gives_one}
+use Rattle.ia64_top.proofs.Outputs.{either_gives_one, either_refuses_none}
 use Rattle.ia64_top.proofs.Ordering.{promised, run_in_each_order, promised_beyond, runs_beyond}
-use Rattle.ia64_top.proofs.Answering.{too_long, answered, given_in_part, accepted_beyond, accepted_within, judged_beyond, judged_within, only_within, ended_beyond, ended_within, watched_beyond, watched_within, cut_within, not_run_within, beyond, untouched, read_whole, same_read}
+use Rattle.ia64_top.proofs.Answering.{no_command, too_long, answered, given_in_part, accepted_beyond, accepted_within, judged_beyond, judged_within, ended_beyond, ended_within, watched_beyond, watched_within, cut_within, not_run_within, beyond, untouched, read_whole, same_read}
+use Rattle.ia64_top.proofs.OneOutput.{only_output}
+use Rattle.ia64_top.proofs.Running.{accepted_of, judged_of, ended_of}
 use Rattle.ia64_top.proofs.Trying.{tried, untried, gives_trial, gives_trial_part, ends_trial}
 use Rattle.ia64_top.proofs.Causes.{cause_within, refused_within, served_within, none_beyond, clashes_within}
 use Rattle.ia64_top.proofs.Ranges.{in_range}
@@ -38,23 +41,41 @@ returns-in-Ok-write_all-clause-output g c u =
 pub returns-in-Ok-write_all-clause-only : goal.returns-in-Ok-write_all-clause-only
 returns-in-Ok-write_all-clause-only g c u =
     let whole = same_read c.in-Some.command (g.S.Source.left c.args.source.now) c.deref.result.now c.in-Ok.input.items c.deref.ensures.value c.in-Ok.ensures.whole in
+    let written = rw c.deref-2.ensures.value at c.in-Ok-write_all.ensures in
     let within : length c.deref.result.now ≤ INPUT_LIMIT = omega (arith, c.in-Ok.ensures.within, c.deref.ensures.len, ap length c.deref.ensures.value) in
-    only_within c.args.words.now c.in-Some.command _ (g.S.Source.left c.args.source.now) c.deref.result.now c.in-Ok-respond.answer.status (sym c.in-Some.ensures) whole within c.in-Ok-respond.ensures.only
+    let output = answered c.args.words.now c.in-Some.command _ (g.S.Source.left c.args.source.now) (g.K.Sink.given c.args.sink.now) (g.K.Sink.given c.write_all.new.sink) c.deref.result.now c.in-Ok-respond.answer.bytes.items c.in-Ok-respond.answer.status (sym c.in-Some.ensures) whole within c.in-Ok-respond.ensures.output written.ok in
+    only_output c.one_output.ensures c.args.words.now _ (g.S.Source.left c.args.source.now) (g.K.Sink.given c.args.sink.now) (g.K.Sink.given c.write_all.new.sink) c.in-Ok-respond.answer.status output
+
+pub returns-in-Err-TooLong-clause-only : goal.returns-in-Err-TooLong-clause-only
+returns-in-Err-TooLong-clause-only g c u =
+    let output = too_long c.args.words.now c.in-Some.command _ (g.S.Source.left c.args.source.now) (g.K.Sink.given c.args.sink.now) (sym c.in-Some.ensures) c.in-Err-TooLong.ensures.reads (beyond _ (g.S.Source.left c.args.source.now) (g.S.Source.left c.read_input.new.source) (ap Err c.in-Err-TooLong.field-0-is) c.in-Err-TooLong.ensures.too_long) in
+    only_output c.one_output.ensures c.args.words.now _ (g.S.Source.left c.args.source.now) (g.K.Sink.given c.args.sink.now) (g.K.Sink.given c.args.sink.now) TooLong output
+
+pub returns-in_default-clause-only : goal.returns-in_default-clause-only
+returns-in_default-clause-only g c u =
+    let output = no_command c.args.words.now _ (g.S.Source.left c.args.source.now) (g.K.Sink.given c.args.sink.now) (sym c.in_default.ensures) in
+    only_output c.one_output.ensures c.args.words.now _ (g.S.Source.left c.args.source.now) (g.K.Sink.given c.args.sink.now) (g.K.Sink.given c.args.sink.now) Words output
 
 pub returns-in-Ok-write_all-clause-accepted : goal.returns-in-Ok-write_all-clause-accepted
 returns-in-Ok-write_all-clause-accepted g c u =
+    let one = either_gives_one c.one_program.ensures c.one_text_program.ensures in
+    let none = either_refuses_none c.no_fault_where_spelled.ensures c.no_fault_where_read.ensures in
     let whole = same_read c.in-Some.command (g.S.Source.left c.args.source.now) c.deref.result.now c.in-Ok.input.items c.deref.ensures.value c.in-Ok.ensures.whole in
-    accepted_within c.args.words.now c.in-Some.command (g.S.Source.left c.args.source.now) c.deref.result.now c.in-Ok-respond.answer.status (sym c.in-Some.ensures) whole c.in-Ok-respond.ensures.accepted
+    accepted_within c.args.words.now c.in-Some.command (g.S.Source.left c.args.source.now) c.deref.result.now c.in-Ok-respond.answer.status (sym c.in-Some.ensures) whole (accepted_of one none c.in-Some.command _ c.deref.result.now c.in-Ok-respond.answer.bytes.items c.in-Ok-respond.answer.status c.in-Ok-respond.ensures.output)
 
 pub returns-in-Ok-write_all-clause-judged : goal.returns-in-Ok-write_all-clause-judged
 returns-in-Ok-write_all-clause-judged g c u =
+    let one = either_gives_one c.one_program.ensures c.one_text_program.ensures in
+    let none = either_refuses_none c.no_fault_where_spelled.ensures c.no_fault_where_read.ensures in
     let whole = same_read c.in-Some.command (g.S.Source.left c.args.source.now) c.deref.result.now c.in-Ok.input.items c.deref.ensures.value c.in-Ok.ensures.whole in
-    judged_within c.args.words.now c.in-Some.command (g.S.Source.left c.args.source.now) c.deref.result.now c.in-Ok-respond.answer.status (sym c.in-Some.ensures) whole c.in-Ok-respond.ensures.judged
+    judged_within c.args.words.now c.in-Some.command (g.S.Source.left c.args.source.now) c.deref.result.now c.in-Ok-respond.answer.status (sym c.in-Some.ensures) whole (judged_of one none c.in-Some.command _ c.deref.result.now c.in-Ok-respond.answer.bytes.items c.in-Ok-respond.answer.status c.in-Ok-respond.ensures.output)
 
 pub returns-in-Ok-write_all-clause-ended : goal.returns-in-Ok-write_all-clause-ended
 returns-in-Ok-write_all-clause-ended g c u =
+    let one = either_gives_one c.one_program.ensures c.one_text_program.ensures in
+    let none = either_refuses_none c.no_fault_where_spelled.ensures c.no_fault_where_read.ensures in
     let whole = same_read c.in-Some.command (g.S.Source.left c.args.source.now) c.deref.result.now c.in-Ok.input.items c.deref.ensures.value c.in-Ok.ensures.whole in
-    ended_within c.args.words.now c.in-Some.command (g.S.Source.left c.args.source.now) c.deref.result.now c.in-Ok-respond.answer.status (sym c.in-Some.ensures) whole c.in-Ok-respond.ensures.ended
+    ended_within c.args.words.now c.in-Some.command (g.S.Source.left c.args.source.now) c.deref.result.now c.in-Ok-respond.answer.status (sym c.in-Some.ensures) whole (ended_of one none c.in-Some.command _ c.deref.result.now c.in-Ok-respond.answer.bytes.items c.in-Ok-respond.answer.status c.in-Ok-respond.ensures.output)
 
 pub returns-clause-written_part : goal.returns-clause-written_part
 returns-clause-written_part g c u =
