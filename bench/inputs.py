@@ -195,7 +195,7 @@ def largest_program():
 
 def most_violations():
     """The most violations, 35 million. In each of 64 groups of 192 slots 128 move to all predicates under one
-    of them: each two break 64 rules, for which 66 accesses are compared with 66."""
+    of them: each two break 64 rules."""
     move = "(p1)mov pr=r1,-1"
     return in_groups(BUNDLE_LIMIT, "mii", "(p1)cmp.eq.unc p2,p3=r1,r1", move, move).encode()
 
@@ -253,7 +253,7 @@ def losses_past_nops():
 
 
 def losses_past_compares():
-    """Losses past compares, of which it takes the longest to find that they leave what is known as it is."""
+    """Losses past compares, which leave what is known as it is, but whose targets have to be looked at."""
     return chain_of_losses("mii", *["cmp.eq.or.andcm p0,p1=r0,r0"] * 3).encode()
 
 

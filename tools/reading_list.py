@@ -3,8 +3,8 @@
 clause that it names. With --write it writes the counts into the page; without, it prints what isn't so, and
 ends with status 1 where something isn't.
 
-A row of a list of files is `| PATH | LINES | .. |`, PATH as `crate/specs/File`; lines that are blank, comments
-or imports aren't counted. Each file of definitions of this repository that a listed one imports has to be
+A row of a list of files is `| PATH | LINES | .. |`, PATH as `crate/specs/File`, or as `crate/src/file` where code is
+the definition; lines that are blank, comments or imports aren't counted. Each file of definitions of this repository that a listed one imports has to be
 listed too, and above it where it stands in the same list; so has each that the clauses of the top crate
 import. A row of the table of claims is `| CLAIM | FUNCTION | CLAUSE | PATH |`, PATH as `crate/src/file.rt`:
 the function must stand there and have the clause. The row `| in all | LINES | |` adds up the rows above it,
@@ -20,10 +20,17 @@ PAGE = ROOT / "docs" / "READING.md"
 TOP = "ia64_top"
 
 
+def file_of(name):
+    """The file of a name as the page has it."""
+    return ROOT / "crates" / (f"{name}.rt" if "/src/" in name else f"{name}.antt")
+
+
 def counted(path):
     """The lines of a file of definitions that say something."""
     lines = [line.strip() for line in path.read_text().splitlines()]
-    return sum(1 for line in lines if line and not line.startswith(("--", "use ", "pub use ", "pub mod ")))
+    passed = ("//",) if path.suffix == ".rt" else ("--",)
+    passed += ("use ", "ghost use ", "pub use ", "pub mod ")
+    return sum(1 for line in lines if line and not line.startswith(passed))
 
 
 def imported(path):
@@ -63,13 +70,14 @@ def main():
             if row[0] == "in all":
                 count = total
             else:
-                path = ROOT / "crates" / f"{row[0]}.antt"
+                path = file_of(row[0])
                 count = counted(path) if path.exists() else 0
                 total += count
                 if path.exists():
-                    wanted += [(name, row[0]) for name in sorted(imported(path))]
+                    if path.suffix == ".antt":
+                        wanted += [(name, row[0]) for name in sorted(imported(path))]
                     faults += [f"{name}: listed above {row[0]}, which it imports" for name, at in listed.items()
-                               if at == heading and row[0] in imported(ROOT / "crates" / f"{name}.antt")]
+                               if at == heading and row[0] in imported(file_of(name))]
                     listed[row[0]] = heading
                 else:
                     faults.append(f"{row[0]}: no such file")
