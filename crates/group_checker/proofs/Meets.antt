@@ -1,20 +1,16 @@
 -- What is known on a set of walks, and past one more instruction.
-use Rattle.std.proofs.Common.{◌≡◌, ℕ, Bool, true, false, ◌&&◌, Option, None, Some, refl, sym, ap, ◌∙◌, subst}
-use mathlib.Core.Path.{fun_ext}
-use Rattle.std.proofs.lemmas.Bool.{true≢false}
+use Rattle.std.proofs.Common.{◌≡◌, ℕ, false, Option, None, Some, sym, ap, ◌∙◌, subst}
 use Rattle.ia_insn.specs.declared.insn.Insn.{Insn}
 use Rattle.ia_insn.specs.declared.place.Place.{Place}
 use Rattle.ia_insn.specs.Places.{insn_at}
 use Rattle.ia_insn.specs.Programs.{Program}
-use Rattle.ia_meaning.specs.declared.form.Form.{Form}
-use Rattle.ia_meaning.specs.declared.form.Form.TheVariants as form
 use Rattle.predicate_rel.specs.declared.edge.Edge.TheVariants.{Falls}
-use Rattle.predicate_rel.specs.Pairs.{Table, Pairs, pairs_of, in_range, truth, IsWithin}
-use Rattle.predicate_rel.specs.Rules.{PairRule, one, is_met, form_rule, pairs_by, pairs_after}
+use Rattle.predicate_rel.specs.Pairs.{Pairs, IsWithin}
+use Rattle.predicate_rel.specs.Rules.{pairs_after}
 use Rattle.predicate_rel.proofs.RuleLaws.{WhyMissing, whatever, since, why_missing, pairs_after-within}
 use Rattle.predicate_rel.specs.Edges.{pairs_past, pairs_past_insn}
 use Rattle.flow_facts.specs.Walks.{Walk, EndsAt, facts_on, IsMeet}
-use Rattle.group_checker.specs.Windows.{IsMeetOf, changes_facts}
+use Rattle.group_checker.specs.Windows.{IsMeetOf}
 
 -- who knows more before an instruction knows more past it
 past_within : (o : Option Insn) (f g : Pairs) → IsWithin f g → IsWithin (pairs_past_insn o Falls f) (pairs_past_insn o Falls g)
@@ -49,27 +45,3 @@ meet_past p j IsOld IsNew f go meet = record {
 -- the meet at a place is that of all walks that end there
 pub meet_at : (p : Program) (j : Place) (f : Pairs) → IsMeet p j f → IsMeetOf p (EndsAt p j) f
 meet_at p j f meet = record { reached = meet.reached; sound = meet.sound; exact = meet.exact }
-
--- an instruction that doesn't change what is known keeps each pair where control falls through
-kept_rule : (f : Form) (g x y : ℕ) → changes_facts f ≡ false → form_rule f Falls g x y ≡ one x y
-kept_rule (form.Test kind p1 p2 r2 r3 c) g x y e = absurd (true≢false e)
-kept_rule (form.ToPredicates r2 mask w) g x y e = absurd (true≢false e)
-kept_rule (form.Jump disp) g x y e = absurd (true≢false e)
-kept_rule (form.JumpIndirect b2) g x y e = absurd (true≢false e)
-kept_rule (form.Loop kind disp) g x y e = absurd (true≢false e)
-kept_rule (form.Call b1 goal) g x y e = absurd (true≢false e)
-kept_rule (form.Return b2) g x y e = absurd (true≢false e)
-kept_rule (form.Stop unit imm) g x y e = absurd (true≢false e)
-kept_rule (form.ClearBases pred_only) g x y e = absurd (true≢false e)
-kept_rule f g x y e = refl
-
--- a test made twice
-twice : (a b : Bool) → (a && (a && b)) ≡ (a && b)
-twice true b = refl
-twice false b = refl
-
--- so the facts stay
-pub facts_kept : (f : Form) (qp : ℕ) (rows : Table) → changes_facts f ≡ false → pairs_by (pairs_of rows) (form_rule f Falls qp) ≡ pairs_of rows
-unfolding pairs_of
-facts_kept f qp rows e = fun_ext (λ x. fun_ext (λ y.
-    ap (λ (r : PairRule). in_range x y && is_met r (pairs_of rows)) (kept_rule f qp x y e) ∙ twice (in_range x y) (truth rows x y)))

@@ -5,6 +5,7 @@ use Rattle.std.proofs.lemmas.Bool.{cases_lt, cases_Bool, and_cases, true≢false
 use Rattle.ia_insn.specs.declared.place.Place.{Place}
 use Rattle.ia_insn.specs.Places.{IsBefore}
 use Rattle.ia_insn.specs.Programs.{Program}
+use Rattle.ia_meaning.specs.Actions.{is_alloc}
 use Rattle.resource_sets.specs.declared.access.Access.{Access}
 use Rattle.resource_sets.specs.declared.access_sets.AccessSet.{AccessSet}
 use Rattle.resource_sets.specs.ResourceSets.{has_resource}
@@ -178,7 +179,7 @@ found_violates p es j n e xs ys v win at sets is found =
     }) o.stays)
 
 -- accesses of one that may not clash are never found
-pub apart_finds : (p : Program) (j : Place) (e : EarlierSlot) (v : Violation) → may_clash e.masks (accesses_at p j) ≡ false → FoundClash e (accesses_at p j) v → ⊥
+apart_finds : (p : Program) (j : Place) (e : EarlierSlot) (v : Violation) → may_clash e.masks (accesses_at p j) ≡ false → FoundClash e (accesses_at p j) v → ⊥
 apart_finds p j e v apart c = apart_clash e.masks (accesses_at p j) c.first c.second v.rule apart c.of_first c.of_second c.clash
 
 -- the last slot of the window is the latest of the group on each walk through it
@@ -261,6 +262,21 @@ violation_found p es j s n e v win here_at at is x = let b = broken_on p e.place
     by_rule w through War63 same b = inl (by_clash w War63 same through b refl)
     by_rule w through AllocFirst same b = inr (is_last p es j n e w win at through b.1, inl (record { rule = same; allocates = sym (slot_allocates p j s here_at) ∙ subst (λ (k : Place). allocates_at p k ≡ true) through.there.ends b.0; resource = b.2 }))
     by_rule w through ClearLast same b = inr (is_last p es j n e w win at through b.1, inr (record { rule = same; clears = (win.carried n e at).clears ∙ b.0; resource = b.2 }))
+
+-- no rule on slots is broken where the second is no `alloc` and the first no `clrrrb`
+pub no_slot_rule : (e : EarlierSlot) (s : Slot) (v : Violation) → e.clears ≡ false → is_alloc s.form ≡ false → ¬ IsSlotRule e s v
+no_slot_rule e s v clears allocates (inl r) = true≢false (sym r.allocates ∙ allocates)
+no_slot_rule e s v clears allocates (inr r) = true≢false (sym r.clears ∙ clears)
+
+-- a pair of slots whose accesses may not clash breaks the rules on slots or none
+pub apart_pair : (p : Program) (es : List EarlierSlot) (j : Place) (s : Slot) (seconds : List Access) (n : ℕ) (e : EarlierSlot) (v : Violation) → IsUnderWay p es j s seconds → IsAt es n e
+    → may_clash e.masks seconds ≡ false → (n + 1 ≡ length es → ¬ IsSlotRule e s v) → IsNthPair es n j v → ¬ Violates p v
+apart_pair p es j s seconds n e v u at apart no_rule nth x =
+    let pair = subst (λ (q : EarlierSlot). IsPair q.place j v) (at_once es n nth.slot e nth.at at) nth.pair in
+    elim (violation_found p es j s n e v u.window u.slot at pair x) [
+      | inl found ↦ apart_finds p j e v (ap (may_clash e.masks) (sym u.accesses) ∙ apart) found
+      | inr slots ↦ no_rule slots.0 slots.1
+    ]
 
 -- what a pair of slots breaks is what its access sets find, and if the slots follow each other, what the rules on slots say
 pub pair_all : (p : Program) (es : List EarlierSlot) (j : Place) (s : Slot) (seconds : List Access) (n : ℕ) (e : EarlierSlot) (xs ys : List AccessSet) (none some all : Broken) → IsUnderWay p es j s seconds → IsAt es n e

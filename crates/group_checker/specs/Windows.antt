@@ -3,8 +3,6 @@ use Rattle.std.specs.Prelude.{◌≡◌, ◌<◌, ◌≤◌, ℕ, ◌+◌, Bool,
 use Rattle.ia_insn.specs.declared.place.Place.{Place}
 use Rattle.ia_insn.specs.Places.{place_number, IsBefore}
 use Rattle.ia_insn.specs.Programs.{Program, IsProgram}
-use Rattle.ia_meaning.specs.declared.form.Form.{Form}
-use Rattle.ia_meaning.specs.declared.form.Form.TheVariants as form
 use Rattle.resource_sets.specs.declared.access.Access.{Access}
 use Rattle.resource_sets.specs.Clashes.{may_write_guard}
 use Rattle.predicate_rel.specs.declared.edge.Edge.TheVariants.{Falls}
@@ -100,16 +98,3 @@ pub record HasAdvanced (p : Program) (j : Place) (mask : ℕ) (old new : List Ea
   pub same_length : length new ≡ length old
   pub done : (m : ℕ) (b : EarlierSlot) → m < n → IsAt new m b → (a : EarlierSlot) × IsAt old m a × GoesOn p j mask a b
   pub left : (m : ℕ) (b : EarlierSlot) → n ≤ m → IsAt new m b → IsAt old m b
-
--- where control falls through, an instruction of any other form leaves what is known of predicates as it is
-abbrev pub changes_facts : Form → Bool
-changes_facts (form.Test kind p1 p2 r2 r3 c) = true
-changes_facts (form.ToPredicates r2 mask w) = true
-changes_facts (form.Jump disp) = true
-changes_facts (form.JumpIndirect b2) = true
-changes_facts (form.Loop kind disp) = true
-changes_facts (form.Call b1 goal) = true
-changes_facts (form.Return b2) = true
-changes_facts (form.Stop unit imm) = true
-changes_facts (form.ClearBases pred_only) = true
-changes_facts f = false

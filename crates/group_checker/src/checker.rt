@@ -39,7 +39,7 @@ fn check_pair(
     ensures shown { OnOk result (length report.new.shown ≤ SHOWN_LIMIT) }
     ensures reports { OnOk result ((p : Program) (bound : ℕ) → IsUnderWay p window.now second slot.now seconds.now → HasReported p report.old (IsEarlierPair window.now second n) bound → HasReported p report.new (IsEarlierPair window.now second (n + 1)) (bound + pair_bound)) }
 {
-    if are_apart(window, n, seconds) {
+    if are_apart(window, n, slot, seconds) {
         return Ok(());
     }
     let broken = pair_broken(window, n, slot, seconds);

@@ -1,19 +1,21 @@
 //! The step from the slot under way to the next one.
 
-ghost use Rattle.std.specs.Prelude.{◌≡◌, ◌<◌, length, Some, OnOk, ◌&&◌};
+ghost use Rattle.std.specs.Prelude.{◌≡◌, ℕ, true, length, Some, OnOk, ◌&&◌};
 ghost use Rattle.ia_insn.specs.declared.place.Place.{Place};
 ghost use Rattle.ia_insn.specs.Programs.{Program};
 ghost use Rattle.ia_meaning.specs.Sequence.{next_of};
+ghost use Rattle.predicate_rel.specs.declared.edge.Edge.TheVariants.{Falls};
+ghost use Rattle.predicate_rel.specs.Rules.{one, form_rule};
 ghost use Rattle.slot_table.specs.Slots.{slot_at};
 ghost use Rattle.flow_facts.specs.Walks.{IsSolution};
 ghost use Rattle.group_checker.specs.Violations.{clears};
-ghost use Rattle.group_checker.specs.Windows.{IsWindow, IsUnderWay, GoesOn, HasAdvanced, changes_facts, joins};
+ghost use Rattle.group_checker.specs.Windows.{IsWindow, IsUnderWay, GoesOn, HasAdvanced, joins};
 
 use crate::window::EarlierSlot;
 use flow_facts::InFacts;
 use ia_insn::Place;
 use ia_meaning::Form;
-use predicate_rel::Edge;
+use predicate_rel::{Edge, keeps_pairs};
 use resource_sets::Masks;
 use slot_table::Slot;
 use std::alloc::AllocError;
@@ -32,31 +34,13 @@ fn clears(form: &Form) -> bool
     matches!(form, Form::ClearBases { .. })
 }
 
-/// Whether an instruction of this form may change what is known of predicates where control falls through.
-fn changes_facts(form: &Form) -> bool
-    ensures { result ≡ changes_facts form.now }
-{
-    matches!(
-        form,
-        Form::Test { .. }
-            | Form::ToPredicates { .. }
-            | Form::Jump { .. }
-            | Form::JumpIndirect { .. }
-            | Form::Loop { .. }
-            | Form::Call { .. }
-            | Form::Return { .. }
-            | Form::Stop { .. }
-            | Form::ClearBases { .. }
-    )
-}
-
 /// Takes one earlier slot past the one under way, which may write the predicates of the mask.
-fn pass(earlier: &mut EarlierSlot, slot: &Slot, changes: bool, mask: u64)
-    requires { changes ≡ changes_facts slot.now.form }
+fn pass(earlier: &mut EarlierSlot, slot: &Slot, keeps: bool, mask: u64)
+    requires { keeps ≡ true → (x y : ℕ) → form_rule slot.now.form Falls slot.now.qp x y ≡ one x y }
     ensures { (p : Program) (j : Place) → slot_at p.bundles j ≡ Some slot.now → GoesOn p j mask earlier.old earlier.new }
 {
     earlier.written |= mask;
-    if !changes {
+    if keeps {
         return;
     }
     earlier.known = earlier.known.after_form(&slot.form, slot.qp, Edge::Falls);
@@ -66,9 +50,9 @@ fn pass(earlier: &mut EarlierSlot, slot: &Slot, changes: bool, mask: u64)
 fn advance(window: &mut Vec<EarlierSlot>, slot: &Slot, mask: u64)
     ensures { (p : Program) (j : Place) → slot_at p.bundles j ≡ Some slot.now → HasAdvanced p j mask window.old.items window.new.items (length window.old.items) }
 {
-    let changes = changes_facts(&slot.form);
+    let keeps = keeps_pairs(&slot.form, Edge::Falls);
     for m in 0..window.len() {
-        pass(&mut window[m], slot, changes, mask);
+        pass(&mut window[m], slot, keeps, mask);
     }
 }
 

@@ -1,6 +1,6 @@
 //! What two slots of one group break.
 
-ghost use Rattle.std.specs.Prelude.{◌≡◌, ◌<◌, true, length, ◌&&◌};
+ghost use Rattle.std.specs.Prelude.{◌≡◌, ◌<◌, true, false, length, ◌&&◌};
 ghost use Rattle.ia_insn.specs.declared.place.Place.{Place};
 ghost use Rattle.ia_insn.specs.Programs.{Program};
 ghost use Rattle.ia_meaning.specs.Actions.{is_alloc};
@@ -90,13 +90,24 @@ fn slot_rules(first: &EarlierSlot, slot: &Slot, broken: &mut Broken)
     broken.add_frame_if(first.clears, Rule::ClearLast);
 }
 
-/// Whether no access of the n-th slot of the window clashes with one of the slot under way, which doesn't come just
-/// after it: the two break no rule.
-pub(crate) fn are_apart(window: &[EarlierSlot], n: usize, seconds: &Masks) -> bool
-    requires inside { n < length window.now }
-    ensures { result ≡ true → (p : Program) (j : Place) (s : Slot) (v : Violation) → IsUnderWay p window.now j s seconds.now → IsNthPair window.now n j v → ¬ Violates p v }
+/// Whether a slot and the one just after it may break a rule on slots.
+fn may_break_slot_rule(first: &EarlierSlot, slot: &Slot) -> bool
+    ensures { result ≡ false → (v : Violation) → ¬ IsSlotRule first.now slot.now v }
 {
-    n + 1 < window.len() && !may_clash(&window[n].masks, seconds)
+    first.clears || is_alloc(&slot.form)
+}
+
+/// Whether no access of the n-th slot of the window clashes with one of the slot under way, and no rule on slots is
+/// broken where this comes just after it: the two break no rule.
+pub(crate) fn are_apart(window: &[EarlierSlot], n: usize, slot: &Slot, seconds: &Masks) -> bool
+    requires inside { n < length window.now }
+    ensures { result ≡ true → (p : Program) (j : Place) (v : Violation) → IsUnderWay p window.now j slot.now seconds.now → IsNthPair window.now n j v → ¬ Violates p v }
+{
+    let first = &window[n];
+    if may_clash(&first.masks, seconds) {
+        return false;
+    }
+    n + 1 < window.len() || !may_break_slot_rule(first, slot)
 }
 
 /// What the n-th slot of the window and the slot under way break on some walk. `seconds` has the accesses of the slot

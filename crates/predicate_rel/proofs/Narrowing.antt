@@ -7,22 +7,21 @@ use Rattle.predicate_rel.specs.Changes.{AgreeOutside}
 use Rattle.predicate_rel.specs.Rules.{PairRule, pairs_by}
 use Rattle.predicate_rel.specs.Rows.{IsRow}
 use Rattle.predicate_rel.proofs.PairLemmas.{in_range_parts, in_range_from, pairs_of_in, pairs_of_out}
-use Rattle.predicate_rel.proofs.BitLemmas.{has_bit_none}
 
 and_true : (b : Bool) → (b && true) ≡ b
 and_true true = refl
 and_true false = refl
 
--- A set has lost what isn't in another, in those of some rows that aren't left in `rest`.
-pub record IsNarrowed (old past : Pairs) (rows rest : ℕ) (now : Pairs) : Type 0 where
-  pub inside : (x : ℕ) → x < 64 → has_bit rest x ≡ true → has_bit rows x ≡ true
-  pub left : (x y : ℕ) → x < 64 → has_bit rest x ≡ true → now x y ≡ old x y
-  pub outside : (x y : ℕ) → x < 64 → has_bit rows x ≡ false → now x y ≡ old x y
-  pub done : (x y : ℕ) → x < 64 → y < 64 → has_bit rows x ≡ true → has_bit rest x ≡ false → now x y ≡ (old x y && past x y)
+-- A set has lost what isn't in another, in those of some rows that aren't left.
+pub record IsNarrowed (old past : Pairs) (is_in is_left : ℕ → Bool) (now : Pairs) : Type 0 where
+  pub inside : (x : ℕ) → x < 64 → is_left x ≡ true → is_in x ≡ true
+  pub left : (x y : ℕ) → x < 64 → is_left x ≡ true → now x y ≡ old x y
+  pub outside : (x y : ℕ) → x < 64 → is_in x ≡ false → now x y ≡ old x y
+  pub done : (x y : ℕ) → x < 64 → y < 64 → is_in x ≡ true → is_left x ≡ false → now x y ≡ (old x y && past x y)
 
 -- at first all rows are left
-pub narrowed_none : (f past : Pairs) (rows : ℕ) → IsNarrowed f past rows rows f
-narrowed_none f past rows = record {
+pub narrowed_none : (f past : Pairs) (is_in : ℕ → Bool) → IsNarrowed f past is_in is_in f
+narrowed_none f past is_in = record {
   inside = λ x l e. e;
   left = λ x y l e. refl;
   outside = λ x y l e. refl;
@@ -30,30 +29,30 @@ narrowed_none f past rows = record {
 }
 
 -- one row more
-pub narrowed_row : (old past now now' : Pairs) (rows rest rest' k row : ℕ) → IsNarrowed old past rows rest now → k < 64 → has_bit rest k ≡ true → ((x : ℕ) → x < 64 → has_bit rest' x ≡ (not (eqb x k) && has_bit rest x)) → ((y : ℕ) → y < 64 → has_bit row y ≡ past k y) → ((x y : ℕ) → now' x y ≡ (now x y && (not (eqb x k) || has_bit row y))) → IsNarrowed old past rows rest' now'
-narrowed_row old past now now' rows rest rest' k row h below there less is_row narrowed = record {
-  inside = λ x l e. h.inside x l (and_parts (not (eqb x k)) (has_bit rest x) (sym (less x l) ∙ e)).1;
-  left = λ x y l e. let both = and_parts (not (eqb x k)) (has_bit rest x) (sym (less x l) ∙ e) in narrowed x y ∙ (rw both.0 (and_true (now x y))) ∙ h.left x y l both.1;
+pub narrowed_row : (old past now now' : Pairs) (is_in is_left is_left' : ℕ → Bool) (k row : ℕ) → IsNarrowed old past is_in is_left now → k < 64 → is_left k ≡ true → ((x : ℕ) → x < 64 → is_left' x ≡ (not (eqb x k) && is_left x)) → ((y : ℕ) → y < 64 → has_bit row y ≡ past k y) → ((x y : ℕ) → now' x y ≡ (now x y && (not (eqb x k) || has_bit row y))) → IsNarrowed old past is_in is_left' now'
+narrowed_row old past now now' is_in is_left is_left' k row h below there less is_row narrowed = record {
+  inside = λ x l e. h.inside x l (and_parts (not (eqb x k)) (is_left x) (sym (less x l) ∙ e)).1;
+  left = λ x y l e. let both = and_parts (not (eqb x k)) (is_left x) (sym (less x l) ∙ e) in narrowed x y ∙ (rw both.0 (and_true (now x y))) ∙ h.left x y l both.1;
   outside = λ x y l n. of_outside x y l n (cases_eq x k);
   done = λ x y l m e n. of_done x y l m e (sym (less x l) ∙ n) (cases_eq x k);
 }
   where
-    of_outside : (x y : ℕ) → x < 64 → has_bit rows x ≡ false → (x ≡ k) ⊎ (x ≡ k → ⊥) → now' x y ≡ old x y
-    of_outside x y l n (inl e) = absurd (true≢false (sym (h.inside k below there) ∙ ap (has_bit rows) (sym e) ∙ n))
+    of_outside : (x y : ℕ) → x < 64 → is_in x ≡ false → (x ≡ k) ⊎ (x ≡ k → ⊥) → now' x y ≡ old x y
+    of_outside x y l n (inl e) = absurd (true≢false (sym (h.inside k below there) ∙ ap is_in (sym e) ∙ n))
     of_outside x y l n (inr ne) = narrowed x y ∙ (rw (ne_eqb x k ne) (and_true (now x y))) ∙ h.outside x y l n
 
-    of_done : (x y : ℕ) → x < 64 → y < 64 → has_bit rows x ≡ true → (not (eqb x k) && has_bit rest x) ≡ false → (x ≡ k) ⊎ (x ≡ k → ⊥) → now' x y ≡ (old x y && past x y)
+    of_done : (x y : ℕ) → x < 64 → y < 64 → is_in x ≡ true → (not (eqb x k) && is_left x) ≡ false → (x ≡ k) ⊎ (x ≡ k → ⊥) → now' x y ≡ (old x y && past x y)
     of_done x y l m e n (inl same) = narrowed x y ∙ (rw (eq-eqb x k same, same, is_row y m, h.left k y below there) refl)
     of_done x y l m e n (inr ne) = narrowed x y ∙ (rw (ne_eqb x k ne) (and_true (now x y))) ∙ h.done x y l m e (rw (ne_eqb x k ne) at n)
 
 -- what is left was there
-pub narrowed_within : (old past now : Pairs) (rows rest x y : ℕ) → IsNarrowed old past rows rest now → x < 64 → y < 64 → now x y ≡ true → old x y ≡ true
-narrowed_within old past now rows rest x y h l m e = by_bits (cases_Bool (has_bit rows x)) (cases_Bool (has_bit rest x))
+pub narrowed_within : (old past now : Pairs) (is_in is_left : ℕ → Bool) (x y : ℕ) → IsNarrowed old past is_in is_left now → x < 64 → y < 64 → now x y ≡ true → old x y ≡ true
+narrowed_within old past now is_in is_left x y h l m e = by_case (cases_Bool (is_in x)) (cases_Bool (is_left x))
   where
-    by_bits : (has_bit rows x ≡ true) ⊎ (has_bit rows x ≡ false) → (has_bit rest x ≡ true) ⊎ (has_bit rest x ≡ false) → old x y ≡ true
-    by_bits (inr n) other = sym (h.outside x y l n) ∙ e
-    by_bits (inl t) (inl s) = sym (h.left x y l s) ∙ e
-    by_bits (inl t) (inr n) = (and_parts (old x y) (past x y) (sym (h.done x y l m t n) ∙ e)).0
+    by_case : (is_in x ≡ true) ⊎ (is_in x ≡ false) → (is_left x ≡ true) ⊎ (is_left x ≡ false) → old x y ≡ true
+    by_case (inr n) other = sym (h.outside x y l n) ∙ e
+    by_case (inl t) (inl s) = sym (h.left x y l s) ∙ e
+    by_case (inl t) (inr n) = (and_parts (old x y) (past x y) (sym (h.done x y l m t n) ∙ e)).0
 
 -- sets of predicates are the same where each pair of two predicates is
 pairs_same : (a b : Pairs) → ((x y : ℕ) → in_range x y ≡ false → a x y ≡ false) → ((x y : ℕ) → in_range x y ≡ false → b x y ≡ false) → ((x y : ℕ) → x < 64 → y < 64 → a x y ≡ b x y) → a ≡ b
@@ -63,41 +62,62 @@ pairs_same a b out out' inside = fun_ext (λ x. fun_ext (λ y. by_range x y (cas
     by_range x y (inl t) = let p = in_range_parts x y t in inside x y p.0 p.1
     by_range x y (inr n) = out x y n ∙ sym (out' x y n)
 
--- with no row left, the set has what both have: where the rows are all, and where the others of the set are within the other
-narrowed_common : (old new : Table) (past : Pairs) (rows : ℕ) → IsNarrowed (pairs_of old) past rows 0 (pairs_of new) → ((x y : ℕ) → x < 64 → y < 64 → has_bit rows x ≡ false → pairs_of old x y ≡ (pairs_of old x y && past x y)) → pairs_of new ≡ common (pairs_of old) past
+-- No row is left.
+abbrev pub IsWholly : Pairs → Pairs → (ℕ → Bool) → Pairs → Type 0
+IsWholly old past is_in now = IsNarrowed old past is_in (λ x. false) now
+
+-- so it is where none is left of those below 64
+pub narrowed_wholly : (old past now : Pairs) (is_in is_left : ℕ → Bool) → ((x : ℕ) → x < 64 → is_left x ≡ false) → IsNarrowed old past is_in is_left now → IsWholly old past is_in now
+narrowed_wholly old past now is_in is_left none h = record {
+  inside = λ x l e. absurd (true≢false (sym e));
+  left = λ x y l e. absurd (true≢false (sym e));
+  outside = h.outside;
+  done = λ x y l m e n. h.done x y l m e (none x l);
+}
+
+-- Then the set has what both have: where the rows are all, and where the others of the set are within the other.
+narrowed_common : (old new : Table) (past : Pairs) (is_in : ℕ → Bool) → IsWholly (pairs_of old) past is_in (pairs_of new) → ((x y : ℕ) → x < 64 → y < 64 → is_in x ≡ false → pairs_of old x y ≡ (pairs_of old x y && past x y)) → pairs_of new ≡ common (pairs_of old) past
 unfolding common
-narrowed_common old new past rows h others = pairs_same (pairs_of new) (λ x y. pairs_of old x y && past x y) (pairs_of_out new) (λ x y n. and_left (pairs_of old x y) (past x y) (pairs_of_out old x y n)) (λ x y l m. by_bit x y l m (cases_Bool (has_bit rows x)))
+narrowed_common old new past is_in h others = pairs_same (pairs_of new) (λ x y. pairs_of old x y && past x y) (pairs_of_out new) (λ x y n. and_left (pairs_of old x y) (past x y) (pairs_of_out old x y n)) (λ x y l m. by_case x y l m (cases_Bool (is_in x)))
   where
-    by_bit : (x y : ℕ) → x < 64 → y < 64 → (has_bit rows x ≡ true) ⊎ (has_bit rows x ≡ false) → pairs_of new x y ≡ (pairs_of old x y && past x y)
-    by_bit x y l m (inl t) = h.done x y l m t (has_bit_none x)
-    by_bit x y l m (inr n) = h.outside x y l n ∙ others x y l m n
+    by_case : (x y : ℕ) → x < 64 → y < 64 → (is_in x ≡ true) ⊎ (is_in x ≡ false) → pairs_of new x y ≡ (pairs_of old x y && past x y)
+    by_case x y l m (inl t) = h.done x y l m t refl
+    by_case x y l m (inr n) = h.outside x y l n ∙ others x y l m n
 
-pub narrowed_whole : (old new : Table) (past : Pairs) (rows : ℕ) → IsNarrowed (pairs_of old) past rows 0 (pairs_of new) → ((x : ℕ) → x < 64 → has_bit rows x ≡ true) → pairs_of new ≡ common (pairs_of old) past
-narrowed_whole old new past rows h all = narrowed_common old new past rows h (λ x y l m n. absurd (true≢false (sym (all x l) ∙ n)))
+pub narrowed_whole : (old new : Table) (past : Pairs) (is_in : ℕ → Bool) → IsWholly (pairs_of old) past is_in (pairs_of new) → ((x : ℕ) → x < 64 → is_in x ≡ true) → pairs_of new ≡ common (pairs_of old) past
+narrowed_whole old new past is_in h all = narrowed_common old new past is_in h (λ x y l m n. absurd (true≢false (sym (all x l) ∙ n)))
 
-pub narrowed_more : (old new : Table) (past earlier : Pairs) (rows : ℕ) → IsNarrowed (pairs_of old) past rows 0 (pairs_of new) → AgreeOutside rows earlier past → IsWithin (pairs_of old) earlier → pairs_of new ≡ common (pairs_of old) past
-narrowed_more old new past earlier rows h agree within = narrowed_common old new past rows h (λ x y l m n. by_case x y n (cases_Bool (pairs_of old x y)))
+pub narrowed_more : (old new : Table) (past earlier : Pairs) (rows : ℕ) → IsWholly (pairs_of old) past (has_bit rows) (pairs_of new) → AgreeOutside rows earlier past → IsWithin (pairs_of old) earlier → pairs_of new ≡ common (pairs_of old) past
+narrowed_more old new past earlier rows h agree within = narrowed_common old new past (has_bit rows) h (λ x y l m n. by_case x y n (cases_Bool (pairs_of old x y)))
   where
     by_case : (x y : ℕ) → has_bit rows x ≡ false → (pairs_of old x y ≡ true) ⊎ (pairs_of old x y ≡ false) → pairs_of old x y ≡ (pairs_of old x y && past x y)
     by_case x y n (inl t) = t ∙ (rw (t, sym (agree.same x y n) ∙ within.each x y t) refl)
     by_case x y n (inr f) = f ∙ sym (and_left (pairs_of old x y) (past x y) f)
 
--- With no row left, the set has no more than it had, and all that both have.
-pub narrowed_no_more : (old new : Table) (past : Pairs) (rows : ℕ) → IsNarrowed (pairs_of old) past rows 0 (pairs_of new) → IsWithin (pairs_of new) (pairs_of old)
-narrowed_no_more old new past rows h = record { each = λ x y t. by_range x y t (cases_Bool (in_range x y)) }
+-- It has no more than it had, and all that both have.
+pub narrowed_no_more : (old new : Table) (past : Pairs) (is_in : ℕ → Bool) → IsWholly (pairs_of old) past is_in (pairs_of new) → IsWithin (pairs_of new) (pairs_of old)
+narrowed_no_more old new past is_in h = record { each = λ x y t. by_range x y t (cases_Bool (in_range x y)) }
   where
     by_range : (x y : ℕ) → pairs_of new x y ≡ true → (in_range x y ≡ true) ⊎ (in_range x y ≡ false) → pairs_of old x y ≡ true
-    by_range x y t (inl i) = let p = in_range_parts x y i in narrowed_within (pairs_of old) past (pairs_of new) rows 0 x y h p.0 p.1 t
+    by_range x y t (inl i) = let p = in_range_parts x y i in narrowed_within (pairs_of old) past (pairs_of new) is_in (λ x. false) x y h p.0 p.1 t
     by_range x y t (inr out) = absurd (true≢false (sym t ∙ pairs_of_out new x y out))
 
-pub narrowed_keeps : (old new : Table) (past : Pairs) (rows : ℕ) → IsNarrowed (pairs_of old) past rows 0 (pairs_of new) → IsWithin (common (pairs_of old) past) (pairs_of new)
+pub narrowed_keeps : (old new : Table) (past : Pairs) (is_in : ℕ → Bool) → IsWholly (pairs_of old) past is_in (pairs_of new) → IsWithin (common (pairs_of old) past) (pairs_of new)
 unfolding common
-narrowed_keeps old new past rows h = record { each = λ x y t. by_range x y t (cases_Bool (in_range x y)) (cases_Bool (has_bit rows x)) }
+narrowed_keeps old new past is_in h = record { each = λ x y t. by_range x y t (cases_Bool (in_range x y)) (cases_Bool (is_in x)) }
   where
-    by_range : (x y : ℕ) → (pairs_of old x y && past x y) ≡ true → (in_range x y ≡ true) ⊎ (in_range x y ≡ false) → (has_bit rows x ≡ true) ⊎ (has_bit rows x ≡ false) → pairs_of new x y ≡ true
+    by_range : (x y : ℕ) → (pairs_of old x y && past x y) ≡ true → (in_range x y ≡ true) ⊎ (in_range x y ≡ false) → (is_in x ≡ true) ⊎ (is_in x ≡ false) → pairs_of new x y ≡ true
     by_range x y t (inr out) b = absurd (true≢false (sym (and_parts (pairs_of old x y) (past x y) t).0 ∙ pairs_of_out old x y out))
-    by_range x y t (inl i) (inl b) = let p = in_range_parts x y i in h.done x y p.0 p.1 b (has_bit_none x) ∙ t
+    by_range x y t (inl i) (inl b) = let p = in_range_parts x y i in h.done x y p.0 p.1 b refl ∙ t
     by_range x y t (inl i) (inr n) = h.outside x y (in_range_parts x y i).0 n ∙ (and_parts (pairs_of old x y) (past x y) t).0
+
+-- What both have is within either, and holds itself.
+pub common_within : (f g new : Pairs) → new ≡ common f g → IsWithin new f
+unfolding common
+common_within f g new e = record { each = λ x y t. (and_parts (f x y) (g x y) (sym (ap (λ (h : Pairs). h x y) e) ∙ t)).0 }
+
+pub within_same : (f g : Pairs) → f ≡ g → IsWithin g f
+within_same f g e = record { each = λ x y t. ap (λ (h : Pairs). h x y) e ∙ t }
 
 -- The rows of which `lost` has no bit have lost nothing, and where it has one, something is lost.
 pub record HasLost (old : Pairs) (lost : ℕ) (now : Pairs) : Type 0 where

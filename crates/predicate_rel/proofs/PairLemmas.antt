@@ -1,9 +1,10 @@
 -- Laws of sets of pairs.
-use Rattle.std.proofs.Common.{◌≡◌, ℕ, ◌<◌, Bool, true, false, ◌&&◌, ◌⊎◌, refl, sym, ◌∙◌, inl, inr, arith, ltb, eqb, ◌||◌}
+use Rattle.std.proofs.Common.{◌≡◌, ℕ, ◌<◌, Bool, true, false, ◌&&◌, ◌⊎◌, refl, sym, ap, ◌∙◌, inl, inr, arith, ltb, eqb, ◌||◌}
 use mathlib.Core.Path.{fun_ext}
 use Rattle.std.proofs.lemmas.Bool.{cases_Bool, ltb-true, lt-ltb, and_parts, and_from, and_left}
 use Rattle.std.proofs.lemmas.Bool.Decides.{nat_tests}
 use Rattle.predicate_rel.specs.Pairs.{Pairs, Table, in_range, common, other_of, is_same_pair, with_pair, pairs_of, truth, IsWithin, HasMore}
+use Rattle.predicate_rel.specs.Rules.{PairRule, one, is_met, pairs_by}
 
 pub in_range_from : (x y : ℕ) → x < 64 → y < 64 → in_range x y ≡ true
 unfolding in_range
@@ -38,6 +39,12 @@ common_out f g out x y n = and_left (f x y) (g x y) (out x y n)
 pub common_in : (a b : Table) (x y : ℕ) → x < 64 → y < 64 → (truth a x y && truth b x y) ≡ common (pairs_of a) (pairs_of b) x y
 unfolding common
 common_in a b x y p q = rw (pairs_of_in a x y p q, pairs_of_in b x y p q)
+
+-- where each pair stays, the set does
+pub pairs_kept : (rows : Table) (rules : ℕ → ℕ → PairRule) → ((x y : ℕ) → rules x y ≡ one x y) → pairs_of rows ≡ pairs_by (pairs_of rows) rules
+pairs_kept rows rules stay = shows rows (pairs_by (pairs_of rows) rules)
+    (λ x y a b. sym (ap (λ (r : PairRule). in_range x y && is_met r (pairs_of rows)) (stay x y) ∙ (rw (in_range_from x y a b) (pairs_of_in rows x y a b))))
+    (λ x y n. and_left (in_range x y) _ n)
 
 -- a pair of two predicates is one of predicates, also where it is written otherwise
 same_pair_out : (a b x y : ℕ) → a < 64 → b < 64 → in_range x y ≡ false → is_same_pair a (other_of a b) x (other_of x y) ≡ false

@@ -1,12 +1,14 @@
 //! Sets of pairs of predicates that are known not to be both 1.
 
-ghost use Rattle.std.specs.Prelude.{◌≡◌, ℕ, ◌<◌, ◌&&◌, ◌||◌, ◌==◌, not};
+ghost use Rattle.std.specs.Prelude.{◌≡◌, ◌≢◌, ℕ, ◌<◌, ◌&&◌, ◌||◌, ◌==◌, not};
 ghost use Rattle.std.specs.Bool.{OnTrue, OnFalse};
 ghost use Rattle.predicate_rel.specs.Pairs.{Table, has_bit, pairs_of, no_pairs, all_pairs, common, other_of, is_same_pair, with_pair, IsWithin, HasMore};
+ghost use Rattle.predicate_rel.specs.Changes.{AgreeOutside};
 ghost use Rattle.predicate_rel.specs.Rules.{form_rule, pairs_by, pairs_after};
 
-use crate::bits::{bit, both, is_within, with_bit_where};
+use crate::bits::{bit, both, is_within, lowest, with_bit, with_bit_where, without};
 use crate::edge::Edge;
+use crate::rows::keeps_pairs;
 use ia_insn::{Insn, Pr};
 use ia_meaning::{Form, form_of};
 use std::marker::Model;
@@ -103,6 +105,9 @@ impl Facts {
     pub fn after_form(&self, form: &Form, qp: Pr, edge: Edge) -> Facts
         ensures { pairs_of result ≡ pairs_by (pairs_of self.now) (form_rule form.now edge qp) }
     {
+        if keeps_pairs(form, edge) {
+            return *self;
+        }
         let mut rows = [0; 64];
         for x in 0..64u8 {
             rows[x as usize] = self.form_row(form, edge, qp, x);
@@ -153,6 +158,25 @@ impl Facts {
         }
         self.rows[x as usize] = both(old, row);
         true
+    }
+
+    /// Leaves of the set the pairs that are also in the other. Answers a word of the rows that lost something, bit x
+    /// that of the pairs of the x-th predicate.
+    pub(crate) fn intersect(&mut self, other: &Facts) -> u64
+        ensures common { pairs_of self.new ≡ common (pairs_of self.old) (pairs_of other.now) }
+        ensures lost { AgreeOutside result (pairs_of self.old) (pairs_of self.new) }
+        ensures more { result ≢ 0 → HasMore (pairs_of self.old) (pairs_of self.new) }
+    {
+        let mut rest = u64::MAX;
+        let mut lost = 0;
+        'narrowing: while rest != 0 {
+            let x = lowest(rest);
+            rest = without(rest, x);
+            if self.narrow_row(x, other.row(x)) {
+                lost = with_bit(lost, x, true);
+            }
+        }
+        lost
     }
 
     /// The pairs of the x-th predicate, and that of `a` and `b`.

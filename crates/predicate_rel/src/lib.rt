@@ -18,6 +18,7 @@ mod rows;
 pub use edge::Edge;
 pub use facts::Facts;
 pub use laws::{law_facts, law_unordered};
+pub use rows::keeps_pairs;
 
 #[cfg(test)]
 mod tests;

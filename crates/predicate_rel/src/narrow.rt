@@ -48,7 +48,11 @@ impl Facts {
         ensures lost { AgreeOutside result (pairs_of self.old) (pairs_of self.new) }
         ensures more { result ≢ 0 → HasMore (pairs_of self.old) (pairs_of self.new) }
     {
-        let mut rest = reached(form, qp, changed);
+        let rows = reached(form, qp, changed);
+        if rows == u64::MAX {
+            return self.intersect(&before.after_form(form, qp, edge));
+        }
+        let mut rest = rows;
         let mut lost = 0;
         'narrowing: while rest != 0 {
             let x = lowest(rest);

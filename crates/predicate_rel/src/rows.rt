@@ -3,7 +3,7 @@
 ghost use Rattle.std.specs.Prelude.{◌≡◌, ◌≢◌, ℕ, ◌-◌, ◌<◌, ◌||◌, ◌==◌, Bool, if◌then◌else◌, true, false};
 ghost use Rattle.ia_insn.specs.declared.choices.CmpKind.TheVariants.{Normal, Unc, OrAndcm};
 ghost use Rattle.predicate_rel.specs.Pairs.{has_bit, pairs_of};
-ghost use Rattle.predicate_rel.specs.Rules.{PairRule, always, never, is_met, kept_rule, written_rule, raised_rule, is_target, test_rule, is_moved, falls_rule, static_rule, name_before, rotated_rule, loop_rule, form_rule};
+ghost use Rattle.predicate_rel.specs.Rules.{PairRule, one, always, never, is_met, kept_rule, written_rule, raised_rule, is_target, test_rule, is_moved, falls_rule, static_rule, name_before, rotated_rule, loop_rule, form_rule};
 ghost use Rattle.predicate_rel.specs.Rows.{HasBits, IsRow};
 
 use crate::bits::{all_if, bit, both, chosen, joined, kept_if, moved_up, with_bit, with_bit_where};
@@ -55,6 +55,28 @@ fn renamed(row: u64) -> u64
     ensures { (y : ℕ) → y < 64 → y ≢ 16 → has_bit result y ≡ has_bit row (name_before y) }
 {
     joined(row, moved_up(row))
+}
+
+/// Whether the form is one whose instructions leave what is known as it is, where control goes on along the edge. Some
+/// for which it answers false do so too.
+pub fn keeps_pairs(form: &Form, edge: Edge) -> bool
+    ensures { result ≡ true → (g x y : ℕ) → form_rule form.now edge g x y ≡ one x y }
+{
+    match (*form, edge) {
+        (
+            Form::Test { .. }
+            | Form::ToPredicates { .. }
+            | Form::Call { .. }
+            | Form::ClearBases { .. }
+            | Form::Loop { .. },
+            _,
+        ) => false,
+        (
+            Form::Jump { .. } | Form::JumpIndirect { .. } | Form::Return { .. } | Form::Stop { .. },
+            Edge::Falls,
+        ) => false,
+        _ => true,
+    }
 }
 
 impl Facts {

@@ -21,4 +21,4 @@ returns-clause-reports c p bound u before =
 pub returns-then-are_apart-clause-reports : goal.returns-then-are_apart-clause-reports
 returns-then-are_apart-clause-reports c p bound u before =
     pair_apart p c.args.report.now c.args.window.now c.args.second c.args.n bound
-    (λ v nth. c.are_apart.ensures c.if-are_apart.true p c.args.second c.args.slot.now v u nth) before
+    (λ v nth. c.are_apart.ensures c.if-are_apart.true p c.args.second v u nth) before

@@ -1,8 +1,9 @@
-use Rattle.std.proofs.Common.{◌∙◌, sym, refl}
+use Rattle.std.proofs.Common.{◌∙◌, refl}
 use Rattle.predicate_rel.specs.declared.edge.Edge.TheVariants.{Falls}
 use Rattle.predicate_rel.specs.Pairs.{pairs_of}
+use Rattle.predicate_rel.specs.Rules.{form_rule}
+use Rattle.predicate_rel.proofs.PairLemmas.{pairs_kept}
 use Rattle.slot_table.proofs.SlotLaws.{pairs_by-slot}
-use Rattle.group_checker.proofs.Meets.{facts_kept}
 use Rattle.group_checker.proofs.moves.pass.Goals as goal
 
 pub returns : goal.returns
@@ -14,11 +15,11 @@ returns c p j at = record {
   written = refl;
 }
 
-pub returns-then-not-changes : goal.returns-then-not-changes
-returns-then-not-changes c p j at = record {
+pub returns-then-keeps : goal.returns-then-keeps
+returns-then-keeps c p j at = record {
   place = refl;
   clears = refl;
   accesses = refl;
-  known = sym (facts_kept c.args.slot.now.form c.args.slot.now.qp c.args.earlier.now.known (sym c.requires ∙ c.if-not-changes.true)) ∙ pairs_by-slot p j c.args.slot.now Falls (pairs_of c.args.earlier.now.known) at;
+  known = pairs_kept c.args.earlier.now.known (form_rule c.args.slot.now.form Falls c.args.slot.now.qp) (c.requires c.if-keeps.true) ∙ pairs_by-slot p j c.args.slot.now Falls (pairs_of c.args.earlier.now.known) at;
   written = refl;
 }
