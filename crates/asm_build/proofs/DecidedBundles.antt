@@ -12,8 +12,8 @@ use Rattle.ia_insn.specs.declared.bundle.Slots.TheVariants.{Three, Long}
 use Rattle.ia_insn.specs.Bundles.{Bundle, FitUnits, IsBundle}
 use Rattle.ia_insn.specs.Fits.{Fits, FitsUnit, IsBranchSlot}
 use Rattle.ia_insn.specs.Templates.{units_of}
-use Rattle.asm_text.proofs.Decided.{alike, opposite, either, both, three, four}
-use Rattle.asm_text.proofs.DecidedFormats.{listed_a, listed_i, listed_m, listed_b, listed_f, listed_x}
+use Rattle.asm_reading.proofs.Decided.{alike, opposite, either, both, three, four}
+use Rattle.asm_reading.proofs.DecidedFormats.{listed_a, listed_i, listed_m, listed_b, listed_f, listed_x}
 
 branch_slot : (x : Op) (slot : ℕ) → Dec (IsBranchSlot x slot)
 branch_slot (Br Cond wh many clr disp) slot = yes tt

@@ -7,7 +7,7 @@ use Rattle.std.specs.Ordering.{nat_cmp}
 use Rattle.std.proofs.lemmas.Bool.{ne_eqb, eq-eqb, lt-ltb, le-ltb}
 use Rattle.ia_insn.specs.declared.limits.TheConstants.{ENTRY_LIMIT}
 use Rattle.ia_insn.specs.Programs.{IsEntryAt, AreEntries}
-use Rattle.asm_text.specs.SlotTexts.{label_text}
+use Rattle.asm_printing.specs.SlotTexts.{label_text}
 use Rattle.asm_build.specs.declared.address.Address.TheVariants.{Bundle}
 use Rattle.asm_build.specs.declared.text_parts.EntryLine.{EntryLine}
 use Rattle.asm_build.specs.CanonicalText.{is_among}

@@ -9,7 +9,7 @@ use Rattle.std.specs.Prelude.{slice_index_or, Contains, ◌↔◌, IsTrue}
 use Rattle.ia_insn.specs.declared.insn.Insn.{Insn}
 use Rattle.ia_insn.specs.declared.bundle.Slots.{Slots}
 use Rattle.ia_insn.specs.declared.bundle.Slots.TheVariants.{Three, Long}
-use Rattle.asm_text.specs.SlotTexts.{target_of}
+use Rattle.asm_printing.specs.SlotTexts.{target_of}
 use Rattle.ia_insn.specs.Bundles.{Bundle}
 use Rattle.asm_build.specs.CanonicalText.{is_among, listed_once, bundle_targets, targets_from, bundles_text}
 use Rattle.asm_build.specs.Marks.{AreMarks, Marked, marked_texts}

@@ -10,8 +10,8 @@ use Rattle.ia_insn.specs.declared.bundle.Slots.{Slots}
 use Rattle.ia_insn.specs.Bundles.{FitUnits}
 use Rattle.ia_insn.specs.Templates.{Shape as TemplateShape, no_shape, shape_of, IsTemplate, units_of, stops_of, StopsAs, HasShape}
 use Rattle.ia_insn.proofs.TemplateCodes.{one_template, code_small}
-use Rattle.asm_text.specs.declared.line.Shape.{Shape}
-use Rattle.asm_text.specs.declared.line.Shape.TheVariants as shape
+use Rattle.asm_reading.specs.declared.line.Shape.{Shape}
+use Rattle.asm_reading.specs.declared.line.Shape.TheVariants as shape
 use Rattle.asm_build.specs.CanonicalText.{has_stop, is_among, unit_letter}
 use Rattle.asm_build.specs.Drafts.{IsShort}
 use Rattle.asm_build.specs.TemplateNames.{units_named, marked_slots, is_shaped, below, template_of}

@@ -13,8 +13,8 @@ use Rattle.ia_insn.specs.declared.bundle.Slots.{Slots}
 use Rattle.ia_insn.specs.declared.bundle.Slots.TheVariants as slots
 use Rattle.ia_insn.specs.Bundles.{Bundle}
 use Rattle.ia_insn.specs.Targets.{displacement, IsBundleAt}
+use Rattle.asm_printing.specs.SlotTexts.{label_text, natural_of, target_of}
 use Rattle.asm_text.specs.ReadBack.{untargeted}
-use Rattle.asm_text.specs.SlotTexts.{label_text, natural_of, target_of}
 use Rattle.asm_build.specs.declared.address.Address.TheVariants as address
 use Rattle.asm_build.specs.declared.draft.BundleLines.{BundleLines}
 use Rattle.asm_build.specs.declared.draft.SlotName.{SlotName}

@@ -10,12 +10,12 @@ use Rattle.asm_words.proofs.Readings.{label_is_short, label_reads, decimal_is_na
 use Rattle.asm_forms.specs.declared.form.Form.TheVariants as form
 use Rattle.asm_forms.specs.Matching.{read_form}
 use Rattle.asm_words.specs.Tokens.{token_of}
-use Rattle.asm_text.specs.declared.line.Line.{Line}
-use Rattle.asm_text.specs.declared.line.Line.TheVariants as line
-use Rattle.asm_text.specs.declared.line.Shape.{Shape}
-use Rattle.asm_text.specs.declared.line.Shape.TheVariants as shape
-use Rattle.asm_text.specs.Lines.{◌>>=◌, named, directive_value, IsListedLine, is_colon, value_of, reading_of}
-use Rattle.asm_text.specs.SlotTexts.{label_text}
+use Rattle.asm_reading.specs.declared.line.Line.{Line}
+use Rattle.asm_reading.specs.declared.line.Line.TheVariants as line
+use Rattle.asm_reading.specs.declared.line.Shape.{Shape}
+use Rattle.asm_reading.specs.declared.line.Shape.TheVariants as shape
+use Rattle.asm_reading.specs.Lines.{◌>>=◌, named, directive_value, IsListedLine, is_colon, value_of, reading_of}
+use Rattle.asm_printing.specs.SlotTexts.{label_text}
 use Rattle.asm_text.proofs.OperandTexts.{label_is_name}
 use Rattle.asm_text.proofs.SlotLines.{read_plain}
 use Rattle.asm_build.proofs.Choices.{otherwise}

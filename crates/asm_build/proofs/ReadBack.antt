@@ -11,7 +11,7 @@ use Rattle.ia_insn.specs.Bundles.{Bundle}
 use Rattle.ia_insn.specs.Places.{EachPlace}
 use Rattle.ia_insn.specs.Programs.{Program, IsProgram, AreBytes}
 use Rattle.ia_insn.specs.Runs.{IsWithinRun}
-use Rattle.asm_text.specs.SlotTexts.{label_text}
+use Rattle.asm_printing.specs.SlotTexts.{label_text}
 use Rattle.asm_build.specs.declared.address.Address.TheVariants as address
 use Rattle.asm_build.specs.declared.draft.BundleLines.{BundleLines}
 use Rattle.asm_build.specs.declared.text_parts.EntryLine.{EntryLine}

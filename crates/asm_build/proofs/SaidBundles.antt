@@ -5,11 +5,11 @@ use Rattle.std.specs.Option.{option_map}
 use Rattle.first_fault.specs.Stages.{ArePassed}
 use Rattle.ia_insn.specs.declared.bundle.Slots.TheVariants.{Three, Long}
 use Rattle.ia_insn.specs.Bundles.{IsBundle}
-use Rattle.asm_text.specs.declared.line.Draft.{Draft}
-use Rattle.asm_text.specs.declared.line.Line.{Line}
-use Rattle.asm_text.specs.declared.line.Line.TheVariants as line
-use Rattle.asm_text.specs.declared.line.Shape.{Shape}
-use Rattle.asm_text.specs.declared.line.Shape.TheVariants as shape
+use Rattle.asm_reading.specs.declared.line.Draft.{Draft}
+use Rattle.asm_reading.specs.declared.line.Line.{Line}
+use Rattle.asm_reading.specs.declared.line.Line.TheVariants as line
+use Rattle.asm_reading.specs.declared.line.Shape.{Shape}
+use Rattle.asm_reading.specs.declared.line.Shape.TheVariants as shape
 use Rattle.asm_build.specs.declared.draft.BundleLines.{BundleLines}
 use Rattle.asm_build.specs.declared.draft.SlotLine.{SlotLine}
 use Rattle.asm_build.specs.declared.draft.SlotLines.{SlotLines}

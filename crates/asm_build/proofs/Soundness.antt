@@ -11,7 +11,7 @@ use Rattle.ia_insn.specs.Programs.{Program, IsProgram}
 use Rattle.ia_insn.specs.Targets.{displacement, IsBundleAt, IsTargetInside}
 use Rattle.ia_insn.specs.Templates.{units_of}
 use Rattle.ia_insn.proofs.ListedSlots.{unit_listed}
-use Rattle.asm_text.specs.SlotTexts.{HasTarget}
+use Rattle.asm_printing.specs.SlotTexts.{HasTarget}
 use Rattle.asm_build.specs.Marks.{IsSound, AreSound, AreAllSound}
 
 -- the target of an instruction, where it has one, is one of so many bundles

@@ -3,8 +3,8 @@ use Rattle.std.proofs.Common.{◌≡◌, ◌⊎◌, inl, inr, ℕ, ◌+◌, ◌�
 use Rattle.std.specs.Prelude.{OnOk, IfErr}
 use Rattle.first_fault.specs.Stages.{ArePassed}
 use Rattle.asm_words.specs.declared.limits.TheConstants.{LINE_LIMIT}
-use Rattle.asm_text.specs.declared.line.Line.{Line}
-use Rattle.asm_text.specs.Lines.{LineOf}
+use Rattle.asm_reading.specs.declared.line.Line.{Line}
+use Rattle.asm_reading.specs.Lines.{LineOf}
 use Rattle.asm_build.specs.declared.reason.Reason.{Reason}
 use Rattle.asm_build.specs.declared.reason.TextError.{TextError}
 use Rattle.asm_build.specs.declared.reason.TextError.TheVariants as error

@@ -3,8 +3,8 @@ use Rattle.std.proofs.Common.{◌≡◌, ◌∙◌, ℕ, ◌+◌, Bool, true, fa
 use Rattle.first_fault.specs.Stages.{ArePassed}
 use Rattle.asm_words.specs.Bytes.{has_only_plain}
 use Rattle.asm_words.specs.declared.fault.LineFault.TheVariants as fault
-use Rattle.asm_text.specs.declared.line.Line.{Line}
-use Rattle.asm_text.specs.Lines.{reading_of}
+use Rattle.asm_reading.specs.declared.line.Line.{Line}
+use Rattle.asm_reading.specs.Lines.{reading_of}
 use Rattle.asm_build.specs.CanonicalText.{line}
 use Rattle.asm_build.specs.declared.reason.TextError.{TextError}
 use Rattle.asm_build.specs.TextParts.{TextParts, after, value_stages}

@@ -12,11 +12,11 @@ use Rattle.ia_insn.specs.declared.bundle.Slots.TheVariants as slots
 use Rattle.ia_insn.specs.Bundles.{Bundle, IsBundle}
 use Rattle.ia_insn.specs.Listed.{IsListed}
 use Rattle.ia_insn.specs.Programs.{Program, IsProgram, AreBytes}
-use Rattle.asm_text.specs.declared.limits.TheConstants.{SLOT_LINE_LIMIT}
-use Rattle.asm_text.specs.declared.line.Shape.{Shape}
-use Rattle.asm_text.specs.declared.line.Shape.TheVariants as shape
-use Rattle.asm_text.specs.SlotTexts.{label_text, slot_text}
-use Rattle.asm_text.proofs.Short.{hex_is_short}
+use Rattle.asm_reading.specs.declared.line.Shape.{Shape}
+use Rattle.asm_reading.specs.declared.line.Shape.TheVariants as shape
+use Rattle.asm_printing.specs.declared.limits.TheConstants.{SLOT_LINE_LIMIT}
+use Rattle.asm_printing.specs.SlotTexts.{label_text, slot_text}
+use Rattle.asm_printing.proofs.Short.{hex_is_short}
 use Rattle.asm_build.specs.CanonicalText.{line as text_line, has_stop, is_among, unit_letter, head_text, slots_text, bundle_text, bundles_text, targets_from, words_of, words_text, is_nothing, data_text, canonical_text}
 use Rattle.asm_build.specs.Marks.{AreSound}
 use Rattle.asm_build.specs.RoundTrip.{CanonicalTextIsShort, CanonicalTextFits}

@@ -3,7 +3,7 @@ use Rattle.std.proofs.Common.{◌≡◌, refl, ap, inl, inr, ℕ, ◌+◌, ◌*�
 use Rattle.std.specs.Prelude.{is_some}
 use Rattle.first_fault.specs.Stages.{IsFirstFault}
 use Rattle.ia_insn.specs.declared.limits.TheConstants.{DATA_LIMIT}
-use Rattle.asm_text.specs.declared.line.Line.TheVariants as line
+use Rattle.asm_reading.specs.declared.line.Line.TheVariants as line
 use Rattle.asm_build.specs.declared.reason.Reason.TheVariants.{Twice, Limit}
 use Rattle.asm_build.specs.declared.text_parts.Section.TheVariants as section
 use Rattle.asm_build.specs.TextParts.{TextParts, address_of, value_stages, MayStand, IsIn, numbers_bytes}

@@ -12,11 +12,11 @@ use Rattle.ia_insn.specs.Bundles.{Bundle, FitUnits, IsBundle}
 use Rattle.ia_insn.specs.Fits.{Fits}
 use Rattle.ia_insn.specs.Listed.{IsListed}
 use Rattle.ia_insn.specs.Templates.{units_of}
-use Rattle.asm_text.specs.declared.line.Line.TheVariants as line
-use Rattle.asm_text.specs.declared.line.Shape.{Shape}
-use Rattle.asm_text.specs.declared.line.Shape.TheVariants as shape
+use Rattle.asm_reading.specs.declared.line.Line.TheVariants as line
+use Rattle.asm_reading.specs.declared.line.Shape.{Shape}
+use Rattle.asm_reading.specs.declared.line.Shape.TheVariants as shape
+use Rattle.asm_printing.specs.SlotTexts.{label_text, target_of, slot_text}
 use Rattle.asm_text.specs.ReadBack.{printed_line}
-use Rattle.asm_text.specs.SlotTexts.{label_text, target_of, slot_text}
 use Rattle.asm_build.specs.declared.draft.BundleLines.{BundleLines}
 use Rattle.asm_build.specs.declared.draft.SlotLine.{SlotLine}
 use Rattle.asm_build.specs.declared.draft.SlotLines.{SlotLines}

@@ -7,8 +7,8 @@ use Rattle.std.specs.Ordering.{nat_cmp}
 use Rattle.ia_insn.specs.declared.limits.TheConstants.{BUNDLE_LIMIT}
 use Rattle.ia_insn.specs.Bundles.{Bundle, IsBundle}
 use Rattle.ia_insn.specs.Programs.{Program, IsProgram}
-use Rattle.asm_text.specs.declared.line.Line.TheVariants as line
-use Rattle.asm_text.specs.SlotTexts.{label_text}
+use Rattle.asm_reading.specs.declared.line.Line.TheVariants as line
+use Rattle.asm_printing.specs.SlotTexts.{label_text}
 use Rattle.asm_build.specs.declared.address.Address.TheVariants as address
 use Rattle.asm_build.specs.declared.draft.BundleLines.{BundleLines}
 use Rattle.asm_build.specs.declared.text_parts.EntryLine.{EntryLine}

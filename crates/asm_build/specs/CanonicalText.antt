@@ -9,7 +9,7 @@ use Rattle.ia_insn.specs.declared.bundle.Slots.TheVariants.{Three, Long}
 use Rattle.ia_insn.specs.Bundles.{Bundle}
 use Rattle.ia_insn.specs.Programs.{Program}
 use Rattle.ia_insn.specs.Templates.{units_of, stops_of}
-use Rattle.asm_text.specs.SlotTexts.{label_text, slot_text, target_of}
+use Rattle.asm_printing.specs.SlotTexts.{label_text, slot_text, target_of}
 
 -- the number is one of them
 abbrev pub is_among : List ℕ → ℕ → Bool

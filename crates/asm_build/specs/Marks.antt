@@ -6,7 +6,7 @@ use Rattle.ia_insn.specs.declared.bundle.Slots.TheVariants.{Three, Long}
 use Rattle.ia_insn.specs.Bundles.{Bundle}
 use Rattle.ia_insn.specs.Listed.{IsListed}
 use Rattle.ia_insn.specs.Targets.{displacement, IsBundleAt}
-use Rattle.asm_text.specs.SlotTexts.{label_text}
+use Rattle.asm_printing.specs.SlotTexts.{label_text}
 use Rattle.asm_build.specs.CanonicalText.{is_among, line, head_text, slots_text}
 
 -- The marks of so many bundles: those of these numbers are marked.

@@ -4,8 +4,8 @@ use Rattle.std.specs.Str.{bytes_eq}
 use Rattle.ia_insn.specs.declared.choices.Unit.{Unit as ExecutionUnit}
 use Rattle.ia_insn.specs.declared.choices.Unit.TheVariants.{M, I, F, B, L, X}
 use Rattle.ia_insn.specs.Templates.{units_of, stops_of}
-use Rattle.asm_text.specs.declared.line.Shape.{Shape}
-use Rattle.asm_text.specs.declared.line.Shape.TheVariants as shape
+use Rattle.asm_reading.specs.declared.line.Shape.{Shape}
+use Rattle.asm_reading.specs.declared.line.Shape.TheVariants as shape
 use Rattle.asm_build.specs.CanonicalText.{unit_letter}
 
 -- the units of the three slots

@@ -8,8 +8,8 @@ use Rattle.ia_insn.specs.Places.{EachPlace, IsFirstBad}
 use Rattle.ia_insn.specs.Programs.{Program}
 use Rattle.ia_insn.specs.Runs.{IsWithinRun}
 use Rattle.asm_words.specs.declared.fault.LineFault.{LineFault}
-use Rattle.asm_text.specs.declared.line.Line.{Line}
-use Rattle.asm_text.specs.Lines.{LineOf, FaultOf}
+use Rattle.asm_reading.specs.declared.line.Line.{Line}
+use Rattle.asm_reading.specs.Lines.{LineOf, FaultOf}
 use Rattle.asm_build.specs.declared.reason.Reason.{Reason}
 use Rattle.asm_build.specs.declared.reason.Reason.TheVariants.{Limit, Misplaced, Empty, LongRun}
 use Rattle.asm_build.specs.declared.reason.TextError.{TextError}

@@ -6,10 +6,10 @@ use Rattle.ia_insn.specs.declared.insn.Op.{Op}
 use Rattle.ia_insn.specs.declared.bundle.Slots.TheVariants.{Three, Long}
 use Rattle.ia_insn.specs.Bundles.{Bundle}
 use Rattle.ia_insn.specs.Programs.{Program, AreEntries}
-use Rattle.asm_text.specs.declared.line.Line.{Line}
-use Rattle.asm_text.specs.declared.line.Line.TheVariants as line
-use Rattle.asm_text.specs.declared.line.Shape.{Shape}
-use Rattle.asm_text.specs.declared.line.Shape.TheVariants as shape
+use Rattle.asm_reading.specs.declared.line.Line.{Line}
+use Rattle.asm_reading.specs.declared.line.Line.TheVariants as line
+use Rattle.asm_reading.specs.declared.line.Shape.{Shape}
+use Rattle.asm_reading.specs.declared.line.Shape.TheVariants as shape
 use Rattle.asm_build.specs.declared.address.Address.{Address}
 use Rattle.asm_build.specs.declared.address.Address.TheVariants as address
 use Rattle.asm_build.specs.declared.text_parts.Section.{Section}

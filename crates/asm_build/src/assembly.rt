@@ -8,7 +8,7 @@ ghost use Rattle.ia_insn.specs.Places.{EachPlace, IsFirstBad};
 ghost use Rattle.ia_insn.specs.Programs.{Program as ProgramOf, AreInRange, AreEntries};
 ghost use Rattle.ia_insn.specs.Runs.{IsWithinRun};
 ghost use Rattle.ia_insn.specs.Targets.{IsTargetInside};
-ghost use Rattle.asm_text.specs.declared.line.Line.{Line as LineValue};
+ghost use Rattle.asm_reading.specs.declared.line.Line.{Line as LineValue};
 ghost use Rattle.asm_build.specs.declared.reason.Reason.{Reason as ReasonOf};
 ghost use Rattle.asm_build.specs.declared.reason.Reason.TheVariants as reason;
 ghost use Rattle.asm_build.specs.declared.reason.TextError.{TextError as ErrorOf};

@@ -2,7 +2,7 @@
 
 ghost use Rattle.std.specs.Prelude.{◌≡◌, ◌++◌, [], ◌<◌, ◌≤◌, length, codes, if◌then◌else◌, OnOk};
 ghost use Rattle.ia_insn.specs.declared.limits.TheConstants.{BUNDLE_LIMIT};
-ghost use Rattle.asm_text.specs.SlotTexts.{label_text, slot_text};
+ghost use Rattle.asm_printing.specs.SlotTexts.{label_text, slot_text};
 ghost use Rattle.asm_build.specs.CanonicalText.{has_stop, line, unit_letter, head_text, slots_text};
 ghost use Rattle.asm_build.specs.Marks.{IsSound, AreSound, AreAllSound, marked_text, marked_texts};
 

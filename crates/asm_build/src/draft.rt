@@ -2,7 +2,7 @@
 
 ghost use Rattle.std.specs.Prelude.{◌≡◌, ◌↔◌, true, Some, IfSome, MatchOption, IsTrue};
 ghost use Rattle.ia_insn.specs.Bundles.{IsBundle};
-ghost use Rattle.asm_text.specs.declared.line.Shape.TheVariants as shape;
+ghost use Rattle.asm_reading.specs.declared.line.Shape.TheVariants as shape;
 ghost use Rattle.asm_build.specs.declared.draft.SlotLines.TheVariants as slots;
 ghost use Rattle.asm_build.specs.Drafts.{OpenBundle, AreFitting, letter_of, lettered, completed, count_of, one_more, last_stopped, HasSlot, HasSlotRoom, next_unit, FitsNext, added, stopped, closed_as, closed, IsWhole};
 ghost use Rattle.asm_build.specs.Names.{slot_line};

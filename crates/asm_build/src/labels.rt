@@ -4,7 +4,7 @@ ghost use Rattle.std.specs.Prelude.{◌∷◌, [], ◌<◌, ◌≤◌, length, I
 ghost use Rattle.ia_insn.specs.declared.limits.TheConstants.{BUNDLE_LIMIT};
 ghost use Rattle.ia_insn.specs.Programs.{AreEntries};
 ghost use Rattle.ia_insn.specs.Targets.{displacement, IsBundleAt};
-ghost use Rattle.asm_text.specs.SlotTexts.{target_of};
+ghost use Rattle.asm_printing.specs.SlotTexts.{target_of};
 ghost use Rattle.asm_build.specs.CanonicalText.{bundle_targets, listed_once, targets_from};
 ghost use Rattle.asm_build.specs.Marks.{AreMarks, Marked, AreSound, AreAllSound};
 

@@ -2,7 +2,7 @@
 
 ghost use Rattle.std.specs.Prelude.{◌≡◌, ◌↔◌, ◌≤◌, ◌+◌, ◌++◌, None, IsTrue, OnOk, IfErr, length};
 ghost use Rattle.first_fault.specs.Stages.{ArePassed};
-ghost use Rattle.asm_text.specs.declared.line.Line.TheVariants as line;
+ghost use Rattle.asm_reading.specs.declared.line.Line.TheVariants as line;
 ghost use Rattle.asm_build.specs.declared.reason.Reason.TheVariants as reason;
 ghost use Rattle.asm_build.specs.declared.reason.TextError.TheVariants as error;
 ghost use Rattle.asm_build.specs.TextParts.{TextParts as PartsOf, start, IsWithinLimits, after, value_stages, IsValueError, AreLabelsInside, here, turned, IsIn, numbers_bytes};
@@ -72,7 +72,8 @@ impl TextParts {
     ///
     /// # Errors
     ///
-    /// The first fault of the line after those before it, or want of memory.
+    /// The first fault of the line after those before it, or want of memory. Nothing is said of what stands here then,
+    /// and nothing more is taken.
     pub fn take(&mut self, n: u32, value: Line) -> Result<(), TextError>
         ensures ok { OnOk result (ArePassed (value_stages self.old value) × (self.new ≡ after self.old n value)) }
         ensures err { IfErr result (IsValueError self.old n value) }
@@ -101,11 +102,10 @@ impl TextParts {
         if self.current.is_some() {
             return Err(fault(n, Reason::Misplaced));
         }
-        if self.labels.contains_key(&name) {
+        let address = self.address();
+        if self.labels.insert(name, address)?.is_some() {
             return Err(fault(n, Reason::Twice));
         }
-        let address = self.address();
-        self.labels.insert(name, address)?;
         Ok(())
     }
 

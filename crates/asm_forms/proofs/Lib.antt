@@ -3,10 +3,12 @@ pub mod Chosen
 pub mod Clear
 pub mod Fits
 mod Letters
+mod NameEnds
 mod PastTheEnd
 mod Places
 mod Pushed
 pub mod ReadChoice
 pub mod RowBack
 pub mod RowFacts
+pub mod RowSpelled
 mod Somes

@@ -5,8 +5,8 @@
 //! of each instruction). What there is is data: `rows` has a row a form, with the word that leads a line of
 //! the form, the sets of its completers and what stands after it, and `completer` has the completers of each
 //! set. Everything else goes by the rows: `naming` reads a word with its completers, `matching` says which
-//! form a line's operands have, and where none has them which fault that is, and `operands` takes the
-//! operands from between a form's marks.
+//! form a line's operands have, and where none has them which fault that is, `spelling` finds the form of a
+//! word and operands at once, and `operands` takes the operands from between a form's marks.
 #![tactic(auto)]
 
 mod choices;
@@ -18,6 +18,7 @@ mod matching;
 mod naming;
 mod operands;
 mod rows;
+mod spelling;
 
 pub use choices::{AccessSize, CacheHint, Relation, Whether};
 pub use completer::{Completer, CompleterSet, members, text};
@@ -27,3 +28,4 @@ pub use laws::forms_are_read_back;
 pub use matching::{fault_at, read_form};
 pub use naming::{Completers, Named, completers, named};
 pub use operands::{Operands, taken};
+pub use spelling::{Spelled, find_spelled};

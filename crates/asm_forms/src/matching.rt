@@ -33,7 +33,7 @@ fn is_of(class: Class, item: Option<Item>) -> bool
 }
 
 /// Whether the operands are the items, one by one.
-fn are_accepted(items: &[Item], operands: &[Token]) -> bool
+pub(crate) fn are_accepted(items: &[Item], operands: &[Token]) -> bool
     ensures { result ≡ pointwise accepts items.now operands.now }
 {
     if items.len() != operands.len() {

@@ -4,7 +4,7 @@ ghost use Rattle.std.specs.Prelude.{◌≡◌, ◌≤◌, nat_eq, false, length,
 ghost use Rattle.std.specs.List.{find, starts_with};
 ghost use Rattle.asm_forms.specs.Completers.{text_of};
 ghost use Rattle.asm_forms.specs.Naming.{begins, ends_part, completers_in, is_named, named_forms, completers};
-ghost use Rattle.asm_forms.specs.Rows.{seen};
+ghost use Rattle.asm_forms.specs.Rows.{seen, row_of};
 
 use crate::completer::{Completer, CompleterSet, members, text};
 use crate::form::Form;
@@ -27,23 +27,24 @@ fn ends_part(rest: &[u8]) -> bool
     }
 }
 
-/// Whether the first bytes differ, so that the name doesn't begin with the text. To look at one byte is
-/// shorter than to compare the texts, and tells most words apart.
-fn differ_at_once(name: &[u8], text: &[u8]) -> bool
-    ensures { IsTrue result → starts_with nat_eq name.now text.now ≡ false }
+/// Whether the name has another byte, or none, where the text ends, so that it doesn't begin with the text. To look
+/// at one byte is shorter than to compare the texts, and tells most words and completers apart.
+fn differ_at_the_end(name: &[u8], text: &[u8]) -> bool
+    ensures value { IsTrue result → starts_with nat_eq name.now text.now ≡ false }
+    ensures room { result ≡ false → length text.now ≤ length name.now }
 {
-    match (name, text) {
-        ([first, ..], [other, ..]) => first != other,
-        _ => false,
+    match text {
+        [.., last] => text.len() > name.len() || name[text.len() - 1] != *last,
+        [] => false,
     }
 }
 
 /// Whether the name begins with the text, as a part of its own.
-fn begins(name: &[u8], text: &[u8]) -> bool
+pub(crate) fn begins(name: &[u8], text: &[u8]) -> bool
     ensures value { result ≡ begins name.now text.now }
     ensures room { IsTrue result → length text.now ≤ length name.now }
 {
-    !differ_at_once(name, text) && name.starts_with(text) && ends_part(&name[text.len()..])
+    !differ_at_the_end(name, text) && ends_part(&name[text.len()..]) && name.starts_with(text)
 }
 
 /// The first of the completers with which the name begins.
@@ -80,8 +81,9 @@ fn is_named(name: &[u8], row: &Row) -> bool
 }
 
 /// The rows among which those of the name's word are.
-fn rows_by_letter(name: &[u8]) -> &'static [Row]
+pub(crate) fn rows_by_letter(name: &[u8]) -> &'static [Row]
     ensures value { map (λ r. r.form) (filter (is_named name.now) (map seen result.now)) ≡ named_forms name.now }
+    ensures listed { map (λ r. row_of r.form) (map seen result.now) ≡ map seen result.now }
     ensures few { length result.now ≤ 36 }
 {
     match name {
@@ -139,7 +141,7 @@ pub fn completers(form: Form, name: &[u8]) -> Option<Completers>
 }
 
 /// One completer of each set, one after the other.
-fn completers_of(sets: &[CompleterSet], name: &[u8]) -> Option<Completers>
+pub(crate) fn completers_of(sets: &[CompleterSet], name: &[u8]) -> Option<Completers>
     requires { length sets.now ≤ 4 }
     ensures { option_map (λ cs. cs.items) result ≡ completers_in sets.now name.now }
 {

@@ -16,8 +16,8 @@ use Rattle.asm_forms.specs.Items.{mark_token, filled, prints, fits, is_label_ite
 use Rattle.asm_forms.specs.Rows.{rows, row_of}
 use Rattle.asm_forms.proofs.Bools.{left, right, both}
 use Rattle.asm_forms.proofs.RowFacts.{of_row}
+use Rattle.asm_printing.proofs.Written.{IsPrinted}
 use Rattle.asm_text.proofs.OperandTexts.{is_wordlike, are_apart, label_token}
-use Rattle.asm_text.proofs.Written.{IsPrinted}
 
 -- a token for each item
 pub as_many : (is : List Item) (xs : List Token) → fits is xs ≡ true → length is ≡ length (filled is xs)

@@ -21,9 +21,9 @@ use Rattle.asm_words.proofs.Readings.{gr_reads, pr_reads, br_reads, decimal_read
 use Rattle.asm_forms.specs.declared.items.Item.{Item}
 use Rattle.asm_forms.specs.declared.items.Item.TheVariants.{Is, Takes}
 use Rattle.asm_forms.specs.Items.{mark_token, filled, is_label_item}
-use Rattle.asm_text.specs.Lines.{KindAndText, tokens, name_of, label_name}
-use Rattle.asm_text.proofs.Written.{IsPrinted}
-use Rattle.asm_text.specs.SlotTexts.{is_hex, label_text, token_text, operands_text}
+use Rattle.asm_reading.specs.Lines.{KindAndText, tokens, name_of, label_name}
+use Rattle.asm_printing.proofs.Written.{IsPrinted}
+use Rattle.asm_printing.specs.SlotTexts.{is_hex, label_text, token_text, operands_text}
 
 -- marks and operands in turn, as they are printed
 abbrev pub item_hex : Item → Bool

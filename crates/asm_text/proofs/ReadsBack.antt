@@ -2,7 +2,7 @@
 use Rattle.ia_insn.specs.declared.insn.Op.{Op}
 use Rattle.ia_insn.specs.declared.insn.Op.TheVariants as op
 use Rattle.ia_insn.specs.Ranges.{HasRanges}
-use Rattle.asm_text.proofs.Written.{ReadsBack}
+use Rattle.asm_text.proofs.WayBack.{ReadsBack}
 use Rattle.asm_text.proofs.ReadsBackA.{alu_back, shladd_back, imm8_back, imm14_back, imm22_back, cmp_back, cmp_zero_back, cmp_imm_back}
 use Rattle.asm_text.proofs.ReadsBackI.{shift_back, popcnt_back, shrp_back, extr_back, dep_z_back, dep_z_imm_back, dep_imm_back, dep_back, tbit_back, tnat_back, chk_s_back, mov_to_br_back, mov_from_br_back, mov_to_pr_back, mov_to_pr_rot_back, mov_from_ip_back, mov_from_pr_back, to_ar_back, to_ar_imm_back, from_ar_back, ext_back}
 use Rattle.asm_text.proofs.ReadsBackM.{load_back, store_back, chk_a_back, invala_back, mf_back, invala_e_back, alloc_back}

@@ -10,8 +10,8 @@ use Rattle.ia_insn.specs.declared.choices.CmpKind.{CmpKind}
 use Rattle.ia_insn.specs.declared.choices.CmpKind.TheVariants as cmp
 use Rattle.ia_insn.specs.Signed.{FitsSigned}
 use Rattle.ia_insn.specs.FormatsA.{imm8_codes, compare, parallel_op, zero_codes}
-use Rattle.asm_text.proofs.Written.{ReadsBack}
-use Rattle.asm_text.proofs.FieldRanges.{signed_back, is_below, is_short, has_imm8, has_imm14, has_imm22}
+use Rattle.asm_printing.proofs.FieldRanges.{is_below, is_short, has_imm8, has_imm14, has_imm22}
+use Rattle.asm_text.proofs.WayBack.{ReadsBack, signed_back}
 
 -- A1
 pub alu_back : (f : AluFn) (r1 r2 r3 : ℕ) → ReadsBack (op.Alu f r1 r2 r3)

@@ -8,9 +8,9 @@ use Rattle.ia_insn.specs.declared.insn.Op.{Op}
 use Rattle.ia_insn.specs.declared.insn.Op.TheVariants as op
 use Rattle.ia_insn.specs.declared.choices.BranchKind.{BranchKind}
 use Rattle.ia_insn.specs.declared.choices.BranchKind.TheVariants as branch
-use Rattle.asm_text.specs.Canonical.{branch_hints}
+use Rattle.asm_printing.specs.Canonical.{branch_hints}
 use Rattle.asm_text.proofs.CompletersBack.{hints_in, many_back, clr_back, whether_back}
-use Rattle.asm_text.proofs.Written.{ReadsBack}
+use Rattle.asm_text.proofs.WayBack.{ReadsBack}
 
 -- an instruction by the numbers of its hints
 same_hints : (f : ℕ → Bool → Bool → Op) (n m : ℕ) (a b d e : Bool) → n ≡ m → a ≡ b → d ≡ e → Some (f n a d) ≡ Some (f m b e)

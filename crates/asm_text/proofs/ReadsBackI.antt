@@ -10,8 +10,8 @@ use Rattle.ia_insn.specs.declared.choices.Unit.{Unit as ExecutionUnit}
 use Rattle.ia_insn.specs.declared.choices.Unit.TheVariants as unit
 use Rattle.ia_insn.specs.Signed.{twos, FitsSigned}
 use Rattle.ia_insn.specs.Ranges.{IsBitField, IsCheckOf}
-use Rattle.asm_text.proofs.Written.{ReadsBack}
-use Rattle.asm_text.proofs.FieldRanges.{signed_back, is_below, is_short, has_imm8, has_tag, has_rotating_mask, mask_back}
+use Rattle.asm_printing.proofs.FieldRanges.{is_below, is_short, has_imm8, has_tag, has_rotating_mask}
+use Rattle.asm_text.proofs.WayBack.{ReadsBack, signed_back, mask_back}
 
 -- I5 and I7
 pub shift_back : (f : ShiftFn) (r1 value count : ℕ) → ReadsBack (op.ShiftVar f r1 value count)

@@ -16,10 +16,10 @@ use Rattle.ia_insn.specs.declared.choices.Update.TheVariants as update
 use Rattle.ia_insn.specs.Signed.{FitsSigned}
 use Rattle.ia_insn.specs.FormatsM.{IsLoadUpdate, IsStoreUpdate}
 use Rattle.ia_insn.specs.Ranges.{IsAccessSize, IsLoadSize, IsStoreSize}
-use Rattle.asm_text.specs.Canonical.{number}
-use Rattle.asm_text.specs.Operands.{signed, is_negative, magnitude}
-use Rattle.asm_text.proofs.Written.{ReadsBack}
-use Rattle.asm_text.proofs.FieldRanges.{signed_back, is_below, is_short, has_imm9}
+use Rattle.asm_reading.specs.Operands.{signed, is_negative, magnitude}
+use Rattle.asm_printing.specs.Canonical.{number}
+use Rattle.asm_printing.proofs.FieldRanges.{is_below, is_short, has_imm9}
+use Rattle.asm_text.proofs.WayBack.{ReadsBack, signed_back}
 use Rattle.asm_text.proofs.CompletersBack.{hint_back, is_fill, is_spill, load_choice, fill_choice, store_choice, spill_choice, store_hint_back}
 
 -- a load's size is one of the four

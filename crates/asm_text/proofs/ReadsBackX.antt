@@ -6,7 +6,7 @@ use Rattle.ia_insn.specs.declared.insn.Op.TheVariants as op
 use Rattle.ia_insn.specs.declared.choices.Unit.{Unit as ExecutionUnit}
 use Rattle.ia_insn.specs.declared.choices.Unit.TheVariants as unit
 use Rattle.ia_insn.specs.Ranges.{IsNumberOf, IsHintOf}
-use Rattle.asm_text.proofs.Written.{ReadsBack}
+use Rattle.asm_text.proofs.WayBack.{ReadsBack}
 
 -- X2
 pub movl_back : (r1 imm : ℕ) → imm < 18446744073709551616 → ReadsBack (op.Movl r1 imm)

@@ -33,76 +33,21 @@ use Rattle.asm_forms.proofs.RowBack.{past_front, row_back}
 use Rattle.ia_insn.specs.declared.insn.Insn.{Insn}
 use Rattle.ia_insn.specs.declared.insn.Op.{Op}
 use Rattle.ia_insn.specs.Targets.{displacement}
-use Rattle.asm_text.specs.declared.line.Draft.{Draft}
-use Rattle.asm_text.specs.declared.line.Line.{Line}
-use Rattle.asm_text.specs.declared.line.Line.TheVariants as line
-use Rattle.asm_text.specs.Instructions.{op_of}
-use Rattle.asm_text.specs.Lines.{◌>>=◌, or_fault, KindAndText, tokens, label_name, is_open, is_close, lead_at, led_at, is_some_stop, ends_in_stop, without_stop, predicate_of, is_bare, draft_of, completers_or_none, slot_of, worded, led, is_name_word, is_colon, value_of, reading_of}
+use Rattle.asm_reading.specs.declared.line.Draft.{Draft}
+use Rattle.asm_reading.specs.declared.line.Line.{Line}
+use Rattle.asm_reading.specs.declared.line.Line.TheVariants as line
+use Rattle.asm_reading.specs.Instructions.{op_of}
+use Rattle.asm_reading.specs.Lines.{◌>>=◌, or_fault, KindAndText, tokens, label_name, is_open, is_close, lead_at, led_at, is_some_stop, ends_in_stop, without_stop, predicate_of, is_bare, draft_of, completers_or_none, slot_of, worded, led, is_name_word, is_colon, value_of, reading_of}
+use Rattle.asm_printing.specs.SlotTexts.{label_text, spaced, mnemonic_text, predicate_text, stop_text, target_of, or_zero, slot_text}
+use Rattle.asm_reading.proofs.NoMarks.{name_is_not_open}
+use Rattle.asm_reading.proofs.SlotForms.{slot_first}
+use Rattle.asm_printing.proofs.Mnemonic.{mnemonic_bytes, mnemonic_lexed}
+use Rattle.asm_printing.proofs.Written.{form_of, completers_of, operands_of, items_of, tokens_of, name_of_op, IsPrinted}
 use Rattle.asm_text.specs.ReadBack.{untargeted}
-use Rattle.asm_text.specs.SlotTexts.{label_text, spaced, mnemonic_text, predicate_text, stop_text, target_of, or_zero, slot_text}
-use Rattle.asm_text.proofs.FirstForm.{slot_first, named_slots}
-use Rattle.asm_text.proofs.Mnemonic.{mnemonic_bytes, mnemonic_lexed}
+use Rattle.asm_text.proofs.FirstForm.{named_slots}
 use Rattle.asm_text.proofs.ItemFacts.{as_many, row_apart, label_token_of}
 use Rattle.asm_text.proofs.OperandTexts.{are_apart, label_token, tokens_text, filled_text, operands_plain, operands_back, label_found, label_missing}
-use Rattle.asm_text.proofs.Written.{form_of, completers_of, operands_of, items_of, tokens_of, name_of_op, ReadsBack, IsPrinted}
-
--- A name is never read as `(`.
-abbrev some_open : Option Token → Bool
-some_open None = false
-some_open (Some x) = is_open x
-
-abbrev none_open : List (List ℕ × Token) → Bool
-none_open [] = true
-none_open (e ∷ es) = not (is_open e.1) && none_open es
-
-not_false : (b : Bool) → not b ≡ true → b ≡ false
-not_false true h = sym h
-not_false false h = refl
-
-look_open : (es : List (List ℕ × Token)) (name : List ℕ) → none_open es ≡ true → some_open (look_up es name) ≡ false
-look_open [] name h = refl
-look_open (e ∷ es) name h = elim (bytes_eq name e.0) as (λ b. some_open (cond b (Some e.1) (look_up es name)) ≡ false) [ true ↦ not_false _ (left _ _ h) | false ↦ look_open es name (right (not (is_open e.1)) _ h) ]
-
-register_open : (f : ℕ → Token) → ((n : ℕ) → is_open (f n) ≡ false) → (r : Option ℕ) → some_open (option_map f r) ≡ false
-register_open f h None = refl
-register_open f h (Some n) = h n
-
-either_open : (b : Bool) (x y : Option Token) → some_open x ≡ false → some_open y ≡ false → some_open (cond b x y) ≡ false
-either_open true x y h k = h
-either_open false x y h k = k
-
-numbered_open : (name : List ℕ) → some_open (numbered_register name) ≡ false
-numbered_open [] = refl
-numbered_open (c ∷ ds) =
-    either_open (eqb c 114) _ _ (register_open (λ n. t.Gr n) (λ n. refl) (numbered 128 ds))
-    (either_open (eqb c 112) _ _ (register_open (λ n. t.Pr n) (λ n. refl) (numbered 64 ds))
-    (either_open (eqb c 98) _ _ (register_open (λ n. t.Br n) (λ n. refl) (numbered 8 ds)) refl))
-
-one_of : (b : Bool) (x y : Token) → is_open x ≡ false → is_open y ≡ false → is_open (cond b x y) ≡ false
-one_of true x y h k = h
-one_of false x y h k = k
-
-other_open : (name : List ℕ) → is_open (other_name name) ≡ false
-other_open name = one_of (begins_letter name) _ _ (one_of _ t.Name t.LongName refl refl) (one_of _ t.Symbol t.LongSymbol refl refl)
-
-abbrev or_numbered : Option Token → List ℕ → Option Token
-or_numbered (Some register) name = Some register
-or_numbered None name = numbered_register name
-
-abbrev or_other_name : Option Token → List ℕ → Token
-or_other_name (Some register) name = register
-or_other_name None name = other_name name
-
-or_numbered_open : (x : Option Token) (name : List ℕ) → some_open x ≡ false → some_open (or_numbered x name) ≡ false
-or_numbered_open (Some register) name h = h
-or_numbered_open None name h = numbered_open name
-
-or_other_open : (x : Option Token) (name : List ℕ) → some_open x ≡ false → is_open (or_other_name x name) ≡ false
-or_other_open (Some register) name h = h
-or_other_open None name h = other_open name
-
-pub name_is_not_open : (name : List ℕ) → is_open (name_token name) ≡ false
-name_is_not_open name = or_other_open (register_of name) name (or_numbered_open (alias_of name) name (look_open aliases name refl))
+use Rattle.asm_text.proofs.WayBack.{ReadsBack}
 
 -- the stop at the end
 abbrev stops : Bool → List Token

@@ -4,9 +4,9 @@ use Rattle.std.specs.Option.{option_map}
 use Rattle.ia_insn.specs.declared.insn.Insn.{Insn}
 use Rattle.ia_insn.specs.declared.insn.Op.{Op}
 use Rattle.ia_insn.specs.declared.insn.Op.TheVariants as op
-use Rattle.asm_text.specs.declared.line.Line.{Line}
-use Rattle.asm_text.specs.declared.line.Line.TheVariants as line
-use Rattle.asm_text.specs.SlotTexts.{label_text, target_of}
+use Rattle.asm_reading.specs.declared.line.Line.{Line}
+use Rattle.asm_reading.specs.declared.line.Line.TheVariants as line
+use Rattle.asm_printing.specs.SlotTexts.{label_text, target_of}
 
 -- the instruction as it is until the name of its target is put in
 abbrev pub untargeted : Op → Op

@@ -1,6 +1,6 @@
 //! The rows of faults, and of lines that aren't slots.
 
-use asm_text::{Line, Shape, read_line};
+use asm_reading::{Line, Shape, read_line};
 use asm_words::limits::LINE_LIMIT;
 use asm_words::{LineFault, Name};
 

@@ -4,7 +4,7 @@ ghost use Rattle.std.specs.Prelude.{IsTrue, IsOk};
 ghost use Rattle.hex.specs.Hex.{decode_sized};
 
 use crate::wanted::{Wanted, in_unit, wanted_in};
-use asm_text::{Draft, Line, read_line};
+use asm_reading::{Draft, Line, read_line};
 use asm_words::Name;
 use asm_words::limits::LINE_LIMIT;
 use hex::FromHex;

@@ -1,0 +1,867 @@
+//! How an instruction is printed: its form, its completers and its operands.
+
+ghost use Rattle.std.specs.Prelude.{◌≡◌, ◌≤◌, ◌-◌, [], ◌∷◌, length};
+ghost use Rattle.asm_words.specs.declared.tokens.Token.TheVariants as t;
+ghost use Rattle.asm_forms.specs.declared.completer.Completer.TheVariants as c;
+ghost use Rattle.ia_insn.specs.declared.insn.Op.TheVariants as ops;
+ghost use Rattle.ia_insn.specs.declared.choices.Unit.TheVariants as units;
+ghost use Rattle.asm_printing.specs.Canonical.{Syntax as SyntaxOf, syntax, size_of, alu_form, alu_imm_form, compare_form, compare_imm_form, ext_form, load_form, load_reg_form, load_imm_form, store_form, store_imm_form, relation_of, when, unc_of, move_whether, whether, cache_hint, prefetch_hint, number, natural, ones_number, compare_completers, branch_hints, syntax_of};
+
+use asm_forms::{AccessSize, CacheHint, Completer, Completers, Form, Operands, Relation, Whether};
+use asm_words::Token;
+use ia_insn::{
+    AluFn, Ar, Br, BranchKind, CmpKind, Gr, LoadKind, Op, Pr, Rel, ShiftFn, StoreKind, Unit, Update,
+};
+use std::marker::Model;
+
+/// How an instruction is printed: its form, a completer for each set of the form, and its operands. Contracts see
+/// the two as lists.
+#[derive(Drop)]
+pub(crate) struct Syntax {
+    pub(crate) form: Form,
+    pub(crate) completers: Completers,
+    pub(crate) operands: Operands,
+}
+
+impl Model for Syntax {
+    ghost Value = { SyntaxOf };
+
+    ghost view = { λ s. syntax s.form s.completers.items s.operands.items };
+}
+
+/// The syntax of these completers and operands.
+fn written(form: Form, completers: &[Completer], operands: &[Token]) -> Syntax
+    requires few { (length completers.now ≤ 4) × (length operands.now ≤ 5) }
+    ensures { result ≡ syntax form completers.now operands.now }
+{
+    let mut list = Completers::new();
+    for completer in completers {
+        list.push(*completer);
+    }
+    let mut tokens = Operands::new();
+    for token in operands {
+        tokens.push(*token);
+    }
+    Syntax {
+        form,
+        completers: list,
+        operands: tokens,
+    }
+}
+
+/// No operands, and no completers.
+fn no_operands(form: Form) -> Syntax
+    ensures { result ≡ syntax form [] [] }
+{
+    written(form, &[], &[])
+}
+
+/// One operand, and no completers.
+fn one_operand(form: Form, x: Token) -> Syntax
+    ensures { result ≡ syntax form [] (x ∷ []) }
+{
+    written(form, &[], &[x])
+}
+
+/// Two operands, and no completers.
+fn two_operands(form: Form, x: Token, y: Token) -> Syntax
+    ensures { result ≡ syntax form [] (x ∷ y ∷ []) }
+{
+    written(form, &[], &[x, y])
+}
+
+/// Three operands, and no completers.
+fn three_operands(form: Form, x: Token, y: Token, z: Token) -> Syntax
+    ensures { result ≡ syntax form [] (x ∷ y ∷ z ∷ []) }
+{
+    written(form, &[], &[x, y, z])
+}
+
+/// Four operands, and no completers.
+fn four_operands(form: Form, w: Token, x: Token, y: Token, z: Token) -> Syntax
+    ensures { result ≡ syntax form [] (w ∷ x ∷ y ∷ z ∷ []) }
+{
+    written(form, &[], &[w, x, y, z])
+}
+
+/// Five operands, and no completers.
+fn five_operands(form: Form, v: Token, w: Token, x: Token, y: Token, z: Token) -> Syntax
+    ensures { result ≡ syntax form [] (v ∷ w ∷ x ∷ y ∷ z ∷ []) }
+{
+    written(form, &[], &[v, w, x, y, z])
+}
+
+/// One completer, and one operand.
+fn with_completer(form: Form, completer: Completer, x: Token) -> Syntax
+    ensures { result ≡ syntax form (completer ∷ []) (x ∷ []) }
+{
+    written(form, &[completer], &[x])
+}
+
+/// The letter of I slots, and two operands.
+fn in_i_slot(form: Form, x: Token, y: Token) -> Syntax
+    ensures { result ≡ syntax form (c.Unit units.I ∷ []) (x ∷ y ∷ []) }
+{
+    written(form, &[Completer::Unit(Unit::I)], &[x, y])
+}
+
+/// How many bytes.
+fn size_of(n: u8) -> AccessSize
+    ensures { result ≡ size_of n }
+{
+    if n == 1 {
+        AccessSize::One
+    } else if n == 2 {
+        AccessSize::Two
+    } else if n == 4 {
+        AccessSize::Four
+    } else {
+        AccessSize::Eight
+    }
+}
+
+/// The form of this operation of registers.
+fn alu_form(f: AluFn) -> Form
+    ensures { result ≡ alu_form f }
+{
+    match f {
+        AluFn::Add => Form::Add,
+        AluFn::Add1 => Form::AddOne,
+        AluFn::Sub => Form::Sub,
+        AluFn::Sub1 => Form::SubOne,
+        AluFn::Addp4 => Form::Addp4,
+        AluFn::And => Form::And,
+        AluFn::Andcm => Form::Andcm,
+        AluFn::Or => Form::Or,
+        AluFn::Xor => Form::Xor,
+    }
+}
+
+/// The form of this operation of a number and a register, which is a subtraction or one on bits.
+fn alu_imm_form(f: AluFn) -> Form
+    ensures { result ≡ alu_imm_form f }
+{
+    match f {
+        AluFn::And => Form::AndImm,
+        AluFn::Andcm => Form::AndcmImm,
+        AluFn::Or => Form::OrImm,
+        AluFn::Xor => Form::XorImm,
+        _ => Form::SubImm,
+    }
+}
+
+/// The form of a compare of registers.
+fn compare_form(four: bool, kind: CmpKind) -> Form
+    ensures { result ≡ compare_form four kind }
+{
+    match (four, kind) {
+        (false, CmpKind::Normal | CmpKind::Unc) => Form::Cmp,
+        (false, _) => Form::CmpParallel,
+        (true, CmpKind::Normal | CmpKind::Unc) => Form::Cmp4,
+        (true, _) => Form::Cmp4Parallel,
+    }
+}
+
+/// The form of a compare of a number and a register.
+fn compare_imm_form(four: bool, kind: CmpKind) -> Form
+    ensures { result ≡ compare_imm_form four kind }
+{
+    match (four, kind) {
+        (false, CmpKind::Normal | CmpKind::Unc) => Form::CmpImm,
+        (false, _) => Form::CmpImmParallel,
+        (true, CmpKind::Normal | CmpKind::Unc) => Form::Cmp4Imm,
+        (true, _) => Form::Cmp4ImmParallel,
+    }
+}
+
+/// The form of an extension.
+fn ext_form(signed: bool, size: AccessSize) -> Form
+    ensures { result ≡ ext_form signed size }
+{
+    match (signed, size) {
+        (false, AccessSize::One) => Form::Zxt1,
+        (false, AccessSize::Two) => Form::Zxt2,
+        (false, AccessSize::Four | AccessSize::Eight) => Form::Zxt4,
+        (true, AccessSize::One) => Form::Sxt1,
+        (true, AccessSize::Two) => Form::Sxt2,
+        (true, AccessSize::Four | AccessSize::Eight) => Form::Sxt4,
+    }
+}
+
+/// The form of a load.
+fn load_form(size: AccessSize) -> Form
+    ensures { result ≡ load_form size }
+{
+    match size {
+        AccessSize::One => Form::Ld1,
+        AccessSize::Two => Form::Ld2,
+        AccessSize::Four => Form::Ld4,
+        AccessSize::Eight => Form::Ld8,
+    }
+}
+
+/// The form of a load that updates its base by a register.
+fn load_reg_form(size: AccessSize) -> Form
+    ensures { result ≡ load_reg_form size }
+{
+    match size {
+        AccessSize::One => Form::Ld1Reg,
+        AccessSize::Two => Form::Ld2Reg,
+        AccessSize::Four => Form::Ld4Reg,
+        AccessSize::Eight => Form::Ld8Reg,
+    }
+}
+
+/// The form of a load that updates its base by a number.
+fn load_imm_form(size: AccessSize) -> Form
+    ensures { result ≡ load_imm_form size }
+{
+    match size {
+        AccessSize::One => Form::Ld1Imm,
+        AccessSize::Two => Form::Ld2Imm,
+        AccessSize::Four => Form::Ld4Imm,
+        AccessSize::Eight => Form::Ld8Imm,
+    }
+}
+
+/// The form of a store.
+fn store_form(size: AccessSize) -> Form
+    ensures { result ≡ store_form size }
+{
+    match size {
+        AccessSize::One => Form::St1,
+        AccessSize::Two => Form::St2,
+        AccessSize::Four => Form::St4,
+        AccessSize::Eight => Form::St8,
+    }
+}
+
+/// The form of a store that updates its base by a number.
+fn store_imm_form(size: AccessSize) -> Form
+    ensures { result ≡ store_imm_form size }
+{
+    match size {
+        AccessSize::One => Form::St1Imm,
+        AccessSize::Two => Form::St2Imm,
+        AccessSize::Four => Form::St4Imm,
+        AccessSize::Eight => Form::St8Imm,
+    }
+}
+
+/// The relation as it is written.
+fn relation_of(rel: Rel) -> Relation
+    ensures { result ≡ relation_of rel }
+{
+    match rel {
+        Rel::Eq => Relation::Eq,
+        Rel::Ne => Relation::Ne,
+        Rel::Lt => Relation::Lt,
+        Rel::Ltu => Relation::Ltu,
+        Rel::Gt => Relation::Gt,
+        Rel::Ge => Relation::Ge,
+        Rel::Le => Relation::Le,
+    }
+}
+
+/// The completer where it is wanted.
+fn when(wanted: bool, completer: Completer) -> Completer
+    ensures { result ≡ when wanted completer }
+{
+    if wanted { completer } else { Completer::Absent }
+}
+
+/// Whether a test clears both targets, as its compare type.
+fn unc_of(unc: bool) -> Completer
+    ensures { result ≡ unc_of unc }
+{
+    Completer::Compare(if unc { CmpKind::Unc } else { CmpKind::Normal })
+}
+
+/// The whether hint of a move to a branch register: 0 sptk, 1 none, 2 dptk.
+fn move_whether(n: u8) -> Completer
+    ensures { result ≡ move_whether n }
+{
+    if n == 0 {
+        Completer::Whether(Whether::Sptk)
+    } else if n == 2 {
+        Completer::Whether(Whether::Dptk)
+    } else {
+        Completer::Absent
+    }
+}
+
+/// The whether hint of a branch: 0 sptk, 1 spnt, 2 dptk, 3 dpnt.
+fn whether(n: u8) -> Whether
+    ensures { result ≡ whether n }
+{
+    if n == 0 {
+        Whether::Sptk
+    } else if n == 1 {
+        Whether::Spnt
+    } else if n == 2 {
+        Whether::Dptk
+    } else {
+        Whether::Dpnt
+    }
+}
+
+/// The cache hint: 0 none, 1 nt1, 3 nta.
+fn cache_hint(n: u8) -> CacheHint
+    ensures { result ≡ cache_hint n }
+{
+    if n == 0 {
+        CacheHint::None
+    } else if n == 1 {
+        CacheHint::Nt1
+    } else {
+        CacheHint::Nta
+    }
+}
+
+/// The prefetch hint.
+fn prefetch_hint(many: bool) -> Completer
+    ensures { result ≡ prefetch_hint many }
+{
+    if many {
+        Completer::Many
+    } else {
+        Completer::Few
+    }
+}
+
+/// A number by sign and magnitude.
+fn number(z: i64) -> Token
+    ensures { result ≡ number z }
+{
+    Token::Number {
+        negative: z < 0,
+        magnitude: z.unsigned_abs(),
+    }
+}
+
+/// A number without a sign.
+fn natural(n: u64) -> Token
+    ensures { result ≡ natural n }
+{
+    Token::Number {
+        negative: false,
+        magnitude: n,
+    }
+}
+
+/// 0, or -1 for ones.
+fn ones_number(ones: bool) -> Token
+    ensures { result ≡ ones_number ones }
+{
+    if ones { number(-1) } else { number(0) }
+}
+
+/// How much of a frame is left past its locals.
+fn outputs(sof: u8, sol: u8) -> u64
+    ensures { result ≡ sof - sol }
+{
+    u64::from(sof.saturating_sub(sol))
+}
+
+/// The completers of a compare.
+fn compare_completers(rel: Rel, kind: CmpKind) -> [Completer; 2]
+    ensures { result ≡ compare_completers rel kind }
+{
+    [
+        Completer::Relation(relation_of(rel)),
+        Completer::Compare(kind),
+    ]
+}
+
+/// A compare of two operands, the second a register.
+fn compare(form: Form, rel: Rel, kind: CmpKind, p1: Pr, p2: Pr, x: Token, r3: Gr) -> Syntax
+    ensures { result ≡ syntax form (compare_completers rel kind) (t.Pr p1 ∷ t.Pr p2 ∷ x ∷ t.Gr r3 ∷ []) }
+{
+    written(
+        form,
+        &compare_completers(rel, kind),
+        &[Token::Pr(p1), Token::Pr(p2), x, Token::Gr(r3)],
+    )
+}
+
+/// A parallel compare of r0 and a register.
+fn compare_zero(four: bool, rel: Rel, kind: CmpKind, p1: Pr, p2: Pr, r3: Gr) -> Syntax
+    ensures { result ≡ syntax_of (ops.CmpZero four rel kind p1 p2 r3) }
+{
+    written(
+        if four { Form::Cmp4Zero } else { Form::CmpZero },
+        &compare_completers(rel, kind),
+        &[Token::Pr(p1), Token::Pr(p2), Token::Gr(r3)],
+    )
+}
+
+/// A shift by a register.
+fn shift(f: ShiftFn, r1: Gr, value: Gr, count: Gr) -> Syntax
+    ensures { result ≡ syntax_of (ops.ShiftVar f r1 value count) }
+{
+    let operands = [Token::Gr(r1), Token::Gr(value), Token::Gr(count)];
+    match f {
+        ShiftFn::Shl => written(Form::Shl, &[], &operands),
+        ShiftFn::Shr => written(Form::Shr, &[Completer::Absent], &operands),
+        ShiftFn::ShrU => written(Form::Shr, &[Completer::U], &operands),
+    }
+}
+
+/// A bit field of one operand, with one completer.
+fn bit_field(form: Form, completer: Completer, r1: Gr, x: Token, pos: u8, len: u8) -> Syntax
+    ensures { result ≡ syntax form (completer ∷ []) (t.Gr r1 ∷ x ∷ natural pos ∷ natural len ∷ []) }
+{
+    written(
+        form,
+        &[completer],
+        &[
+            Token::Gr(r1),
+            x,
+            natural(u64::from(pos)),
+            natural(u64::from(len)),
+        ],
+    )
+}
+
+/// A test of a bit.
+fn test_bit(unc: bool, p1: Pr, p2: Pr, r3: Gr, pos: u8) -> Syntax
+    ensures { result ≡ syntax_of (ops.Tbit unc p1 p2 r3 pos) }
+{
+    written(
+        Form::Tbit,
+        &[Completer::Z, unc_of(unc)],
+        &[
+            Token::Pr(p1),
+            Token::Pr(p2),
+            Token::Gr(r3),
+            natural(u64::from(pos)),
+        ],
+    )
+}
+
+/// A test of a NaT bit.
+fn test_nat(unc: bool, p1: Pr, p2: Pr, r3: Gr) -> Syntax
+    ensures { result ≡ syntax_of (ops.Tnat unc p1 p2 r3) }
+{
+    written(
+        Form::Tnat,
+        &[Completer::Z, unc_of(unc)],
+        &[Token::Pr(p1), Token::Pr(p2), Token::Gr(r3)],
+    )
+}
+
+/// A move to a branch register, with its tag.
+fn move_to_br(b1: Br, r2: Gr, ret: bool, imp: bool, wh: u8, tag: i16) -> Syntax
+    ensures { result ≡ syntax_of (ops.MovToBr b1 r2 ret imp wh tag) }
+{
+    let completers = [
+        when(ret, Completer::Ret),
+        move_whether(wh),
+        when(imp, Completer::Imp),
+    ];
+    written(
+        Form::MovToBrTag,
+        &completers,
+        &[Token::Br(b1), Token::Gr(r2), number(i64::from(tag))],
+    )
+}
+
+/// A check, which names its target.
+fn check(form: Form, first: Completer, second: Completer, register: Gr) -> Syntax
+    ensures { result ≡ syntax form (first ∷ second ∷ []) (t.Gr register ∷ t.Name ∷ []) }
+{
+    written(form, &[first, second], &[Token::Gr(register), Token::Name])
+}
+
+/// A load.
+fn load(size: u8, kind: LoadKind, hint: u8, r1: Gr, r3: Gr, update: Update) -> Syntax
+    ensures { result ≡ syntax_of (ops.Load size kind hint r1 r3 update) }
+{
+    let size = size_of(size);
+    let completers = [Completer::Load(kind), Completer::Hint(cache_hint(hint))];
+    let (value, address) = (Token::Gr(r1), Token::Gr(r3));
+    match update {
+        Update::None => written(load_form(size), &completers, &[value, address]),
+        Update::Reg(r2) => written(
+            load_reg_form(size),
+            &completers,
+            &[value, address, Token::Gr(r2)],
+        ),
+        Update::Imm(imm) => written(
+            load_imm_form(size),
+            &completers,
+            &[value, address, number(i64::from(imm))],
+        ),
+    }
+}
+
+/// A store.
+fn store(size: u8, kind: StoreKind, hint: u8, r3: Gr, r2: Gr, update: Update) -> Syntax
+    ensures { result ≡ syntax_of (ops.Store size kind hint r3 r2 update) }
+{
+    let size = size_of(size);
+    let completers = [Completer::Store(kind), Completer::Hint(cache_hint(hint))];
+    let (address, value) = (Token::Gr(r3), Token::Gr(r2));
+    match update {
+        Update::Imm(imm) => written(
+            store_imm_form(size),
+            &completers,
+            &[address, value, number(i64::from(imm))],
+        ),
+        _ => written(store_form(size), &completers, &[address, value]),
+    }
+}
+
+/// A branch with this first completer and these hints.
+fn branch(form: Form, first: Completer, wh: u8, many: bool, clr: bool, operands: &[Token]) -> Syntax
+    requires { length operands.now ≤ 5 }
+    ensures { result ≡ syntax form (first ∷ branch_hints wh many clr) operands.now }
+{
+    let hints = [
+        first,
+        Completer::Whether(whether(wh)),
+        prefetch_hint(many),
+        when(clr, Completer::Clr),
+    ];
+    written(form, &hints, operands)
+}
+
+/// A branch of one operand.
+fn branch_of(form: Form, first: Completer, wh: u8, many: bool, clr: bool, x: Token) -> Syntax
+    ensures { result ≡ syntax form (first ∷ branch_hints wh many clr) (x ∷ []) }
+{
+    branch(form, first, wh, many, clr, &[x])
+}
+
+/// A call, which leaves the address of its return in a branch register.
+fn call(form: Form, b1: Br, wh: u8, many: bool, clr: bool, x: Token) -> Syntax
+    ensures { result ≡ syntax form (c.Call ∷ branch_hints wh many clr) (t.Br b1 ∷ x ∷ []) }
+{
+    branch(form, Completer::Call, wh, many, clr, &[Token::Br(b1), x])
+}
+
+/// A clearing of the rename bases, of the predicates' alone or of all.
+fn clear_bases(pred_only: bool) -> Syntax
+    ensures { result ≡ syntax_of (ops.Clrrrb pred_only) }
+{
+    if pred_only {
+        written(Form::ClrrrbPr, &[Completer::Pr], &[])
+    } else {
+        no_operands(Form::Clrrrb)
+    }
+}
+
+/// How the instruction is printed; a target is a name.
+pub(crate) fn syntax_of(op: &Op) -> Syntax
+    ensures { result ≡ syntax_of op.now }
+{
+    use Token::{Br, Gr, Pr};
+    match *op {
+        Op::Alu { f, r1, r2, r3 } => three_operands(alu_form(f), Gr(r1), Gr(r2), Gr(r3)),
+        Op::ShlAdd {
+            p4: false,
+            r1,
+            r2,
+            count,
+            r3,
+        } => four_operands(
+            Form::Shladd,
+            Gr(r1),
+            Gr(r2),
+            natural(u64::from(count)),
+            Gr(r3),
+        ),
+        Op::ShlAdd {
+            p4: true,
+            r1,
+            r2,
+            count,
+            r3,
+        } => four_operands(
+            Form::Shladdp4,
+            Gr(r1),
+            Gr(r2),
+            natural(u64::from(count)),
+            Gr(r3),
+        ),
+        Op::AluImm8 { f, r1, imm, r3 } => three_operands(
+            alu_imm_form(f),
+            Gr(r1),
+            number(imm),
+            Gr(r3),
+        ),
+        Op::AddImm14 {
+            p4: false,
+            r1,
+            imm,
+            r3,
+        } => three_operands(Form::Adds, Gr(r1), number(imm), Gr(r3)),
+        Op::AddImm14 {
+            p4: true,
+            r1,
+            imm,
+            r3,
+        } => three_operands(Form::Addp4Imm, Gr(r1), number(imm), Gr(r3)),
+        Op::AddImm22 { r1, imm, r3 } => three_operands(Form::Addl, Gr(r1), number(imm), Gr(r3)),
+        Op::Cmp {
+            four,
+            rel,
+            kind,
+            p1,
+            p2,
+            r2,
+            r3,
+        } => compare(compare_form(four, kind), rel, kind, p1, p2, Gr(r2), r3),
+        Op::CmpZero {
+            four,
+            rel,
+            kind,
+            p1,
+            p2,
+            r3,
+        } => compare_zero(four, rel, kind, p1, p2, r3),
+        Op::CmpImm {
+            four,
+            rel,
+            kind,
+            p1,
+            p2,
+            imm,
+            r3,
+        } => compare(
+            compare_imm_form(four, kind),
+            rel,
+            kind,
+            p1,
+            p2,
+            number(imm),
+            r3,
+        ),
+        Op::ShiftVar {
+            f,
+            r1,
+            value,
+            count,
+        } => shift(f, r1, value, count),
+        Op::Popcnt { r1, r3 } => two_operands(Form::Popcnt, Gr(r1), Gr(r3)),
+        Op::Shrp { r1, r2, r3, count } => four_operands(
+            Form::Shrp,
+            Gr(r1),
+            Gr(r2),
+            Gr(r3),
+            natural(u64::from(count)),
+        ),
+        Op::Extr {
+            signed,
+            r1,
+            r3,
+            pos,
+            len,
+        } => bit_field(
+            Form::Extr,
+            when(!signed, Completer::U),
+            r1,
+            Gr(r3),
+            pos,
+            len,
+        ),
+        Op::DepZ { r1, r2, pos, len } => bit_field(Form::DepZ, Completer::Z, r1, Gr(r2), pos, len),
+        Op::DepZImm { r1, imm, pos, len } => bit_field(
+            Form::DepZImm,
+            Completer::Z,
+            r1,
+            number(imm),
+            pos,
+            len,
+        ),
+        Op::DepImm {
+            r1,
+            ones,
+            r3,
+            pos,
+            len,
+        } => five_operands(
+            Form::DepImm,
+            Gr(r1),
+            ones_number(ones),
+            Gr(r3),
+            natural(u64::from(pos)),
+            natural(u64::from(len)),
+        ),
+        Op::Dep {
+            r1,
+            r2,
+            r3,
+            pos,
+            len,
+        } => five_operands(
+            Form::Dep,
+            Gr(r1),
+            Gr(r2),
+            Gr(r3),
+            natural(u64::from(pos)),
+            natural(u64::from(len)),
+        ),
+        Op::Tbit {
+            unc,
+            p1,
+            p2,
+            r3,
+            pos,
+        } => test_bit(unc, p1, p2, r3, pos),
+        Op::Tnat { unc, p1, p2, r3 } => test_nat(unc, p1, p2, r3),
+        Op::ChkS { unit, r2, .. } => check(Form::ChkS, Completer::S, Completer::Unit(unit), r2),
+        Op::MovToBr {
+            b1,
+            r2,
+            ret,
+            imp,
+            wh,
+            tag,
+        } => move_to_br(b1, r2, ret, imp, wh, tag),
+        Op::MovFromBr { r1, b2 } => two_operands(Form::MovFromBr, Gr(r1), Br(b2)),
+        Op::MovToPr { r2, mask } => two_operands(
+            Form::MovToPrMask,
+            Gr(r2),
+            natural(u64::from(mask)),
+        ),
+        Op::MovToPrRot { imm } => one_operand(Form::MovToPrRot, number(imm)),
+        Op::MovFromIp { r1 } => one_operand(Form::MovFromIp, Gr(r1)),
+        Op::MovFromPr { r1 } => one_operand(Form::MovFromPr, Gr(r1)),
+        Op::MovToAr { ar: Ar::Unat, r2 } => with_completer(
+            Form::MovToArM,
+            Completer::Unit(Unit::M),
+            Gr(r2),
+        ),
+        Op::MovToAr { ar, r2 } => in_i_slot(Form::MovToArI, Token::Ar(ar), Gr(r2)),
+        Op::MovToArImm { ar: Ar::Unat, imm } => with_completer(
+            Form::MovToArImmM,
+            Completer::Unit(Unit::M),
+            number(imm),
+        ),
+        Op::MovToArImm { ar, imm } => in_i_slot(Form::MovToArImmI, Token::Ar(ar), number(imm)),
+        Op::MovFromAr { r1, ar: Ar::Unat } => with_completer(
+            Form::MovFromArM,
+            Completer::Unit(Unit::M),
+            Gr(r1),
+        ),
+        Op::MovFromAr { r1, ar } => in_i_slot(Form::MovFromArI, Gr(r1), Token::Ar(ar)),
+        Op::Ext {
+            signed,
+            size,
+            r1,
+            r3,
+        } => two_operands(ext_form(signed, size_of(size)), Gr(r1), Gr(r3)),
+        Op::Load {
+            size,
+            kind,
+            hint,
+            r1,
+            r3,
+            update,
+        } => load(size, kind, hint, r1, r3, update),
+        Op::Store {
+            size,
+            kind,
+            hint,
+            r3,
+            r2,
+            update,
+        } => store(size, kind, hint, r3, r2, update),
+        Op::ChkA {
+            clear: false,
+            r1,
+            ..
+        } => check(Form::ChkANc, Completer::A, Completer::Nc, r1),
+        Op::ChkA {
+            clear: true,
+            r1,
+            ..
+        } => check(Form::ChkAClr, Completer::A, Completer::Clr, r1),
+        Op::Invala => no_operands(Form::Invala),
+        Op::Mf => no_operands(Form::Mf),
+        Op::InvalaE { r1 } => with_completer(Form::InvalaE, Completer::E, Gr(r1)),
+        Op::Alloc { r1, sof, sol, sor } => five_operands(
+            Form::Alloc,
+            Gr(r1),
+            natural(0),
+            natural(u64::from(sol)),
+            natural(outputs(sof, sol)),
+            natural(8 * u64::from(sor)),
+        ),
+        Op::Br {
+            kind: BranchKind::Cond,
+            wh,
+            many,
+            clr,
+            ..
+        } => branch_of(Form::BrCond, Completer::Cond, wh, many, clr, Token::Name),
+        Op::Br {
+            kind,
+            wh,
+            many,
+            clr,
+            ..
+        } => branch_of(
+            Form::BrLoop,
+            Completer::Loop(kind),
+            wh,
+            many,
+            clr,
+            Token::Name,
+        ),
+        Op::BrCall {
+            b1,
+            wh,
+            many,
+            clr,
+            ..
+        } => call(Form::BrCall, b1, wh, many, clr, Token::Name),
+        Op::BrInd { b2, wh, many, clr } => branch_of(
+            Form::BrInd,
+            Completer::Cond,
+            wh,
+            many,
+            clr,
+            Br(b2),
+        ),
+        Op::BrRet { b2, wh, many, clr } => branch_of(
+            Form::BrRet,
+            Completer::Ret,
+            wh,
+            many,
+            clr,
+            Br(b2),
+        ),
+        Op::BrCallInd {
+            b1,
+            b2,
+            wh,
+            many,
+            clr,
+        } => call(Form::BrCallInd, b1, wh, many, clr, Br(b2)),
+        Op::Clrrrb { pred_only } => clear_bases(pred_only),
+        Op::Movl { r1, imm } => two_operands(Form::Movl, Gr(r1), natural(imm)),
+        Op::Break { unit: Unit::X, imm } => with_completer(
+            Form::BreakLong,
+            Completer::Unit(Unit::X),
+            natural(imm),
+        ),
+        Op::Break { unit, imm } => with_completer(
+            Form::BreakImm,
+            Completer::Unit(unit),
+            natural(imm),
+        ),
+        Op::Nop { unit: Unit::X, imm } => with_completer(
+            Form::NopLong,
+            Completer::Unit(Unit::X),
+            natural(imm),
+        ),
+        Op::Nop { unit, imm } => with_completer(Form::NopImm, Completer::Unit(unit), natural(imm)),
+        Op::Hint { unit, imm } => with_completer(
+            Form::HintImm,
+            Completer::Unit(unit),
+            natural(imm),
+        ),
+    }
+}

@@ -1,0 +1,268 @@
+//! The canonical slot line.
+
+ghost use Rattle.std.specs.Prelude.{◌≡◌, ◌++◌, ◌∷◌, ◌<◌, OnOk, OnErr, Some, false, codes, decimal, flat_map};
+ghost use Rattle.std.specs.Io.{StartsWith};
+ghost use Rattle.asm_forms.specs.Completers.{text_of};
+ghost use Rattle.ia_insn.specs.Listed.{IsListed};
+ghost use Rattle.asm_printing.specs.Canonical.{syntax_of};
+ghost use Rattle.asm_printing.specs.SlotTexts.{is_hex, ar_text, number_text, label_text, token_text, operands_text, spaced, mnemonic_text, predicate_text, stop_text, target_of, or_zero, HasTarget, line_text, slot_text};
+
+use crate::canonical::{Syntax, syntax_of};
+use crate::numerals::{push_bytes, push_decimal, push_hex};
+use asm_forms::{Completer, Form, Item, Kind, NumberField, mark_token, text};
+use asm_words::Token;
+use ia_insn::{Ar, Insn, Op, Place, Pr};
+use std::alloc::AllocError;
+
+#[tactic(auto, using(crate::proofs::Kept::kept_before))]
+fn push_number(
+    out: &mut Vec<u8>,
+    hex: bool,
+    negative: bool,
+    magnitude: u64,
+) -> Result<(), AllocError>
+    ensures ok { OnOk result (out.new.items ≡ out.old.items ++ number_text hex negative magnitude) }
+    ensures err { OnErr result (StartsWith out.new.items out.old.items) }
+{
+    if negative {
+        push_bytes(out, b"-")?;
+    }
+    if hex {
+        push_bytes(out, b"0x")?;
+        push_hex(out, magnitude)
+    } else {
+        push_decimal(out, magnitude)
+    }
+}
+
+/// A letter and a number, as a register or a label has them.
+#[tactic(auto, using(crate::proofs::Kept::kept_before))]
+fn push_named(out: &mut Vec<u8>, letter: u8, number: u64) -> Result<(), AllocError>
+    ensures ok { OnOk result (out.new.items ≡ out.old.items ++ letter ∷ decimal number) }
+    ensures err { OnErr result (StartsWith out.new.items out.old.items) }
+{
+    push_bytes(out, &[letter])?;
+    push_decimal(out, number)
+}
+
+fn ar_text(ar: Ar) -> &'static [u8]
+    ensures { result.now ≡ ar_text ar }
+{
+    match ar {
+        Ar::Unat => b"ar.unat",
+        Ar::Pfs => b"ar.pfs",
+        Ar::Lc => b"ar.lc",
+        Ar::Ec => b"ar.ec",
+    }
+}
+
+/// An operand, where a name is the label of the target.
+fn push_token(out: &mut Vec<u8>, target: u64, hex: bool, token: Token) -> Result<(), AllocError>
+    ensures ok { OnOk result (out.new.items ≡ out.old.items ++ token_text target hex token) }
+    ensures err { OnErr result (StartsWith out.new.items out.old.items) }
+{
+    match token {
+        Token::Gr(r) => push_named(out, b'r', u64::from(r.number())),
+        Token::Pr(p) => push_named(out, b'p', u64::from(p.number())),
+        Token::Br(b) => push_named(out, b'b', u64::from(b.number())),
+        Token::Ar(ar) => push_bytes(out, ar_text(ar)),
+        Token::Predicates => push_bytes(out, b"pr"),
+        Token::RotatingPredicates => push_bytes(out, b"pr.rot"),
+        Token::Ip => push_bytes(out, b"ip"),
+        Token::Number {
+            negative,
+            magnitude,
+        } => push_number(out, hex, negative, magnitude),
+        Token::Name => push_named(out, b'L', target),
+        Token::Equals => push_bytes(out, b"="),
+        Token::Comma => push_bytes(out, b","),
+        Token::OpenBracket => push_bytes(out, b"["),
+        Token::CloseBracket => push_bytes(out, b"]"),
+        _ => Ok(()),
+    }
+}
+
+/// Whether the numbers of the kind are printed in hexadecimal: masks, and the numbers of movl, break, nop
+/// and hint.
+fn is_hex(kind: Kind) -> bool
+    ensures { result ≡ is_hex kind }
+{
+    match kind {
+        Kind::Number(field) => matches!(
+            field,
+            NumberField::Mask | NumberField::Imm21 | NumberField::Imm62 | NumberField::Imm64
+        ),
+        _ => false,
+    }
+}
+
+/// The marks and the operands of a form, item by item.
+#[tactic(auto, using(crate::proofs::Kept::kept_before))]
+fn push_items(
+    out: &mut Vec<u8>,
+    target: u64,
+    items: &[Item],
+    operands: &[Token],
+) -> Result<(), AllocError>
+    ensures ok { OnOk result (out.new.items ≡ out.old.items ++ operands_text target items.now operands.now) }
+    ensures err { OnErr result (StartsWith out.new.items out.old.items) }
+{
+    match items {
+        [] => Ok(()),
+        [Item::Is(mark), items @ ..] => {
+            push_token(out, target, false, mark_token(*mark))?;
+            push_items(out, target, items, operands)
+        }
+        [Item::Takes(kind), items @ ..] => match operands {
+            [] => Ok(()),
+            [operand, operands @ ..] => {
+                push_token(out, target, is_hex(*kind), *operand)?;
+                push_items(out, target, items, operands)
+            }
+        },
+    }
+}
+
+/// The texts of the completers, one after the other.
+#[tactic(auto, using(crate::proofs::Kept::kept_before))]
+fn push_completers(out: &mut Vec<u8>, completers: &[Completer]) -> Result<(), AllocError>
+    ensures ok { OnOk result (out.new.items ≡ out.old.items ++ flat_map text_of completers.now) }
+    ensures err { OnErr result (StartsWith out.new.items out.old.items) }
+{
+    match completers {
+        [] => Ok(()),
+        [completer, completers @ ..] => {
+            push_bytes(out, text(*completer))?;
+            push_completers(out, completers)
+        }
+    }
+}
+
+#[tactic(auto, using(crate::proofs::Kept::kept_before))]
+fn push_mnemonic(out: &mut Vec<u8>, form: Form, completers: &[Completer]) -> Result<(), AllocError>
+    ensures ok { OnOk result (out.new.items ≡ out.old.items ++ mnemonic_text form completers.now) }
+    ensures err { OnErr result (StartsWith out.new.items out.old.items) }
+{
+    push_bytes(out, form.word())?;
+    push_completers(out, completers)
+}
+
+/// The bundle of the target of a direct branch or check.
+fn target_of(bundle: u32, op: &Op) -> Option<u64>
+    requires { HasTarget bundle op.now }
+    ensures { result ≡ target_of bundle op.now }
+{
+    match op.displacement() {
+        Some(disp) => Some((i64::from(bundle) + i64::from(disp)) as u64),
+        None => None,
+    }
+}
+
+/// The qualifying predicate, where it isn't p0.
+#[tactic(auto, using(crate::proofs::Kept::kept_before))]
+fn push_predicate(out: &mut Vec<u8>, qp: Pr) -> Result<(), AllocError>
+    ensures ok { OnOk result (out.new.items ≡ out.old.items ++ predicate_text qp) }
+    ensures err { OnErr result (StartsWith out.new.items out.old.items) }
+{
+    if qp.number() == 0 {
+        return Ok(());
+    }
+    push_bytes(out, b"(p")?;
+    push_decimal(out, u64::from(qp.number()))?;
+    push_bytes(out, b") ")
+}
+
+/// The marks and the operands after one space, where there are any.
+#[tactic(auto, using(crate::proofs::Kept::kept_before, crate::proofs::Spaced::spaced_nothing, crate::proofs::Spaced::spaced_something))]
+fn push_operands(
+    out: &mut Vec<u8>,
+    target: u64,
+    items: &[Item],
+    operands: &[Token],
+) -> Result<(), AllocError>
+    ensures ok { OnOk result (out.new.items ≡ out.old.items ++ spaced (operands_text target items.now operands.now)) }
+    ensures err { OnErr result (StartsWith out.new.items out.old.items) }
+{
+    let before = out.len();
+    push_bytes(out, b" ")?;
+    let start = out.len();
+    push_items(out, target, items, operands)?;
+    if out.len() == start {
+        out.truncate(before);
+    }
+    Ok(())
+}
+
+fn push_stop(out: &mut Vec<u8>, stop: bool) -> Result<(), AllocError>
+    ensures ok { OnOk result (out.new.items ≡ out.old.items ++ stop_text stop) }
+    ensures err { OnErr result (StartsWith out.new.items out.old.items) }
+{
+    if stop {
+        push_bytes(out, b" ;;")
+    } else {
+        Ok(())
+    }
+}
+
+/// A slot line by how its instruction is printed.
+#[tactic(auto, using(crate::proofs::Kept::kept_before))]
+fn push_syntax(
+    out: &mut Vec<u8>,
+    target: u64,
+    qp: Pr,
+    syntax: &Syntax,
+    stop: bool,
+) -> Result<(), AllocError>
+    ensures ok { OnOk result (out.new.items ≡ out.old.items ++ line_text target qp syntax.now.form syntax.now.completers syntax.now.operands stop) }
+    ensures err { OnErr result (StartsWith out.new.items out.old.items) }
+{
+    push_bytes(out, b"  ")?;
+    push_predicate(out, qp)?;
+    push_mnemonic(out, syntax.form, syntax.completers.as_slice())?;
+    push_operands(out, target, syntax.form.items(), syntax.operands.as_slice())?;
+    push_stop(out, stop)
+}
+
+/// The bundle of the target, and 0 where there is none.
+fn target_or_zero(bundle: u32, op: &Op) -> u64
+    requires { HasTarget bundle op.now }
+    ensures { result ≡ or_zero (target_of bundle op.now) }
+{
+    match target_of(bundle, op) {
+        Some(target) => target,
+        None => 0,
+    }
+}
+
+fn push_slot(out: &mut Vec<u8>, bundle: u32, insn: &Insn, stop: bool) -> Result<(), AllocError>
+    requires { HasTarget bundle insn.now.op }
+    ensures ok { OnOk result (out.new.items ≡ out.old.items ++ slot_text insn.now bundle stop) }
+    ensures err { OnErr result (StartsWith out.new.items out.old.items) }
+{
+    let target = target_or_zero(bundle, &insn.op);
+    push_syntax(out, target, insn.qp, &syntax_of(&insn.op), stop)
+}
+
+/// Appends the canonical slot line of an instruction, without its line feed. The instruction is a
+/// listed one, and the target of a direct branch or check, counted from the bundle of the place, is
+/// no bundle before the first. Want of memory leaves `out` as it was.
+pub fn print_slot(
+    insn: &Insn,
+    place: Place,
+    stop: bool,
+    out: &mut Vec<u8>,
+) -> Result<(), AllocError>
+    requires listed { IsListed insn.now }
+    requires target { HasTarget place.bundle insn.now.op }
+    ensures ok { OnOk result (out.new.items ≡ out.old.items ++ slot_text insn.now place.bundle stop) }
+    ensures err { OnErr result (out.new.items ≡ out.old.items) }
+{
+    let before = out.len();
+    match push_slot(out, place.bundle, insn, stop) {
+        Ok(()) => Ok(()),
+        Err(error) => {
+            out.truncate(before);
+            Err(error)
+        }
+    }
+}

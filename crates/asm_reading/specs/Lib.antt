@@ -1,0 +1,7 @@
+pub mod Operands
+pub mod Instructions
+pub mod Lines
+pub mod SlotReading
+pub mod FaultOrder
+pub mod OneAnswer
+pub mod SomeAnswer

@@ -1,0 +1,322 @@
+-- What a line says, and its first fault. A line is read by its words, each of a kind and with a text:
+-- the leading word names forms, and the first form that the operands have makes the line's value.
+use Rattle.std.specs.Prelude.{◌≡◌, ◌⊎◌, ℕ, ◌+◌, ◌-◌, ◌^◌, ◌*◌, ◌%◌, Bool, true, false, not, ◌&&◌, nat_le, nat_lt, ◌==◌, if◌then◌else◌, List, [], ◌∷◌, map, take, drop, length, Option, Some, None, is_some, unwrap_or, Result, Ok, Err, slice_get, slice_range, codes}
+use Rattle.std.specs.Option.{option_map}
+use Rattle.std.specs.List.{find, All}
+use Rattle.std.specs.Str.{bytes_eq}
+use Rattle.asm_words.specs.declared.limits.TheConstants.{NAME_LIMIT}
+use Rattle.asm_words.specs.declared.tokens.Token.{Token}
+use Rattle.asm_words.specs.declared.tokens.Token.TheVariants as t
+use Rattle.asm_words.specs.declared.word.WordKind.{WordKind}
+use Rattle.asm_words.specs.declared.word.WordKind.TheVariants as kind
+use Rattle.asm_words.specs.declared.fault.LineFault.{LineFault}
+use Rattle.asm_words.specs.declared.fault.LineFault.TheVariants as fault
+use Rattle.asm_words.specs.declared.word.Word.{Word}
+use Rattle.asm_words.specs.Bytes.{has_only_plain}
+use Rattle.asm_words.specs.Registers.{numbered_register}
+use Rattle.asm_words.specs.Slices.{IsPart}
+use Rattle.asm_words.specs.Tokens.{token_of}
+use Rattle.asm_words.specs.Words.{pick, words_from}
+use Rattle.asm_forms.specs.declared.choices.AccessSize.{AccessSize}
+use Rattle.asm_forms.specs.declared.choices.AccessSize.TheVariants as size
+use Rattle.asm_forms.specs.declared.completer.Completer.{Completer}
+use Rattle.asm_forms.specs.declared.form.Form.{Form}
+use Rattle.asm_forms.specs.declared.form.Form.TheVariants as form
+use Rattle.asm_forms.specs.declared.items.Item.{Item}
+use Rattle.asm_forms.specs.declared.items.Item.TheVariants.{Is, Takes}
+use Rattle.asm_forms.specs.declared.items.Mark.TheVariants as mark
+use Rattle.asm_forms.specs.declared.items.Kind.TheVariants as takes
+use Rattle.asm_forms.specs.declared.items.NumberField.{NumberField}
+use Rattle.asm_forms.specs.declared.items.NumberField.TheVariants as field
+use Rattle.asm_forms.specs.Items.{accepts, taken, is_label_item, is_stop}
+use Rattle.asm_forms.specs.Matching.{fault_at, read_form}
+use Rattle.asm_forms.specs.Naming.{completers, named_forms}
+use Rattle.asm_forms.specs.Rows.{row_of}
+use Rattle.ia_insn.specs.declared.insn.Op.{Op}
+use Rattle.ia_insn.specs.Listed.{IsListed}
+use Rattle.asm_reading.specs.declared.line.Line.{Line}
+use Rattle.asm_reading.specs.declared.line.Line.TheVariants as line
+use Rattle.asm_reading.specs.declared.line.Draft.{Draft}
+use Rattle.asm_reading.specs.declared.line.Shape.{Shape}
+use Rattle.asm_reading.specs.declared.line.Shape.TheVariants as shape
+use Rattle.asm_reading.specs.Instructions.{op_of}
+use Rattle.asm_reading.specs.Operands.{u32_at, magnitude, is_negative, wrapped, bytes, completer_at, is_present}
+
+infixl 10 ◌>>=◌
+abbrev pub ◌>>=◌ : {A B : Type 0} → Result A LineFault → (A → Result B LineFault) → Result B LineFault
+(Ok x) >>= f = f x
+(Err e) >>= f = Err e
+
+abbrev pub or_fault : {A : Type 0} → Option A → LineFault → Result A LineFault
+or_fault None e = Err e
+or_fault (Some x) e = Ok x
+
+-- a word by its kind and its text
+abbrev pub KindAndText : Type 0
+KindAndText = WordKind × List ℕ
+
+-- the words of a line by their kinds and texts
+abbrev pub texts : List ℕ → List Word → List KindAndText
+texts bytes ws = map (λ w. (w.kind, slice_range bytes w.start w.end)) ws
+
+-- each is a part of the line
+abbrev pub AreParts : List ℕ → List Word → Type 0
+AreParts bytes ws = All (IsPart (length bytes)) ws
+
+abbrev pub tokens : List KindAndText → List Token
+tokens ws = map (λ w. token_of w.0 w.1) ws
+
+-- a name has 1 to 63 bytes
+abbrev pub name_of : List ℕ → Option (List ℕ)
+name_of text = if nat_le 1 (length text) && nat_le (length text) NAME_LIMIT then Some text else None
+
+-- the name at the place of the label among these items
+abbrev pub label_name : List Item → List KindAndText → Option (List ℕ)
+label_name [] ws = None
+label_name (i ∷ is) [] = None
+label_name (i ∷ is) (w ∷ ws) = if is_label_item i then name_of w.1 else label_name is ws
+
+abbrev pub is_open : Token → Bool
+is_open t.OpenParenthesis = true
+is_open _ = false
+
+abbrev pub is_close : Token → Bool
+is_close t.CloseParenthesis = true
+is_close _ = false
+
+-- how many words there are up to the first `)`
+abbrev pub past_parenthesis : List Token → Option ℕ
+past_parenthesis [] = None
+past_parenthesis (x ∷ xs) = if is_close x then Some 1 else option_map (λ n. n + 1) (past_parenthesis xs)
+
+-- how many words stand before the leading one: a qualifying predicate, or nothing
+abbrev pub lead_at : List Token → Option ℕ
+lead_at [] = None
+lead_at (x ∷ xs) = if is_open x then past_parenthesis (x ∷ xs) else Some 0
+
+abbrev pub is_some_stop : Option Token → Bool
+is_some_stop None = false
+is_some_stop (Some x) = is_stop x
+
+abbrev pub ends_in_stop : List Token → Bool
+ends_in_stop xs = is_some_stop (slice_get xs (length xs - 1))
+
+-- the operands, without the stop after them
+abbrev pub without_stop : List Token → List Token
+without_stop xs = if ends_in_stop xs then take (length xs - 1) xs else xs
+
+-- The qualifying predicate: a register between parentheses, and p0 where no word stands before the leading one.
+abbrev pub predicate_of : List Token → Result ℕ LineFault
+predicate_of [] = Ok 0
+predicate_of (x ∷ []) = Err fault.Form
+predicate_of (x ∷ t.Pr p ∷ t.CloseParenthesis ∷ []) = Ok p
+predicate_of (x ∷ t.Pr p ∷ ys) = Err fault.Form
+predicate_of (x ∷ y ∷ ys) = Err fault.Register
+
+-- the unit letter is missing
+abbrev pub is_bare : Form → List Completer → Bool
+is_bare form.Break cs = not (is_present (completer_at cs 0))
+is_bare form.BreakLong cs = not (is_present (completer_at cs 0))
+is_bare form.Nop cs = not (is_present (completer_at cs 0))
+is_bare form.NopLong cs = not (is_present (completer_at cs 0))
+is_bare form.Hint cs = not (is_present (completer_at cs 0))
+is_bare form.HintImm cs = not (is_present (completer_at cs 0))
+is_bare form.ChkS cs = not (is_present (completer_at cs 1))
+is_bare _ cs = false
+
+abbrev pub draft_of : Form → List Completer → ℕ → List KindAndText → Op → Draft
+draft_of f cs qp after x =
+    record { insn = record { qp = qp; op = x }; target = label_name (row_of f).items after; bare = is_bare f cs }
+
+abbrev pub completers_or_none : Form → List ℕ → List Completer
+completers_or_none f name = unwrap_or (completers f name) []
+
+-- A slot line under a predicate by its name and the tokens after that.
+abbrev pub slot_under : ℕ → List Form → List ℕ → List Token → List KindAndText → Result Line LineFault
+slot_under qp forms name xs after = do
+  f ← read_form forms (without_stop xs) xs
+  x ← or_fault (op_of f (completers_or_none f name) (taken (row_of f).items (without_stop xs))) fault.Form
+  Ok (line.Slot (draft_of f (completers_or_none f name) qp after x) (ends_in_stop xs))
+
+-- a slot line: the predicate is read first, and then the operands
+abbrev pub slot_of : List Form → List ℕ → List KindAndText → List KindAndText → Result Line LineFault
+slot_of forms name before after =
+    predicate_of (tokens before) >>= λ qp. slot_under qp forms name (tokens after) after
+
+-- A data line has 1 to 32 numbers in turn with commas.
+abbrev pub data_field : AccessSize → NumberField
+data_field size.One = field.Data1
+data_field size.Two = field.Data2
+data_field size.Four = field.Data4
+data_field size.Eight = field.Imm64
+
+abbrev pub data_item : NumberField → ℕ → Item
+data_item f at = if at % 2 == 0 then Takes (takes.Number f) else Is mark.Comma
+
+-- on how many tokens from the place on there are numbers and commas in turn
+abbrev pub agreed_data : NumberField → ℕ → List Token → ℕ
+agreed_data f at [] = 0
+agreed_data f at (x ∷ xs) = if nat_lt at 63 && accepts (data_item f at) x then agreed_data f (at + 1) xs + 1 else 0
+
+-- every second token is a number, modulo what its bytes hold
+abbrev pub numbers_of : ℕ → List Token → List ℕ
+numbers_of modulus [] = []
+numbers_of modulus (x ∷ []) = wrapped modulus (is_negative x) (magnitude x) ∷ []
+numbers_of modulus (x ∷ y ∷ xs) = wrapped modulus (is_negative x) (magnitude x) ∷ numbers_of modulus xs
+
+abbrev pub wants_number : ℕ → Bool
+wants_number at = nat_lt at 63 && (at % 2 == 0)
+
+abbrev pub data_fault : ℕ → List Token → LineFault
+data_fault at xs = fault_at false (wants_number at) false (slice_get xs at)
+
+abbrev pub data_of : AccessSize → List Token → Result Line LineFault
+data_of z xs =
+    if (agreed_data (data_field z) 0 xs == length xs) && (length xs % 2 == 1)
+    then Ok (line.Numbers (bytes z) (numbers_of (2 ^ (8 * bytes z)) xs))
+    else Err (data_fault (agreed_data (data_field z) 0 xs) xs)
+
+abbrev pub named : Option (List ℕ) → (List ℕ → Line) → Result Line LineFault
+named None value = Err fault.Form
+named (Some name) value = Ok (value name)
+
+-- the value of a directive's form
+abbrev pub directive_value : Form → List KindAndText → Result Line LineFault
+directive_value form.Text after = Ok line.Text
+directive_value form.Data after = Ok line.Data
+directive_value form.Entry after = named (label_name (row_of form.Entry).items after) (λ name. line.Entry name)
+directive_value form.Global after = Ok line.Ignored
+directive_value form.Proc after = Ok line.Ignored
+directive_value form.Endp after = Ok line.Ignored
+directive_value form.Skip after = Ok (line.Skip (u32_at (tokens after) 0))
+directive_value _ after = Err fault.Form
+
+abbrev pub directive_of : List Form → List KindAndText → Result Line LineFault
+directive_of forms after = read_form forms (tokens after) (tokens after) >>= λ f. directive_value f after
+
+-- No predicate stands before a directive.
+abbrev pub alone : List KindAndText → Result Line LineFault → Result Line LineFault
+alone [] value = value
+alone (b ∷ before) value = Err fault.Form
+
+abbrev pub formed : Form → List Form → List ℕ → List KindAndText → List KindAndText → Result Line LineFault
+formed form.Data1 forms name before after = alone before (data_of size.One (tokens after))
+formed form.Data2 forms name before after = alone before (data_of size.Two (tokens after))
+formed form.Data4 forms name before after = alone before (data_of size.Four (tokens after))
+formed form.Data8 forms name before after = alone before (data_of size.Eight (tokens after))
+formed form.Text forms name before after = alone before (directive_of forms after)
+formed form.Data forms name before after = alone before (directive_of forms after)
+formed form.Entry forms name before after = alone before (directive_of forms after)
+formed form.Global forms name before after = alone before (directive_of forms after)
+formed form.Proc forms name before after = alone before (directive_of forms after)
+formed form.Endp forms name before after = alone before (directive_of forms after)
+formed form.Skip forms name before after = alone before (directive_of forms after)
+formed _ forms name before after = slot_of forms name before after
+
+-- a line whose leading name names these forms, the first of which decides what the line is
+abbrev pub among : List Form → List ℕ → List KindAndText → List KindAndText → Result Line LineFault
+among [] name before after = Err fault.Name
+among (f ∷ fs) name before after = formed f (f ∷ fs) name before after
+
+-- a line that a name leads
+abbrev pub worded : List ℕ → List KindAndText → List KindAndText → Result Line LineFault
+worded name before after = among (named_forms name) name before after
+
+-- a mark that stands alone
+abbrev pub marked : Line → List KindAndText → List KindAndText → Result Line LineFault
+marked value [] [] = Ok value
+marked value before after = Err fault.Form
+
+abbrev pub shape_text : Shape → List ℕ
+shape_text shape.Mii = codes ".mii"
+shape_text shape.Mlx = codes ".mlx"
+shape_text shape.Mmi = codes ".mmi"
+shape_text shape.Mfi = codes ".mfi"
+shape_text shape.Mmf = codes ".mmf"
+shape_text shape.Mib = codes ".mib"
+shape_text shape.Mbb = codes ".mbb"
+shape_text shape.Bbb = codes ".bbb"
+shape_text shape.Mmb = codes ".mmb"
+shape_text shape.Mfb = codes ".mfb"
+
+abbrev pub all_shapes : List Shape
+all_shapes =
+    shape.Mii ∷ shape.Mlx ∷ shape.Mmi ∷ shape.Mfi ∷ shape.Mmf ∷ shape.Mib ∷ shape.Mbb ∷ shape.Bbb ∷ shape.Mmb ∷ shape.Mfb ∷ []
+
+-- the template name that a word is
+abbrev pub shape_of : List ℕ → Option Shape
+shape_of text = find (λ s. bytes_eq (shape_text s) text) all_shapes
+
+abbrev pub opened_as : Option Shape → List KindAndText → List KindAndText → Result Line LineFault
+opened_as None before after = Err fault.Name
+opened_as (Some s) before after = marked (line.Open s) before after
+
+-- `{` and a template name
+abbrev pub opened : List KindAndText → List KindAndText → Result Line LineFault
+opened before [] = Err fault.Name
+opened before (w ∷ after) = opened_as (shape_of w.1) before after
+
+-- a line that a mark leads
+abbrev pub mark_led : Token → List KindAndText → List KindAndText → Result Line LineFault
+mark_led t.Stop before after = marked line.Stop before after
+mark_led t.CloseBrace before after = marked line.Close before after
+mark_led t.OpenBrace before after = opened before after
+mark_led _ before after = Err fault.Name
+
+abbrev pub led_by : KindAndText → List KindAndText → List KindAndText → Result Line LineFault
+led_by (kind.Name, text) before after = worded text before after
+led_by (kind.Number, text) before after = Err fault.Name
+led_by (kind.Mark, text) before after = mark_led (token_of kind.Mark text) before after
+
+abbrev led_by_some : Option KindAndText → List KindAndText → List KindAndText → Result Line LineFault
+led_by_some None before after = Err fault.Name
+led_by_some (Some w) before after = led_by w before after
+
+abbrev pub led_at : List KindAndText → Option ℕ → Result Line LineFault
+led_at ws None = Err fault.Name
+led_at ws (Some k) = led_by_some (slice_get ws k) (take k ws) (drop (k + 1) ws)
+
+-- a line that is no label
+abbrev pub led : List KindAndText → Result Line LineFault
+led ws = led_at ws (lead_at (tokens ws))
+
+abbrev pub is_name_word : KindAndText → Bool
+is_name_word w = pick w.0 true false false
+
+abbrev pub is_colon : Token → Bool
+is_colon t.Colon = true
+is_colon _ = false
+
+-- a label stands alone, and is spelled as no register by number
+abbrev pub label_of : List ℕ → List KindAndText → Result Line LineFault
+label_of text [] = if is_some (numbered_register text) then Err fault.Form else named (name_of text) (λ name. line.Label name)
+label_of text (w ∷ ws) = Err fault.Form
+
+-- What the words of a line say: nothing, a label where the second word is a colon, or what the leading
+-- word leads.
+abbrev pub value_of : List KindAndText → Result Line LineFault
+value_of [] = Ok line.Empty
+value_of (w ∷ []) = led (w ∷ [])
+value_of (w ∷ x ∷ ws) =
+    if is_name_word w && is_colon (token_of x.0 x.1) then label_of w.1 ws else led (w ∷ x ∷ ws)
+
+-- what the bytes of a line say, but for whether its instruction is listed
+abbrev pub reading_of : List ℕ → Result Line LineFault
+reading_of bytes = if has_only_plain bytes then value_of (texts bytes (words_from 0 0 bytes)) else Err fault.Char
+
+-- the instruction of a slot line is listed
+abbrev pub IsListedLine : Line → Type 0
+IsListedLine (line.Slot draft stop) = IsListed draft.insn
+IsListedLine _ = Unit {0}
+
+-- The line has this value.
+pub record LineOf (bytes : List ℕ) (value : Line) : Type 0 where
+  pub reading : reading_of bytes ≡ Ok value
+  pub listed : IsListedLine value
+
+-- The line has this first fault: where its bytes are read, that of its words, and Form where all is read and the
+-- instruction isn't listed. The law `faults_in_order` has the stages in which it is looked for.
+abbrev pub FaultOf : List ℕ → LineFault → Type 0
+FaultOf bytes e =
+    (reading_of bytes ≡ Err e)
+    ⊎ ((value : Line) × (reading_of bytes ≡ Ok value) × (IsListedLine value → ⊥) × (e ≡ fault.Form))

@@ -1,0 +1,23 @@
+//! What a line of assembly text says, or its first fault.
+//!
+//! A line is cut into words, and the leading name names one or more forms. `reading` finds the form that the
+//! operands have and the line's value, or the first fault. `instruction` has what each form means. The marks and
+//! operands of a line go by the rows of the forms; numbers in a line of data and the names of templates don't.
+#![tactic(auto)]
+
+mod buffers;
+mod data;
+mod instruction;
+mod laws;
+mod line;
+mod operands;
+mod reading;
+mod shape;
+
+pub use buffers::LineBuffers;
+pub use laws::{
+    a_line_has_one_answer, a_line_is_read_by_its_words, char_comes_first, faults_in_order,
+    form_comes_last, line_or_fault, name_comes_next, the_first_wrong_token_decides,
+};
+pub use line::{Draft, Line, Shape, Values};
+pub use reading::{read_line, read_line_with};

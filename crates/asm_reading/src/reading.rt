@@ -1,0 +1,584 @@
+//! Reading a line: from its words to its value or its first fault.
+
+ghost use Rattle.std.specs.Prelude.{◌≡◌, ◌≤◌, ◌<◌, ◌+◌, ◌-◌, ◌*◌, ◌^◌, ◌↔◌, IsTrue, IfOk, IfErr, IfSome, length, take, drop, map, slice_get, slice_range, Some, Ok, true, false};
+ghost use Rattle.asm_words.specs.declared.limits.TheConstants.{LINE_LIMIT};
+ghost use Rattle.asm_words.specs.Tokens.{token_of};
+ghost use Rattle.asm_words.specs.Words.{pick};
+ghost use Rattle.asm_reading.specs.Lines.{AreParts, texts, tokens, name_of, label_name, lead_at, past_parenthesis, ends_in_stop, without_stop, predicate_of, is_bare, completers_or_none, slot_under, slot_of, directive_value, directive_of, alone, data_of, among, worded, marked, shape_of, opened, mark_led, led_by, led, led_at, is_colon, is_open, is_close, label_of, value_of, reading_of, IsListedLine, LineOf, FaultOf};
+ghost use Rattle.asm_reading.specs.SlotReading.{slot_line, is_directive_name};
+
+use crate::buffers::{LineBuffers, Tokens};
+use crate::data::data_of;
+use crate::instruction::op_of;
+use crate::line::{Draft, Line};
+use crate::operands::{is_present_at, u32_at};
+use crate::shape::shape_of;
+use asm_forms::{
+    AccessSize, Completer, Completers, Form, Item, Kind, Spelled, completers, find_spelled, named,
+    read_form, taken,
+};
+use asm_words::limits::LINE_LIMIT;
+use asm_words::{LineFault, Name, Token, Word, WordKind, numbered_register, token, words_into};
+use ia_insn::{Insn, Pr, is_listed};
+
+/// Puts what the words may be read as into the buffer, in the place of what it held.
+fn tokens_into(line: &[u8], words: &[Word], buffer: &mut Tokens)
+    requires few { length words.now ≤ LINE_LIMIT }
+    requires parts { AreParts line.now words.now }
+    ensures { buffer.new.items ≡ tokens (texts line.now words.now) }
+{
+    buffer.clear();
+    for word in words {
+        buffer.push(token(word.kind, word.text(line)));
+    }
+}
+
+/// How many words stand before the leading one: a qualifying predicate, or nothing.
+fn lead_at(line: &[u8], words: &[Word]) -> Option<usize>
+    requires { AreParts line.now words.now }
+    ensures { result ≡ lead_at (tokens (texts line.now words.now)) }
+{
+    match words {
+        [] => None,
+        [first, ..] => {
+            if is_open(first, line) {
+                past_parenthesis(line, words)
+            } else {
+                Some(0)
+            }
+        }
+    }
+}
+
+/// Whether the word is `(`.
+#[tactic(auto, using(crate::proofs::NoMarks::name_opens_nothing))]
+fn is_open(word: &Word, line: &[u8]) -> bool
+    requires { (word.now.start ≤ word.now.end) × (word.now.end ≤ length line.now) }
+    ensures { result ≡ is_open (token_of word.now.kind (slice_range line.now word.now.start word.now.end)) }
+{
+    !is_name(word) && matches!(token(word.kind, word.text(line)), Token::OpenParenthesis)
+}
+
+/// Whether the word is `)`.
+#[tactic(auto, using(crate::proofs::NoMarks::name_closes_nothing))]
+fn is_close(word: &Word, line: &[u8]) -> bool
+    requires { (word.now.start ≤ word.now.end) × (word.now.end ≤ length line.now) }
+    ensures { result ≡ is_close (token_of word.now.kind (slice_range line.now word.now.start word.now.end)) }
+{
+    !is_name(word) && matches!(token(word.kind, word.text(line)), Token::CloseParenthesis)
+}
+
+/// How many words there are up to the first `)`.
+fn past_parenthesis(line: &[u8], words: &[Word]) -> Option<usize>
+    requires { AreParts line.now words.now }
+    ensures { result ≡ past_parenthesis (tokens (texts line.now words.now)) }
+{
+    for (at, word) in words.iter().enumerate() {
+        if is_close(word, line) {
+            return Some(at + 1);
+        }
+    }
+    None
+}
+
+fn ends_in_stop(tokens: &[Token]) -> bool
+    ensures value { result ≡ ends_in_stop tokens.now }
+    ensures some { IsTrue result → 0 < length tokens.now }
+{
+    match tokens.last() {
+        Some(token) => matches!(token, Token::Stop),
+        None => false,
+    }
+}
+
+/// The operands, without the stop after them.
+fn without_stop(tokens: &[Token]) -> &[Token]
+    ensures { result.now ≡ without_stop tokens.now }
+{
+    if ends_in_stop(tokens) {
+        &tokens[..tokens.len() - 1]
+    } else {
+        tokens
+    }
+}
+
+/// The qualifying predicate: a register between parentheses, and p0 where no word stands before the leading
+/// one.
+fn predicate_of(tokens: &[Token]) -> Result<Pr, LineFault>
+    ensures { result ≡ predicate_of tokens.now }
+{
+    match tokens {
+        [] => Ok(Pr::default()),
+        [_, Token::Pr(register), Token::CloseParenthesis] => Ok(*register),
+        [_] | [_, Token::Pr(_), ..] => Err(LineFault::Form),
+        [_, _, ..] => Err(LineFault::Register),
+    }
+}
+
+/// The qualifying predicate of the words before the leading one.
+fn predicate(line: &[u8], before: &[Word], buffer: &mut Tokens) -> Result<Pr, LineFault>
+    requires few { length before.now ≤ LINE_LIMIT }
+    requires parts { AreParts line.now before.now }
+    ensures { result ≡ predicate_of (tokens (texts line.now before.now)) }
+{
+    tokens_into(line, before, buffer);
+    predicate_of(buffer.as_slice())
+}
+
+/// Whether the unit letter is missing.
+fn is_bare(form: Form, completers: &[Completer]) -> bool
+    ensures { result ≡ is_bare form completers.now }
+{
+    match form {
+        Form::Break | Form::BreakLong | Form::Nop | Form::NopLong | Form::Hint | Form::HintImm =>
+            !is_present_at(completers, 0),
+        Form::ChkS => !is_present_at(completers, 1),
+        _ => false,
+    }
+}
+
+/// The completers of the form in the name, and none where it has others.
+fn completers_or_none(form: Form, name: &[u8]) -> Completers
+    ensures { result.items ≡ completers_or_none form name.now }
+{
+    match completers(form, name) {
+        Some(completers) => completers,
+        None => Completers::new(),
+    }
+}
+
+/// The name with these bytes, and None where they are not 1 to 63.
+fn name_of(text: &[u8]) -> Option<Name>
+    ensures { result ≡ name_of text.now }
+{
+    Name::of(text)
+}
+
+/// The name at the place of the label among these items.
+fn label_name(line: &[u8], items: &[Item], words: &[Word]) -> Option<Name>
+    requires { AreParts line.now words.now }
+    ensures { result ≡ label_name items.now (texts line.now words.now) }
+{
+    match (items, words) {
+        ([Item::Takes(Kind::Label), ..], [word, ..]) => name_of(word.text(line)),
+        ([_, items @ ..], [_, words @ ..]) => label_name(line, items, words),
+        _ => None,
+    }
+}
+
+/// The slot line of this form, with these completers and the tokens after its name.
+fn slot_line(
+    qp: Pr,
+    form: Form,
+    completers: &[Completer],
+    tokens: &[Token],
+    line: &[u8],
+    words: &[Word],
+) -> Option<Line>
+    requires { AreParts line.now words.now }
+    ensures { result ≡ slot_line qp form completers.now tokens.now (texts line.now words.now) }
+{
+    let items = form.items();
+    let op = op_of(form, completers, &taken(items, without_stop(tokens)))?;
+    let draft = Draft {
+        insn: Insn { qp, op },
+        target: label_name(line, items, words),
+        bare: is_bare(form, completers),
+    };
+    Some(Line::Slot {
+        draft,
+        stop: ends_in_stop(tokens),
+    })
+}
+
+/// A slot line under a predicate by its name and the tokens after that.
+fn slot_under(
+    qp: Pr,
+    forms: &[Form],
+    name: &[u8],
+    tokens: &[Token],
+    line: &[u8],
+    words: &[Word],
+) -> Result<Line, LineFault>
+    requires { AreParts line.now words.now }
+    ensures { result ≡ slot_under qp forms.now name.now tokens.now (texts line.now words.now) }
+{
+    let form = read_form(forms, without_stop(tokens), tokens)?;
+    let completers = completers_or_none(form, name);
+    match slot_line(qp, form, &completers, tokens, line, words) {
+        Some(value) => Ok(value),
+        None => Err(LineFault::Form),
+    }
+}
+
+/// The value of a directive's form.
+fn directive_value(
+    form: Form,
+    line: &[u8],
+    words: &[Word],
+    operands: &[Token],
+) -> Result<Line, LineFault>
+    requires parts { AreParts line.now words.now }
+    requires operands { operands.now ≡ tokens (texts line.now words.now) }
+    ensures { result ≡ directive_value form (texts line.now words.now) }
+{
+    match form {
+        Form::Text => Ok(Line::Text),
+        Form::Data => Ok(Line::Data),
+        Form::Entry => match label_name(line, Form::Entry.items(), words) {
+            Some(name) => Ok(Line::Entry { name }),
+            None => Err(LineFault::Form),
+        },
+        Form::Global | Form::Proc | Form::Endp => Ok(Line::Ignored),
+        Form::Skip => Ok(Line::Skip {
+            count: u32_at(operands, 0),
+        }),
+        _ => Err(LineFault::Form),
+    }
+}
+
+/// A directive, by its forms.
+fn directive_of(
+    forms: &[Form],
+    line: &[u8],
+    words: &[Word],
+    buffer: &mut Tokens,
+) -> Result<Line, LineFault>
+    requires few { length words.now ≤ LINE_LIMIT }
+    requires parts { AreParts line.now words.now }
+    ensures { result ≡ directive_of forms.now (texts line.now words.now) }
+{
+    tokens_into(line, words, buffer);
+    let operands = buffer.as_slice();
+    let form = read_form(forms, operands, operands)?;
+    directive_value(form, line, words, operands)
+}
+
+/// A slot line, by its forms.
+fn slot_of(
+    forms: &[Form],
+    name: &[u8],
+    line: &[u8],
+    before: &[Word],
+    after: &[Word],
+    buffer: &mut Tokens,
+) -> Result<Line, LineFault>
+    requires few { (length before.now ≤ LINE_LIMIT) × (length after.now ≤ LINE_LIMIT) }
+    requires parts { AreParts line.now before.now × AreParts line.now after.now }
+    ensures { result ≡ slot_of forms.now name.now (texts line.now before.now) (texts line.now after.now) }
+{
+    let qp = predicate(line, before, buffer)?;
+    tokens_into(line, after, buffer);
+    slot_under(qp, forms, name, buffer.as_slice(), line, after)
+}
+
+/// A data line, before which no predicate stands.
+fn data_line(
+    size: AccessSize,
+    line: &[u8],
+    before: &[Word],
+    after: &[Word],
+    buffer: &mut Tokens,
+) -> Result<Line, LineFault>
+    requires few { length after.now ≤ LINE_LIMIT }
+    requires parts { AreParts line.now after.now }
+    ensures { result ≡ alone (texts line.now before.now) (data_of size (tokens (texts line.now after.now))) }
+{
+    match before {
+        [] => {
+            tokens_into(line, after, buffer);
+            data_of(size, buffer.as_slice())
+        }
+        [_, ..] => Err(LineFault::Form),
+    }
+}
+
+/// A directive, before which no predicate stands.
+fn directive_line(
+    forms: &[Form],
+    line: &[u8],
+    before: &[Word],
+    after: &[Word],
+    buffer: &mut Tokens,
+) -> Result<Line, LineFault>
+    requires few { length after.now ≤ LINE_LIMIT }
+    requires parts { AreParts line.now after.now }
+    ensures { result ≡ alone (texts line.now before.now) (directive_of forms.now (texts line.now after.now)) }
+{
+    match before {
+        [] => directive_of(forms, line, after, buffer),
+        [_, ..] => Err(LineFault::Form),
+    }
+}
+
+/// A line whose leading name names these forms, the first of which decides what the line is.
+fn among(
+    forms: &[Form],
+    name: &[u8],
+    line: &[u8],
+    before: &[Word],
+    after: &[Word],
+    buffer: &mut Tokens,
+) -> Result<Line, LineFault>
+    requires few { (length before.now ≤ LINE_LIMIT) × (length after.now ≤ LINE_LIMIT) }
+    requires parts { AreParts line.now before.now × AreParts line.now after.now }
+    ensures { result ≡ among forms.now name.now (texts line.now before.now) (texts line.now after.now) }
+{
+    match forms {
+        [] => Err(LineFault::Name),
+        [Form::Data1, ..] => data_line(AccessSize::One, line, before, after, buffer),
+        [Form::Data2, ..] => data_line(AccessSize::Two, line, before, after, buffer),
+        [Form::Data4, ..] => data_line(AccessSize::Four, line, before, after, buffer),
+        [Form::Data8, ..] => data_line(AccessSize::Eight, line, before, after, buffer),
+        [
+            Form::Text
+            | Form::Data
+            | Form::Entry
+            | Form::Global
+            | Form::Proc
+            | Form::Endp
+            | Form::Skip,
+            ..
+        ] => directive_line(forms, line, before, after, buffer),
+        [_, ..] => slot_of(forms, name, line, before, after, buffer),
+    }
+}
+
+/// Whether a name that leads a line can be that of a directive alone: the name of no instruction begins so.
+fn is_directive_name(name: &[u8]) -> bool
+    ensures { result ≡ is_directive_name name.now }
+{
+    matches!(name, [b'.', ..] | [b'd', b'a', ..])
+}
+
+/// A slot line that has no fault, by the one row that its name and its operands spell; None where it has a fault.
+fn slot_without_fault(
+    name: &[u8],
+    line: &[u8],
+    before: &[Word],
+    after: &[Word],
+    buffer: &mut Tokens,
+) -> Option<Line>
+    requires few { (length before.now ≤ LINE_LIMIT) × (length after.now ≤ LINE_LIMIT) }
+    requires parts { AreParts line.now before.now × AreParts line.now after.now }
+    requires slot { is_directive_name name.now ≡ false }
+    ensures { IfSome result (λ value. worded name.now (texts line.now before.now) (texts line.now after.now) ≡ Ok value) }
+{
+    let Ok(qp) = predicate(line, before, buffer) else {
+        return None;
+    };
+    tokens_into(line, after, buffer);
+    let tokens = buffer.as_slice();
+    let Some(Spelled { form, completers }) = find_spelled(name, without_stop(tokens)) else {
+        return None;
+    };
+    slot_line(qp, form, &completers, tokens, line, after)
+}
+
+/// A line that a name leads. All forms of the name are asked for only where a slot line has a fault.
+fn worded(
+    name: &[u8],
+    line: &[u8],
+    before: &[Word],
+    after: &[Word],
+    buffer: &mut Tokens,
+) -> Result<Line, LineFault>
+    requires few { (length before.now ≤ LINE_LIMIT) × (length after.now ≤ LINE_LIMIT) }
+    requires parts { AreParts line.now before.now × AreParts line.now after.now }
+    ensures { result ≡ worded name.now (texts line.now before.now) (texts line.now after.now) }
+{
+    if !is_directive_name(name) {
+        if let Some(value) = slot_without_fault(name, line, before, after, buffer) {
+            return Ok(value);
+        }
+    }
+    among(&named(name), name, line, before, after, buffer)
+}
+
+/// A mark that stands alone.
+fn marked(value: Line, line: &[u8], before: &[Word], after: &[Word]) -> Result<Line, LineFault>
+    ensures { result ≡ marked value (texts line.now before.now) (texts line.now after.now) }
+{
+    match (before, after) {
+        ([], []) => Ok(value),
+        _ => Err(LineFault::Form),
+    }
+}
+
+/// `{` and a template name.
+fn opened(line: &[u8], before: &[Word], after: &[Word]) -> Result<Line, LineFault>
+    requires { AreParts line.now after.now }
+    ensures { result ≡ opened (texts line.now before.now) (texts line.now after.now) }
+{
+    match after {
+        [word, rest @ ..] => match shape_of(word.text(line)) {
+            Some(shape) => marked(Line::Open { shape }, line, before, rest),
+            None => Err(LineFault::Name),
+        },
+        [] => Err(LineFault::Name),
+    }
+}
+
+/// A line that this word leads.
+fn led_by(
+    word: &Word,
+    line: &[u8],
+    before: &[Word],
+    after: &[Word],
+    buffer: &mut Tokens,
+) -> Result<Line, LineFault>
+    requires few { (length before.now ≤ LINE_LIMIT) × (length after.now ≤ LINE_LIMIT) }
+    requires parts { AreParts line.now before.now × AreParts line.now after.now }
+    requires word { (word.now.start ≤ word.now.end) × (word.now.end ≤ length line.now) }
+    ensures { result ≡ led_by (word.now.kind, slice_range line.now word.now.start word.now.end) (texts line.now before.now) (texts line.now after.now) }
+{
+    let text = word.text(line);
+    match word.kind {
+        WordKind::Name => worded(text, line, before, after, buffer),
+        WordKind::Number => Err(LineFault::Name),
+        WordKind::Mark => match token(WordKind::Mark, text) {
+            Token::Stop => marked(Line::Stop, line, before, after),
+            Token::CloseBrace => marked(Line::Close, line, before, after),
+            Token::OpenBrace => opened(line, before, after),
+            _ => Err(LineFault::Name),
+        },
+    }
+}
+
+/// The words before a place.
+fn before(words: &[Word], at: usize) -> &[Word]
+    requires { at ≤ length words.now }
+    ensures { result.now ≡ take at words.now }
+{
+    &words[..at]
+}
+
+/// The words from a place on.
+fn from(words: &[Word], at: usize) -> &[Word]
+    requires { at ≤ length words.now }
+    ensures { result.now ≡ drop at words.now }
+{
+    &words[at..]
+}
+
+/// A line that is no label.
+fn led(line: &[u8], words: &[Word], buffer: &mut Tokens) -> Result<Line, LineFault>
+    requires few { length words.now ≤ LINE_LIMIT }
+    requires parts { AreParts line.now words.now }
+    ensures { result ≡ led (texts line.now words.now) }
+{
+    let Some(lead) = lead_at(line, words) else {
+        return Err(LineFault::Name);
+    };
+    if lead >= words.len() {
+        return Err(LineFault::Name);
+    }
+    led_by(
+        &words[lead],
+        line,
+        before(words, lead),
+        from(words, lead + 1),
+        buffer,
+    )
+}
+
+/// A label: it stands alone, and is spelled as no register by number.
+fn label_of(text: &[u8], line: &[u8], rest: &[Word]) -> Result<Line, LineFault>
+    ensures { result ≡ label_of text.now (texts line.now rest.now) }
+{
+    match rest {
+        [] => {
+            if numbered_register(text).is_some() {
+                return Err(LineFault::Form);
+            }
+            match name_of(text) {
+                Some(name) => Ok(Line::Label { name }),
+                None => Err(LineFault::Form),
+            }
+        }
+        [_, ..] => Err(LineFault::Form),
+    }
+}
+
+/// Whether the word is a name.
+fn is_name(word: &Word) -> bool
+    ensures { result ≡ pick word.now.kind true false false }
+{
+    matches!(word.kind, WordKind::Name)
+}
+
+/// Whether the word is a colon.
+#[tactic(auto, using(crate::proofs::NoMarks::name_is_no_colon))]
+fn is_colon(word: &Word, line: &[u8]) -> bool
+    requires { (word.now.start ≤ word.now.end) × (word.now.end ≤ length line.now) }
+    ensures { result ≡ is_colon (token_of word.now.kind (slice_range line.now word.now.start word.now.end)) }
+{
+    !is_name(word) && matches!(token(word.kind, word.text(line)), Token::Colon)
+}
+
+/// What the words of a line say.
+fn value_of(line: &[u8], words: &[Word], buffer: &mut Tokens) -> Result<Line, LineFault>
+    requires few { length words.now ≤ LINE_LIMIT }
+    requires parts { AreParts line.now words.now }
+    ensures { result ≡ value_of (texts line.now words.now) }
+{
+    match words {
+        [] => Ok(Line::Empty),
+        [_] => led(line, words, buffer),
+        [name, colon, rest @ ..] => {
+            if is_name(name) && is_colon(colon, line) {
+                label_of(name.text(line), line, rest)
+            } else {
+                led(line, words, buffer)
+            }
+        }
+    }
+}
+
+/// What a line says, but for whether its instruction is listed.
+fn reading_of(line: &[u8], buffers: &mut LineBuffers) -> Result<Line, LineFault>
+    requires { length line.now ≤ LINE_LIMIT }
+    ensures { result ≡ reading_of line.now }
+{
+    words_into(line, &mut buffers.words)?;
+    value_of(line, buffers.words.as_slice(), &mut buffers.tokens)
+}
+
+/// Whether the instruction of a slot line is listed.
+fn is_listed_line(value: &Line) -> bool
+    ensures { IsTrue result ↔ IsListedLine value.now }
+{
+    match value {
+        Line::Slot { draft, .. } => is_listed(&draft.insn),
+        _ => true,
+    }
+}
+
+/// What a line says, or its first fault: of its bytes, its leading word, what stands before that, and the tokens
+/// after it from left to right ([`faults_in_order`](crate::faults_in_order)).
+///
+/// The line is at most [`LINE_LIMIT`] bytes long, and has no line feed. A leading word names one or more forms. Its
+/// operands are followed as far as any of them goes, and what those that got there want next decides: a
+/// register, a number, or anything else. Form comes too where all is read and the instruction is none of
+/// the profile. It takes no memory.
+pub fn read_line(line: &[u8]) -> Result<Line, LineFault>
+    requires { length line.now ≤ LINE_LIMIT }
+    ensures ok { IfOk result (LineOf line.now) }
+    ensures err { IfErr result (FaultOf line.now) }
+{
+    read_line_with(line, &mut LineBuffers::new())
+}
+
+/// What a line says, as [`read_line`] has it. The buffers are lent to it, and may be lent to the next line,
+/// which saves making them anew for each.
+pub fn read_line_with(line: &[u8], buffers: &mut LineBuffers) -> Result<Line, LineFault>
+    requires { length line.now ≤ LINE_LIMIT }
+    ensures ok { IfOk result (LineOf line.now) }
+    ensures err { IfErr result (FaultOf line.now) }
+{
+    let reading = reading_of(line, buffers);
+    match &reading {
+        Ok(value) if !is_listed_line(value) => Err(LineFault::Form),
+        _ => reading,
+    }
+}

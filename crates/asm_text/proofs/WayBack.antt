@@ -1,0 +1,36 @@
+-- What it takes to read an instruction back.
+use Rattle.std.proofs.Common.{◌≡◌, refl, ℕ, ◌-◌, ◌%◌, ◌<◌, ℤ, pos, negsuc, true, false, Some, is_some, flat_map, arith}
+use Rattle.std.specs.List.{list_any}
+use Rattle.std.proofs.Math.Nat.{mod-eq_of_lt}
+use Rattle.asm_forms.specs.Completers.{text_of}
+use Rattle.asm_forms.specs.Items.{fits, is_label_item}
+use Rattle.asm_forms.specs.Naming.{completers_in}
+use Rattle.asm_forms.specs.Rows.{row_of}
+use Rattle.ia_insn.specs.declared.insn.Op.{Op}
+use Rattle.ia_insn.specs.Targets.{displacement}
+use Rattle.asm_reading.specs.Instructions.{op_of}
+use Rattle.asm_reading.specs.Lines.{is_bare}
+use Rattle.asm_reading.specs.Operands.{signed}
+use Rattle.asm_reading.specs.FaultOrder.{is_instruction}
+use Rattle.asm_printing.specs.Canonical.{negative, distance, syntax_of}
+use Rattle.asm_text.specs.ReadBack.{untargeted}
+
+-- The completers and the operands of an instruction are those of its row, and mean the instruction.
+pub record ReadsBack (x : Op) : Type 0 where
+  pub choice : completers_in (row_of (syntax_of x).form).sets (flat_map text_of (syntax_of x).completers) ≡ Some (syntax_of x).completers
+  pub fits : fits (row_of (syntax_of x).form).items (syntax_of x).operands ≡ true
+  pub label : list_any is_label_item (row_of (syntax_of x).form).items ≡ is_some (displacement x)
+  pub slot : is_instruction (syntax_of x).form ≡ true
+  pub bare : is_bare (syntax_of x).form (syntax_of x).completers ≡ false
+  pub op : op_of (syntax_of x).form (syntax_of x).completers (syntax_of x).operands ≡ Some (untargeted x)
+
+-- a number is its sign and magnitude
+pub signed_back : (z : ℤ) → signed (negative z) (distance z) ≡ z
+signed_back (pos n) = refl
+signed_back (negsuc n) = refl
+
+-- a mask without its lowest bit comes back
+pub mask_back : (m : ℕ) → m < 131072 → m % 2 ≡ 0 → m % 131072 - m % 131072 % 2 ≡ m
+mask_back m l e =
+    let s : m % 131072 ≡ m = mod-eq_of_lt l in
+    rw (s, e) (omega arith)

@@ -1,7 +1,0 @@
-use Rattle.std.proofs.Common.{drop, arith}
-use Rattle.asm_text.proofs.DataLines.{agreed_past}
-use Rattle.asm_text.proofs.data.agreed_data.Goals as goal
-
-pub returns-else-at-lt63-clause-value : goal.returns-else-at-lt63-clause-value
-returns-else-at-lt63-clause-value c =
-    omega (arith, agreed_past c.args.field c.loop-at.at (drop c.loop-at.at c.args.tokens.now) (omega arith), c.loop-at.invariant.value)

@@ -1,7 +1,0 @@
-use Rattle.std.proofs.Common.{◌≡◌, ◌+◌, drop}
-use Rattle.std.specs.Option.{option_map}
-use Rattle.asm_text.specs.Lines.{past_parenthesis, tokens, texts}
-use Rattle.asm_text.proofs.reading.past_parenthesis.Given as goal
-
-abbrev pub invariant-loop-at : goal.invariant-loop-at
-invariant-loop-at l = option_map (λ n. n + l.at) (past_parenthesis (tokens (texts l.line (drop l.at l.words)))) ≡ past_parenthesis (tokens (texts l.line l.words))

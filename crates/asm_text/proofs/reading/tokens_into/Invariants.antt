@@ -1,6 +1,0 @@
-use Rattle.std.proofs.Common.{◌≡◌, take}
-use Rattle.asm_text.specs.Lines.{texts, tokens}
-use Rattle.asm_text.proofs.reading.tokens_into.Given as goal
-
-abbrev pub invariant-loop-word : goal.invariant-loop-word
-invariant-loop-word l = l.buffer.items ≡ tokens (texts l.line (take l.word-index l.words))
