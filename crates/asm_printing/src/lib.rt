@@ -11,6 +11,3 @@ mod printing;
 
 pub use numerals::{push_bytes, push_decimal, push_hex};
 pub use printing::print_slot;
-
-#[cfg(test)]
-mod printing_tests;

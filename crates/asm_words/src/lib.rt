@@ -26,6 +26,3 @@ pub use reading::token;
 pub use registers::numbered_register;
 pub use tokens::Token;
 pub use word::{Word, WordKind};
-
-#[cfg(test)]
-mod tests;

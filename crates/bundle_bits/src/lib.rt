@@ -14,6 +14,3 @@ mod word;
 pub use bundle::{RawBundle, join, one_bytes, one_raw, some_raw, split};
 pub use field::Field;
 pub use word::{Part, word_of_parts};
-
-#[cfg(test)]
-mod tests;

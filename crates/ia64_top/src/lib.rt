@@ -14,6 +14,3 @@ pub use laws::{law_names, one_output};
 pub use status::Status;
 pub use top::ia64;
 pub use words::{Command, Words, one_numeral};
-
-#[cfg(test)]
-mod tests;

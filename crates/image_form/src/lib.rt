@@ -22,6 +22,3 @@ pub use laws::{
 };
 pub use reading::{read_image, wrap_raw};
 pub use writing::write_image;
-
-#[cfg(test)]
-mod tests;

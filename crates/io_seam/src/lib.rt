@@ -17,6 +17,3 @@ pub use sink::Sink;
 pub use source::{Failed, Source};
 pub use standard::{StdSink, StdSource};
 pub use whole::{ReadError, WriteError, read_all, write_all};
-
-#[cfg(test)]
-mod tests;

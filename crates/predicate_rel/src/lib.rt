@@ -19,6 +19,3 @@ pub use edge::Edge;
 pub use facts::Facts;
 pub use laws::{law_facts, law_unordered};
 pub use rows::keeps_pairs;
-
-#[cfg(test)]
-mod tests;

@@ -26,6 +26,3 @@ pub use insn_masks::masks;
 pub use laws::{accesses_are_regular, accesses_clash, law_reads, law_writes};
 pub use masking::{Masks, masks_of, may_clash};
 pub use sets::{RESOURCE_COUNT, ResourceSet};
-
-#[cfg(test)]
-mod tests;

@@ -13,6 +13,3 @@ pub use counter::Counter;
 pub use reports::Reports;
 pub use tracer::Tracer;
 pub use watch::{Keep, Watch, a_line_a_group};
-
-#[cfg(test)]
-mod tests;

@@ -1,6 +1,6 @@
 //! What is known of predicates in a loop.
 
-use super::*;
+use flow_facts::solve;
 use ia_insn::{
     BranchKind, BundleOf, CmpKind, Gr, Insn, Op, Place, Pr, Program, Rel, Slots, Template, Unit,
 };

@@ -1,5 +1,7 @@
-use super::*;
+//! Sets of pairs of predicates.
+
 use ia_insn::Pr;
+use predicate_rel::Facts;
 
 /// All pairs are there. A pair that is added is there in both orders, and (x, x) as (x, p0) too; no other is. So a
 /// set has the one that it was made from, and their meet is that one.

@@ -1,8 +1,8 @@
 //! Watchers see groups and report them, alone and in a list.
 
-use super::*;
 use ia_insn::{GroupEvent, How, Place};
 use std::test::Fail;
+use watch_seam::{Counter, Keep, Reports, Tracer, Watch};
 
 /// A group of the three slots of a bundle.
 fn group(number: u64, bundle: u32, how: How) -> GroupEvent {

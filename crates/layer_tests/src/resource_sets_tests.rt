@@ -1,9 +1,11 @@
+//! Masks answer as accesses do.
+
 ghost use Rattle.std.specs.Prelude.{◌<◌};
 
-use super::*;
 use ia_insn::{
     AluFn, BranchKind, CmpKind, Gr, Insn, LoadKind, Op, Pr, Rel, StoreKind, Unit, Update,
 };
+use resource_sets::{accesses, clash, masks, may_clash};
 
 fn insn(qp: u64, op: Op) -> Insn
     requires { qp < 64 }

@@ -2,7 +2,10 @@
 
 ghost use Rattle.std.specs.Prelude.{◌≤◌, IfOk};
 
-use super::*;
+use io_seam::{
+    Failed, MemSink, MemSource, ReadError, Sink, Source, StdSink, StdSource, WriteError, read_all,
+    write_all,
+};
 use std::alloc::{AllocError, Global};
 use std::io::{self, Error, ErrorKind, Read, Write};
 use std::test::Fail;

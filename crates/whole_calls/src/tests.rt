@@ -6,7 +6,7 @@ mod watchers;
 
 ghost use Rattle.std.specs.Prelude.{◌≤◌};
 
-use crate::{Words, ia64};
+use ia64_top::{Words, ia64};
 use io_seam::{MemSink, MemSource};
 use std::alloc::Global;
 use std::process::Abort;

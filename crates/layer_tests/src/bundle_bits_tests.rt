@@ -1,4 +1,6 @@
-use super::*;
+//! Fields of a word are put and read.
+
+use bundle_bits::Field;
 
 /// A field within a word, the top bit alone, and the whole word.
 #[test]

@@ -3,7 +3,7 @@
 ghost use Rattle.std.specs.Prelude.{◌↔◌, ◌<◌, IsTrue};
 ghost use Rattle.asm_printing.specs.SlotTexts.{HasTarget};
 
-use crate::print_slot;
+use asm_printing::print_slot;
 use ia_insn::{
     AluFn, Br, BranchKind, CmpKind, Gr, Insn, LoadKind, Op, Place, Pr, Rel, ShiftFn, Unit, Update,
     is_listed,

@@ -1,8 +1,8 @@
 //! The watchers that are left.
 
 use super::{RETURN_TEXT, UNDERFLOW, sink_of, source_of, words};
-use crate::{Status, ia64};
 use ia_insn::GroupEvent;
+use ia64_top::{Status, ia64};
 use std::alloc::{AllocError, Global};
 use std::test::Fail;
 use watch_seam::{Counter, Keep, Tracer, Watch};

@@ -1,6 +1,6 @@
 //! Lines and words as the grammar of the text has them.
 
-use super::*;
+use asm_words::{LineFault, Name, Token, Word, WordKind, numbered_register, token, words};
 use ia_insn::{Ar, Br, Gr, Pr};
 use std::test::Fail;
 

@@ -1,6 +1,6 @@
 //! What reads and writes images answers them where there is memory.
 
-use super::*;
+use image_form::{is_image, read_image, wrap_raw, write_image};
 use std::test::Fail;
 
 /// The image of a bundle: `nop.m 0`, `nop.i 0`, `nop.i 0` and a stop.

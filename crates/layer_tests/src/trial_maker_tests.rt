@@ -1,9 +1,9 @@
 //! Programs are made where there is memory.
 
-use super::*;
 use ia_insn::limits::BUNDLE_LIMIT;
 use ia_insn::{AluFn, Gr, Insn, Op, Place, Pr};
 use std::test::Fail;
+use trial_maker::make;
 
 #[test]
 fn programs_are_made(rt: HostRuntime) -> Result<(), Fail> {

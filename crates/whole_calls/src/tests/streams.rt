@@ -4,7 +4,7 @@ use super::{
     NOPS, TWO_WRITES, TWO_WRITES_TEXT, answers, bare, bytes_of, image, leaves, sink_of, source_of,
     text, words,
 };
-use crate::{Status, Words, ia64};
+use ia64_top::{Status, Words, ia64};
 use io_seam::read_all;
 use std::alloc::Global;
 use std::process::Abort;
