@@ -7,21 +7,23 @@ import resource
 import subprocess
 
 import printed_forms
-from printed_forms import BUNDLE_LIMIT, MAGIC, Layout, bundles_of, has_form, head, takes_image
+from printed_forms import (BUNDLE_LIMIT, MAGICS, Layout, bundles_of, has_form, head, lifted_image, takes_image,
+                           without_relations)
 
 INPUT_LIMIT = 4194304
 DONE, VIOLATED, REFUSED = 0, 1, 3
 
 # The commands, their words joined by zero bytes, and the highest numbers of those that take some.
-COMMANDS = re.compile(rb"build|show|list|wrap|check|(?:run|watch)\0[1-9][0-9]*|trial\0(?:0|[1-9][0-9]*)\0[1-9][0-9]*")
+COMMANDS = re.compile(
+    rb"build|show|list|wrap|lift|check|(?:run|watch)\0[1-9][0-9]*|trial\0(?:0|[1-9][0-9]*)\0[1-9][0-9]*")
 HIGHEST = {b"run": (10**7,), b"watch": (10**7,), b"trial": (2**64 - 1, BUNDLE_LIMIT)}
 
 # How much processor time a call may take, in nanoseconds: START, so many for each byte of the input, and
 # of a run for each group, of a trial for each bundle. Much more than random programs need; a check that was
 # made to take long (`bench/inputs.py`) may take more.
 START = 50_000_000
-FOR_A_BYTE = {"build": 4000, "show": 2000, "list": 2000, "wrap": 2000, "check": 200_000, "run": 200_000,
-              "watch": 200_000}
+FOR_A_BYTE = {"build": 4000, "show": 2000, "list": 2000, "wrap": 2000, "lift": 2000, "check": 200_000,
+              "run": 200_000, "watch": 200_000}
 FOR_A_NUMBER = {"run": 20_000, "watch": 20_000, "trial": 100_000}
 
 Answer = collections.namedtuple("Answer", "status output")
@@ -59,6 +61,12 @@ def run(command, data, options):
             called.kill()
             raise
     return subprocess.CompletedProcess(command, called.returncode, output, error)
+
+
+def violations(checked):
+    """How many violations `check` found, and the lines of those that it printed."""
+    first, *lines = checked.output.splitlines()
+    return (int(first.split()[1]) if checked.status == VIOLATED else 0), set(lines)
 
 
 def difference(answer, wanted):
@@ -136,7 +144,8 @@ class Calls:
         if status == VIOLATED:
             return printed_forms.violations_oddity(output, int(words[2]) if word == "trial" else bundles_of(data))
         if word not in ("run", "watch") or not output:
-            return printed_forms.head_fault(data) if is_image and word != "wrap" and output else None
+            is_shown = is_image and word != "wrap" and output
+            return printed_forms.head_fault(data) or printed_forms.relation_fault(data) if is_shown else None
         at = output.index(b"end ", 0 if word == "run" else output.index(b"taken ", output.index(b"watch 1\n")))
         return (printed_forms.state_oddity(output[at:], bundles_of(data), int(words[1]))
                 or at and printed_forms.reports_oddity(output[:at], output[at:]))
@@ -166,29 +175,38 @@ class Calls:
         """Holds the answers on a text to each other. Its image, or None."""
         built, answers = self.call("build", data=data), self.verdicts(data)
         if built.status == DONE:
-            self.image(built.output, None if data.startswith(MAGIC) else answers)
+            self.image(built.output, None if data.startswith(MAGICS) else answers)
             return built.output
-        if not data.startswith(MAGIC):
+        if not data.startswith(MAGICS):
             self.all_same(answers, [built] * 3, "build says")
         return None
 
     def image(self, data, like=None):
         """Holds the answers on an image, or on what may be one, to each other and to those on its text."""
-        shown, listed = self.call("show", data=data), self.call("list", data=data)
+        shown, listed, lifted = (self.call(word, data=data) for word in ("show", "list", "lift"))
         answers = self.verdicts(data)
         if like is not None:
             self.all_same(answers, like, "of the text")
         if shown.status == DONE:
+            self.same("lift", lifted, Answer(DONE, lifted_image(data)), "the image that was shown")
             return self.shown(data, shown.output, listed, answers)
         self.same("list", listed, shown, "show says")
-        if data.startswith(MAGIC):
+        self.same("lift", lifted, shown, "show says")
+        if data.startswith(MAGICS):
             self.all_same(answers, [shown] * 3, "show says")
+        if shown.output.startswith(b"image: relation"):
+            if self.call("show", data=without_relations(data)).status != DONE:
+                self.note(["show"], "a relation is refused before another fault")
         return None
 
     def shown(self, image, text, listed, answers):
         """Holds an image to its canonical text, its listing and its bundles."""
-        self.same("build", self.call("build", data=text), Answer(DONE, image), "the image that was shown")
-        self.all_same(self.verdicts(text), answers, "of the image")
+        built = Answer(DONE, without_relations(image))
+        self.same("build", self.call("build", data=text), built, "the image that was shown")
+        if Layout(image).relations:
+            self.related(answers, self.verdicts(text))
+        else:
+            self.all_same(self.verdicts(text), answers, "of the image")
         code = Layout(image).code_of(image)
         wanted = [f"{n} {code[16 * n:16 * n + 16].hex()}" for n in range(len(code) // 16)]
         if re.findall(r"^\S+ \S+", listed.output.decode(), re.M) != wanted:
@@ -196,6 +214,19 @@ class Calls:
         if re.findall(rb"^  .*", listed.output, re.M) != re.findall(rb"^  .*", text, re.M):
             self.note(["list"], "other slots than those of show")
         self.wrap(code)
+
+    def related(self, answers, others):
+        """Holds the answers on an image with relations to those on its text, which doesn't say them: each of its
+        violations is one of the text too, and its run is the same, unless it ends with BadRelation."""
+        (count, found), (most, known) = violations(answers[0]), violations(others[0])
+        if count > most or (len(known) == most and found - known):
+            self.note(["check"], "violations that are none without the relations")
+        if most:
+            return
+        self.same("check", answers[0], others[0], "without the relations")
+        for word, answer, other in zip(("run", "watch"), answers[1:], others[1:]):
+            if b"end fault BadRelation " not in answer.output:
+                self.same(word, answer, other, "without the relations")
 
     def wrap(self, data):
         """Holds `wrap` of these bytes to the image that it makes. The image, or None."""

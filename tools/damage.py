@@ -6,7 +6,7 @@ import struct
 from fault_rows import SWEEPS
 from gnu_as import join, split, word_index
 from make_vectors import PLACES, swept_word
-from printed_forms import BUNDLE_LIMIT, HEAD, MAGIC, Layout
+from printed_forms import BUNDLE_LIMIT, HEAD, MAGICS, RELATION_LIMIT, Layout, entries_of, with_relations
 
 def span(random, data):
     """Two places in the bytes, most often close to each other."""
@@ -46,7 +46,7 @@ def cut(random, data):
 BYTE_EDITS = (flip, flip, insert, drop, double, exchange, cut)
 PIECES = [b"{", b"}", b";;", b"\n", b"\r\n", b"\r", b"\t", b" ", b"\0", b",", b"=", b"(p6)", b"//", b"[", b"r0", b"r127", b"p63",
           b"b0", b":", b"#", b"-1", b"0x", b"0" * 300, b"9" * 40, b".data\n", b".text\n", b".entry ", b"ar.pfs", b"{ .mlx\n",
-          b"nop 0 ;;\n", b"\xc3\xa9", MAGIC]
+          b"nop 0 ;;\n", b"\xc3\xa9", *MAGICS]
 
 
 # Edits of texts, by lines.
@@ -96,11 +96,53 @@ def head_edit(random, image):
 
 
 def part_edit(random, image):
-    """A bit of the head, the entries, the bundles or the data."""
+    """A bit of the head, the entries, the relations, the bundles or the data."""
     layout = Layout(image)
-    ends = sorted({0, HEAD, layout.code, layout.end, len(image)})
+    ends = sorted({0, HEAD, layout.after_entries, layout.code, layout.end, len(image)})
     part = random.randrange(len(ends) - 1)
     return image[:ends[part]] + flip(random, image[ends[part]:ends[part + 1]]) + image[ends[part + 1]:]
+
+
+def version_edit(_random, image):
+    """Each version begins as the other one."""
+    at = len(MAGICS[0]) - 1
+    return image[:at] + bytes([image[at] ^ MAGICS[0][at] ^ MAGICS[1][at]]) + image[at + 1:]
+
+
+def relations_added(random, image):
+    """An image of version 2 with relations at entries of an image, whose head and bundles are right."""
+    entries, liked = sorted(entries_of(image)), random.choice((0, 0.5, 1))
+    count = random.choice((0, 1, 1, 2, 3, 9, 9, 100, RELATION_LIMIT))
+    places = random.sample(entries, min(len(entries), random.choice((1, 2, len(entries)))))
+    made = {(random.choice(places), *((6, 7) if random.random() < liked else sorted(random.sample(range(1, 16), 2))), 0)
+            for _ in range(count)}
+    return with_relations(image, sorted(made))
+
+
+def relation_edit(random, image):
+    """A relation left out, put in twice, put elsewhere, of another bundle, of other predicates or of the same ones the
+    other way round, or with last bytes that aren't zero."""
+    layout = Layout(image)
+    relations = [list(relation) for relation in layout.relations_of(image)]
+    if not relations:
+        return image
+    at, kind = random.randrange(len(relations)), random.randrange(7)
+    own = relations.pop(at)
+    if kind == 1:
+        relations.insert(at, own)
+    elif kind == 2:
+        at = random.randrange(len(relations) + 1)
+    elif kind == 3:
+        own[0] = random.choice((0, (own[0] + 1) % 2**32, random.randrange(layout.bundles), layout.bundles, 2**32 - 1))
+    elif kind == 4:
+        own[random.randrange(1, 3)] = random.choice((0, 1, 15, 16, 63, 255))
+    elif kind == 5:
+        own[1:3] = own[2], own[1]
+    elif kind == 6:
+        own[3] = 1 << random.randrange(16)
+    if kind:
+        relations.insert(at, own)
+    return with_relations(image, relations)
 
 
 def bundle_edit(random, image):
@@ -142,13 +184,13 @@ def one_byte_more(random, data):
     return data + random_bytes(random, 1)
 
 
-IMAGE_EDITS = (head_edit, *[part_edit] * 6, *[bundle_edit] * 10, cut, one_byte_more)
+IMAGE_EDITS = (head_edit, version_edit, *[part_edit] * 6, *[relation_edit] * 4, *[bundle_edit] * 10, cut, one_byte_more)
 CODE_EDITS = (*[code_edit] * 8, *[flip] * 4, drop, double, cut)
 
 
 def is_whole(data):
     """Whether bytes have the parts of an image, so that these can be edited."""
-    return len(data) > HEAD and data.startswith(MAGIC) and len(data) >= Layout(data).end > Layout(data).code
+    return len(data) > HEAD and data.startswith(MAGICS) and len(data) >= Layout(data).end > Layout(data).code
 
 
 def damaged(random, data, edits):

@@ -3,17 +3,21 @@
 
 Call it when the program is built: tools/fuzz.py [--program FILE] [--seed S] [--cases N] [--processes P].
 Case n of a seed is the same on every machine, as far as the program builds the same images of the texts
-of tries/ and examples/. The cases are of seven sorts by turns: random programs as texts, which have to be
-right; such texts and those of the repository, damaged; images of both, damaged; bare bundles; bytes that
-are nothing; words near the commands; and texts with one fault, whose reason and line are known.
+of tries/ and examples/. The cases are of eight sorts by turns: random programs as texts, which have to be
+right; such texts and those of the repository, damaged; images of both, damaged; such images with relations,
+of which one may be changed; bare bundles; bytes that are nothing; words near the commands; and texts with one
+fault, whose reason and line are known.
 
 Of each call it looks at the status, the form of what is printed, that nothing is on standard error, that
 a refusal names a place of the input, and at the processor time (`FOR_A_BYTE` of calls.py); and over several calls:
 
-- `build` of what `show` prints is the image again; `list` has the bundles' bytes and the lines of the
-  slots; `wrap` of the bundles is refused as the image of them is, or gives it;
+- `build` of what `show` prints is the image again, in version 1 and without its relations; `list` has the
+  bundles' bytes and the lines of the slots; `wrap` of the bundles is refused as the image of them is, or
+  gives it;
 - `check`, `run N` and `watch N` answer the same of a text, its image and the image's text, and refuse
-  what `build`, or of an image `show`, refuses, in the same way;
+  what `build`, or of an image `show`, refuses, in the same way. With relations an image has no other
+  violations than its text, and the same run, unless this ends with BadRelation; and one whose relation is
+  refused is read without its relations;
 - `run N` and `watch N` print what `check` does exactly where that isn't `accepted`; `watch N` ends with
   what `run N` prints, and its reports and the state are of one run.
 
@@ -39,10 +43,10 @@ from pathlib import Path
 
 sys.dont_write_bytecode = True
 
-from damage import CODE_EDITS, IMAGE_EDITS, TEXT_EDITS, damaged, flip, random_bytes
+from damage import CODE_EDITS, IMAGE_EDITS, TEXT_EDITS, damaged, flip, random_bytes, relation_edit, relations_added
 from gnu_as import stop
 from calls import DONE, INPUT_LIMIT, REFUSED, Answer, GivenUp, Calls
-from printed_forms import MAGIC, Layout, head
+from printed_forms import MAGICS, Layout, head
 from random_texts import FAULT_KINDS, Shape, random_lines
 
 ROOT = Path(__file__).resolve().parent.parent
@@ -110,7 +114,14 @@ def damaged_texts(calls, random):
 
 
 def damaged_images(calls, random):
-    calls.image(damaged(random, some_image(calls, random), IMAGE_EDITS))
+    image = some_image(calls, random)
+    calls.image(damaged(random, relations_added(random, image) if random.randrange(3) == 0 else image, IMAGE_EDITS))
+
+
+def related_images(calls, random):
+    """Images with relations, right or with one of them changed."""
+    image = relations_added(random, some_image(calls, random))
+    calls.image(relation_edit(random, image) if random.randrange(2) else image)
 
 
 def bare_bundles(calls, random):
@@ -124,10 +135,11 @@ def bare_bundles(calls, random):
 def any_bytes(calls, random):
     """Bytes of all kinds, and such that begin as an image; seldom more than a command takes."""
     data = random_bytes(random, random.choice((1, 16, 24, 100, 2000)))
-    count = random.randrange(1, 20)
+    count, magic, version = random.randrange(1, 20), random.choice(MAGICS), random.randrange(1, 3)
     data = random.choice((
-        data, MAGIC + data, MAGIC[:random.randrange(8)], head(count) + random_bytes(random, 16 * 20)[:16 * count],
-        head(*(random.choice((0, 1, 2, 8, 1024, 4096, 1 << 20, 2**32 - 1)) for _ in range(4))) + data,
+        data, magic + data, magic[:random.randrange(8)],
+        head(count, version=version) + random_bytes(random, 16 * 20)[:16 * count],
+        head(*(random.choice((0, 1, 2, 8, 1024, 4096, 1 << 20, 2**32 - 1)) for _ in range(4)), version) + data,
         bytes(b % 95 + 32 for b in data), b"\n" * len(data), data.replace(b"\n", b"") * 3))
     if random.randrange(500) == 0:
         data = data or b"\n"
@@ -141,7 +153,7 @@ NUMBERS = [b"0", b"2", b"9", b"4097", b"10000001", b"18446744073709551615", b"18
            b"00", b"+5", b"-5", b"-0", b"5 ", b" 5", b"5x", b"0x5", b"1e3", b"1.0", b"", b"5\n", "\uff15".encode(), b"\xff",
            b"x" * 100000]
 GROUPS, SEEDS, BUNDLES = (1, 7, 8, 9, 100, 9999, 10**6, 10**7), (0, 1, 2**63, 2**64 - 1), (1, 2, 100, 4096)
-WORDS = [b"build", b"show", b"list", b"wrap", b"check", b"run", b"watch", b"trial"]
+WORDS = [b"build", b"show", b"list", b"wrap", b"lift", b"check", b"run", b"watch", b"trial"]
 NEAR = [b"help", b"--help", b"Check", b"check ", b"chec", b"checks", b"-", b"", b"run 5", b"trial 1 1"]
 
 
@@ -172,7 +184,7 @@ def single_faults(calls, random):
     calls.all_same(calls.verdicts(data), [wanted] * 3, "the fault that was put in")
 
 
-SORTS = (programs, damaged_texts, damaged_images, bare_bundles, any_bytes, words, single_faults)
+SORTS = (programs, damaged_texts, damaged_images, related_images, bare_bundles, any_bytes, words, single_faults)
 
 
 def run_case(options, number, kept=None):

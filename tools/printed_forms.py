@@ -7,11 +7,13 @@ A form is a regular expression of the whole output (`FORMS`).
 import re
 import struct
 
-from gnu_as import RESERVED, TEMPLATES, units
+from gnu_as import RESERVED, TEMPLATES, split, units
 
-MAGIC = b"IA64IMG1"
+# How an image of version 1 begins, and one of version 2.
+MAGICS = b"IA64IMG1", b"IA64IMG2"
 HEAD = 24
-BUNDLE_LIMIT, ENTRY_LIMIT, DATA_LIMIT = 4096, 1024, 1048576
+RELATION = "<I2BH"
+BUNDLE_LIMIT, ENTRY_LIMIT, DATA_LIMIT, RELATION_LIMIT = 4096, 1024, 1048576, 4096
 
 N = "(?:0|[1-9][0-9]*)"
 HEX = "0x(?:0|[1-9a-f][0-9a-f]*)"
@@ -32,11 +34,12 @@ REASONS = ("limit", "char", "name", "register", "number", "range", "form", "misp
            "slot kind", "empty", "no label", "long run")
 TEXT_REFUSED = rf"line [1-9][0-9]*: (?:{'|'.join(REASONS)})\n"
 SLOT_FAULT = "slot [012]: (?:unlisted|target|long run)"
-IMAGE_REFUSED = rf"image: (?:short|magic|counts|length|entry {N}|bundle {N}(?:: template| {SLOT_FAULT}))\n"
+IMAGE_REFUSED = (rf"image: (?:short|magic|counts|length|entry {N}|bundle {N}(?:: template| {SLOT_FAULT})"
+                 rf"|relation {N})\n")
 
 # The state, by its end.
 FAULTS = ("OutOfFrame", "NatConsumed", "Unaligned", "BadAddress", "BadFrame", "ReservedField", "Underflow",
-          "StackLimit", "BadLanding", "FellOff")
+          "StackLimit", "BadLanding", "BadRelation", "FellOff")
 BROKEN = rf"end break {HEX} at {PLACE}\n"
 LIMITED = rf"end limit at {PLACE}\n"
 FAULTED = rf"end fault (?:{'|'.join(FAULTS)}) at {PLACE}\n"
@@ -60,7 +63,7 @@ CANONICAL = (rf"(?:(?:\.entry L{N}\n)?(?:L{N}:\n)?{{ \.{BUNDLE}}}\n)+"
 LISTING = rf"(?:{N} [0-9a-f]{{32}} {BUNDLE})+"
 
 TRIAL = rf"trial {N} [1-9][0-9]*\naccepted\n(?:{BROKEN}|{LIMITED}|{FAULTED}){GROUPS}sum {WORD}\n"
-IMAGE = MAGIC.decode() + "(?s:.){16,}"
+IMAGE, LIFTED = (magic.decode() + "(?s:.){16,}" for magic in MAGICS)
 
 # Of each command: the form of what it prints with each of its statuses. With 3 it is a refusal of what
 # it takes, and with the statuses 2, 4, 5 and 7 there is nothing.
@@ -69,6 +72,7 @@ FORMS = {
     "show": {0: CANONICAL},
     "list": {0: LISTING},
     "wrap": {0: IMAGE},
+    "lift": {0: LIFTED},
     "check": {0: ACCEPTED, 1: VIOLATIONS},
     "run": {0: BROKEN + REST, 1: VIOLATIONS, 8: LIMITED + REST, 9: FAULTED + REST},
     "watch": {0: REPORTS + BROKEN + REST, 1: VIOLATIONS, 8: REPORTS + LIMITED + REST, 9: REPORTS + FAULTED + REST},
@@ -147,43 +151,93 @@ class Layout:
     """Where the parts of an image are, by its head."""
 
     def __init__(self, image):
-        self.bundles, self.entries, self.data, _ = struct.unpack("<4I", image[8:HEAD])
-        self.code = HEAD + 4 * self.entries
+        self.bundles, self.entries, self.data, self.relations = struct.unpack("<4I", image[8:HEAD])
+        self.after_entries = HEAD + 4 * self.entries
+        self.code = self.after_entries + 8 * self.relations
         self.end = self.code + 16 * self.bundles
+
+    def relations_of(self, image):
+        """Of each relation its bundle, its two predicates, and its last two bytes as a number."""
+        return list(struct.iter_unpack(RELATION, image[self.after_entries:self.code]))
 
     def code_of(self, image):
         return image[self.code:self.end]
 
 
-def head(bundles, entries=0, data=0, zero=0):
-    return MAGIC + struct.pack("<4I", bundles, entries, data, zero)
+def head(bundles, entries=0, data=0, relations=0, version=1):
+    return MAGICS[version - 1] + struct.pack("<4I", bundles, entries, data, relations)
+
+
+def with_relations(image, relations):
+    """The image of version 2 with these relations, as `relations_of` gives them, in place of those of an image."""
+    layout = Layout(image)
+    front = head(layout.bundles, layout.entries, layout.data, len(relations), 2) + image[HEAD:layout.after_entries]
+    return front + b"".join(struct.pack(RELATION, *relation) for relation in relations) + image[layout.code:]
+
+
+def without_relations(image):
+    """The image of version 1 of the same program without its relations."""
+    layout = Layout(image)
+    return head(layout.bundles, layout.entries, layout.data) + image[HEAD:layout.after_entries] + image[layout.code:]
+
+
+def lifted_image(image):
+    """The image of version 2 of the same program."""
+    return with_relations(image, Layout(image).relations_of(image))
 
 
 def takes_image(word, data):
-    return word in ("show", "list", "wrap") or (word != "build" and data.startswith(MAGIC))
+    return word in ("show", "list", "wrap", "lift") or (word != "build" and data.startswith(MAGICS))
 
 
 def bundles_of(data):
     """How many bundles an image has, or at most a text."""
-    return Layout(data).bundles if data.startswith(MAGIC) else data.count(b"{")
+    return Layout(data).bundles if data.startswith(MAGICS) else data.count(b"{")
 
 
 def head_fault(data):
     """The fault of the head or the entries of an image, as a refusal says it, or None."""
     if len(data) < HEAD:
         return "short"
-    if not data.startswith(MAGIC):
+    if not data.startswith(MAGICS):
         return "magic"
-    bundles, entries, size, zero = struct.unpack("<4I", data[8:HEAD])
-    if not 1 <= bundles <= BUNDLE_LIMIT or entries > ENTRY_LIMIT or size > DATA_LIMIT or size % 8 or zero:
+    bundles, entries, size, relations = struct.unpack("<4I", data[8:HEAD])
+    most = 0 if data.startswith(MAGICS[0]) else RELATION_LIMIT
+    if not 1 <= bundles <= BUNDLE_LIMIT or entries > ENTRY_LIMIT or size > DATA_LIMIT or size % 8 or relations > most:
         return "counts"
-    if len(data) != HEAD + 4 * entries + 16 * bundles + size:
+    if len(data) != HEAD + 4 * entries + 8 * relations + 16 * bundles + size:
         return "length"
     least = 1
     for number, (entry,) in enumerate(struct.iter_unpack("<I", data[HEAD:HEAD + 4 * entries])):
         if not least <= entry < bundles:
             return f"entry {number}"
         least = entry + 1
+    return None
+
+
+def has_call(bundle):
+    """Whether a bundle with right slots has a call: in a B slot, the major opcode of one."""
+    code, words = split(bundle)
+    return code not in RESERVED and any(unit == "b" and word >> 37 in (1, 5) for unit, word in zip(units(code), words))
+
+
+def entries_of(image):
+    """The entries of an image whose head and bundles are right: bundle 0, those that it declares, and those behind
+    a call."""
+    layout = Layout(image)
+    declared = struct.unpack(f"<{layout.entries}I", image[HEAD:layout.after_entries])
+    bundles = [image[at:at + 16] for at in range(layout.code, layout.end, 16)]
+    return {0, *declared, *(n for n in range(1, len(bundles)) if has_call(bundles[n - 1]))}
+
+
+def relation_fault(image):
+    """The fault of the relations of an image whose head and bundles are right, as a refusal says it, or None."""
+    relations, before = Layout(image).relations_of(image), ()
+    entries = entries_of(image) if relations else ()
+    for number, (bundle, p, q, rest) in enumerate(relations):
+        if before >= (bundle, p, q) or bundle not in entries or not 1 <= p < q <= 15 or rest:
+            return f"relation {number}"
+        before = bundle, p, q
     return None
 
 
@@ -196,13 +250,15 @@ def text_refusal_oddity(data, output):
 
 def image_refusal_oddity(data, output):
     """What is wrong with a refusal of an image: a fault of its head is passed over or is none, and so are
-    reserved templates, or it has no such place."""
+    reserved templates and faults of relations, or it has no such place."""
     fault, numbers = head_fault(data), [int(number) for number in re.findall(rb"\d+", output)]
+    codes = [] if fault else [code & 0x1F for code in Layout(data).code_of(data)[::16]]
+    reserved = next((n for n, code in enumerate(codes) if code in RESERVED), len(codes))
+    if not fault and b"relation" in output:
+        fault = relation_fault(data) if reserved == len(codes) else f"bundle {reserved}: template"
     if fault or b"bundle" not in output:
         return None if output == f"image: {fault}\n".encode() else f"{output!r} in place of {fault}"
-    layout, number = Layout(data), numbers[0]
-    codes = [code & 0x1F for code in layout.code_of(data)[::16]]
-    reserved = next((n for n, code in enumerate(codes) if code in RESERVED), len(codes))
+    number = numbers[0]
     if b"template" in output:
         return None if number == reserved else f"{output!r} in place of {reserved}"
     looked_at = reserved if b"unlisted" in output else len(codes)

@@ -31,6 +31,9 @@ head -c 100 /dev/zero > "$dir/no_image"
 
 try accepted 0 "$dir/accepted" examples/three_nops.image check
 try wrap 0 examples/three_nops.image examples/three_nops.bundles wrap
+(printf IA64IMG2; tail -c +9 examples/three_nops.image) > "$dir/lifted"
+try lift 0 "$dir/lifted" examples/three_nops.image lift
+try lift_again 0 "$dir/lifted" "$dir/lifted" lift
 printf '{ .mii\n  nop.m 0x0\n  nop.i 0x0\n  nop.i 0x0 ;;\n}\n' > "$dir/text"
 try show 0 "$dir/text" examples/three_nops.image show
 printf '{ .mii\n  nop.m 0x0\n  add r8=r9,r10\n  add r11=r8,r9 ;;\n}\n' > "$dir/adds"
@@ -317,7 +320,7 @@ open='\0\0\0\0\x01\0\0\0\0\x02\0\0\0\0\x04\0'
 refused 'short' check 'IA64IMG1'
 refused 'short' show ''
 refused 'short' list ''
-refused 'magic' show 'IA64IMG2\x01\0\0\0\0\0\0\0\0\0\0\0\0\0\0\0'
+refused 'magic' show 'IA64IMG3\x01\0\0\0\0\0\0\0\0\0\0\0\0\0\0\0'
 refused 'entry 0' check 'IA64IMG1\x01\0\0\0\x01\0\0\0\0\0\0\0\0\0\0\0\x01\0\0\0'"$nops"
 refused 'bundle 1: template' wrap "$nops"'\x06\0\0\0\0\0\0\0\0\0\0\0\0\0\0\0'
 refused 'bundle 0 slot 2: unlisted' wrap '\x01\0\0\0\x01\0\0\0\0\x02\x80\xff\xff\xff\xff\xff'
@@ -325,6 +328,123 @@ refused 'bundle 0 slot 2: target' wrap '\x11\0\0\0\x01\0\0\0\0\x02\0\0\x10\0\0\x
 long=
 for _ in {1..65}; do long+=$open; done
 refused 'bundle 64 slot 0: long run' wrap "$long"
+
+# Images of version 2, as printf takes them: a head with so many bundles, entries and relations, and a relation.
+number() { printf '\\x%02x\\x%02x\\0\\0' $(($1 & 255)) $(($1 >> 8)); }
+front() { printf 'IA64IMG2%s%s\\0\\0\\0\\0%s' "$(number "$1")" "$(number "$2")" "$(number "$3")"; }
+relation() { printf '%s\\x%02x\\x%02x\\0\\0' "$(number "$1")" "$2" "$3"; }
+
+# NAME BYTES: a file with these bytes, given as printf takes them.
+made() { printf "$2" > "$dir/$1"; }
+
+entry='\x01\0\0\0'
+
+# Two bundles: a compare with the targets p6 and p7, and two moves to r8, one under p6 and one under p7. The second one is an
+# entry, which promises that p6 and p7 aren't both 1, or nothing.
+compare='\x01\x30\0\0\x07\x38\0\0\0\x02\0\0\0\0\x04\0'
+moves='\x01\0\0\0\x01\x80\x81\x08\0\0\xc8\x03\x21\0\0\x90'
+printf 'violations 1\nWAW r8 1.1 1.2\n' > "$dir/waw"
+promise=$(relation 1 6 7)
+made promised "$(front 2 1 1)$entry$promise$compare$moves"
+made plain "$(front 2 1 0)$entry$compare$moves"
+made first 'IA64IMG1\x02\0\0\0\x01\0\0\0\0\0\0\0\0\0\0\0'"$entry$compare$moves"
+try 'a relation' 0 "$dir/accepted" "$dir/promised" check
+for image in plain first; do try "no relation, $image" 1 "$dir/waw" "$dir/$image" check; done
+for command in run watch; do try "no relation, $command" 1 "$dir/waw" "$dir/plain" "$command" 9; done
+
+# What is shown and listed says no relations, and builds the image of version 1.
+{
+  printf '{ .mii\n  cmp.eq p6,p7=r0,r0\n  nop.i 0x0\n  nop.i 0x0 ;;\n}\n.entry L1\nL1:\n'
+  printf '{ .mii\n  nop.m 0x0\n  (p6) addl r8=1,r0\n  (p7) addl r8=2,r0 ;;\n}\n'
+} > "$dir/text"
+"$program" list < "$dir/first" > "$dir/listing"
+note $? "no relation, list: another status than 0"
+for image in promised plain first; do
+  try "$image, shown" 0 "$dir/text" "$dir/$image" show
+  try "$image, listed" 0 "$dir/listing" "$dir/$image" list
+done
+try 'a relation that was shown' 0 "$dir/first" "$dir/text" build
+try 'a relation that was shown, checked' 1 "$dir/waw" "$dir/text" check
+
+# A walk that comes from a bundle that sets neither predicate doesn't know what the entry promises.
+made direct "$(front 2 1 1)$entry$promise$nops$moves"
+try 'a relation and a direct path' 1 "$dir/waw" "$dir/direct" check
+
+# A relation of bundle 0, and one of a bundle behind a call, which are entries without being declared.
+made promised_start "$(front 1 0 1)$(relation 0 6 7)$moves"
+try 'a relation of bundle 0' 0 "$dir/accepted" "$dir/promised_start" check
+call='\x11\0\0\0\x01\0\0\0\0\x02\0\0\0\0\0\x50'
+made promised_return "$(front 2 0 1)$promise$call$moves"
+try 'a relation behind a call' 0 "$dir/accepted" "$dir/promised_return" check
+made return "$(front 2 0 0)$call$moves"
+try 'no relation behind a call' 1 "$dir/waw" "$dir/return" check
+
+# A branch to bundle 3, behind an `or` compare that sets p6 and p7: movl r9=0x10030; mov b6=r9 and cmp.eq.or p6,p7=r8,r10;
+# br.cond b6; break.b 0. The entry promises that the two aren't both 1. Where it promises it of p6 and p8, or nothing, the run
+# goes on.
+landing='\x05\0\0\0\x01\0\0\0\0\0\0\x20\x01\x23\0\x60\x01\0\0\0\x01\0\x60\x48\x04\x80\x03\xc0\x80\x50\x1c\xd1'
+landing+='\x11\0\0\0\x01\0\0\0\0\x02\0\0\x60\0\x80\0\x11\0\0\0\x01\0\0\0\0\x02\0\0\0\0\0\0'
+rest() { printf 'r9 0000000000010030\npr 00000000000000c1\nb6 0000000000010030\n'; }
+third='\x03\0\0\0'
+made broken "$(front 4 1 1)$third$(relation 3 6 7)$landing"
+try 'a broken relation, checked' 0 "$dir/accepted" "$dir/broken" check
+{ state 'fault BadRelation at 2.2' 3; rest; } > "$dir/state"
+try 'a broken relation' 9 "$dir/state" "$dir/broken" run 9
+try_watch 'a broken relation' 9 "$dir/state" "$dir/broken" 9
+{ reports 3 8 0 '0.0 0.1 falls' '1.0 1.2 falls' '2.0 2.2 ends'; cat "$dir/state"; } > "$dir/watched"
+try 'a broken relation, watched' 9 "$dir/watched" "$dir/broken" watch 9
+{ state 'limit at 2.0' 2; rest; } > "$dir/state"
+try 'a relation before it is broken' 8 "$dir/state" "$dir/broken" run 2
+{ state 'break 0x0 at 3.2' 4; rest; } > "$dir/state"
+made kept "$(front 4 1 1)$third$(relation 3 6 8)$landing"
+made plain_landing "$(front 4 1 0)$third$landing"
+for image in kept plain_landing; do try "a landing, $image" 0 "$dir/state" "$dir/$image" run 9; done
+
+# Each part of the rule of relations, and the first relation that breaks one.
+two=$(front 2 1 2)$entry
+for wrong in "$(relation 1 6 5)" "$(relation 1 6 6)" "$(relation 1 0 7)" "$(relation 1 6 16)" "$(relation 2 6 7)" \
+  '\x01\0\0\0\x06\x07\x01\0' '\x01\0\0\0\x06\x07\0\x01' '\x01\0\0\x01\x06\x07\0\0'; do
+  for command in show list check; do refused 'relation 0' "$command" "$(front 2 1 1)$entry$wrong$compare$moves"; done
+  for command in run watch; do try "relation 0, $command" 3 "$dir/wanted" "$dir/refused" "$command" 9; done
+  refused 'relation 0' check "$two$wrong$promise$compare$moves"
+  refused 'relation 1' check "$two$(relation 0 1 2)$wrong$compare$moves"
+done
+refused 'relation 0' check "$(front 2 0 1)$promise$compare$moves"
+for before in "$promise" "$(relation 1 6 8)" "$(relation 1 7 8)"; do
+  refused 'relation 1' check "$two$before$promise$compare$moves"
+done
+refused 'relation 1' check "$two$promise$(relation 0 8 9)$compare$moves"
+
+# Every other fault stands before those of relations.
+wrong=$(relation 1 7 6)
+refused 'counts' check 'IA64IMG1\x02\0\0\0\x01\0\0\0\0\0\0\0\x01\0\0\0'"$entry$promise$compare$moves"
+refused 'entry 0' check "$(front 2 1 1)"'\x02\0\0\0'"$wrong$compare$moves"
+refused 'bundle 1: template' check "$(front 2 1 1)$entry$wrong$compare"'\x06\0\0\0\0\0\0\0\0\0\0\0\0\0\0\0'
+refused 'bundle 1 slot 2: target' check "$(front 2 1 1)$entry$wrong$compare"'\x11\0\0\0\x01\0\0\0\0\x02\0\0\x10\0\0\x40'
+
+# One byte less and one more.
+printf 'image: length\n' > "$dir/length"
+head -c 67 "$dir/promised" > "$dir/refused"
+try 'a relation, one byte less' 3 "$dir/length" "$dir/refused" check
+made refused "$(front 2 1 1)$entry$promise$compare$moves\0"
+try 'a relation, one byte more' 3 "$dir/length" "$dir/refused" check
+refused 'length' show "$(front 2 1 2)$entry$promise$compare$moves"
+
+# The most relations: all 105 of each of 39 entries, and one of another.
+entries='' code=$nops pairs='' all=''
+for p in {1..14}; do for q in $(seq $((p + 1)) 15); do pairs+="_$(printf '\\x%02x\\x%02x\\0\\0' "$p" "$q")"; done; done
+for n in {1..39}; do entries+=$(number "$n") code+=$nops; done
+for n in {0..38}; do all+=${pairs//_/"$(number "$n")"}; done
+first=$(relation 39 1 2) second=$(relation 39 1 3)
+made most "$(front 40 39 4096)$entries$all$first$code"
+{
+  printf '{ .mii\n  nop.m 0x0\n  nop.i 0x0\n  nop.i 0x0 ;;\n}\n'
+  for n in {1..39}; do printf '.entry L%s\nL%s:\n{ .mii\n  nop.m 0x0\n  nop.i 0x0\n  nop.i 0x0 ;;\n}\n' "$n" "$n"; done
+} > "$dir/text"
+try 'the most relations' 0 "$dir/accepted" "$dir/most" check
+try 'the most relations, shown' 0 "$dir/text" "$dir/most" show
+refused 'counts' check "$(front 40 39 4097)$entries$all$first$second$code"
+refused 'relation 4095' check "$(front 40 39 4096)$entries$all$(relation 38 1 2)$code"
 
 "$program" check < examples/three_nops.image > /dev/full 2> /dev/null
 note $(($? != 6)) "write_fault: another status than 6"

@@ -66,8 +66,8 @@ BUNDLES = b"".join(nops(number) for number in range(4096))
 IMAGE = b"IA64IMG1" + struct.pack("<4I", 4096, 0, 0, 0) + BUNDLES
 
 # Each command that reads, and an input for which it gives an answer.
-READERS = ((("build",), TEXT), (("show",), IMAGE), (("list",), IMAGE), (("wrap",), BUNDLES), (("check",), TEXT),
-           (("run", "1"), TEXT), (("watch", "1"), TEXT))
+READERS = ((("build",), TEXT), (("show",), IMAGE), (("list",), IMAGE), (("wrap",), BUNDLES), (("lift",), IMAGE),
+           (("check",), TEXT), (("run", "1"), TEXT), (("watch", "1"), TEXT))
 
 # ---- Streams and calls -----------------------------------------------------------------------------------
 

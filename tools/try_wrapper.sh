@@ -49,6 +49,8 @@ try 'a violation on the way back' 1 "$dir/loop_edge" '' examples/loop_edge.s ./i
 try 'a run with register frames' 0 "$dir/call" '' examples/call.s ./ia64 run 100
 try 'build' 0 examples/read_after_write.image '' examples/read_after_write.s ./ia64 build
 try 'wrap' 0 examples/three_nops.image '' examples/three_nops.bundles ./ia64 wrap
+(printf IA64IMG2; tail -c +9 examples/three_nops.image) > "$dir/lifted"
+try 'lift' 0 "$dir/lifted" '' examples/three_nops.image ./ia64 lift
 [ "$(./ia64 build < examples/call.s | ./ia64 list | grep -c '^[0-9]')" = 6 ]
 note $? 'a text as a listing'
 [ "$(./ia64 trial 1 4096 | sed -n 2p)" = accepted ]
@@ -83,7 +85,7 @@ try 'upper case before a number' 2 "$dir/nothing" 'perhaps: ia64 watch 7 < examp
 try 'an unknown word' 2 "$dir/nothing" "no command 'assemble'" /dev/null ./ia64 assemble
 ./ia64 --help > "$dir/help"
 try 'help' 0 "$dir/help" '' /dev/null ./ia64 --help
-for command in check 'run N' 'watch N' build show list wrap 'trial SEED'; do grep -q "^  $command " "$dir/help"; note $? "--help has no $command"; done
+for command in check 'run N' 'watch N' build show list wrap lift 'trial SEED'; do grep -q "^  $command " "$dir/help"; note $? "--help has no $command"; done
 try 'a refusal' 3 "$dir/magic" "'list' refused its input; the reason went to standard output" examples/call.s ./ia64 list
 head -c 4194305 /dev/zero > "$dir/too_long"
 try 'a long input' 4 "$dir/nothing" 'longer than 4,194,304 bytes' "$dir/too_long" ./ia64 check

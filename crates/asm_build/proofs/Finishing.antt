@@ -52,7 +52,7 @@ entries_good s inside none =
     declared_good s.labels (length s.bundles) [] (program_of s).entries s.entries inside (tt, omega arith) named.1
 
 pub in_range : (s : TextParts) → IsWithinLimits s → 1 ≤ length s.bundles → AreLabelsInside s → name_fault s ≡ None
-    → AreInRange (length (program_of s).bundles) (length (program_of s).entries) (length (program_of s).bytes)
+    → AreInRange (length (program_of s).bundles) (length (program_of s).entries) (length (program_of s).bytes) 0
 in_range s limits some inside none =
     let count : length (program_of s).bundles ≡ length s.bundles = length_named s.labels 0 s.bundles in
     let zeros = (8 - length s.bytes % 8) % 8 in
@@ -64,6 +64,7 @@ in_range s limits some inside none =
       entries = (entries_good s inside none).1;
       bytes = rw size fits.0;
       words = rw size fits.1;
+      relations = omega arith;
     }
 
 pub entries_are : (s : TextParts) → AreLabelsInside s → name_fault s ≡ None → AreEntries (length (program_of s).bundles) (program_of s).entries
@@ -173,7 +174,7 @@ pub record AreParts (s : TextParts) (bundles : List Bundle) (entries bytes : Lis
   pub bytes_are : bytes ≡ padded s.bytes
 
 pub parts_in_range : (s : TextParts) (bundles : List Bundle) (entries bytes : List ℕ) → AreParts s bundles entries bytes
-    → AreInRange (length bundles) (length entries) (length bytes)
+    → AreInRange (length bundles) (length entries) (length bytes) 0
 parts_in_range s bundles entries bytes h =
     rw (h.bundles_are, h.entries_are, h.bytes_are) (in_range s h.limits h.some h.inside h.none)
 

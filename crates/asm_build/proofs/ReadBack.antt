@@ -1,4 +1,4 @@
--- The canonical text of a program is read as the program.
+-- The canonical text of a program is read as the program without its relations.
 use Rattle.std.proofs.Common.{◌≡◌, ◌∙◌, ℕ, zero, suc, ◌-◌, ◌<◌, ◌≤◌, ◌%◌, true, ◌==◌, List, [], ◌∷◌, ◌++◌, length, map, codes, replicate, Some, None, Ok, refl, sym, ap, subst, arith, append-nil}
 use Rattle.std.specs.Prelude.{slice_index}
 use Rattle.std.specs.List.{AllByRecursion}
@@ -20,7 +20,7 @@ use Rattle.asm_build.specs.declared.text_parts.Section.TheVariants as section
 use Rattle.asm_build.specs.Addresses.{IsInside}
 use Rattle.asm_build.specs.CanonicalText.{line as text_line, is_among, targets_from, bundles_text, words_of, words_text, data_text, canonical_text}
 use Rattle.asm_build.specs.Names.{all_declared, bundles_named, earlier, name_fault, or_none, padded, unnamed_bundle}
-use Rattle.asm_build.specs.RoundTrip.{CanonicalTextReads}
+use Rattle.asm_build.specs.RoundTrip.{bare, CanonicalTextReads}
 use Rattle.asm_build.specs.TextParts.{TextParts, Labels, start, address_of, AreLabelsInside}
 use Rattle.asm_build.specs.TextReading.{text_lines, ComesTo, AllSay, Reads}
 use Rattle.asm_build.proofs.Choices.{true_or, or_true}
@@ -73,14 +73,14 @@ all_say text s next goes =
     subst (λ t. ComesTo start 1 (text_lines t) (Ok s)) (append-nil text) (goes [] (Ok s) (subst (λ ls. ComesTo s next ls (Ok s)) (sym none) refl))
 
 abbrev program : List Bundle → List ℕ → List ℕ → Program
-program bs es bytes = record { bundles = bs; entries = es; bytes = bytes }
+program bs es bytes = record { bundles = bs; entries = es; bytes = bytes; relations = [] }
 
 same_program : (bs cs : List Bundle) (es fs bytes more : List ℕ) → bs ≡ cs → es ≡ fs → bytes ≡ more → program bs es bytes ≡ program cs fs more
 same_program bs cs es fs bytes more b e d = ap (λ xs. program xs es bytes) b ∙ ap (λ xs. program cs xs bytes) e ∙ ap (λ xs. program cs fs xs) d
 
 -- What is looked for after the last line isn't found, and the program is given back.
 given_back : (p : Program) → IsProgram p → (s : Section) (bs : List BundleLines) (es : List EntryLine) (ls : Labels) (next : ℕ) → SoFar p.entries (targets_from 0 p.bundles) (length p.bundles) (length p.bundles) p.bundles bs es ls
-    → AreGood (length p.bundles) 0 p.bundles → Goes start 1 (canonical_text p) (finished s bs es ls p.bytes) next → Reads (canonical_text p) p
+    → AreGood (length p.bundles) 0 p.bundles → Goes start 1 (canonical_text p) (finished s bs es ls p.bytes) next → Reads (canonical_text p) (bare p)
 given_back p h s bs es ls next so_far good goes =
     let count = length p.bundles in
     let there : length bs ≡ count = as_many 0 p.bundles bs so_far.bundles in
@@ -101,7 +101,7 @@ given_back p h s bs es ls next so_far good goes =
       program = sym (same_program (bundles_named ls 0 bs) p.bundles (or_none (all_declared ls [] es)) p.entries (padded p.bytes) p.bytes bundles (ap or_none entries) (nothing_padded p.bytes h.counts.words));
     }
 
--- The canonical text of a program reads as it.
+-- The canonical text of a program reads as it, but for its relations.
 pub read_back : SlotsSay → (p : Program) → CanonicalTextReads p
 read_back say p h =
     let count = length p.bundles in

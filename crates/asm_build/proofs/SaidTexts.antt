@@ -161,6 +161,7 @@ program_said lines t follow closed inside clean =
         (λ is. named_entry t.labels entries t.entries n clean.entries (said_declared lines t.labels (names_of t.entries) n names found is)),
       );
       bytes = ap padded (all_data start 1 lines t follow);
+      relations = refl;
       once = λ name a b one other. same_address a b (address_of t.labels name) (found name a one) (found name b other);
       inside = λ name a is. subst (λ n. IsInside n a) (sym many) (is_inside count a (address_of t.labels name) (found name a is) (label_within (IsInside count) t.labels name inside));
     }

@@ -131,10 +131,10 @@ or_none (Err e) = []
 abbrev pub padded : List ℕ → List ℕ
 padded bytes = bytes ++ replicate ((8 - length bytes % 8) % 8) 0
 
--- The program that the lines say.
+-- The program that the lines say, which declare no relations.
 abbrev pub program_of : TextParts → Program
 program_of s =
-    record { bundles = bundles_named s.labels 0 s.bundles; entries = or_none (all_declared s.labels [] s.entries); bytes = padded s.bytes }
+    record { bundles = bundles_named s.labels 0 s.bundles; entries = or_none (all_declared s.labels [] s.entries); bytes = padded s.bytes; relations = [] }
 
 -- the line of a slot
 abbrev pub slot_line : ℕ → BundleLines → ℕ

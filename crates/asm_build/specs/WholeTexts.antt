@@ -130,12 +130,13 @@ IsDeclared lines n = (1 ≤ n) × (name : List ℕ) × Contains (entries_in line
 
 -- The lines say the program: its bundles are those on the lines, in order; its declared entries, which rise, are the
 -- bundles that lines `.entry` name; and its data are those on the lines, in order, with zeros up to a multiple of
--- eight. What labels with one name are names one place, which in code is a bundle of the program.
+-- eight; it has no relations. What labels with one name are names one place, which in code is a bundle of the program.
 pub record IsProgramSaid (lines : List Line) (p : Program) : Type 0 where
   pub bundles : AreBundlesSaid lines 0 (bundles_in lines) p.bundles
   pub rising : AreEntries (length p.bundles) p.entries
   pub entries : (n : ℕ) → Contains p.entries n ↔ IsDeclared lines n
   pub bytes : p.bytes ≡ padded (data_in lines)
+  pub relations : p.relations ≡ []
   pub once : (name : List ℕ) (a b : Address) → IsLabel lines name a → IsLabel lines name b → a ≡ b
   pub inside : (name : List ℕ) (a : Address) → IsLabel lines name a → IsInside (length p.bundles) a
 

@@ -1,6 +1,6 @@
 //! The program that a text says.
 
-ghost use Rattle.std.specs.Prelude.{◌≡◌, ◌≢◌, ◌⊎◌, ◌<◌, ◌+◌, ◌^◌, None, Some, Ok, Err, IfOk, IfErr, OnOk, length};
+ghost use Rattle.std.specs.Prelude.{◌≡◌, ◌≢◌, ◌⊎◌, ◌<◌, ◌+◌, ◌^◌, None, Some, Ok, Err, IfOk, IfErr, OnOk, [], length};
 ghost use Rattle.first_fault.specs.Stages.{ArePassed, IsFirstFault};
 ghost use Rattle.ia_insn.specs.declared.place.Place.{Place as PlaceOf};
 ghost use Rattle.ia_insn.specs.Bundles.{AreBundles};
@@ -145,15 +145,18 @@ fn checked(
     bytes: Vec<u8>,
 ) -> Result<Program, TextError>
     requires fit { AreBundles bundles.items }
-    requires counts { AreInRange (length bundles.items) (length entries.items) (length bytes.items) }
+    requires counts { AreInRange (length bundles.items) (length entries.items) (length bytes.items) 0 }
     requires entries { AreEntries (length bundles.items) entries.items }
     requires targets { EachPlace bundles.items (IsTargetInside bundles.items) }
-    ensures ok { IfOk result (λ p. (p ≡ record { bundles = bundles.items; entries = entries.items; bytes = bytes.items }) × EachPlace bundles.items (IsWithinRun bundles.items)) }
+    ensures ok { IfOk result (λ p. (p ≡ record { bundles = bundles.items; entries = entries.items; bytes = bytes.items; relations = [] }) × EachPlace bundles.items (IsWithinRun bundles.items)) }
     ensures err { IfErr result (λ e. (place : PlaceOf) × IsFirstBad bundles.items (IsWithinRun bundles.items) place × (e ≡ error.Fault (line_at lines.now place) reason.LongRun)) }
 {
     match long_run(&bundles) {
         Some(place) => Err(fault(line_at(lines, place), Reason::LongRun)),
-        None => Ok(Program::of_parts(bundles, entries, bytes)),
+        None => {
+            let relations = Vec::new(*bundles.allocator());
+            Ok(Program::of_parts(bundles, entries, bytes, relations))
+        }
     }
 }
 

@@ -1,16 +1,16 @@
 //! Frames: `alloc`, calls and returns (volume 1, chapter 4, register stack, and volume 3, chapter 2, `alloc`
 //! and `br`).
 
-ghost use Rattle.std.specs.Prelude.{◌≡◌, ◌<◌, ◌≤◌, ◌*◌, get_or, ◌^◌};
+ghost use Rattle.std.specs.Prelude.{◌≡◌, ◌<◌, ◌≤◌, ◌*◌, get_or, take, ◌^◌};
 ghost use Rattle.ia_meaning.specs.Names.{spot};
 ghost use Rattle.ia_meaning.specs.Frames.{with_sizes, allocated, lands, returned, call_writes};
-ghost use Rattle.ia_meaning.specs.Landings.{landing};
+ghost use Rattle.ia_meaning.specs.Landings.{arrival};
 ghost use Rattle.ia_meaning.specs.Effects.{site, called};
 ghost use Rattle.reg_stack.specs.Stacks.{kind_of};
 ghost use Rattle.machine_state.specs.Changes.{writes_of, MayChange};
 ghost use Rattle.emulator.specs.Outcomes.{outcome_of, IsPlain};
 
-use crate::landings::landing;
+use crate::landings::arrival;
 use crate::slot_effect::SlotEffect;
 use ia_insn::{Br, FaultKind, Gr, Program, bundle_address};
 use ia_meaning::{Goal, target_of};
@@ -54,12 +54,12 @@ pub(crate) fn allocate(state: &MachineState, r1: Gr, sof: u8, sol: u8, sor: u8) 
 pub(crate) fn land(state: &MachineState, program: &Program, b2: Br, change: Change) -> SlotEffect
     requires plain { IsPlain change }
     requires may { MayChange state.now change }
-    ensures value { outcome_of state.now result ≡ lands (writes_of state.now.registers change) state.now.memory (landing program.now (get_or state.now.registers.branches b2 0)) }
+    ensures value { outcome_of state.now result ≡ lands (writes_of state.now.registers change) state.now.memory (arrival program.now (take 16 state.now.registers.predicates) (get_or state.now.registers.branches b2 0)) }
     ensures may { MayChange state.now result.change }
 {
-    match landing(program, state.branch(b2)) {
-        Some(bundle) => SlotEffect::goes(change, bundle),
-        None => SlotEffect::faults(FaultKind::BadLanding),
+    match arrival(program, state.static_predicates(), state.branch(b2)) {
+        Ok(bundle) => SlotEffect::goes(change, bundle),
+        Err(kind) => SlotEffect::faults(kind),
     }
 }
 
@@ -87,7 +87,7 @@ pub(crate) fn call(
 
 /// A return. The frame is looked at before the landing.
 pub(crate) fn ret(state: &MachineState, program: &Program, b2: Br) -> SlotEffect
-    ensures value { outcome_of state.now result ≡ returned state.now.registers.frame.base state.now.registers.pfs (landing program.now (get_or state.now.registers.branches b2 0)) state.now.memory }
+    ensures value { outcome_of state.now result ≡ returned state.now.registers.frame.base state.now.registers.pfs (arrival program.now (take 16 state.now.registers.predicates) (get_or state.now.registers.branches b2 0)) state.now.memory }
     ensures may { MayChange state.now result.change }
 {
     match state.return_fault() {

@@ -11,14 +11,14 @@ use Rattle.ia_insn.proofs.InOrder.{slot_small}
 use Rattle.ia_meaning.specs.Sequence.{first_of}
 use Rattle.predicate_rel.specs.declared.edge.Edge.{Edge}
 use Rattle.predicate_rel.specs.declared.edge.Edge.TheVariants.{Falls, Taken}
-use Rattle.predicate_rel.specs.Pairs.{Table, Pairs, pairs_of, no_pairs, IsWithin}
+use Rattle.predicate_rel.specs.Pairs.{Table, Pairs, pairs_of, IsWithin}
 use Rattle.predicate_rel.specs.Rules.{form_rule, pairs_by}
 use Rattle.predicate_rel.proofs.RuleLaws.{WhyMissing, whatever, since, why_missing, pairs_after-within}
 use Rattle.predicate_rel.specs.Edges.{HasEdge, pairs_past, pairs_past_insn}
 use Rattle.slot_table.specs.declared.slot.Slot.{Slot}
 use Rattle.slot_table.specs.Slots.{slot_at}
 use Rattle.slot_table.proofs.SlotLaws.{pairs_by-slot}
-use Rattle.flow_facts.specs.Walks.{Known, known_at, Walk, begins, goes_on, EndsAt, facts_on}
+use Rattle.flow_facts.specs.Walks.{Known, known_at, Walk, begins, goes_on, EndsAt, known_first, facts_on}
 use Rattle.flow_facts.specs.Tables.{weight, place_count, AtMost, Joined, IsWitnessedAt, IsWitnessed, IsSameBut, HasCome, Progress, Passed, IsUnderWay, marked, dirty_count}
 use Rattle.flow_facts.proofs.Numbering.{number_below, place_at-number, cases_place, value_read, value_at-place_at, value_at-set_other}
 use Rattle.flow_facts.proofs.Marks.{no_progress, progress_marked, progress_same, progress_twice, same_trans, come_unknown, dirty_count-set}
@@ -78,12 +78,11 @@ witnessed_along p from e to f wit edge = record {
   lacking = λ x y n. lacking_along p from e to f wit edge x y (why_missing_past p from e f x y n);
 }
 
--- and so is nothing at an entry
-pub witnessed_entry : (p : Program) (bundle : ℕ) → IsEntry p bundle → IsWitnessedAt p (first_of bundle) no_pairs
-unfolding no_pairs
+-- and so is at an entry what it declares
+pub witnessed_entry : (p : Program) (bundle : ℕ) → IsEntry p bundle → IsWitnessedAt p (first_of bundle) (known_first p bundle)
 witnessed_entry p bundle entry = record {
   reached = (begins bundle, record { walks = entry; ends = refl });
-  lacking = λ x y n. (begins bundle, record { walks = entry; ends = refl }, refl);
+  lacking = λ x y n. (begins bundle, record { walks = entry; ends = refl }, n);
 }
 
 -- what is witnessed at a place and is joined into it leaves witnesses of each place
@@ -189,7 +188,7 @@ two_passes p t t1 t2 d d1 d2 n before u is f g = record {
   table_length = all.shrinks.same_length ∙ u.table_length;
   dirty_length = all.same_length ∙ length-set d n 0 ∙ u.dirty_length;
   witnessed = g.witnessed;
-  entries = λ bundle en. all.shrinks.keeps (first_of bundle) no_pairs (u.entries bundle en);
+  entries = λ bundle en. all.shrinks.keeps (first_of bundle) (known_first p bundle) (u.entries bundle en);
   come = λ k e to edge. come k e to edge (cases_place k from);
 }
   where

@@ -4,10 +4,10 @@ use Rattle.ia_insn.specs.declared.place.Place.{Place}
 use Rattle.ia_insn.specs.Programs.{Program, IsEntry}
 use Rattle.ia_meaning.specs.Sequence.{first_of}
 use Rattle.predicate_rel.specs.declared.edge.Edge.{Edge}
-use Rattle.predicate_rel.specs.Pairs.{Table, Pairs, has_bit, no_pairs, pairs_of, IsWithin}
+use Rattle.predicate_rel.specs.Pairs.{Table, Pairs, has_bit, pairs_of, IsWithin}
 use Rattle.predicate_rel.specs.Changes.{AgreeOutside, HasAllRows}
 use Rattle.predicate_rel.specs.Edges.{HasEdge, pairs_past}
-use Rattle.flow_facts.specs.Walks.{Walk, EndsAt, Known, known_at, value_at, facts_on}
+use Rattle.flow_facts.specs.Walks.{Walk, EndsAt, Known, known_at, value_at, known_first, facts_on}
 
 -- how many of the first n numbers a row has
 unfoldable pub row_size : (ℕ → Bool) → ℕ → ℕ
@@ -109,13 +109,13 @@ pub record Progress (table : List Known) (dirty : List ℕ) (table' : List Known
   pub keeps : (place : Place) (x : ℕ) → has_bit (marked dirty' place) x ≡ false → has_bit (marked dirty place) x ≡ false
   pub changed : (place : Place) → IsSameBut (marked dirty' place) (known_at table place) (known_at table' place)
 
--- Between two steps: what the table says is witnessed, the entries know nothing, and what is known has come along each
--- edge, but for what changed in the rows that are marked.
+-- Between two steps: what the table says is witnessed, the entries know no more than they declare, and what is known has
+-- come along each edge, but for what changed in the rows that are marked.
 pub record IsUnderWay (p : Program) (table : List Known) (dirty : List ℕ) : Type 0 where
   pub table_length : length table ≡ place_count p
   pub dirty_length : length dirty ≡ place_count p
   pub witnessed : IsWitnessed p table
-  pub entries : (bundle : ℕ) → IsEntry p bundle → AtMost table (first_of bundle) no_pairs
+  pub entries : (bundle : ℕ) → IsEntry p bundle → AtMost table (first_of bundle) (known_first p bundle)
   pub come : (from : Place) (e : Edge) (to : Place) → HasEdge p from e to → HasCome table to (pairs_past p from e) (marked dirty from) (known_at table from)
 
 -- What was known at a place has come along its edges of this sort. For each place that this made dirty the table has

@@ -1,17 +1,17 @@
 //! Facts run to a fixpoint over the places of a program.
 
-ghost use Rattle.std.specs.Prelude.{◌≡◌, ◌≢◌, ◌+◌, ◌<◌, List, length, slice_index_or, None, Some, IfOk};
+ghost use Rattle.std.specs.Prelude.{◌≡◌, ◌≢◌, ◌+◌, ◌<◌, List, length, slice_index_or, All, None, Some, IfOk};
 ghost use Rattle.std.specs.Option.{option_copied};
 ghost use Rattle.ia_insn.specs.declared.place.Place.{Place};
 ghost use Rattle.ia_insn.specs.Places.{place_at};
-ghost use Rattle.predicate_rel.specs.Pairs.{pairs_of};
+ghost use Rattle.predicate_rel.specs.Pairs.{no_pairs, pairs_of};
 ghost use Rattle.predicate_rel.specs.Edges.{HasEdge, pairs_past};
-ghost use Rattle.flow_facts.specs.Walks.{Known, known_at, IsSolution};
+ghost use Rattle.flow_facts.specs.Walks.{Known, known_at, with_relations, known_first, IsSolution};
 ghost use Rattle.flow_facts.specs.Tables.{Passed, weight, dirty_count, IsWitnessed, IsWitnessedAt, HasCome, IsUnderWay, marked, place_count};
 
 use crate::dirty::DirtyPlaces;
 use crate::table::join;
-use ia_insn::{Place, Program};
+use ia_insn::{Place, Pr, Program, Relation};
 use predicate_rel::{Edge, Facts};
 use slot_table::{SlotTable, place_number};
 use std::alloc::{AllocError, Global};
@@ -105,7 +105,29 @@ fn settle(slots: &SlotTable, table: &mut Vec<Option<Facts>>, dirty: &mut DirtyPl
     }
 }
 
-/// Begins with the entries, where nothing is known.
+/// What the relations declare, each of two predicates.
+fn declared(relations: &[Relation]) -> Facts
+    requires { All (λ r. (r.p < r.q) × (r.q < 64)) relations.now }
+    ensures { pairs_of result ≡ with_relations no_pairs relations.now }
+{
+    let mut facts = Facts::empty();
+    for relation in relations {
+        let lower = Pr::of_field(u64::from(relation.p));
+        let higher = Pr::of_field(u64::from(relation.q));
+        facts = facts.plus(lower, higher);
+    }
+    facts
+}
+
+/// What is known where a walk begins at the entry: what the entry declares.
+fn known_first(program: &Program, bundle: u32) -> Facts
+    ensures { pairs_of result ≡ known_first program.now bundle }
+{
+    program.is_program();
+    declared(program.relations_at(bundle))
+}
+
+/// Begins with the entries, where what they declare is known.
 fn enter(program: &Program, table: &mut Vec<Option<Facts>>, dirty: &mut DirtyPlaces)
     requires table { length table.old.items ≡ place_count program.now }
     requires dirty { length dirty.old ≡ place_count program.now }
@@ -115,7 +137,7 @@ fn enter(program: &Program, table: &mut Vec<Option<Facts>>, dirty: &mut DirtyPla
     for bundle in 0..program.bundle_count() {
         if program.is_entry(bundle) {
             let first = place_number(Place { bundle, slot: 0 });
-            table[first] = Some(Facts::empty());
+            table[first] = Some(known_first(program, bundle));
             dirty.insert(first, u64::MAX);
         }
     }

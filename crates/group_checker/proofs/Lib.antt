@@ -13,6 +13,7 @@ pub mod Gaining
 pub mod ListedViolations
 pub mod Reporting
 pub mod Uniqueness
+pub mod Promised
 pub mod Walked
 pub mod Orders
 pub mod Untouched

@@ -33,8 +33,8 @@ unfolding look spot holds frame_place next_of insn_at is_stopped has_zero_bases 
 late_alloc = (refl, refl, refl)
 
 pub branch_predicate : BranchPredicate
-unfolding look spot holds predicate_place predicate_spot next_of insn_at is_stopped seq_step
-branch_predicate = (refl, refl, refl, refl)
+unfolding look spot holds predicate_place predicate_spot next_of insn_at is_stopped is_entry landing seq_step
+branch_predicate = (refl, refl, refl, refl, refl, refl)
 
 pub branch_register : BranchRegister
 unfolding look spot holds predicate_place next_of insn_at is_stopped is_entry landing
@@ -66,6 +66,7 @@ with_p6_is_start = record {
   };
   slot = refl;
   entry = record { inside = omega arith; kind = inl refl };
+  promised = refl;
 }
 
 pub later_writes_differ : LaterWrites

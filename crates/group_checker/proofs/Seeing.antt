@@ -1,12 +1,14 @@
 -- The view of a clean slot agrees with the state on all that the slot accesses, so both have one effect.
-use Rattle.std.proofs.Common.{ℕ, zero, suc, ◌+◌, ◌<◌, ◌≤◌, ◌≡◌, ◌≢◌, ◌⊎◌, ◌&&◌, if◌then◌else◌, Bool, true, false, List, [], ◌∷◌, Some, length, get_or, refl, sym, ◌∙◌, ap, subst, arith, inl, inr, true≢false}
-use Rattle.std.specs.Prelude.{⊤, ◌==◌}
+use Rattle.std.proofs.Common.{ℕ, zero, suc, ◌+◌, ◌<◌, ◌≤◌, ◌≡◌, ◌≢◌, ◌⊎◌, ◌&&◌, ◌||◌, if◌then◌else◌, Bool, true, false, List, [], ◌∷◌, Some, length, take, get_or, refl, sym, ◌∙◌, ap, subst, arith, inl, inr, true≢false}
+use Rattle.std.specs.Prelude.{⊤, ◌==◌, min}
+use Rattle.std.proofs.lemmas.Bool.{or_left, or_right}
 use Rattle.std.proofs.lemmas.Bool.Decides.{nat_tests}
-use Rattle.std.proofs.lemmas.List.{ext_get_or}
+use Rattle.std.proofs.lemmas.List.{ext_get_or, get_or-take, length-take}
 use Rattle.ia_insn.specs.declared.insn.Insn.{Insn}
 use Rattle.ia_insn.specs.declared.place.Place.{Place}
 use Rattle.ia_insn.specs.Listed.{IsListed}
 use Rattle.ia_insn.specs.Programs.{Program}
+use Rattle.ia_meaning.specs.declared.state.FrameShape.{FrameShape}
 use Rattle.ia_meaning.specs.declared.form.Form.{Form}
 use Rattle.ia_meaning.specs.declared.form.Form.TheVariants as form
 use Rattle.ia_meaning.specs.declared.form.Goal.TheVariants.{Direct, Indirect}
@@ -19,13 +21,13 @@ use Rattle.resource_sets.specs.declared.access.Resource.TheVariants.{Pr, Unat, L
 use Rattle.resource_sets.specs.declared.access.Kind.{Kind}
 use Rattle.resource_sets.specs.declared.access.Kind.TheVariants.{Read, BranchRead, Write, AllocWrite, LoopWrite, OrWrite, AndWrite, Spill, Fill}
 use Rattle.resource_sets.specs.declared.access.Access.{Access}
-use Rattle.resource_sets.specs.AccessLaws.{PredicateAt, location, SameIn, AgreesOn, Agree, HasAccess}
-use Rattle.ia_meaning.specs.Actions.{is_branch, is_alloc, insn_form}
+use Rattle.resource_sets.specs.AccessLaws.{PredicateAt, location, location_of, SameIn, AgreesOn, Agree, HasAccess}
+use Rattle.ia_meaning.specs.Actions.{is_branch, is_indirect, is_alloc, insn_form}
 use Rattle.resource_sets.specs.Regularity.{HasNamedAccess, IsPredicate, IsCountOrFrame, GoesBy, IsRegular, IsInRange}
-use Rattle.ia_meaning.proofs.PredicatePlaces.{holds_zero}
+use Rattle.ia_meaning.proofs.PredicatePlaces.{holds_zero, place_some}
 use Rattle.resource_sets.proofs.Dependence.{place_same, depends}
 use Rattle.resource_sets.proofs.Regularity.{regular, guards, named_accesses, in_range, agree_by}
-use Rattle.ia_meaning.specs.Views.{sees_predicate, sees_branch, sees_pfs, seen_in, view}
+use Rattle.ia_meaning.specs.Views.{sees_guard, sees_static, sees_predicate, sees_branch, sees_pfs, seen_in, view}
 use Rattle.group_checker.specs.Agreement.{AllSeeTheStart}
 use Rattle.group_checker.proofs.Untouched.{SameAt, Mem, each_mem, TouchedBy, same_apply, length_predicates, length_branches}
 use Rattle.resource_sets.proofs.Locations.{predicate_at}
@@ -64,6 +66,23 @@ seen_here sees k base now d e h =
     let same : 0 + k ≡ k = omega arith in
     seen_at sees 0 k base now d e ∙ ap (λ i. if sees i then get_or now k d else get_or base k d) same ∙ ap (λ b. if b then get_or now k d else get_or base k d) h
 
+-- a choice of two that are the same
+same_choices : {X : Type 0} (b : Bool) (x y z : X) → x ≡ z → y ≡ z → (if b then x else y) ≡ z
+same_choices true x y z e f = e
+same_choices false x y z e f = f
+
+length_seen : {X : Type 0} (sees : ℕ → Bool) (n : ℕ) (base now : List X) → length (seen_in sees n base now) ≡ length base
+length_seen sees n [] now = refl
+length_seen sees n (x ∷ base) [] = refl
+length_seen sees n (x ∷ base) (y ∷ now) = ap suc (length_seen sees (suc n) base now)
+
+-- lists with the same first items
+take_same : {X : Type 0} (d : X) (n : ℕ) (xs ys : List X) → length xs ≡ length ys → ((k : ℕ) → k < n → get_or xs k d ≡ get_or ys k d) → take n xs ≡ take n ys
+take_same d n xs ys e same = ext_get_or d (take n xs) (take n ys) (length-take n xs ∙ ap (min n) e ∙ sym (length-take n ys))
+    (λ k h.
+    let inside : k < n = omega (arith, length-take n xs) in
+    get_or-take n xs k d inside ∙ same k inside ∙ sym (get_or-take n ys k d inside))
+
 sees_itself : (n : ℕ) → (n == n) ≡ true
 sees_itself n = grind (arith, nat_tests)
 
@@ -78,9 +97,18 @@ sees_no_pfs : (f : Form) → is_branch f ≡ false → sees_pfs f ≡ false
 sees_no_pfs (form.Return b2) e = absurd (true≢false e)
 sees_no_pfs f e = refl
 
+sees_no_static : (f : Form) (n : ℕ) → is_branch f ≡ false → sees_static f n ≡ false
+sees_no_static (form.JumpIndirect b2) n e = absurd (true≢false e)
+sees_no_static (form.Call b1 goal) n e = absurd (true≢false e)
+sees_no_static (form.Return b2) n e = absurd (true≢false e)
+sees_no_static f n e = refl
+
+sees_no_predicate : (insn : Insn) (f : FrameShape) (n : ℕ) → is_branch (insn_form insn) ≡ false → sees_predicate insn f n ≡ false
+sees_no_predicate insn f n e = ap (λ b. (b && (n == predicate_place f insn.qp)) || sees_static (insn_form insn) n) e ∙ sees_no_static (insn_form insn) n e
+
 pub view_plain : (insn : Insn) (now base : Registers) → is_branch (insn_form insn) ≡ false → view insn now base ≡ base
 view_plain insn now base e =
-    let predicates = seen_none (sees_predicate insn base.frame) (λ n. ap (λ b. b && (n == predicate_place base.frame insn.qp)) e) 0 base.predicates now.predicates in
+    let predicates = seen_none (sees_predicate insn base.frame) (λ n. sees_no_predicate insn base.frame n e) 0 base.predicates now.predicates in
     let branches = seen_none (sees_branch (insn_form insn)) (λ n. sees_no_branch (insn_form insn) n e) 0 base.branches now.branches in
     let pfs = ap (λ b. if b then now.pfs else base.pfs) (sees_no_pfs (insn_form insn) e) in
     ap (λ l. record base { predicates = l; branches = seen_in (sees_branch (insn_form insn)) 0 base.branches now.branches; pfs = if sees_pfs (insn_form insn) then now.pfs else base.pfs }) predicates
@@ -94,9 +122,9 @@ seen_other sees n k (x ∷ base) [] d e = refl
 seen_other sees n zero (x ∷ base) (y ∷ now) d e = let same : n ≡ n + 0 = omega arith in ap (λ b. if b then y else x) (ap sees same ∙ e)
 seen_other sees n (suc k) (x ∷ base) (y ∷ now) d e = let same : suc n + k ≡ n + suc k = omega arith in seen_other sees (suc n) k base now d (ap sees same ∙ e)
 
-other_place : (b : Bool) (n m : ℕ) → n ≢ m → (b && (n == m)) ≡ false
-other_place false n m e = refl
-other_place true n m e = grind (arith, nat_tests)
+other_place : (b c : Bool) (n m : ℕ) → n ≢ m → c ≡ false → ((b && (n == m)) || c) ≡ false
+other_place false c n m e k = k
+other_place true c n m e k = grind (arith, nat_tests)
 
 from_start : (sees : ℕ → Bool) (n : ℕ) → sees n ≡ false → sees (0 + n) ≡ false
 from_start sees n e = let same : 0 + n ≡ n = omega arith in ap sees same ∙ e
@@ -106,7 +134,8 @@ all_see_the_start insn now base = record {
   statics = refl;
   cells = refl;
   frame = refl;
-  predicates = λ n e. seen_other (sees_predicate insn base.frame) 0 n base.predicates now.predicates false (from_start (sees_predicate insn base.frame) n (other_place (is_branch (insn_form insn)) n (predicate_place base.frame insn.qp) e));
+  predicates = λ n e k. seen_other (sees_predicate insn base.frame) 0 n base.predicates now.predicates false
+      (from_start (sees_predicate insn base.frame) n (other_place (is_branch (insn_form insn)) (sees_static (insn_form insn) n) n (predicate_place base.frame insn.qp) e k));
   branches = λ n e. seen_other (sees_branch (insn_form insn)) 0 n base.branches now.branches 0 (from_start (sees_branch (insn_form insn)) n e);
   unat = refl;
   pfs = λ e. ap (λ b. if b then now.pfs else base.pfs) e;
@@ -121,7 +150,8 @@ unfolding holds
 branch_holds insn now base s b l m f zero is = refl
 branch_holds insn now base s b l m f (suc n) is =
     let place = predicate_place base.frame (suc n) in
-    let sees : sees_predicate insn base.frame place ≡ true = ap (λ t. t && (place == predicate_place base.frame insn.qp)) b ∙ ap (λ q. place == predicate_place base.frame q) is ∙ sees_itself place in
+    let guard : sees_guard insn base.frame place ≡ true = ap (λ t. t && (place == predicate_place base.frame insn.qp)) b ∙ ap (λ q. place == predicate_place base.frame q) is ∙ sees_itself place in
+    let sees : sees_predicate insn base.frame place ≡ true = or_left (sees_guard insn base.frame place) (sees_static (insn_form insn) place) guard in
     seen_here (sees_predicate insn base.frame) place base.predicates now.predicates false l sees
     ∙ ap (λ (t : List Bool). get_or t place false) m
     ∙ ap (λ t. get_or s.predicates t false) (place_same base.frame s.frame (suc n) (λ r. f (ap is_rotating is ∙ r)))
@@ -285,9 +315,43 @@ module _ (p : Program) (past : List Place) (base : Registers) (ws : List Registe
       go n (inl x) = absurd (touched n x.0 x.1 x.2)
       go n (inr x) = x
 
+  -- nothing is written at the place of p0
+  first_kept : SameAt (PredicateAt 0) S (record base { unat = u })
+  first_kept = go (same_apply (PredicateAt 0) ws (record base { unat = u }))
+    where
+      untouched : (w : RegisterWrite) → Mem w ws → location w ≡ PredicateAt 0 → ⊥
+      untouched w m t =
+          let o : EarlierWrite p past base S w = each_mem (EarlierWrite p past base S) w ws way.origins m in
+          let q = predicate_at base.frame o.access.resource 0 (o.names ∙ ap Some t) in
+          let r : IsInRange (Pr q.0) = subst IsInRange q.1 o.range in
+          let at : location_of base.frame (Pr q.0) ≡ Some (PredicateAt 0) = ap (location_of base.frame) (sym q.1) ∙ o.names ∙ ap Some t in
+          let there : predicate_place base.frame q.0 ≡ 0 = cc in
+          place_some base.frame q.0 (λ e. absurd (omega (arith, r.0))) there
+
+      go : TouchedBy (PredicateAt 0) ws ⊎ SameAt (PredicateAt 0) S (record base { unat = u }) → SameAt (PredicateAt 0) S (record base { unat = u })
+      go (inl x) = absurd (untouched x.0 x.1 x.2)
+      go (inr x) = x
+
+  -- an indirect branch sees the first sixteen predicates as earlier slots left them
+  statics_now : is_indirect (insn_form j) ≡ true → take 16 V.predicates ≡ take 16 S.predicates
+  statics_now e = take_same false 16 V.predicates S.predicates (length_seen (sees_predicate j base.frame) 0 base.predicates N.predicates ∙ sym (length_predicates ws (record base { unat = u }))) each
+    where
+      left : (n : ℕ) → get_or N.predicates n false ≡ get_or S.predicates n false
+      left n = ap (λ (r : Registers). get_or r.predicates n false) (sym apart)
+
+      each : (n : ℕ) → n < 16 → get_or V.predicates n false ≡ get_or S.predicates n false
+      each zero h =
+          seen_at (sees_predicate j base.frame) 0 0 base.predicates N.predicates false (length_predicates ws base)
+          ∙ same_choices (sees_predicate j base.frame 0) _ _ _ (left 0) (sym first_kept)
+      each (suc n) h =
+          let sees : sees_static (insn_form j) (suc n) ≡ true = rw e (grind (arith, nat_tests)) in
+          seen_here (sees_predicate j base.frame) (suc n) base.predicates N.predicates false (length_predicates ws base) (or_right (sees_guard j base.frame (suc n)) (sees_static (insn_form j) (suc n)) sees)
+          ∙ left (suc n)
+
   pub agree : Agree j V S u S.unat
   agree = agree_by j V S u S.unat (λ a h on. agrees a h on)
       (λ b on h. ap (λ (r : Registers). r.predicates) (view_plain j N base b) ∙ predicates_same on h)
+      (λ e on h. statics_now e)
 
   pub same_effect : (site : Site) (m : Memory) → effect site j V m u ≡ effect site j S m S.unat
   same_effect site m = depends site j V S m u S.unat agree

@@ -6,41 +6,39 @@ use Rattle.ia_insn.specs.declared.ending.End.{End}
 use Rattle.ia_insn.specs.declared.ending.How.{How}
 use Rattle.ia_insn.specs.declared.ending.How.TheVariants as how
 use Rattle.ia_insn.specs.declared.insn.Insn.{Insn}
-use Rattle.ia_insn.specs.declared.insn.Op.{Op}
-use Rattle.ia_insn.specs.declared.insn.Op.TheVariants as op
 use Rattle.ia_insn.specs.declared.place.Place.{Place}
 use Rattle.ia_insn.specs.Places.{insn_at}
 use Rattle.ia_insn.specs.Programs.{Program, IsProgram}
+use Rattle.ia_meaning.specs.declared.form.Form.{Form}
+use Rattle.ia_meaning.specs.declared.form.Form.TheVariants.{JumpIndirect, Call, Return}
+use Rattle.ia_meaning.specs.declared.form.Goal.TheVariants.{Indirect}
 use Rattle.ia_meaning.specs.declared.next.Next.{Next}
 use Rattle.ia_meaning.specs.declared.next.Next.TheVariants as next
 use Rattle.ia_meaning.specs.State.{Registers, State, IsState, IsStart}
 use Rattle.ia_meaning.specs.Outcomes.{Outcome}
-use Rattle.ia_meaning.specs.Actions.{form_of}
+use Rattle.ia_meaning.specs.Actions.{insn_form, is_indirect}
 use Rattle.ia_meaning.specs.Sequence.{first_of, is_stopped}
 use Rattle.ia_meaning.specs.Steps.{Step, outcome_of, how_falling, step_by, step_of, seq_step, Group, group_by, group_within, seq_group, event_of, Run, run_by, run_from}
 use Rattle.ia_meaning.proofs.WholeRuns.{step_goes_on}
 use Rattle.predicate_rel.specs.declared.edge.Edge.TheVariants.{Taken}
-use Rattle.predicate_rel.specs.Pairs.{Table, Pairs, no_pairs, pairs_of, IsWithin}
+use Rattle.predicate_rel.specs.Pairs.{Table, Pairs, pairs_of, IsWithin}
 use Rattle.predicate_rel.specs.Truth.{AreNeverBothOne}
 use Rattle.predicate_rel.specs.Edges.{displacement_of, target_at, edge_of, edge_end, HasEdge, pairs_past}
 use Rattle.flow_facts.specs.Walks.{Walk, begins, goes_on, end_of, facts_on, earlier_in_group, Known, known_at, NoWalk, IsMeet, IsSolution}
-use Rattle.predicate_rel.specs.Steps.{edge_by, is_indirect, IsIndirect, FollowsEdge, LandsOnEntry}
+use Rattle.predicate_rel.specs.Steps.{edge_by, IsIndirect, FollowsEdge, LandsOnEntry}
 use Rattle.group_checker.specs.Traces.{is_landing, walk_after, Trace, trace_begun, trace_by, trace_unless, trace_on, trace_further, traced, IsKnown, KnownOnRuns, StepsKnown, group_after, WalksGroup, RunIsTraced, RunsKeepState, RunsAreKnown, IsTrueAt, SolutionIsTrue}
 use Rattle.state_laws.proofs.StateKept.{keeps_state}
 use Rattle.ia_meaning.proofs.StepHere.{step_here, insn_here}
 use Rattle.predicate_rel.proofs.StepEdges.{goes_along}
 use Rattle.predicate_rel.proofs.StepTruth.{keeps_apart}
-
-nothing_apart : (r : Registers) → AreNeverBothOne no_pairs r
-unfolding no_pairs
-nothing_apart r = record { apart = λ x y m h k. absurd (cc) }
+use Rattle.group_checker.proofs.Promised.{promised_apart}
 
 -- an indirect branch has no taken edge
-no_target : (o : Op) (bundle : ℕ) (to : Place) → is_indirect o ≡ true → target_at bundle (displacement_of (form_of o)) ≡ Some to → ⊥
-no_target (op.BrInd b2 wh many clr) bundle to h e = cc
-no_target (op.BrRet b2 wh many clr) bundle to h e = cc
-no_target (op.BrCallInd b1 b2 wh many clr) bundle to h e = cc
-no_target o bundle to h e = cc
+no_target : (f : Form) (bundle : ℕ) (to : Place) → is_indirect f ≡ true → target_at bundle (displacement_of f) ≡ Some to → ⊥
+no_target (JumpIndirect b2) bundle to h e = cc
+no_target (Call b1 (Indirect b2)) bundle to h e = cc
+no_target (Return b2) bundle to h e = cc
+no_target f bundle to h e = cc
 
 -- so a step that lands follows no edge
 landed : (p : Program) (from to : Place) (o : Option Insn) (h : Option How) → insn_at p.bundles from ≡ o → is_landing o h ≡ true → HasEdge p from (edge_by h) to → ⊥
@@ -51,10 +49,10 @@ landed p from to (Some insn) (Some how.Falls) here l edge = cc
 landed p from to (Some insn) (Some how.Ends) here l edge = cc
 landed p from to (Some insn) (Some how.Taken) here l edge =
     let leads : edge_of p.bundles from (Some insn) Taken ≡ Some to = sym (ap (λ (o : Option Insn). edge_of p.bundles from o Taken) here) ∙ edge.leads in
-    no_target insn.op from.bundle to l leads
+    no_target (insn_form insn) from.bundle to l leads
 
 -- one that lands on an entry is found to land
-lands_by : (o : Option Insn) (h : Option How) → IsSomeAnd o (λ i. IsIndirect i.op) → h ≡ Some how.Taken → is_landing o h ≡ true
+lands_by : (o : Option Insn) (h : Option How) → IsSomeAnd o IsIndirect → h ≡ Some how.Taken → is_landing o h ≡ true
 lands_by None h i e = absurd i
 lands_by (Some insn) h i e = rw e i
 
@@ -79,7 +77,7 @@ module _ (p : Program) (s : State) (w : Walk) (program : IsProgram p) (known : I
   anew start = record {
     state = start.state;
     ends = record { walks = start.entry; ends = same_place (seq_step p s).state.place start.slot };
-    apart = nothing_apart (seq_step p s).state.registers;
+    apart = promised_apart p (seq_step p s).state.registers (seq_step p s).state.place.bundle program start.promised;
   }
 
   step_known : IsKnown p (seq_step p s).state (walk_after p s w (seq_step p s))
@@ -130,15 +128,15 @@ traces_known : (n : ℕ) (p : Program) (t : Trace) → IsProgram p → IsTraceKn
 traces_known zero p t program known = known
 traces_known (suc n) p t program known = traces_known n p (trace_on p t) program (trace_known p t program known)
 
-start_known : (p : Program) (s : State) → IsStart p s → IsTraceKnown p (trace_begun s)
-start_known p s start = record {
+start_known : (p : Program) (s : State) → IsProgram p → IsStart p s → IsTraceKnown p (trace_begun s)
+start_known p s program start = record {
   state = start.state;
   ends = record { walks = start.entry; ends = same_place s.place start.slot };
-  apart = nothing_apart s.registers;
+  apart = promised_apart p s.registers s.place.bundle program start.promised;
 }
 
 pub known_on_runs : KnownOnRuns
-known_on_runs n p s program start = traces_known n p (trace_begun s) program (start_known p s start)
+known_on_runs n p s program start = traces_known n p (trace_begun s) program (start_known p s program start)
 
 -- the group of a walk after a step
 fallen_group : (p : Program) (w : Walk) (place to : Place) (stopped : Bool) → end_of w ≡ place → is_stopped p.bundles place ≡ stopped

@@ -13,7 +13,8 @@ use Rattle.ia_insn.specs.declared.choices.StoreKind.TheVariants as store
 use Rattle.ia_insn.specs.declared.choices.Update.TheVariants as update
 use Rattle.ia_insn.specs.declared.registers.Ar.{Ar}
 use Rattle.ia_insn.specs.declared.registers.Ar.TheVariants.{Unat, Pfs, Lc, Ec}
-use Rattle.ia_insn.specs.declared.ending.FaultKind.TheVariants.{OutOfFrame, BadLanding}
+use Rattle.ia_insn.specs.declared.ending.FaultKind.TheVariants.{OutOfFrame, BadLanding, BadRelation}
+use Rattle.ia_insn.specs.declared.ending.End.TheVariants as end
 use Rattle.ia_insn.specs.declared.ending.How.TheVariants.{Taken}
 use Rattle.ia_insn.specs.declared.bundle.Slots.TheVariants.{Three}
 use Rattle.ia_insn.specs.Bundles.{Bundle}
@@ -43,6 +44,7 @@ of_slots template a b c = record {
   bundles = record { template = template; slots = Three a b c } ∷ idle_bundle ∷ [];
   entries = [];
   bytes = replicate 8 0;
+  relations = [];
 }
 
 abbrev pub mii : Insn → Insn → Insn → Program
@@ -164,13 +166,25 @@ tested_branch = mib (plain compare) idle branch
 abbrev pub tested_addition : Program
 tested_addition = mii (plain compare) (under_p6 (op.AddImm14 false 14 (pos 5) 0)) idle
 
--- The branch is taken; by the group's start it would fall through. The addition isn't made, while slot by slot it is.
+abbrev pub promised_jump : Insn
+promised_jump = plain (op.BrInd 0 0 false false)
+
+-- p6 and p7 become 1, and a branch goes to bundle 0, which declares that they aren't both 1.
+abbrev pub promised_branch : Program
+promised_branch = record (mib (plain (op.Cmp false Eq Or 6 7 0 0)) idle promised_jump) {
+  relations = record { bundle = 0; p = 6; q = 7 } ∷ [];
+}
+
+-- The branch is taken; by the group's start it would fall through. The addition isn't made, while slot by slot it is. The
+-- branch to bundle 0 ends the run; by the group's start, where p6 and p7 are 0, it would land.
 abbrev pub BranchPredicate : Type 0
 BranchPredicate =
     ((par_group tested_branch [] (zero_state tested_branch)).how ≡ Some Taken)
     × ((outcome_at_start tested_branch 2 branch (zero_state tested_branch)).next ≡ next.Falls)
     × (static_of 14 (registers_of tested_addition [] (zero_state tested_addition)) ≡ cell 0)
     × (static_of 14 (seq_group tested_addition (zero_state tested_addition)).state.registers ≡ cell 5)
+    × ((par_group promised_branch [] (start promised_branch (cell 0))).end ≡ Some (end.Fault BadRelation (record { bundle = 0; slot = 2 })))
+    × ((outcome_at_start promised_branch 2 promised_jump (start promised_branch (cell 0))).next ≡ next.Goes 0)
 
 abbrev pub jump : Insn
 jump = plain (op.BrInd 1 0 false false)
@@ -257,6 +271,7 @@ later_writes = record {
       ∷ idle_bundle ∷ [];
   entries = [];
   bytes = [];
+  relations = [];
 }
 
 -- the zero state, but p6 is 1

@@ -111,7 +111,8 @@ fn check_slots(alloc: Global, table: &SlotTable) -> Result<Verdict, AllocError>
 /// or-writes, two and-writes, spills and fills may share a group: the rules of crate `resource_sets` say which
 /// accesses clash. A read or a write after a write, and nothing else, is excused on a walk where the guards of the
 /// two accesses are known there not to be both 1, and no slot from the first on and before the second may write
-/// the guard of the first.
+/// the guard of the first. What an entry declares is known where a walk begins there, and not where an edge leads a
+/// walk there.
 ///
 /// An accepted program is order independent: from every start state, for every number of groups and every order
 /// of the writes in each group, groups at once leave what slots one by one leave.

@@ -18,7 +18,7 @@ pub fn violations_in_order()
 
 /// Along each sequential run from a start state, the slots since the start, or since an indirect branch
 /// was last taken, are a walk to the state's place, and the predicates of no pair that is known on it are
-/// both 1. The group of the walk is that of the run.
+/// both 1. What its entry declares is known where it begins. The group of the walk is that of the run.
 pub fn law_walk()
     ensures known { KnownOnRuns }
     ensures steps { StepsKnown }
@@ -30,7 +30,8 @@ pub fn law_walk()
 {}
 
 /// A slot that is no branch sees the registers of the group's start, and so does a branch, but for its qualifying
-/// predicate, the branch register that holds its target, and what a return reads of the previous function state.
+/// predicate, p1 to p15 where it is indirect, the branch register that holds its target, and what a return reads of
+/// the previous function state.
 ///
 /// In each group of a program without violations the writes so far, in every order, leave the state that the slots
 /// leave one by one, and the next slot does the same from its view and from that state.

@@ -18,11 +18,11 @@ use Rattle.watch_seam.specs.Watchers.{WatchState}
 use Rattle.watch_seam.specs.Watching.{staying}
 use Rattle.ia_meaning.specs.Steps.{Run as WholeRun}
 use Rattle.ia_insn.specs.Programs.{Program}
-use Rattle.image_form.specs.Images.{Spells}
+use Rattle.image_form.specs.Images.{Spells, BeginsAsImage}
 use Rattle.image_form.specs.Laws.{ImageSize}
 use Rattle.group_checker.specs.Reports.{IsFree}
 use Rattle.ia64_top.specs.Runs.{run_of, end_status, watch_text}
-use Rattle.ia64_top.specs.Readings.{as_either, BeginsAsImage}
+use Rattle.ia64_top.specs.Readings.{as_either}
 use Rattle.ia64_top.specs.Output.{is_too_long, IsSilent, IsRunAs, IsCommandOutput, IsOutput, GivesOutput, GivesPart}
 
 -- words are one command
@@ -84,7 +84,7 @@ abbrev OfProgram : (Program → Type 0) → List ℕ → Type 0
 OfProgram P input = (¬ BeginsAsImage input → length input ≤ INPUT_LIMIT) → (p : Program) → as_either.Gives input p → P p
 
 short_image : ImageSize → (p : Program) (input : List ℕ) → Spells p input → length input ≤ INPUT_LIMIT
-short_image size p input s = let n = size p input s in let r = s.program.counts in omega (arith, n, r.bundles, r.entries, r.bytes)
+short_image size p input s = let n = size p input s in let r = s.1.program.counts in omega (arith, n, r.bundles, r.entries, r.bytes, r.relations)
 
 short_either : ImageSize → (p : Program) (input : List ℕ) → (¬ BeginsAsImage input → length input ≤ INPUT_LIMIT) → as_either.Gives input p → length input ≤ INPUT_LIMIT
 short_either size p input within (inl image) = short_image size p input image.1
@@ -218,6 +218,7 @@ not_too_long command.Build ws input bytes o = o
 not_too_long command.Show ws input bytes o = o
 not_too_long command.List ws input bytes o = o
 not_too_long command.Wrap ws input bytes o = o
+not_too_long command.Lift ws input bytes o = o
 not_too_long Check ws input bytes o = o
 not_too_long (Run groups) ws input bytes o = o
 not_too_long (Watch groups) ws input bytes o = o

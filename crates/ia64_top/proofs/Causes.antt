@@ -4,7 +4,8 @@ use Rattle.std.specs.Prelude.{◌↔◌, ◌⊎◌, IfSome, false, Contains}
 use Rattle.std.specs.Io.KnownBytes.{Appends}
 use Rattle.std.proofs.lemmas.Bool.{lt-ltb}
 use Rattle.ia_insn.specs.Programs.{Program}
-use Rattle.image_form.specs.Images.{Spells}
+use Rattle.image_form.specs.Images.{IsImage, Written}
+use Rattle.image_form.specs.declared.version.Version.TheVariants.{Two}
 use Rattle.image_form.specs.Laws.{NoFaultWhereSpelled, NoFaultWhereRaw}
 use Rattle.asm_build.specs.Listing.{IsListing}
 use Rattle.asm_build.specs.Laws.{NoFaultWhereRead}
@@ -19,7 +20,7 @@ use Rattle.ia_meaning.specs.Runs.{run_text}
 use Rattle.watch_seam.specs.Watchers.{WatchState}
 use Rattle.ia64_top.specs.declared.limits.TheConstants.{INPUT_LIMIT}
 use Rattle.ia64_top.specs.declared.words.Command.{Command}
-use Rattle.ia64_top.specs.declared.words.Command.TheVariants.{Build, Show, List as Listing, Wrap, Check, Run, Watch, Trial}
+use Rattle.ia64_top.specs.declared.words.Command.TheVariants.{Build, Show, List as Listing, Wrap, Lift, Check, Run, Watch, Trial}
 use Rattle.ia64_top.specs.declared.status.Status.{Status}
 use Rattle.ia64_top.specs.declared.status.Status.TheVariants.{Done, Violated, Refused, NoMemory, Limit, Faulted}
 use Rattle.ia64_top.specs.Words.{command_of, IsTrial}
@@ -74,10 +75,11 @@ of_trial seed bundles bytes Violated o = tt
 of_trial seed bundles bytes status o = absurd o
 
 cause : NoFaultWhereSpelled → NoFaultWhereRaw → NoFaultWhereRead → (c : Command) (ws : List WatchState) (input bytes : List ℕ) (status : Status) → IsCommandOutput c ws input bytes status → HasCause (λ p. IsProgramOf c input p) status
-cause spelled raw read Build ws input bytes status o = cause_of as_text (text_refuses_none read) input status (made_so as_text Spells input bytes status o)
+cause spelled raw read Build ws input bytes status o = cause_of as_text (text_refuses_none read) input status (made_so as_text Written input bytes status o)
 cause spelled raw read Show ws input bytes status o = cause_of as_image (image_refuses_none spelled) input status (made_so as_image IsCanonical input bytes status o)
 cause spelled raw read Listing ws input bytes status o = cause_of as_image (image_refuses_none spelled) input status (made_so as_image IsListing input bytes status o)
-cause spelled raw read Wrap ws input bytes status o = cause_of as_bundles (bundles_refuse_none raw) input status (made_so as_bundles Spells input bytes status o)
+cause spelled raw read Wrap ws input bytes status o = cause_of as_bundles (bundles_refuse_none raw) input status (made_so as_bundles Written input bytes status o)
+cause spelled raw read Lift ws input bytes status o = cause_of as_image (image_refuses_none spelled) input status (made_so as_image (IsImage Two) input bytes status o)
 cause spelled raw read Check ws input bytes status o = cause_of as_either (either_refuses_none spelled read) input status (checked_so as_either input bytes status o)
 cause spelled raw read (Run groups) ws input bytes status o = cause_of as_either (either_refuses_none spelled read) input status (run_so run_text groups as_either input bytes status o)
 cause spelled raw read (Watch groups) ws input bytes status o = cause_of as_either (either_refuses_none spelled read) input status (run_so (watch_text ws) groups as_either input bytes status o)

@@ -5,7 +5,8 @@ use Rattle.std.specs.Io.KnownBytes.{Appends}
 use Rattle.ia_insn.specs.Bundles.{Bundle}
 use Rattle.ia_insn.specs.Programs.{Program}
 use Rattle.insn_codec.specs.Laws.{OneSpelling}
-use Rattle.image_form.specs.Images.{Spells}
+use Rattle.image_form.specs.Images.{IsImage, written_version, Written}
+use Rattle.image_form.specs.declared.version.Version.TheVariants.{Two}
 use Rattle.image_form.specs.Laws.{OneProgram, OneImage, OneRawProgram, OneFault, OneRawFault, NoFaultWhereSpelled, NoFaultWhereRaw}
 use Rattle.asm_build.specs.CanonicalText.{slots_text}
 use Rattle.asm_build.specs.Laws.{OneTextProgram, OneTextFault, NoFaultWhereRead}
@@ -87,8 +88,8 @@ one_made r Makes single one input mine bytes status other m o =
     (told_of_made r Makes input mine status m) (told_of_made r Makes input bytes other o)
 
 -- The image of a program is one, and so are its canonical text and its listing.
-one_image : OneImage → MakesOne Spells
-one_image one p mine bytes m o = one p bytes mine o m
+one_image : OneImage → MakesOne Written
+one_image one p mine bytes m o = one (written_version p.relations) p bytes mine o m
 
 one_canonical : MakesOne IsCanonical
 one_canonical p mine bytes m o = o.canonical ∙ sym m.canonical
@@ -157,10 +158,11 @@ are_one program raw_program text_program spelled raw read fault raw_fault text_f
 }
 
 one_command_output : AreOne → (c : Command) (ws : List WatchState) (input mine bytes : List ℕ) (status other : Status) → IsCommandOutput c ws input mine status → IsCommandOutput c ws input bytes other → (bytes ≡ mine) × (other ≡ status)
-one_command_output one command.Build ws input mine bytes status other m o = one_made as_text Spells (one_image one.spelled) one.text input mine bytes status other m o
+one_command_output one command.Build ws input mine bytes status other m o = one_made as_text Written (one_image one.spelled) one.text input mine bytes status other m o
 one_command_output one command.Show ws input mine bytes status other m o = one_made as_image IsCanonical one_canonical one.image input mine bytes status other m o
 one_command_output one command.List ws input mine bytes status other m o = one_made as_image IsListing (one_listing one.listed) one.image input mine bytes status other m o
-one_command_output one command.Wrap ws input mine bytes status other m o = one_made as_bundles Spells (one_image one.spelled) one.bundles input mine bytes status other m o
+one_command_output one command.Wrap ws input mine bytes status other m o = one_made as_bundles Written (one_image one.spelled) one.bundles input mine bytes status other m o
+one_command_output one command.Lift ws input mine bytes status other m o = one_made as_image (IsImage Two) (λ p mine bytes m o. one.spelled Two p bytes mine o m) one.image input mine bytes status other m o
 one_command_output one command.Check ws input mine bytes status other m o =
     one_told as_either IsJudgement (one_judgement one.judged) one.either input mine bytes status other (told_of_check as_either input mine status m) (told_of_check as_either input bytes other o)
 one_command_output one (command.Run groups) ws input mine bytes status other m o =

@@ -7,7 +7,8 @@ use Rattle.asm_build.specs.Laws.{OneTextProgram, NoFaultWhereRead}
 use Rattle.ia64_top.specs.declared.status.Status.{Status}
 use Rattle.ia64_top.specs.declared.status.Status.TheVariants.{Refused}
 use Rattle.ia64_top.specs.declared.answer.Answer.{Answer}
-use Rattle.ia64_top.specs.Readings.{Reading, IsRefusal, as_image, as_bundles, as_text, as_either, BeginsAsImage}
+use Rattle.ia64_top.specs.Readings.{Reading, IsRefusal, as_image, as_bundles, as_text, as_either}
+use Rattle.image_form.specs.Images.{BeginsAsImage}
 use Rattle.ia64_top.specs.Output.{IsMadeOutput}
 
 -- what is there where a call went well, told by what its contract tells

@@ -7,8 +7,10 @@ use Rattle.ia64_top.specs.declared.words.Command.TheVariants as command
 use Rattle.ia64_top.specs.declared.status.Status.{Status}
 use Rattle.ia64_top.specs.declared.status.Status.TheVariants.{Done, Violated, Words, Refused, TooLong, Limit, Faulted}
 use Rattle.ia_insn.specs.Programs.{Program}
-use Rattle.image_form.specs.Images.{Spells}
+use Rattle.image_form.specs.Images.{IsImage, Written, BeginsAsImage}
+use Rattle.image_form.specs.declared.version.Version.TheVariants.{Two}
 use Rattle.asm_build.specs.CanonicalText.{canonical_text}
+use Rattle.asm_build.specs.RoundTrip.{bare}
 use Rattle.asm_build.specs.Listing.{IsListing}
 use Rattle.ia64_top.specs.Words.{command_of}
 use Rattle.ia64_top.specs.Judgements.{IsJudgement, IsJudgedViolated, PrintsClashes}
@@ -19,7 +21,7 @@ use Rattle.watch_seam.specs.Watchers.{WatchState}
 use Rattle.ia64_top.specs.Runs.{watch_text, IsRunOf, IsRunOfEveryOrder}
 use Rattle.ia64_top.specs.Trials.{IsTrialOutput}
 use Rattle.group_checker.specs.Reports.{IsFree}
-use Rattle.ia64_top.specs.Readings.{Reading, IsRefusal, BeginsAsImage, as_image, as_bundles, as_text, as_either}
+use Rattle.ia64_top.specs.Readings.{Reading, IsRefusal, as_image, as_bundles, as_text, as_either}
 
 -- An input that isn't too long. An image is never longer than the limit.
 abbrev pub IsWithinLimit : List ℕ → Type 0
@@ -32,10 +34,10 @@ IsMadeOutput reading Makes input bytes Done = (program : Program) × reading.Giv
 IsMadeOutput reading Makes input bytes Refused = reading.Refuses input bytes
 IsMadeOutput reading Makes input bytes status = ⊥
 
--- The text is the canonical one of the program, and reads as the program.
+-- The text is the canonical one of the program, and reads as the program without its relations.
 pub record IsCanonical (program : Program) (text : List ℕ) : Type 0 where
   pub canonical : text ≡ canonical_text program
-  pub back : as_text.Gives text program
+  pub back : as_text.Gives text (bare program)
 
 -- What `check` writes and answers of an input that is read in a way.
 abbrev pub IsCheckedAs : Reading → List ℕ → List ℕ → Status → Type 0
@@ -77,6 +79,7 @@ IsProgramOf command.Build input program = as_text.Gives input program
 IsProgramOf command.Show input program = as_image.Gives input program
 IsProgramOf command.List input program = as_image.Gives input program
 IsProgramOf command.Wrap input program = as_bundles.Gives input program
+IsProgramOf command.Lift input program = as_image.Gives input program
 IsProgramOf (command.Trial seed bundles) input program = program ≡ trial_program seed bundles
 IsProgramOf command input program = as_either.Gives input program
 
@@ -93,17 +96,19 @@ abbrev pub printed_run : Command → List WatchState → Run → List ℕ
 printed_run (command.Watch groups) watchers run = watch_text watchers run
 printed_run command watchers run = run_text run
 
--- `build` and `wrap` make the image of a program, `show` its canonical text, and `list` its listing. `check`, `run` and
--- `watch` take an image or a text, and `trial` takes no input.
+-- `build` and `wrap` make the image of a program, `show` its canonical text, `list` its listing, and `lift` its image of
+-- version 2. `check`, `run` and `watch` take an image or a text, and `trial` takes no input.
 abbrev pub IsCommandOutput : Command → List WatchState → List ℕ → List ℕ → Status → Type 0
 IsCommandOutput command.Build watchers input bytes status =
-    IsMadeOutput as_text Spells input bytes status
+    IsMadeOutput as_text Written input bytes status
 IsCommandOutput command.Show watchers input bytes status =
     IsMadeOutput as_image IsCanonical input bytes status
 IsCommandOutput command.List watchers input bytes status =
     IsMadeOutput as_image IsListing input bytes status
 IsCommandOutput command.Wrap watchers input bytes status =
-    IsMadeOutput as_bundles Spells input bytes status
+    IsMadeOutput as_bundles Written input bytes status
+IsCommandOutput command.Lift watchers input bytes status =
+    IsMadeOutput as_image (IsImage Two) input bytes status
 IsCommandOutput command.Check watchers input bytes status = IsCheckedAs as_either input bytes status
 IsCommandOutput (command.Run groups) watchers input bytes status =
     IsRunAs run_text groups as_either input bytes status

@@ -1,8 +1,8 @@
 -- What an input is read as: a program, or its first fault. Each command reads in one of these ways.
-use Rattle.std.specs.Prelude.{◌≡◌, ℕ, ◌⊎◌, List, take}
+use Rattle.std.specs.Prelude.{◌≡◌, ℕ, ◌⊎◌, List}
 use Rattle.ia_insn.specs.Programs.{Program}
 use Rattle.image_form.specs.declared.fault.ImageFault.{ImageFault}
-use Rattle.image_form.specs.Images.{magic, Spells, RawSpells}
+use Rattle.image_form.specs.Images.{Spells, RawSpells, BeginsAsImage}
 use Rattle.image_form.specs.Faults.{HasImageFault, HasRawFault}
 use Rattle.asm_build.specs.declared.reason.TextError.{TextError}
 use Rattle.asm_build.specs.TextReading.{Reads as ReadsText, HasTextFault}
@@ -39,10 +39,6 @@ as_text = record {
   Gives = λ input p. ReadsText input p;
   Refuses = λ input bytes. (e : TextError) × HasTextFault input e × (bytes ≡ text_refusal_text e);
 }
-
--- the input begins as an image does
-abbrev pub BeginsAsImage : List ℕ → Type 0
-BeginsAsImage input = take 8 input ≡ magic
 
 -- an image where the input begins as one, and else a text
 abbrev pub as_either : Reading

@@ -15,7 +15,7 @@ use Rattle.asm_build.specs.declared.reason.TextError.TheVariants as error
 use Rattle.asm_build.specs.Reasons.{reason_text}
 use Rattle.image_form.specs.declared.fault.ImageFault.{ImageFault}
 use Rattle.image_form.specs.declared.fault.ImageFault.TheVariants.{Short, Magic, Counts, Length, Entry, Bundle}
-use Rattle.image_form.specs.declared.fault.ImageFault.TheVariants.{Target, LongRun, Memory}
+use Rattle.image_form.specs.declared.fault.ImageFault.TheVariants.{Target, LongRun, Relation, Memory}
 
 abbrev pub line : List ℕ → List ℕ
 line text = text ++ 10 ∷ []
@@ -64,6 +64,7 @@ fault_text (Bundle n ReservedTemplate) = codes "image: bundle " ++ decimal n ++ 
 fault_text (Bundle n (Unlisted slot)) = slot_text (record { bundle = n; slot = slot }) ++ codes ": unlisted"
 fault_text (Target place) = slot_text place ++ codes ": target"
 fault_text (LongRun place) = slot_text place ++ codes ": long run"
+fault_text (Relation n) = codes "image: relation " ++ decimal n
 fault_text Memory = []
 
 abbrev pub refusal_text : ImageFault → List ℕ

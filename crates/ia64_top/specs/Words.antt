@@ -3,7 +3,7 @@ use Rattle.std.specs.Prelude.{ℕ, ◌-◌, ◌^◌, ◌≤◌, ⊤, List, [], �
 use Rattle.ia_insn.specs.declared.limits.TheConstants.{BUNDLE_LIMIT}
 use Rattle.ia64_top.specs.declared.limits.TheConstants.{GROUP_LIMIT}
 use Rattle.ia64_top.specs.declared.words.Command.{Command}
-use Rattle.ia64_top.specs.declared.words.Command.TheVariants.{Build, Show, List as Listing, Wrap, Check, Run, Watch, Trial}
+use Rattle.ia64_top.specs.declared.words.Command.TheVariants.{Build, Show, List as Listing, Wrap, Lift, Check, Run, Watch, Trial}
 use Rattle.ia64_top.specs.Numbers.{number_between}
 
 -- A run has at least one group, and at most the limit, and a trial so many bundles.
@@ -41,14 +41,15 @@ abbrev pub trial_command : Option ℕ → Option ℕ → Option Command
 trial_command (Some seed) (Some bundles) = Some (Trial seed bundles)
 trial_command seed bundles = None
 
--- The command that the words are, where they are one: `build`, `show`, `list`, `wrap` or `check` alone, `run` or `watch` and
--- a number of groups, or `trial`, a seed of 64 bits and a number of bundles. Upper and lower case differ.
+-- The command that the words are, where they are one: `build`, `show`, `list`, `wrap`, `lift` or `check` alone, `run` or
+-- `watch` and a number of groups, or `trial`, a seed of 64 bits and a number of bundles. Upper and lower case differ.
 abbrev pub command_of : List (List ℕ) → Option Command
 command_of (word ∷ []) =
     if bytes_eq word (codes "build") then Some Build
     else if bytes_eq word (codes "show") then Some Show
     else if bytes_eq word (codes "list") then Some Listing
     else if bytes_eq word (codes "wrap") then Some Wrap
+    else if bytes_eq word (codes "lift") then Some Lift
     else if bytes_eq word (codes "check") then Some Check else None
 command_of (word ∷ groups ∷ []) =
     if bytes_eq word (codes "run") then option_map Run (number_between 1 GROUP_LIMIT groups)

@@ -1,7 +1,8 @@
 //! The answers of the commands.
 
 ghost use Rattle.std.specs.Prelude.{◌≡◌, ◌≢◌, ◌≤◌, ℕ, length, map, IfOk, OnOk, OnErr, MatchResult, Some};
-ghost use Rattle.image_form.specs.Images.{Spells};
+ghost use Rattle.image_form.specs.Images.{IsImage, Written};
+ghost use Rattle.image_form.specs.declared.version.Version.TheVariants.{Two};
 ghost use Rattle.asm_build.specs.Listing.{IsListing};
 ghost use Rattle.ia64_top.specs.declared.limits.TheConstants.{GROUP_LIMIT, INPUT_LIMIT};
 ghost use Rattle.ia64_top.specs.Words.{HasNumbersInRange, IsWatch};
@@ -30,6 +31,7 @@ use ia_insn::{End, Program};
 use ia_meaning::progress_is_run;
 use image_form::{
     ImageFault, is_image, no_fault_where_spelled, one_program, read_image, wrap_raw, write_image,
+    write_image_2,
 };
 use state_text::state_text;
 use std::alloc::{AllocError, Global};
@@ -72,7 +74,7 @@ fn refuse_text(alloc: Global, error: TextError) -> Result<Answer, AllocError>
 /// The answer of `build` to an input within the limit.
 fn build_input(alloc: Global, input: &[u8]) -> Result<Answer, AllocError>
     requires { length input.now ≤ INPUT_LIMIT }
-    ensures { IfOk result (λ answer. IsMadeOutput as_text Spells input.now answer.bytes.items answer.status) }
+    ensures { IfOk result (λ answer. IsMadeOutput as_text Written input.now answer.bytes.items answer.status) }
 {
     match assemble(alloc, input) {
         Ok(program) => Ok(Answer {
@@ -111,11 +113,24 @@ fn list_input(alloc: Global, input: &[u8]) -> Result<Answer, AllocError>
 
 /// The answer of `wrap` to an input within the limit.
 fn wrap_input(alloc: Global, input: &[u8]) -> Result<Answer, AllocError>
-    ensures { IfOk result (λ answer. IsMadeOutput as_bundles Spells input.now answer.bytes.items answer.status) }
+    ensures { IfOk result (λ answer. IsMadeOutput as_bundles Written input.now answer.bytes.items answer.status) }
 {
     match wrap_raw(alloc, input) {
         Ok(program) => Ok(Answer {
             bytes: write_image(alloc, &program)?,
+            status: Status::Done,
+        }),
+        Err(fault) => refuse(alloc, fault),
+    }
+}
+
+/// The answer of `lift` to an input within the limit.
+fn lift_input(alloc: Global, input: &[u8]) -> Result<Answer, AllocError>
+    ensures { IfOk result (λ answer. IsMadeOutput as_image (IsImage Two) input.now answer.bytes.items answer.status) }
+{
+    match read_image(alloc, input) {
+        Ok(program) => Ok(Answer {
+            bytes: write_image_2(alloc, &program)?,
             status: Status::Done,
         }),
         Err(fault) => refuse(alloc, fault),
@@ -345,6 +360,7 @@ pub(crate) fn respond(
         Command::Show => show_input(alloc, input),
         Command::List => list_input(alloc, input),
         Command::Wrap => wrap_input(alloc, input),
+        Command::Lift => lift_input(alloc, input),
         Command::Check => check_input(alloc, input),
         Command::Run { groups } => run_input(alloc, groups, input),
         Command::Watch { groups } => watch_input(alloc, groups, input, watchers),

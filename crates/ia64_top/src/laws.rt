@@ -31,8 +31,8 @@ pub fn one_output()
     one_verdict();
 }
 
-/// The number that a text gives `movl` for a name is where the program finds it: an indirect branch to the
-/// address of an entry lands there, and the byte of data is loaded from its address.
+/// The number that a text gives `movl` for a name is where the program finds it: it is the address from which
+/// an indirect branch lands on the entry, and that from which the byte of data is loaded.
 pub fn law_names()
     ensures bundles { BundlesAreWhereNamed }
     ensures bytes { BytesAreWhereNamed }

@@ -162,6 +162,7 @@ impl fmt::Display for FaultText {
                 let at = SlotText { place };
                 write!(f, "{at}: long run")
             }
+            ImageFault::Relation { n } => write!(f, "image: relation {n}"),
             ImageFault::Memory => Ok(()),
         }
     }

@@ -21,6 +21,8 @@ pub enum Command {
     List,
     /// Makes an image of bare bundles.
     Wrap,
+    /// Makes an image of version 2 of an image.
+    Lift,
     /// Checks the groups of a program.
     Check,
     /// Runs a program that is accepted.
@@ -123,8 +125,8 @@ impl Words {
         Ok(())
     }
 
-    /// The command that the words are, by the table: `build`, `show`, `list`, `wrap` or `check` alone, `run` or
-    /// `watch` and a number of groups, or `trial`, a seed and a number of bundles, in lower case.
+    /// The command that the words are, by the table: `build`, `show`, `list`, `wrap`, `lift` or `check` alone,
+    /// `run` or `watch` and a number of groups, or `trial`, a seed and a number of bundles, in lower case.
     pub fn command(&self) -> Option<Command>
         ensures { result ≡ command_of self.now }
     {
@@ -133,6 +135,7 @@ impl Words {
             [word] if word.as_slice() == b"show".as_slice() => Some(Command::Show),
             [word] if word.as_slice() == b"list".as_slice() => Some(Command::List),
             [word] if word.as_slice() == b"wrap".as_slice() => Some(Command::Wrap),
+            [word] if word.as_slice() == b"lift".as_slice() => Some(Command::Lift),
             [word] if word.as_slice() == b"check".as_slice() => Some(Command::Check),
             [word, groups] if word.as_slice() == b"run".as_slice() => {
                 let groups = number_between(1, GROUP_LIMIT, groups)?;

@@ -6,5 +6,6 @@ pub mod InOrder
 pub mod Stops
 pub mod Reaching
 pub mod ProgramFaults
+pub mod DeclaredRelations
 pub mod OperandRanges
 pub mod ListedSlots

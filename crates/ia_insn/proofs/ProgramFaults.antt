@@ -1,4 +1,4 @@
--- Bundles, entries and data have at most one first fault, and a program has none.
+-- Bundles, entries, data and relations have at most one first fault, and a program has none.
 use Rattle.std.proofs.Common.{◌≡◌, inl, inr, ℕ, List, length}
 use Rattle.first_fault.specs.Stages.{first}
 use Rattle.first_fault.proofs.Laws.{IsSound, AreSound, unless_sound, one_fault, no_fault}
@@ -6,11 +6,12 @@ use Rattle.first_fault.proofs.Firsts.{one_first}
 use Rattle.ia_insn.specs.declared.place.Place.{Place}
 use Rattle.ia_insn.specs.declared.program.ProgramFault.{ProgramFault}
 use Rattle.ia_insn.specs.declared.program.ProgramFault.TheVariants.{Counts}
+use Rattle.ia_insn.specs.declared.relations.Relation.{Relation}
 use Rattle.ia_insn.specs.Bundles.{Bundle}
 use Rattle.ia_insn.specs.Places.{EachPlace, IsFirstBad}
 use Rattle.ia_insn.specs.Runs.{IsWithinRun}
 use Rattle.ia_insn.specs.Targets.{IsTargetInside}
-use Rattle.ia_insn.specs.Programs.{Program, AreInRange, AreEntries, IsEntryAt, IsFirstMisplaced, IsProgram, program_stages, HasProgramFault}
+use Rattle.ia_insn.specs.Programs.{Program, AreInRange, AreEntries, IsEntryAt, IsFirstMisplaced, AreRelations, IsRelationAt, IsFirstMisdeclared, IsProgram, program_stages, HasProgramFault}
 use Rattle.ia_insn.proofs.Reaching.{order}
 
 -- one place is the first bad one
@@ -31,14 +32,20 @@ misplaced_sound fault count entries = record {
   none = λ n a are. a.misplaced (are n a.inside);
 }
 
+pub misdeclared_sound : {Fault : Type 0} (fault : ℕ → Fault) (bundles : List Bundle) (entries : List ℕ) (relations : List Relation) → IsSound (first ℕ fault (IsFirstMisdeclared bundles entries relations) (AreRelations bundles entries relations))
+misdeclared_sound fault bundles entries relations = record {
+  one = λ m n a b. one_first (IsRelationAt bundles entries relations) m n a.first a.misdeclared b.first b.misdeclared;
+  none = λ n a are. a.misdeclared (are n a.inside);
+}
+
 program_sound : (p : Program) → AreSound (program_stages p)
 program_sound p = (
-  unless_sound (AreInRange (length p.bundles) (length p.entries) (length p.bytes)) Counts,
-  (misplaced_sound _ (length p.bundles) p.entries, (first_bad_sound _ p.bundles (IsTargetInside p.bundles), (first_bad_sound _ p.bundles (IsWithinRun p.bundles), tt))),
+  unless_sound (AreInRange (length p.bundles) (length p.entries) (length p.bytes) (length p.relations)) Counts,
+  (misplaced_sound _ (length p.bundles) p.entries, (first_bad_sound _ p.bundles (IsTargetInside p.bundles), (first_bad_sound _ p.bundles (IsWithinRun p.bundles), (misdeclared_sound _ p.bundles p.entries p.relations, tt)))),
 )
 
 pub one_program_fault : (p : Program) (f g : ProgramFault) → HasProgramFault p f → HasProgramFault p g → f ≡ g
 one_program_fault p f g a b = one_fault (program_stages p) (program_sound p) f g a b
 
 pub no_program_fault : (p : Program) (f : ProgramFault) → IsProgram p → HasProgramFault p f → ⊥
-no_program_fault p f is a = no_fault (program_stages p) (program_sound p) (is.counts, (is.entries, (is.targets, (is.runs, tt)))) f a
+no_program_fault p f is a = no_fault (program_stages p) (program_sound p) (is.counts, (is.entries, (is.targets, (is.runs, (is.relations, tt))))) f a

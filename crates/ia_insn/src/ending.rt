@@ -30,6 +30,8 @@ pub enum FaultKind {
     StackLimit,
     /// An indirect branch reaches a bundle that is no entry.
     BadLanding,
+    /// An indirect branch lands on an entry of which two predicates of a declared relation are both 1.
+    BadRelation,
     /// A slot without a next place falls through.
     FellOff,
 }
@@ -49,6 +51,7 @@ impl FaultKind {
             FaultKind::Underflow => "Underflow",
             FaultKind::StackLimit => "StackLimit",
             FaultKind::BadLanding => "BadLanding",
+            FaultKind::BadRelation => "BadRelation",
             FaultKind::FellOff => "FellOff",
         }
     }

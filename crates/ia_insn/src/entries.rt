@@ -2,23 +2,24 @@
 
 ghost use Rattle.std.specs.Prelude.{◌<◌, ◌^◌, MatchOption, IsTrue, ◌↔◌, length, Contains};
 ghost use Rattle.ia_insn.specs.declared.limits.TheConstants.{BUNDLE_LIMIT, DATA_LIMIT, ENTRY_LIMIT};
-ghost use Rattle.ia_insn.specs.Programs.{AreInRange, AreEntries, IsFirstMisplaced, IsCall, HasCall, IsAfterCall};
+ghost use Rattle.ia_insn.specs.Programs.{AreInRange, AreEntries, IsFirstMisplaced, IsCall, HasCall, IsAfterCall, IsEntryOf};
 
 use crate::bundle::{BundleOf, Slots};
 use crate::insn::Op;
-use crate::limits::{BUNDLE_LIMIT, DATA_LIMIT, ENTRY_LIMIT};
+use crate::limits::{BUNDLE_LIMIT, DATA_LIMIT, ENTRY_LIMIT, RELATION_LIMIT};
 use crate::places::bundle_at;
 
-/// Whether there may be so many bundles, declared entries and bytes of data in a program: at least one
-/// bundle, each within its limit, and the bytes a multiple of 8.
-pub fn are_in_range(bundles: usize, entries: usize, bytes: usize) -> bool
-    ensures { IsTrue result ↔ AreInRange bundles entries bytes }
+/// Whether there may be so many bundles, declared entries, bytes of data and declared relations in a
+/// program: at least one bundle, each within its limit, and the bytes a multiple of 8.
+pub fn are_in_range(bundles: usize, entries: usize, bytes: usize, relations: usize) -> bool
+    ensures { IsTrue result ↔ AreInRange bundles entries bytes relations }
 {
     bundles >= 1
         && bundles <= BUNDLE_LIMIT
         && entries <= ENTRY_LIMIT
         && bytes <= DATA_LIMIT
         && bytes % 8 == 0
+        && relations <= RELATION_LIMIT
 }
 
 /// The number of the first entry that isn't above the one before it, or isn't a bundle from 1 on of
@@ -39,7 +40,7 @@ pub fn misplaced_entry(count: u32, entries: &[u32]) -> Option<u32>
 }
 
 /// Whether the bundle is one of the entries.
-pub(crate) fn is_declared(entries: &[u32], bundle: u32) -> bool
+fn is_declared(entries: &[u32], bundle: u32) -> bool
     ensures { IsTrue result ↔ Contains entries.now bundle }
 {
     entries.contains(&bundle)
@@ -63,7 +64,7 @@ fn has_call(slots: &Slots) -> bool
 }
 
 /// Whether the bundle before this one holds a call.
-pub(crate) fn is_after_call(bundles: &[BundleOf], bundle: u32) -> bool
+fn is_after_call(bundles: &[BundleOf], bundle: u32) -> bool
     ensures { IsTrue result ↔ IsAfterCall bundles.now bundle }
 {
     if bundle == 0 {
@@ -73,4 +74,14 @@ pub(crate) fn is_after_call(bundles: &[BundleOf], bundle: u32) -> bool
         Some(before) => has_call(before.slots()),
         None => false,
     }
+}
+
+/// Whether the bundle is an entry of a program of these bundles and declared entries, where a run may
+/// start and indirect branches may land: bundle 0, a declared entry, or the bundle after one that
+/// holds a call.
+pub fn is_entry(bundles: &[BundleOf], entries: &[u32], bundle: u32) -> bool
+    ensures { IsTrue result ↔ IsEntryOf bundles.now entries.now bundle }
+{
+    (bundle as usize) < bundles.len()
+        && (bundle == 0 || is_declared(entries, bundle) || is_after_call(bundles, bundle))
 }

@@ -4,7 +4,7 @@
 //! `specs/` holds the encoding relation: of each instruction its fields and its range, one file a
 //! family of formats (Intel Itanium Architecture Software Developer's Manual, volume 3, chapter 4),
 //! and which slots it fits; then the templates and what they have room for, places and runs of slots,
-//! and what makes bundles, declared entries and data a program. The functions here say which
+//! and what makes bundles, declared entries, data and declared relations a program. The functions here say which
 //! instructions are listed and make bundles and programs; the formats crates go from instructions to
 //! words and back.
 #![tactic(auto)]
@@ -29,6 +29,7 @@ mod place;
 mod places;
 mod program;
 mod registers;
+mod relations;
 mod runs;
 mod signed;
 mod slot_fitness;
@@ -39,7 +40,7 @@ pub use addresses::{BUNDLE_BASE, DATA_BASE, bundle_address, data_address};
 pub use bundle::{BundleOf, Slots};
 pub use choices::{AluFn, BranchKind, CmpKind, LoadKind, Rel, ShiftFn, StoreKind, Unit, Update};
 pub use ending::{End, FaultKind, GroupEvent, How};
-pub use entries::{are_in_range, misplaced_entry};
+pub use entries::{are_in_range, is_entry, misplaced_entry};
 pub use insn::{Insn, Op};
 pub use listed::{is_listed, operands_in_range};
 pub use listed_a::is_listed_a;
@@ -51,6 +52,7 @@ pub use listed_x::is_listed_x;
 pub use place::{Place, numbers_rise};
 pub use program::{Program, ProgramFault};
 pub use registers::{Ar, Br, Gr, Pr};
+pub use relations::Relation;
 pub use runs::long_run;
 pub use signed::{sign_extended, twos_complement};
 pub use slot_fitness::{fits, is_branch_slot};

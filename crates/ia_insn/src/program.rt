@@ -1,25 +1,26 @@
 //! Programs.
 
-ghost use Rattle.std.specs.Prelude.{◌≡◌, ◌<◌, Ok, Err, IfOk, IfErr, MatchOption, IsTrue, ◌↔◌, length, slice_get, Contains};
+ghost use Rattle.std.specs.Prelude.{◌≡◌, ◌<◌, Ok, Err, IfOk, IfErr, MatchOption, IsTrue, ◌↔◌, [], length, slice_get, Contains};
 ghost use Rattle.std.specs.Option.{option_copied};
 ghost use Rattle.ia_insn.specs.declared.place.Place.{Place};
 ghost use Rattle.ia_insn.specs.declared.program.ProgramFault.{ProgramFault as FaultOf};
 ghost use Rattle.ia_insn.specs.Places.{insn_at, IsPlaceOf, IsBefore, IsNext, IsStopped};
-ghost use Rattle.ia_insn.specs.Programs.{Program as Parts, AreInRange, AreEntries, IsProgram, HasProgramFault, IsEntry};
+ghost use Rattle.ia_insn.specs.Programs.{Program as Parts, AreInRange, AreEntries, IsProgram, HasProgramFault, IsEntry, relations_at};
 
 use crate::bundle::BundleOf;
-use crate::entries::{are_in_range, is_after_call, is_declared, misplaced_entry};
+use crate::entries::{are_in_range, is_entry, misplaced_entry};
 use crate::insn::Insn;
 use crate::place::Place;
 use crate::places::{bundle_at, insn_at, is_stopped, next};
+use crate::relations::{Relation, misdeclared_relation, relations_at};
 use crate::runs::long_run;
 use crate::targets::outside_target;
 use std::marker::Model;
 
-/// Why bundles, entries and data are no program: the first of these.
+/// Why bundles, entries, data and relations are no program: the first of these.
 #[derive(Clone, Copy, Debug, PartialEq, Eq)]
 pub enum ProgramFault {
-    /// There are no bundles, more bundles, entries or bytes of data than their
+    /// There are no bundles, more bundles, entries, bytes of data or relations than their
     /// [limits](crate::limits), or bytes that are no multiple of 8.
     Counts,
     /// An entry isn't a bundle from 1 on, or isn't above the one before it. This is the first one.
@@ -37,27 +38,34 @@ pub enum ProgramFault {
         /// The place of the first slot that is one too many in its run.
         place: Place,
     },
+    /// A relation isn't above the one before it, isn't of an entry, or isn't of two of p1 to p15, the
+    /// lower one first. This is the first one.
+    Relation {
+        /// Its number, from 0.
+        n: u32,
+    },
 }
 
-/// A program: bundles, the numbers of those that are declared entries, and data bytes. Contracts see
-/// the three lists.
+/// A program: bundles, the numbers of those that are declared entries, data bytes, and declared
+/// relations. Contracts see the four lists.
 #[derive(Debug, Drop)]
 pub struct Program {
     bundles: Vec<BundleOf>,
     entries: Vec<u32>,
     bytes: Vec<u8>,
+    relations: Vec<Relation>,
 }
 
 impl Model for Program {
     ghost Value = { Parts };
 
-    ghost view = { λ p. record { bundles = p.bundles.items; entries = p.entries.items; bytes = p.bytes.items } };
+    ghost view = { λ p. record { bundles = p.bundles.items; entries = p.entries.items; bytes = p.bytes.items; relations = p.relations.items } };
 
-    ghost invariant = { λ p. IsProgram (record { bundles = p.bundles.items; entries = p.entries.items; bytes = p.bytes.items }) };
+    ghost invariant = { λ p. IsProgram (record { bundles = p.bundles.items; entries = p.entries.items; bytes = p.bytes.items; relations = p.relations.items }) };
 }
 
 impl Program {
-    /// The program of these bundles, declared entries and data bytes.
+    /// The program of these bundles, declared entries and data bytes, without relations.
     ///
     /// # Errors
     ///
@@ -68,43 +76,71 @@ impl Program {
         memory: Vec<u8>,
     ) -> Result<Program, ProgramFault>
         // The program is of these, and they are one.
-        ensures found { IfOk result (λ p. (p ≡ record { bundles = bundles.items; entries = entries.items; bytes = memory.items }) × IsProgram p) }
+        ensures found { IfOk result (λ p. (p ≡ record { bundles = bundles.items; entries = entries.items; bytes = memory.items; relations = [] }) × IsProgram p) }
 
         // Where they are a program it is answered, so a fault comes only where they are none.
-        ensures only { let parts : Parts = record { bundles = bundles.items; entries = entries.items; bytes = memory.items } in IsProgram parts → result ≡ Ok parts }
+        ensures only { let parts : Parts = record { bundles = bundles.items; entries = entries.items; bytes = memory.items; relations = [] } in IsProgram parts → result ≡ Ok parts }
 
         // The fault is the first one of these.
-        ensures fault { IfErr result (HasProgramFault (record { bundles = bundles.items; entries = entries.items; bytes = memory.items })) }
+        ensures fault { IfErr result (HasProgramFault (record { bundles = bundles.items; entries = entries.items; bytes = memory.items; relations = [] })) }
 
         // A fault that they have is answered, so they have no other.
-        ensures only_fault { (fault : FaultOf) → HasProgramFault (record { bundles = bundles.items; entries = entries.items; bytes = memory.items }) fault → result ≡ Err fault }
+        ensures only_fault { (fault : FaultOf) → HasProgramFault (record { bundles = bundles.items; entries = entries.items; bytes = memory.items; relations = [] }) fault → result ≡ Err fault }
     {
-        if !are_in_range(bundles.len(), entries.len(), memory.len()) {
+        let alloc = *bundles.allocator();
+        Program::with_relations(bundles, entries, memory, Vec::new(alloc))
+    }
+
+    /// The program of these bundles, declared entries, data bytes and declared relations.
+    ///
+    /// # Errors
+    ///
+    /// The first fault of these, in the order of [`ProgramFault`].
+    pub fn with_relations(
+        bundles: Vec<BundleOf>,
+        entries: Vec<u32>,
+        memory: Vec<u8>,
+        relations: Vec<Relation>,
+    ) -> Result<Program, ProgramFault>
+        // The program is of these, and they are one.
+        ensures found { IfOk result (λ p. (p ≡ record { bundles = bundles.items; entries = entries.items; bytes = memory.items; relations = relations.items }) × IsProgram p) }
+
+        // Where they are a program it is answered, so a fault comes only where they are none.
+        ensures only { let parts : Parts = record { bundles = bundles.items; entries = entries.items; bytes = memory.items; relations = relations.items } in IsProgram parts → result ≡ Ok parts }
+
+        // The fault is the first one of these.
+        ensures fault { IfErr result (HasProgramFault (record { bundles = bundles.items; entries = entries.items; bytes = memory.items; relations = relations.items })) }
+
+        // A fault that they have is answered, so they have no other.
+        ensures only_fault { (fault : FaultOf) → HasProgramFault (record { bundles = bundles.items; entries = entries.items; bytes = memory.items; relations = relations.items }) fault → result ≡ Err fault }
+    {
+        if !are_in_range(bundles.len(), entries.len(), memory.len(), relations.len()) {
             return Err(ProgramFault::Counts);
         }
         if let Some(n) = misplaced_entry(bundles.len() as u32, &entries) {
             return Err(ProgramFault::Entry { n });
         }
-        Program::of_checked(bundles, entries, memory)
+        Program::of_checked(bundles, entries, memory, relations)
     }
 
-    /// The program of these, as [`Program::new`] answers it, where the counts and the entries are
+    /// The program of these, as [`Program::with_relations`] answers it, where the counts and the entries are
     /// known to be right: they are not looked at again.
     ///
     /// # Errors
     ///
-    /// The first fault of these, `Target` or `LongRun`.
+    /// The first fault of these, `Target`, `LongRun` or `Relation`.
     pub fn of_checked(
         bundles: Vec<BundleOf>,
         entries: Vec<u32>,
         memory: Vec<u8>,
+        relations: Vec<Relation>,
     ) -> Result<Program, ProgramFault>
-        requires counts { AreInRange (length bundles.items) (length entries.items) (length memory.items) }
+        requires counts { AreInRange (length bundles.items) (length entries.items) (length memory.items) (length relations.items) }
         requires entries { AreEntries (length bundles.items) entries.items }
-        ensures found { IfOk result (λ p. (p ≡ record { bundles = bundles.items; entries = entries.items; bytes = memory.items }) × IsProgram p) }
-        ensures only { let parts : Parts = record { bundles = bundles.items; entries = entries.items; bytes = memory.items } in IsProgram parts → result ≡ Ok parts }
-        ensures fault { IfErr result (HasProgramFault (record { bundles = bundles.items; entries = entries.items; bytes = memory.items })) }
-        ensures only_fault { (fault : FaultOf) → HasProgramFault (record { bundles = bundles.items; entries = entries.items; bytes = memory.items }) fault → result ≡ Err fault }
+        ensures found { IfOk result (λ p. (p ≡ record { bundles = bundles.items; entries = entries.items; bytes = memory.items; relations = relations.items }) × IsProgram p) }
+        ensures only { let parts : Parts = record { bundles = bundles.items; entries = entries.items; bytes = memory.items; relations = relations.items } in IsProgram parts → result ≡ Ok parts }
+        ensures fault { IfErr result (HasProgramFault (record { bundles = bundles.items; entries = entries.items; bytes = memory.items; relations = relations.items })) }
+        ensures only_fault { (fault : FaultOf) → HasProgramFault (record { bundles = bundles.items; entries = entries.items; bytes = memory.items; relations = relations.items }) fault → result ≡ Err fault }
     {
         if let Some(place) = outside_target(&bundles) {
             return Err(ProgramFault::Target { place });
@@ -112,23 +148,33 @@ impl Program {
         if let Some(place) = long_run(&bundles) {
             return Err(ProgramFault::LongRun { place });
         }
-        Ok(Program::of_parts(bundles, entries, memory))
+        if let Some(n) = misdeclared_relation(&bundles, &entries, &relations) {
+            return Err(ProgramFault::Relation { n });
+        }
+        Ok(Program::of_parts(bundles, entries, memory, relations))
     }
 
     /// The program of these, where it is known that they are one. Nothing is looked at.
-    pub fn of_parts(bundles: Vec<BundleOf>, entries: Vec<u32>, memory: Vec<u8>) -> Program
-        requires { IsProgram (record { bundles = bundles.items; entries = entries.items; bytes = memory.items }) }
-        ensures { result ≡ record { bundles = bundles.items; entries = entries.items; bytes = memory.items } }
+    pub fn of_parts(
+        bundles: Vec<BundleOf>,
+        entries: Vec<u32>,
+        memory: Vec<u8>,
+        relations: Vec<Relation>,
+    ) -> Program
+        requires { IsProgram (record { bundles = bundles.items; entries = entries.items; bytes = memory.items; relations = relations.items }) }
+        ensures { result ≡ record { bundles = bundles.items; entries = entries.items; bytes = memory.items; relations = relations.items } }
     {
         Program {
             bundles,
             entries,
             bytes: memory,
+            relations,
         }
     }
 
     /// The law that a program is one: its instructions fit their bundles, its counts are in range, its
-    /// entries rise, its targets are inside and its runs end. It does nothing.
+    /// entries rise, its targets are inside, its runs end, and its relations rise and are of its
+    /// entries. It does nothing.
     pub fn is_program(&self)
         ensures { IsProgram self.now }
     {
@@ -190,10 +236,7 @@ impl Program {
     pub fn is_entry(&self, bundle: u32) -> bool
         ensures { IsTrue result ↔ IsEntry self.now bundle }
     {
-        bundle < self.bundle_count()
-            && (bundle == 0
-                || is_declared(&self.entries, bundle)
-                || is_after_call(&self.bundles, bundle))
+        is_entry(self.bundles(), self.entries(), bundle)
     }
 
     /// The data bytes.
@@ -201,5 +244,19 @@ impl Program {
         ensures { result.now ≡ self.now.bytes }
     {
         &self.bytes
+    }
+
+    /// The declared relations, which rise.
+    pub fn relations(&self) -> &[Relation]
+        ensures { result.now ≡ self.now.relations }
+    {
+        &self.relations
+    }
+
+    /// The declared relations of a bundle, in order. They are looked for by halves.
+    pub fn relations_at(&self, bundle: u32) -> &[Relation]
+        ensures { result.now ≡ relations_at self.now.relations bundle }
+    {
+        relations_at(&self.relations, bundle)
     }
 }

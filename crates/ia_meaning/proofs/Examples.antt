@@ -1,6 +1,6 @@
 -- The table of effects on small registers: what single instructions do at the edges of their rows (volume 1, chapters 3 and
 -- 4, and volume 3, chapter 2).
-use Rattle.std.proofs.Common.{◌≡◌, refl, ℕ, zero, suc, ◌+◌, ◌-◌, ◌*◌, ◌^◌, ◌++◌, Bool, true, false, List, [], ◌∷◌, Some, None, if◌then◌else◌, ◌==◌}
+use Rattle.std.proofs.Common.{◌≡◌, refl, ℕ, zero, suc, ◌+◌, ◌-◌, ◌*◌, ◌^◌, ◌++◌, Bool, true, false, List, [], ◌∷◌, Some, None, Ok, Err, get_or, set, replicate, if◌then◌else◌, ◌==◌}
 use Rattle.std.specs.Prelude.{pos, negsuc}
 use Rattle.ia_insn.specs.declared.insn.Op.{Op}
 use Rattle.ia_insn.specs.declared.insn.Op.TheVariants as op
@@ -24,7 +24,7 @@ use Rattle.ia_insn.specs.declared.choices.Update.TheVariants as update
 use Rattle.ia_insn.specs.declared.choices.BranchKind.{BranchKind}
 use Rattle.ia_insn.specs.declared.choices.BranchKind.TheVariants.{Cond, Wexit, Wtop, Cloop, Cexit, Ctop}
 use Rattle.ia_insn.specs.declared.registers.Ar.TheVariants.{Pfs, Ec}
-use Rattle.ia_insn.specs.declared.ending.FaultKind.TheVariants.{OutOfFrame, NatConsumed, ReservedField, BadFrame, Underflow, StackLimit, BadLanding, Unaligned, BadAddress, FellOff}
+use Rattle.ia_insn.specs.declared.ending.FaultKind.TheVariants.{OutOfFrame, NatConsumed, ReservedField, BadFrame, Underflow, StackLimit, BadLanding, BadRelation, Unaligned, BadAddress, FellOff}
 use Rattle.ia_meaning.specs.declared.state.Cell.{Cell}
 use Rattle.ia_meaning.specs.declared.state.FrameShape.{FrameShape}
 use Rattle.ia_meaning.specs.declared.state.AlatKey.{AlatKey}
@@ -41,7 +41,7 @@ use Rattle.ia_meaning.specs.Outcomes.{Outcome, falls, goes, breaks, faults}
 use Rattle.ia_meaning.specs.Effects.{Site, effect}
 use Rattle.ia_meaning.specs.Steps.{spilled, seq_step}
 use Rattle.ia_meaning.specs.ResidentRange.{zero_range, range_of}
-use Rattle.ia_meaning.specs.Landings.{is_entry, landing}
+use Rattle.ia_meaning.specs.Landings.{is_entry, landing, arrival}
 use Rattle.ia_meaning.specs.Sequence.{next_of, is_stopped}
 
 abbrev cell : ℕ → Cell
@@ -61,9 +61,9 @@ registers = with_r4 zero_cell
 abbrev memory : Memory
 memory = record { bytes = 1 ∷ 2 ∷ 3 ∷ 4 ∷ 5 ∷ 6 ∷ 7 ∷ 8 ∷ 9 ∷ 10 ∷ 11 ∷ 12 ∷ 13 ∷ 14 ∷ 15 ∷ 16 ∷ []; alat = [] }
 
--- bundle 10; address 32 alone is that of an entry, bundle 2
+-- bundle 10; address 32 alone is that of an entry, bundle 2, which asks that p6 is 0
 abbrev here : Site
-here = record { bundle = 10; entry = λ address. if address == 32 then Some 2 else None }
+here = record { bundle = 10; arrival = λ low address. if address == 32 then (if get_or low 6 false then Err BadRelation else Ok 2) else Err BadLanding }
 
 abbrev run : ℕ → Op → Registers → Outcome
 run qp o r = effect here (record { qp = qp; op = o }) r memory 0
@@ -595,6 +595,7 @@ landed_in = record {
   bundles = of_three idle ∷ of_three idle ∷ of_three (record { qp = 0; op = op.BrCall 0 0 false false (pos 0) }) ∷ of_three idle ∷ record { template = 4; slots = Long idle idle } ∷ [];
   entries = 1 ∷ [];
   bytes = [];
+  relations = record { bundle = 0; p = 6; q = 7 } ∷ record { bundle = 1; p = 1; q = 15 } ∷ record { bundle = 1; p = 6; q = 7 } ∷ [];
 }
 
 entries_landed :
@@ -607,6 +608,21 @@ entries_landed :
     × (landing landed_in 0xffff ≡ None)
 unfolding landing is_entry
 entries_landed = (refl, refl, refl, refl, refl, refl, refl)
+
+-- the first predicates with these two, and no others, 1
+abbrev two_ones : ℕ → ℕ → List Bool
+two_ones p q = set (set (replicate 16 false) p true) q true
+
+-- Bundle 1 declares that p1 and p15, and p6 and p7, are not both 1; bundle 0 only that p6 and p7 aren't.
+relations_kept :
+    (arrival landed_in (two_ones 6 7) 0x10010 ≡ Err BadRelation)
+    × (arrival landed_in (two_ones 1 15) 0x10010 ≡ Err BadRelation)
+    × (arrival landed_in (two_ones 1 7) 0x10010 ≡ Ok 1)
+    × (arrival landed_in (two_ones 1 15) 0x10000 ≡ Ok 0)
+    × (arrival landed_in (two_ones 6 7) 0x10030 ≡ Ok 3)
+    × (arrival landed_in (two_ones 6 7) 0x10020 ≡ Err BadLanding)
+unfolding landing is_entry
+relations_kept = (refl, refl, refl, refl, refl, refl)
 
 abbrev at : ℕ → ℕ → Place
 at bundle slot = record { bundle = bundle; slot = slot }
@@ -676,14 +692,15 @@ does_nothing :
 unfolding holds
 does_nothing = (refl, refl, refl, refl)
 
--- an indirect branch lands on an entry, and an indirect call too
+-- An indirect branch lands on an entry, and an indirect call too, where its relations hold.
 landed :
     (run 0 (op.BrInd 2 0 false false) (record registers { branches = 0 ∷ 0 ∷ 32 ∷ [] }) ≡ goes [] memory 2)
     × (run 0 (op.BrInd 2 0 false false) (record registers { branches = 0 ∷ 0 ∷ 33 ∷ [] }) ≡ faults BadLanding memory)
     × ((run 0 (op.BrCallInd 1 2 0 false false) (record registers { branches = 0 ∷ 0 ∷ 32 ∷ [] })).next ≡ Goes 2)
     × (run 0 (op.BrCallInd 1 2 0 false false) registers ≡ faults BadLanding memory)
+    × (run 0 (op.BrInd 2 0 false false) (record registers { branches = 0 ∷ 0 ∷ 32 ∷ []; predicates = set (replicate 64 false) 6 true }) ≡ faults BadRelation memory)
 unfolding holds
-landed = (refl, refl, refl, refl)
+landed = (refl, refl, refl, refl, refl)
 
 -- Loads of 1, 2 and 4 bytes, the lowest first, and a store that adds to its base.
 sizes :

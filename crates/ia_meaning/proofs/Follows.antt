@@ -1,22 +1,23 @@
 -- What the tests and functions of places say of places of a program.
 use Rattle.std.proofs.Common.{◌≡◌, ℕ, ◌<◌, Bool, true, false, ◌&&◌, List, length, Some, None, refl, arith, if◌then◌else◌}
-use Rattle.std.specs.Prelude.{ℤ, pos, ◌+ℤ◌, ◌≤ℤ◌, ◌<ℤ◌, nat_abs, nat_le, IfSome}
+use Rattle.std.specs.Prelude.{ℤ, pos, ◌+ℤ◌, ◌≤ℤ◌, ◌<ℤ◌, nat_abs, nat_le, IfSome, IfOk}
 use Rattle.std.proofs.lemmas.Int.{ints}
+use Rattle.std.proofs.lemmas.Result.{IfOk-weaker}
 use Rattle.ia_insn.specs.declared.place.Place.{Place}
 use Rattle.ia_insn.specs.Bundles.{Bundle}
 use Rattle.ia_insn.specs.Places.{IsNext, IsStopped}
 use Rattle.ia_insn.specs.Programs.{Program}
 use Rattle.ia_insn.specs.Targets.{IsBundleAt}
+use Rattle.ia_meaning.proofs.Arrivals.{arrived_keeps}
 use Rattle.ia_meaning.proofs.Sequences.{entry_decides, next_fits, stop_decides}
 use Rattle.ia_insn.specs.Addresses.{bundle_address}
-use Rattle.ia_meaning.specs.Landings.{target_of, is_entry, landing}
+use Rattle.ia_meaning.specs.Landings.{target_of, is_entry, landing, arrival}
 use Rattle.ia_meaning.specs.Sequence.{next_of, is_stopped}
 
 entry_small : (p : Program) (n : ℕ) → is_entry p n ≡ true → n < length p.bundles
 entry_small p n e = let h = (entry_decides p n).0 e in h.inside
 
--- an indirect branch lands on a bundle of the program
-pub landing_small : (p : Program) (address : ℕ) → IfSome (landing p address) (λ bundle. bundle < length p.bundles)
+landing_small : (p : Program) (address : ℕ) → IfSome (landing p address) (λ bundle. bundle < length p.bundles)
 unfolding landing
 landing_small p address = chosen (nat_le (bundle_address 0) address) (is_entry p _) _ (entry_small p _)
   where
@@ -24,6 +25,10 @@ landing_small p address = chosen (nat_le (bundle_address 0) address) (is_entry p
     chosen false b n h = tt
     chosen true false n h = tt
     chosen true true n h = h refl
+
+-- an indirect branch arrives at a bundle of the program
+pub arrival_small : (p : Program) (low : List Bool) (address : ℕ) → IfOk (arrival p low address) (λ bundle. bundle < length p.bundles)
+arrival_small p low address = IfOk-weaker (arrival p low address) _ _ (λ bundle kept. kept.0) (arrived_keeps p low (landing p address) (λ bundle. bundle < length p.bundles) (landing_small p address))
 
 abs_small : (x : ℤ) (count : ℕ) → pos 0 ≤ℤ x → x <ℤ pos count → nat_abs x < count
 abs_small x count h k = omega (arith, ints)

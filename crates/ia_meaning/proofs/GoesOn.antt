@@ -1,6 +1,6 @@
 -- How a run goes on after an effect.
-use Rattle.std.proofs.Common.{◌≡◌, ℕ, zero, suc, List, Option, Some, None, refl, sym, subst, arith}
-use Rattle.std.specs.Prelude.{⊤, ℤ, IfSome}
+use Rattle.std.proofs.Common.{◌≡◌, ℕ, zero, suc, Bool, List, Option, Some, None, Result, Ok, Err, take, refl, sym, subst, arith}
+use Rattle.std.specs.Prelude.{⊤, ℤ, IfSome, IfOk}
 use Rattle.ia_insn.specs.declared.registers.Ar.{Ar}
 use Rattle.ia_insn.specs.declared.registers.Ar.TheVariants.{Pfs}
 use Rattle.ia_insn.specs.declared.ending.FaultKind.{FaultKind}
@@ -35,9 +35,9 @@ IsGoodNext Good way = ⊤
 abbrev pub IsGoodWay : (ℕ → Type 0) → Outcome → Type 0
 IsGoodWay Good o = IsGoodNext Good o.next
 
--- an entry that an indirect branch lands on is a good one
-lands_on : (Good : ℕ → Type 0) (o : Option ℕ) (to : ℕ) → IfSome o Good → o ≡ Some to → Good to
-lands_on Good o to h e = subst (λ o. IfSome o Good) e h
+-- the entry at which an indirect branch arrives is a good one
+lands_on : (Good : ℕ → Type 0) (o : Result ℕ FaultKind) (to : ℕ) → IfOk o Good → o ≡ Ok to → Good to
+lands_on Good o to h e = subst (λ o. IfOk o Good) e h
 
 application_on : (Good : ℕ → Type 0) (ar : Ar) (x : ℕ) (m : Memory) → ApplicationCases (IsGoodWay Good) ar x m
 application_on Good Pfs x m = λ _. tt
@@ -56,13 +56,13 @@ form_displacement form = None
 abbrev pub IsGoodTarget : (ℕ → Type 0) → ℕ → Option ℤ → Type 0
 IsGoodTarget Good bundle target = IfSome target (λ disp. Good (target_of bundle disp))
 
--- so are the bundles that indirect branches land on
-abbrev pub AreGoodLandings : (ℕ → Type 0) → Site → Type 0
-AreGoodLandings Good s = (address : ℕ) → IfSome (s.entry address) Good
+-- so are the bundles at which indirect branches arrive with these first sixteen predicates
+abbrev pub AreGoodLandings : (ℕ → Type 0) → Site → List Bool → Type 0
+AreGoodLandings Good s low = (address : ℕ) → IfOk (s.arrival low address) Good
 
 -- An effect goes on by falling, to the form's target, to a bundle that the site gives, or not at all. A form without a row
 -- here falls or goes to its target.
-act_on : (Good : ℕ → Type 0) (s : Site) (form : Form) (r : Registers) (m : Memory) (unat : ℕ) → AreGoodLandings Good s → IsGoodTarget Good s.bundle (form_displacement form) → ActCases (IsGoodWay Good) s form r m unat
+act_on : (Good : ℕ → Type 0) (s : Site) (form : Form) (r : Registers) (m : Memory) (unat : ℕ) → AreGoodLandings Good s (take 16 r.predicates) → IsGoodTarget Good s.bundle (form_displacement form) → ActCases (IsGoodWay Good) s form r m unat
 act_on Good s (ToApplication ar r2 w) r m unat landings target = (λ kind. tt, λ a _ _. application_on Good ar (moved w a.value) m)
 act_on Good s (JumpIndirect b2) r m unat landings target = (λ kind. tt, λ to e. lands_on Good _ to (landings _) e)
 act_on Good s (Call b1 (Indirect b2)) r m unat landings target = (λ kind. tt, λ to e. lands_on Good _ to (landings _) e)
@@ -80,7 +80,7 @@ same_displacement : (o : Op) → form_displacement (form_of o) ≡ displacement 
 same_displacement o = grind arith
 
 -- An instruction falls, goes to its target or to a bundle that the site gives, or ends the run.
-pub effect_on : (Good : ℕ → Type 0) (s : Site) (insn : Insn) (r : Registers) (m : Memory) (unat : ℕ) → AreGoodLandings Good s → IsGoodTarget Good s.bundle (displacement insn.op) → IsGoodWay Good (effect s insn r m unat)
+pub effect_on : (Good : ℕ → Type 0) (s : Site) (insn : Insn) (r : Registers) (m : Memory) (unat : ℕ) → AreGoodLandings Good s (take 16 r.predicates) → IsGoodTarget Good s.bundle (displacement insn.op) → IsGoodWay Good (effect s insn r m unat)
 effect_on Good s insn r m unat landings target =
     let good : IsGoodTarget Good s.bundle (form_displacement (form_of insn.op)) = subst (IsGoodTarget Good s.bundle) (sym (same_displacement insn.op)) target in
     guarded_cases (IsGoodWay Good) s insn.qp (form_of insn.op) r m unat (λ _. act_on Good s (form_of insn.op) r m unat landings good) (λ _. skip_on Good s (form_of insn.op) r m good)
@@ -105,11 +105,11 @@ falls_as (Some place) m way o e h = record { falls = h; place = place; is = refl
 pub falls_to : (next : Option Place) (m : Memory) (o : Outcome) → (settled next m o.next o).next ≡ Falls → FallsTo next o
 falls_to next m o h = falls_as next m o.next o refl h
 
-lands_leaves : (ws : List Write) (m : Memory) (to : Option ℕ) → (lands ws m to).next ≡ Falls → ⊥
-lands_leaves ws m None e = cc
-lands_leaves ws m (Some bundle) e = cc
+lands_leaves : (ws : List Write) (m : Memory) (to : Result ℕ FaultKind) → (lands ws m to).next ≡ Falls → ⊥
+lands_leaves ws m (Err kind) e = cc
+lands_leaves ws m (Ok bundle) e = cc
 
-return_leaves : (fault : Option FaultKind) (f : FrameShape) (ec : ℕ) (to : Option ℕ) (m : Memory) → (return_tried fault f ec to m).next ≡ Falls → ⊥
+return_leaves : (fault : Option FaultKind) (f : FrameShape) (ec : ℕ) (to : Result ℕ FaultKind) (m : Memory) → (return_tried fault f ec to m).next ≡ Falls → ⊥
 return_leaves (Some k) f ec to m e = cc
 return_leaves None f ec to m e = lands_leaves _ m to e
 

@@ -1,5 +1,5 @@
 -- The place that a step leaves a state at, and the one to which a slot falls through.
-use Rattle.std.proofs.Common.{◌≡◌, ℕ, ◌<◌, Bool, true, false, List, length, Option, Some, None, refl, inl, inr, arith}
+use Rattle.std.proofs.Common.{◌≡◌, ℕ, ◌<◌, Bool, true, false, List, length, Option, Some, None, take, refl, inl, inr, arith}
 use Rattle.std.specs.Prelude.{ℤ, IfSome, IsSome}
 use Rattle.ia_insn.specs.declared.insn.Insn.{Insn}
 use Rattle.ia_insn.specs.declared.place.Place.{Place}
@@ -18,7 +18,7 @@ use Rattle.ia_meaning.specs.Sequence.{first_of, next_of, is_stopped}
 use Rattle.ia_meaning.specs.Steps.{Step, outcome_of, step_by, step_of, seq_step, how_falling, place_after}
 use Rattle.ia_meaning.specs.ParallelGroups.{outcome_from}
 use Rattle.ia_meaning.proofs.GoesOn.{IsGoodNext, IsGoodWay, IsGoodTarget, effect_on, settled_on, falls_to, effect_leaves}
-use Rattle.ia_meaning.proofs.Follows.{landing_small, target_small, next_is, not_stopped}
+use Rattle.ia_meaning.proofs.Follows.{arrival_small, target_small, next_is, not_stopped}
 
 -- it is a bundle of the program
 abbrev pub IsBundleOf : Program → ℕ → Type 0
@@ -37,7 +37,7 @@ target_good p place insn inside e =
 pub outcome_good : (p : Program) (s : State) (insn : Insn) → IsTargetInside p.bundles s.place → insn_at p.bundles s.place ≡ Some insn → IsGoodWay (IsBundleOf p) (outcome_of p s insn)
 outcome_good p s insn inside e =
     settled_on (IsBundleOf p) (next_of p.bundles s.place) s.memory (effect (site p s.place.bundle) insn s.registers s.memory s.registers.unat)
-    (effect_on (IsBundleOf p) (site p s.place.bundle) insn s.registers s.memory s.registers.unat (landing_small p) (target_good p s.place insn inside e))
+    (effect_on (IsBundleOf p) (site p s.place.bundle) insn s.registers s.memory s.registers.unat (arrival_small p (take 16 s.registers.predicates)) (target_good p s.place insn inside e))
 
 pub first_is_place : (bundles : List Bundle) (n : ℕ) → n < length bundles → IsPlaceOf bundles (first_of n)
 first_is_place bundles n h = let s = get_some bundles n h in is_place bundles (first_of n) s.0 s.1 (omega arith)

@@ -1,6 +1,6 @@
 -- What can come of a slot, by the forms: from these lemmas the facts of outcomes follow. Each case tells where
 -- its values come from.
-use Rattle.std.proofs.Common.{◌≡◌, ◌≢◌, ℕ, ◌+◌, ◌-◌, ◌/◌, ◌%◌, ◌^◌, ◌≤◌, ◌⊎◌, inl, inr, Bool, true, false, not, ◌&&◌, ◌||◌, ◌==◌, nat_lt, List, [], ◌∷◌, get_or, Option, Some, None, refl, arith, if◌then◌else◌}
+use Rattle.std.proofs.Common.{◌≡◌, ◌≢◌, ℕ, ◌+◌, ◌-◌, ◌/◌, ◌%◌, ◌^◌, ◌≤◌, ◌⊎◌, inl, inr, Bool, true, false, not, ◌&&◌, ◌||◌, ◌==◌, nat_lt, List, [], ◌∷◌, Option, Some, None, Result, Ok, Err, refl, arith, if◌then◌else◌}
 use Rattle.std.proofs.lemmas.Bool.Decides.{nat_tests}
 use Rattle.ia_meaning.specs.declared.limits.TheConstants.{STACK_LIMIT}
 use Rattle.ia_insn.specs.declared.choices.CmpKind.{CmpKind}
@@ -12,7 +12,7 @@ use Rattle.ia_insn.specs.declared.choices.Update.{Update}
 use Rattle.ia_insn.specs.declared.registers.Ar.{Ar}
 use Rattle.ia_insn.specs.declared.registers.Ar.TheVariants.{Unat, Pfs, Lc, Ec}
 use Rattle.ia_insn.specs.declared.ending.FaultKind.{FaultKind}
-use Rattle.ia_insn.specs.declared.ending.FaultKind.TheVariants.{OutOfFrame, NatConsumed, ReservedField, StackLimit, BadLanding}
+use Rattle.ia_insn.specs.declared.ending.FaultKind.TheVariants.{OutOfFrame, NatConsumed, ReservedField, StackLimit}
 use Rattle.ia_meaning.specs.declared.state.Cell.{Cell}
 use Rattle.ia_meaning.specs.declared.state.FrameShape.{FrameShape}
 use Rattle.ia_meaning.specs.declared.state.AlatKey.{AlatKey as Spot}
@@ -31,7 +31,7 @@ use Rattle.ia_meaning.specs.Frames.{with_sizes, has_zero_bases, allocated, clear
 use Rattle.ia_meaning.specs.Loops.{turn_of, turn_writes, turned}
 use Rattle.ia_meaning.specs.declared.turn.Turn.{Turn}
 use Rattle.ia_meaning.specs.Landings.{target_of}
-use Rattle.ia_meaning.specs.Effects.{Site, act, skip, guarded}
+use Rattle.ia_meaning.specs.Effects.{Site, arrives, act, skip, guarded}
 
 -- a fault may come
 abbrev pub Fails : (Outcome → Type 0) → Memory → Type 0
@@ -111,15 +111,15 @@ ActCases Q s (Allocate r1 sof sol sor) r m unat =
 ActCases Q s (Jump disp) r m unat = Q (goes [] m (target_of s.bundle disp))
 ActCases Q s (JumpIndirect b2) r m unat =
     Fails Q m
-    × ((to : ℕ) → s.entry (get_or r.branches b2 0) ≡ Some to → Q (goes [] m to))
+    × ((to : ℕ) → arrives s r b2 ≡ Ok to → Q (goes [] m to))
 ActCases Q s (Loop kind disp) r m unat = TurnCases Q (turn_of kind true r.lc r.ec) r.frame (target_of s.bundle disp) m
 ActCases Q s (Call b1 (Direct disp)) r m unat = Q (goes (call_writes s.bundle b1 r.frame r.ec) m (target_of s.bundle disp))
 ActCases Q s (Call b1 (Indirect b2)) r m unat =
     Fails Q m
-    × ((to : ℕ) → s.entry (get_or r.branches b2 0) ≡ Some to → Q (goes (call_writes s.bundle b1 r.frame r.ec) m to))
+    × ((to : ℕ) → arrives s r b2 ≡ Ok to → Q (goes (call_writes s.bundle b1 r.frame r.ec) m to))
 ActCases Q s (Return b2) r m unat =
     Fails Q m
-    × ((to : ℕ) → return_fault r.frame.base (marked_frame r.frame.base r.pfs) ≡ None → s.entry (get_or r.branches b2 0) ≡ Some to
+    × ((to : ℕ) → return_fault r.frame.base (marked_frame r.frame.base r.pfs) ≡ None → arrives s r b2 ≡ Ok to
     → Q (goes (SetFrame Resized (marked_frame (r.frame.base - (marked_frame r.frame.base r.pfs).sol) r.pfs) ∷ SetEc ((r.pfs / 2 ^ 52) % 2 ^ 6) ∷ []) m to))
 ActCases Q s (ClearBases pred_only) r m unat = Q (falls (SetFrame Renamed (cleared pred_only r.frame) ∷ []) m)
 ActCases Q s (Stop unit imm) r m unat = Q (breaks imm m)
@@ -273,12 +273,12 @@ case_allocated Q old new (Some d) pfs m h k =
     not_above n l = grind (arith, nat_tests)
 case_allocated Q old new None pfs m h k = h OutOfFrame
 
-case_lands : (Q : Outcome → Type 0) (ws : List Write) (m : Memory) (o : Option ℕ) → Fails Q m → ((to : ℕ) → o ≡ Some to → Q (goes ws m to)) → Q (lands ws m o)
-case_lands Q ws m (Some to) h k = k to refl
-case_lands Q ws m None h k = h BadLanding
+case_lands : (Q : Outcome → Type 0) (ws : List Write) (m : Memory) (o : Result ℕ FaultKind) → Fails Q m → ((to : ℕ) → o ≡ Ok to → Q (goes ws m to)) → Q (lands ws m o)
+case_lands Q ws m (Ok to) h k = k to refl
+case_lands Q ws m (Err kind) h k = h kind
 
-case_return : (Q : Outcome → Type 0) (x : Option FaultKind) (f : FrameShape) (ec : ℕ) (o : Option ℕ) (m : Memory) → Fails Q m
-    → ((to : ℕ) → x ≡ None → o ≡ Some to → Q (goes (SetFrame Resized f ∷ SetEc ec ∷ []) m to)) → Q (return_tried x f ec o m)
+case_return : (Q : Outcome → Type 0) (x : Option FaultKind) (f : FrameShape) (ec : ℕ) (o : Result ℕ FaultKind) (m : Memory) → Fails Q m
+    → ((to : ℕ) → x ≡ None → o ≡ Ok to → Q (goes (SetFrame Resized f ∷ SetEc ec ∷ []) m to)) → Q (return_tried x f ec o m)
 case_return Q (Some cause) f ec o m h k = h cause
 case_return Q None f ec o m h k = case_lands Q (SetFrame Resized f ∷ SetEc ec ∷ []) m o h (λ to. k to refl)
 
@@ -302,13 +302,13 @@ act_cases Q s (Forget r1) r m unat h = case_forget Q (spot r.frame r1) m h.0 h.1
 act_cases Q s (Allocate r1 sof sol sor) r m unat h =
     case_allocated Q r.frame (with_sizes r.frame sof sol sor) (spot (with_sizes r.frame sof sol sor) r1) r.pfs m h.0 h.1
 act_cases Q s (Jump disp) r m unat h = h
-act_cases Q s (JumpIndirect b2) r m unat h = case_lands Q [] m (s.entry (get_or r.branches b2 0)) h.0 h.1
+act_cases Q s (JumpIndirect b2) r m unat h = case_lands Q [] m (arrives s r b2) h.0 h.1
 act_cases Q s (Loop kind disp) r m unat h = case_turn Q (turn_of kind true r.lc r.ec) r.frame (target_of s.bundle disp) m h
 act_cases Q s (Call b1 (Direct disp)) r m unat h = h
-act_cases Q s (Call b1 (Indirect b2)) r m unat h = case_lands Q (call_writes s.bundle b1 r.frame r.ec) m (s.entry (get_or r.branches b2 0)) h.0 h.1
+act_cases Q s (Call b1 (Indirect b2)) r m unat h = case_lands Q (call_writes s.bundle b1 r.frame r.ec) m (arrives s r b2) h.0 h.1
 act_cases Q s (Return b2) r m unat h =
     case_return Q (return_fault r.frame.base (marked_frame r.frame.base r.pfs)) (marked_frame (r.frame.base - (marked_frame r.frame.base r.pfs).sol) r.pfs)
-    ((r.pfs / 2 ^ 52) % 2 ^ 6) (s.entry (get_or r.branches b2 0)) m h.0 h.1
+    ((r.pfs / 2 ^ 52) % 2 ^ 6) (arrives s r b2) m h.0 h.1
 act_cases Q s (ClearBases pred_only) r m unat h = h
 act_cases Q s (Stop unit imm) r m unat h = h
 act_cases Q s (Idle unit) r m unat h = h

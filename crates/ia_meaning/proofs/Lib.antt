@@ -2,6 +2,7 @@ pub mod Sequences
 pub mod FormRanges
 pub mod Inversions
 mod Examples
+pub mod Arrivals
 pub mod GoesOn
 pub mod Follows
 pub mod Inside

@@ -7,6 +7,7 @@ use Rattle.ia_insn.specs.Programs.{Program, IsProgram, IsEntry}
 use Rattle.ia_meaning.specs.declared.state.FrameShape.{FrameShape}
 use Rattle.ia_meaning.specs.State.{IsWord, IsFrame, AreRegisters, IsMemory, IsStart, zero_cell, zero_frame, zero_registers, zero_state}
 use Rattle.ia_meaning.specs.Frames.{is_frame}
+use Rattle.ia_meaning.proofs.Arrivals.{zero_keeps}
 use Rattle.ia_meaning.proofs.GroupEnds.{zero_is_place}
 
 zero_frame_is : IsFrame zero_frame
@@ -50,6 +51,7 @@ zero_is_start p program =
       state = record { registers = zero_registers_are; memory = zero_memory_is p program; place = zero_is_place p program };
       slot = refl;
       entry = entry;
+      promised = zero_keeps p 0 program;
     }
 
 -- the test of frames says whether it is one

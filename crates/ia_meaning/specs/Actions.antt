@@ -132,6 +132,13 @@ is_branch (Call b1 goal) = true
 is_branch (Return b2) = true
 is_branch f = false
 
+-- an indirect branch, a call or a return: it goes where a branch register says
+abbrev pub is_indirect : Form → Bool
+is_indirect (JumpIndirect b2) = true
+is_indirect (Call b1 (goal.Indirect b2)) = true
+is_indirect (Return b2) = true
+is_indirect f = false
+
 abbrev pub is_alloc : Form → Bool
 is_alloc (Allocate r1 sof sol sor) = true
 is_alloc f = false

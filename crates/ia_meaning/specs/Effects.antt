@@ -1,6 +1,7 @@
 -- The effect of a slot: of each form once (volume 3, chapter 2).
-use Rattle.std.specs.Prelude.{ℕ, true, false, if◌then◌else◌, List, [], ◌∷◌, get_or, Option}
+use Rattle.std.specs.Prelude.{ℕ, Bool, true, false, if◌then◌else◌, List, [], ◌∷◌, get_or, take, Result}
 use Rattle.ia_insn.specs.declared.insn.Insn.{Insn}
+use Rattle.ia_insn.specs.declared.ending.FaultKind.{FaultKind}
 use Rattle.ia_insn.specs.Programs.{Program}
 use Rattle.ia_meaning.specs.declared.form.Goal.{Goal}
 use Rattle.ia_meaning.specs.declared.form.Goal.TheVariants.{Direct, Indirect}
@@ -15,20 +16,24 @@ use Rattle.ia_meaning.specs.Moves.{computed, fetched, source_value, test_made, t
 use Rattle.ia_meaning.specs.Loads.{update_register, from_memory, to_memory, check_nat, check_alat, forget}
 use Rattle.ia_meaning.specs.Frames.{with_sizes, allocated, cleared, call_writes, lands, returned}
 use Rattle.ia_meaning.specs.Loops.{turn_of, turned}
-use Rattle.ia_meaning.specs.Landings.{target_of, landing}
+use Rattle.ia_meaning.specs.Landings.{target_of, arrival}
 
--- where a slot stands: the bundle, and the entry that an address is of
+-- where a slot stands: the bundle, and where an indirect branch arrives, by the first sixteen predicates and an address
 pub record Site : Type 0 where
   pub bundle : ℕ
-  pub entry : ℕ → Option ℕ
+  pub arrival : List Bool → ℕ → Result ℕ FaultKind
 
 abbrev pub site : Program → ℕ → Site
-site p bundle = record { bundle = bundle; entry = landing p }
+site p bundle = record { bundle = bundle; arrival = arrival p }
+
+-- where an indirect branch through a branch register arrives
+abbrev pub arrives : Site → Registers → ℕ → Result ℕ FaultKind
+arrives s r b = s.arrival (take 16 r.predicates) (get_or r.branches b 0)
 
 -- a call's writes, and where it goes
 abbrev pub called : Goal → Site → List Write → Registers → Memory → Outcome
 called (Direct disp) s ws r m = goes ws m (target_of s.bundle disp)
-called (Indirect b2) s ws r m = lands ws m (s.entry (get_or r.branches b2 0))
+called (Indirect b2) s ws r m = lands ws m (arrives s r b2)
 
 -- The effect of a form that is executed, from these registers, this memory, and the UNAT that fills use. The values of
 -- all registers are looked up first.
@@ -50,10 +55,10 @@ act s (Forget r1) r m unat = forget (spot r.frame r1) m
 act s (Allocate r1 sof sol sor) r m unat =
     allocated r.frame (with_sizes r.frame sof sol sor) (spot (with_sizes r.frame sof sol sor) r1) r.pfs m
 act s (Jump disp) r m unat = goes [] m (target_of s.bundle disp)
-act s (JumpIndirect b2) r m unat = lands [] m (s.entry (get_or r.branches b2 0))
+act s (JumpIndirect b2) r m unat = lands [] m (arrives s r b2)
 act s (Loop kind disp) r m unat = turned (turn_of kind true r.lc r.ec) r.frame (target_of s.bundle disp) m
 act s (Call b1 goal) r m unat = called goal s (call_writes s.bundle b1 r.frame r.ec) r m
-act s (Return b2) r m unat = returned r.frame.base r.pfs (s.entry (get_or r.branches b2 0)) m
+act s (Return b2) r m unat = returned r.frame.base r.pfs (arrives s r b2) m
 act s (ClearBases pred_only) r m unat = falls (SetFrame Renamed (cleared pred_only r.frame) ∷ []) m
 act s (Stop unit imm) r m unat = breaks imm m
 act s (Idle unit) r m unat = falls [] m

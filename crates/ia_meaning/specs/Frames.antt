@@ -1,9 +1,9 @@
 -- The effects of `alloc`, calls, returns and `clrrrb`, and the rotation of registers (volume 1, chapter 4, register
 -- stack and register rotation, and volume 3, chapter 2, `alloc`, `br` and `clrrrb`).
-use Rattle.std.specs.Prelude.{ℕ, ◌+◌, ◌-◌, ◌*◌, ◌/◌, ◌%◌, ◌^◌, Bool, false, not, ◌&&◌, ◌||◌, ◌==◌, if◌then◌else◌, List, [], ◌∷◌, Option, Some, None, nat_lt, IsTrue, ◌↔◌}
+use Rattle.std.specs.Prelude.{ℕ, ◌+◌, ◌-◌, ◌*◌, ◌/◌, ◌%◌, ◌^◌, Bool, false, not, ◌&&◌, ◌||◌, ◌==◌, if◌then◌else◌, List, [], ◌∷◌, Option, Some, None, Result, Ok, Err, nat_lt, IsTrue, ◌↔◌}
 use Rattle.ia_meaning.specs.declared.limits.TheConstants.{STACK_LIMIT}
 use Rattle.ia_insn.specs.declared.ending.FaultKind.{FaultKind}
-use Rattle.ia_insn.specs.declared.ending.FaultKind.TheVariants.{OutOfFrame, BadFrame, ReservedField, Underflow, StackLimit, BadLanding}
+use Rattle.ia_insn.specs.declared.ending.FaultKind.TheVariants.{OutOfFrame, BadFrame, ReservedField, Underflow, StackLimit}
 use Rattle.ia_insn.specs.Addresses.{bundle_address}
 use Rattle.ia_meaning.specs.declared.state.FrameShape.{FrameShape}
 use Rattle.ia_meaning.specs.declared.state.AlatKey.{AlatKey as Spot}
@@ -70,10 +70,10 @@ abbrev pub call_writes : ℕ → ℕ → FrameShape → ℕ → List Write
 call_writes bundle b1 f ec =
     SetBranch b1 (bundle_address (bundle + 1)) ∷ SetPfs (call_state f ec) ∷ SetFrame Resized (call_frame f) ∷ []
 
--- an indirect branch: where the address is that of no entry it is a fault
-abbrev pub lands : List Write → Memory → Option ℕ → Outcome
-lands ws m (Some bundle) = goes ws m bundle
-lands ws m None = faults BadLanding m
+-- an indirect branch, which arrives at a bundle or has a fault
+abbrev pub lands : List Write → Memory → Result ℕ FaultKind → Outcome
+lands ws m (Ok bundle) = goes ws m bundle
+lands ws m (Err kind) = faults kind m
 
 -- the sizes and bases are those of a frame
 unfoldable pub is_frame : FrameShape → Bool
@@ -92,12 +92,12 @@ return_fault base f =
     else if nat_lt base f.sol then Some Underflow
     else if nat_lt STACK_LIMIT (base - f.sol + f.sof) then Some StackLimit else None
 
-abbrev pub return_tried : Option FaultKind → FrameShape → ℕ → Option ℕ → Memory → Outcome
+abbrev pub return_tried : Option FaultKind → FrameShape → ℕ → Result ℕ FaultKind → Memory → Outcome
 return_tried (Some k) f ec to m = faults k m
 return_tried None f ec to m = lands (SetFrame Resized f ∷ SetEc ec ∷ []) m to
 
 -- A return: the frame and EC of the previous function state, below this base.
-abbrev pub returned : ℕ → ℕ → Option ℕ → Memory → Outcome
+abbrev pub returned : ℕ → ℕ → Result ℕ FaultKind → Memory → Outcome
 returned base pfs to m =
     return_tried (return_fault base (marked_frame base pfs))
     (marked_frame (base - (marked_frame base pfs).sol) pfs) ((pfs / 2 ^ 52) % 2 ^ 6) to m

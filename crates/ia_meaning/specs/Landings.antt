@@ -1,12 +1,16 @@
 -- Where branches go (volume 3, chapter 2, `br`): the target of a direct one, and the entries on which an indirect one
--- lands. The tests are those of the relations of programs (`entry_test`).
-use Rattle.std.specs.Prelude.{◌≡◌, ℕ, ℤ, pos, ◌+ℤ◌, nat_abs, ◌-◌, ◌/◌, Bool, true, false, ◌&&◌, ◌||◌, ◌==◌, if◌then◌else◌, List, [], ◌∷◌, length, slice_get, Option, Some, None, nat_lt, nat_le, IsTrue, ◌↔◌}
+-- lands, where what they declare of predicates holds. The tests are those of the relations of programs (`entry_test`).
+use Rattle.std.specs.Prelude.{◌≡◌, ℕ, ℤ, pos, ◌+ℤ◌, nat_abs, ◌-◌, ◌/◌, ◌<◌, Bool, true, false, ◌&&◌, ◌||◌, ◌==◌, if◌then◌else◌, List, [], ◌∷◌, length, slice_get, get_or, Option, Some, None, Result, Ok, Err, nat_lt, nat_le, IsTrue, ◌↔◌}
+use Rattle.std.specs.List.{list_any}
+use Rattle.ia_insn.specs.declared.ending.FaultKind.{FaultKind}
+use Rattle.ia_insn.specs.declared.ending.FaultKind.TheVariants.{BadLanding, BadRelation}
 use Rattle.ia_insn.specs.declared.insn.Op.{Op}
 use Rattle.ia_insn.specs.declared.insn.Op.TheVariants.{BrCall, BrCallInd}
 use Rattle.ia_insn.specs.declared.bundle.Slots.{Slots}
 use Rattle.ia_insn.specs.declared.bundle.Slots.TheVariants.{Three, Long}
+use Rattle.ia_insn.specs.declared.relations.Relation.{Relation}
 use Rattle.ia_insn.specs.Bundles.{Bundle}
-use Rattle.ia_insn.specs.Programs.{Program, IsEntry}
+use Rattle.ia_insn.specs.Programs.{Program, IsEntry, relation_at, relations_at}
 use Rattle.ia_insn.specs.Addresses.{bundle_address}
 
 -- The bundle that is so many from this one. A program's targets are its bundles, so the sum isn't negative; of a negative
@@ -45,10 +49,40 @@ landing p x =
     if nat_le (bundle_address 0) x && is_entry p ((x - bundle_address 0) / 16) then Some ((x - bundle_address 0) / 16)
     else None
 
+-- both predicates of a relation are 1 in the first sixteen
+abbrev pub are_both_one : List Bool → Relation → Bool
+are_both_one low r = get_or low r.p false && get_or low r.q false
+
+-- The first sixteen predicates break a declared relation of the bundle.
+abbrev pub breaks_relation : Program → List Bool → ℕ → Bool
+breaks_relation p low bundle = list_any (are_both_one low) (relations_at p.relations bundle)
+
+-- an indirect branch to an entry, or to no entry, with these first sixteen predicates
+abbrev pub arrived : Program → List Bool → Option ℕ → Result ℕ FaultKind
+arrived p low None = Err BadLanding
+arrived p low (Some bundle) = if breaks_relation p low bundle then Err BadRelation else Ok bundle
+
+-- Where an indirect branch to an address arrives: at the entry whose address it is, where the first sixteen predicates
+-- break none of its declared relations.
+abbrev pub arrival : Program → List Bool → ℕ → Result ℕ FaultKind
+arrival p low x = arrived p low (landing p x)
+
 -- The test says of each bundle whether it is an entry.
 abbrev pub EntryTest : Type 0
 EntryTest = (p : Program) (n : ℕ) → IsTrue (is_entry p n) ↔ IsEntry p n
 
--- An indirect branch to the address of an entry lands on it.
+-- a declared relation of the bundle, of two predicates that are both 1 in the first sixteen
+pub record IsBroken (p : Program) (low : List Bool) (bundle : ℕ) : Type 0 where
+  pub n : ℕ
+  pub inside : n < length p.relations
+  pub here : (relation_at p.relations n).bundle ≡ bundle
+  pub one : get_or low (relation_at p.relations n).p false ≡ true
+  pub other : get_or low (relation_at p.relations n).q false ≡ true
+
+-- The test says of each bundle whether a declared relation of it is broken.
+abbrev pub RelationTest : Type 0
+RelationTest = (p : Program) (low : List Bool) (bundle : ℕ) → IsTrue (breaks_relation p low bundle) ↔ IsBroken p low bundle
+
+-- The address of an entry is one from which an indirect branch lands on it, where it breaks none of its relations.
 abbrev pub EntryIsAtItsAddress : Type 0
 EntryIsAtItsAddress = (p : Program) (n : ℕ) → IsEntry p n → landing p (bundle_address n) ≡ Some n

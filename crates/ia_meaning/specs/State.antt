@@ -1,8 +1,9 @@
 -- The state of the machine (volume 1, chapter 3, application register state, and chapter 4).
-use Rattle.std.specs.Prelude.{◌≡◌, ◌≢◌, ℕ, ◌+◌, ◌*◌, ◌/◌, ◌%◌, ◌<◌, ◌≤◌, ◌^◌, ◌⊎◌, Bool, true, false, List, [], ◌∷◌, length, replicate, get_or, AllPairs, All}
+use Rattle.std.specs.Prelude.{◌≡◌, ◌≢◌, ℕ, ◌+◌, ◌*◌, ◌/◌, ◌%◌, ◌<◌, ◌≤◌, ◌^◌, ◌⊎◌, Bool, true, false, List, [], ◌∷◌, length, replicate, get_or, take, AllPairs, All}
 use Rattle.ia_meaning.specs.declared.limits.TheConstants.{ALAT_LIMIT, STACK_LIMIT}
 use Rattle.ia_insn.specs.declared.place.Place.{Place}
 use Rattle.ia_insn.specs.Places.{IsPlaceOf}
+use Rattle.ia_meaning.specs.Landings.{breaks_relation}
 use Rattle.ia_insn.specs.Programs.{Program, IsProgram, IsEntry, AreBytes}
 use Rattle.ia_insn.specs.Ranges.{IsAccessSize}
 use Rattle.ia_insn.specs.Addresses.{data_base}
@@ -125,11 +126,12 @@ pub record IsState (p : Program) (s : State) : Type 0 where
   pub memory : IsMemory p s.memory
   pub place : IsPlaceOf p.bundles s.place
 
--- A state from which a run may start: the next slot is slot 0 of an entry.
+-- A state from which a run may start: the next slot is slot 0 of an entry, and what the entry declares of predicates holds.
 pub record IsStart (p : Program) (s : State) : Type 0 where
   pub state : IsState p s
   pub slot : s.place.slot ≡ 0
   pub entry : IsEntry p s.place.bundle
+  pub promised : breaks_relation p (take 16 s.registers.predicates) s.place.bundle ≡ false
 
 -- The zero state is one from which a run may start.
 abbrev pub ZeroIsStart : Type 0

@@ -1,7 +1,7 @@
 -- What a slot reads where its group runs all at once: the registers of the group's start, and of what earlier slots of the
 -- group wrote no more than three exceptions let a branch see (volume 1, chapter 3, instruction dependencies). A fourth, on
 -- `alloc`, is made by the start itself (ParallelGroups).
-use Rattle.std.specs.Prelude.{ℕ, suc, Bool, true, false, ◌==◌, ◌&&◌, if◌then◌else◌, List, [], ◌∷◌}
+use Rattle.std.specs.Prelude.{ℕ, suc, Bool, true, false, ◌==◌, ◌&&◌, ◌||◌, nat_le, nat_lt, if◌then◌else◌, List, [], ◌∷◌}
 use Rattle.ia_insn.specs.declared.insn.Insn.{Insn}
 use Rattle.ia_meaning.specs.declared.state.FrameShape.{FrameShape}
 use Rattle.ia_meaning.specs.declared.form.Form.{Form}
@@ -9,12 +9,20 @@ use Rattle.ia_meaning.specs.declared.form.Form.TheVariants.{JumpIndirect, Call, 
 use Rattle.ia_meaning.specs.declared.form.Goal.TheVariants.{Direct, Indirect}
 use Rattle.ia_meaning.specs.State.{Registers}
 use Rattle.ia_meaning.specs.Names.{predicate_place}
-use Rattle.ia_meaning.specs.Actions.{insn_form, is_branch}
+use Rattle.ia_meaning.specs.Actions.{insn_form, is_branch, is_indirect}
 
 -- A branch sees its qualifying predicate as earlier slots of its group wrote it, so that a compare and the branch that it
 -- guards may share a group. The place is that of the predicate's name in the frame that the slot sees.
+abbrev pub sees_guard : Insn → FrameShape → ℕ → Bool
+sees_guard insn frame place = is_branch (insn_form insn) && (place == predicate_place frame insn.qp)
+
+-- An indirect branch sees p1 to p15 as earlier slots wrote them, since an entry declares which of them are not both 1.
+abbrev pub sees_static : Form → ℕ → Bool
+sees_static form place = is_indirect form && (nat_le 1 place && nat_lt place 16)
+
+-- the predicates that a slot sees as earlier slots wrote them
 abbrev pub sees_predicate : Insn → FrameShape → ℕ → Bool
-sees_predicate insn frame place = is_branch (insn_form insn) && (place == predicate_place frame insn.qp)
+sees_predicate insn frame place = sees_guard insn frame place || sees_static (insn_form insn) place
 
 -- An indirect branch sees the branch register that holds its target as earlier slots wrote it, so that `mov b6=r8` and
 -- `br.call b0=b6` may share a group.

@@ -3,7 +3,7 @@
 //! nothing.
 
 ghost use Rattle.ia_meaning.specs.Frames.{FrameTest};
-ghost use Rattle.ia_meaning.specs.Landings.{EntryTest, EntryIsAtItsAddress};
+ghost use Rattle.ia_meaning.specs.Landings.{EntryTest, RelationTest, EntryIsAtItsAddress};
 ghost use Rattle.ia_meaning.specs.Loads.{ByteIsAtItsAddress};
 ghost use Rattle.ia_meaning.specs.State.{ZeroIsStart};
 ghost use Rattle.ia_meaning.specs.Sequence.{NextPlace, StopTest};
@@ -12,6 +12,11 @@ ghost use Rattle.ia_meaning.specs.WriteOrders.{PermutationsHaveCodes, CodesArePe
 /// The test of entries says of each bundle whether it is one.
 pub fn entry_test()
     ensures { EntryTest }
+{}
+
+/// The test of relations says of each bundle whether a declared relation of it is broken.
+pub fn relation_test()
+    ensures { RelationTest }
 {}
 
 /// The test of frames says of each whether it is one.
@@ -41,8 +46,8 @@ pub fn law_codes()
     ensures permutations { CodesArePermutations }
 {}
 
-/// An indirect branch to the address of an entry lands on it, and a load from the address of a data byte
-/// gives that byte.
+/// From the address of an entry an indirect branch lands on it, where it breaks none of its relations, and a
+/// load from the address of a data byte gives that byte.
 pub fn addresses()
     ensures entries { EntryIsAtItsAddress }
     ensures bytes { ByteIsAtItsAddress }

@@ -20,7 +20,8 @@ mod turn;
 pub use form::{Condition, Form, Function, Goal, MovedWord, Source, form_of, update_register};
 pub use landings::target_of;
 pub use laws::{
-    addresses, entry_test, frame_test, law_codes, next_place, stop_test, zero_is_start,
+    addresses, entry_test, frame_test, law_codes, next_place, relation_test, stop_test,
+    zero_is_start,
 };
 pub use next::Next;
 pub use runs::{groups_end, progress_is_run, progress_text_is_run_text};

@@ -1,7 +1,9 @@
 pub mod NumberBytes
+pub mod RelationBytes
 pub mod Spelled
 pub mod Wholes
 pub mod Stages
+pub mod ProgramFaults
 pub mod OneToOne
 pub mod NotWithout
 pub mod Answered

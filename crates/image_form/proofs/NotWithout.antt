@@ -1,10 +1,11 @@
 -- Bytes that are the image or the bare bundles of no program are not without a fault.
-use Rattle.std.proofs.Common.{◌≡◌, inl, inr, ℕ, ◌+◌, ◌*◌, ◌/◌, ◌%◌, ◌<◌, ◌≤◌, List, [], ◌∷◌, length, take, drop, refl, subst, arith}
+use Rattle.std.proofs.Common.{◌≡◌, inl, inr, ℕ, ◌+◌, ◌*◌, ◌/◌, ◌%◌, ◌<◌, ◌≤◌, List, [], ◌∷◌, length, drop, refl, subst, arith}
 use Rattle.std.proofs.lemmas.List.{take_all, length-take, length-drop}
 use Rattle.bundle_bits.specs.RawBundle.{AreBytes as AreSixteen}
 use Rattle.first_fault.specs.Stages.{Stage, unless, IsFirstFault, ArePassed}
 use Rattle.first_fault.proofs.Firsts.{none_first}
 use Rattle.ia_insn.specs.declared.place.Place.{Place}
+use Rattle.ia_insn.specs.declared.relations.Relation.{Relation}
 use Rattle.ia_insn.specs.Bundles.{Bundle}
 use Rattle.ia_insn.specs.Places.{place_number, place_at, IsPlaceOf, IsBefore, EachPlace, IsFirstBad}
 use Rattle.ia_insn.specs.Runs.{IsWithinRun}
@@ -14,13 +15,16 @@ use Rattle.ia_insn.proofs.InOrder.{slot_small, bundle_small}
 use Rattle.insn_codec.specs.Laws as codec
 use Rattle.image_form.specs.declared.fault.ImageFault.{ImageFault}
 use Rattle.image_form.specs.declared.fault.ImageFault.TheVariants.{Short, Magic, Counts, Length, Target, LongRun}
-use Rattle.image_form.specs.Images.{magic, AreSpelled, Spells, RawSpells}
-use Rattle.image_form.specs.Parts.{bundle_count, entry_count, entries_of, after_entries, bundle_bytes, data_of, image_length, AreCounts, AreImageCounts}
-use Rattle.image_form.specs.Faults.{chunk, IsBundleBytes, entry_stage, spelling_stage, place_stage, bundle_stages, image_stages, raw_stages}
+use Rattle.image_form.specs.declared.version.Version.{Version}
+use Rattle.image_form.specs.declared.version.Version.TheVariants.{Two}
+use Rattle.image_form.specs.Images.{Begins, BeginsAsImage, AreSpelled, Spells, RawSpells}
+use Rattle.image_form.specs.Parts.{bundle_count, relation_count, entries_of, relations_of, after_entries, relation_bytes, after_relations, bundle_bytes, data_of, image_length, HasHead, AreCounts, AreImageCounts}
+use Rattle.image_form.specs.Faults.{chunk, IsBundleBytes, entry_stage, spelling_stage, place_stage, bundle_stages, IsRelationRight, AreRelationsRight, relation_stage, relation_stages, image_stages, raw_stages}
 use Rattle.image_form.specs.Laws.{FaultWhereNoneSpelled, FaultWhereNoneRaw}
 use Rattle.image_form.proofs.NumberBytes.{bytes_take, bytes_drop}
+use Rattle.image_form.proofs.RelationBytes.{length-relations_in}
 use Rattle.image_form.proofs.Spelled.{same_bundles, all_spelled, spelled_fit}
-use Rattle.image_form.proofs.Wholes.{ArePartsOf, length-bundle_bytes, counts_right, entries_right, spells_of_parts, raw_counts}
+use Rattle.image_form.proofs.Wholes.{ArePartsOf, IsPaddedImage, length-bundle_bytes, counts_right, entries_right, after_entries_are, image_of_parts, raw_counts}
 
 -- a stage isn't without a fault unless it is passed
 abbrev IsNotOpen : {Fault : Type 0} → Stage Fault → Type 0
@@ -85,34 +89,44 @@ place_not_open : (bytes : List ℕ) (fault : Place → ImageFault) (Good : List 
 place_not_open bytes fault Good bundles spelled none go =
     none_first_bad bundles (Good bundles) (λ p first. none p (bundles, spelled, first)) (λ each. go (bundles, spelled, each))
 
-bundles_not_open : codec.FaultWhereNoneSpelled → (bytes : List ℕ) (count : ℕ) → length bytes ≡ 16 * count → AreBytes bytes → AreNotOpen (bundle_stages bytes)
-bundles_not_open some bytes count size are = (
+bundles_not_open : codec.FaultWhereNoneSpelled → (bytes : List ℕ) (count : ℕ) (later : List (Stage ImageFault)) → length bytes ≡ 16 * count → AreBytes bytes → ((bundles : List Bundle) → AreSpelled bundles bytes → AreNotOpen later) → AreNotOpen (bundle_stages bytes later)
+bundles_not_open some bytes count later size are others = (
   spelling_not_open some bytes count size are,
-  λ s. (place_not_open bytes Target IsTargetInside s.0 s.1, λ targets. (place_not_open bytes LongRun IsWithinRun s.0 s.1, λ runs. tt)),
+  λ s. (place_not_open bytes Target IsTargetInside s.0 s.1, λ targets. (place_not_open bytes LongRun IsWithinRun s.0 s.1, λ runs. others s.0 s.1)),
 )
+
+relation_not_open : (spelled entries : List ℕ) (relations : List Relation) (bytes : List ℕ) (bundles : List Bundle) → AreSpelled bundles spelled → IsNotOpen (relation_stage spelled entries relations bytes)
+relation_not_open spelled entries relations bytes bundles is none go =
+    none_first (IsRelationRight bundles entries relations bytes) (length relations)
+    (λ n inside before bad. none n (bundles, is, record { inside = inside; wrong = bad; first = before }))
+    (λ all. go (bundles, is, all))
 
 entry_not_open : (count : ℕ) (entries : List ℕ) → IsNotOpen (entry_stage count entries)
 entry_not_open count entries none go =
     none_first (IsEntryAt count entries) (length entries) (λ n inside before bad. none n (record { inside = inside; misplaced = bad; first = before })) go
 
-after_entries_are : (bytes : List ℕ) → AreBytes bytes → AreBytes (after_entries bytes)
-after_entries_are bytes are = bytes_drop (4 * entry_count bytes) (drop 24 bytes) (bytes_drop 24 bytes are)
+after_relations_are : (bytes : List ℕ) → AreBytes bytes → AreBytes (after_relations bytes)
+after_relations_are bytes are = bytes_drop (8 * relation_count bytes) (after_entries bytes) (after_entries_are bytes are)
 
 bundle_bytes_are : (bytes : List ℕ) → AreBytes bytes → AreBytes (bundle_bytes bytes)
-bundle_bytes_are bytes are = bytes_take (16 * bundle_count bytes) (after_entries bytes) (after_entries_are bytes are)
+bundle_bytes_are bytes are = bytes_take (16 * bundle_count bytes) (after_relations bytes) (after_relations_are bytes are)
+
+-- where the stages of the head are passed, it is right
+head_of : (v : Version) (bytes : List ℕ) → 24 ≤ length bytes → Begins v bytes → AreCounts bytes → length bytes ≡ image_length bytes → HasHead v bytes
+head_of v bytes long begins counts size = record { long = long; begins = begins; counts = counts v begins; size = size }
 
 image_not_open : codec.FaultWhereNoneSpelled → (bytes : List ℕ) → AreBytes bytes → AreNotOpen (image_stages bytes)
 image_not_open some bytes are = (
   unless_not_open (24 ≤ length bytes) Short,
   λ long. (
-    unless_not_open (take 8 bytes ≡ magic) Magic,
+    unless_not_open (BeginsAsImage bytes) Magic,
     λ begins. (
       unless_not_open (AreCounts bytes) Counts,
       λ counts. (
         unless_not_open (length bytes ≡ image_length bytes) Length,
         λ size. (
           entry_not_open (bundle_count bytes) (entries_of bytes),
-          λ entries. bundles_not_open some (bundle_bytes bytes) (bundle_count bytes) (length-bundle_bytes bytes (record { long = long; begins = begins; counts = counts; size = size })) (bundle_bytes_are bytes are),
+          λ entries. bundles_not_open some (bundle_bytes bytes) (bundle_count bytes) (relation_stages bytes) (length-bundle_bytes begins.0 bytes (head_of begins.0 bytes long begins.1 counts size)) (bundle_bytes_are bytes are) (λ bundles is. (relation_not_open (bundle_bytes bytes) (entries_of bytes) (relations_of bytes) (relation_bytes bytes) bundles is, λ relations. tt)),
         ),
       ),
     ),
@@ -121,8 +135,8 @@ image_not_open some bytes are = (
 
 raw_not_open : codec.FaultWhereNoneSpelled → (bytes : List ℕ) → AreBytes bytes → AreNotOpen (raw_stages bytes)
 raw_not_open some bytes are = (
-  unless_not_open (AreImageCounts (length bytes / 16) 0 0) Counts,
-  λ counts. (unless_not_open (length bytes % 16 ≡ 0) Length, λ whole. bundles_not_open some bytes (length bytes / 16) (omega arith) are),
+  unless_not_open (AreImageCounts Two (length bytes / 16) 0 0 0) Counts,
+  λ counts. (unless_not_open (length bytes % 16 ≡ 0) Length, λ whole. bundles_not_open some bytes (length bytes / 16) [] (omega arith) are (λ bundles is. tt)),
 )
 
 -- Bundles that have the bytes, with their targets inside and their runs not too long.
@@ -132,55 +146,74 @@ record AreSoundBundles (bytes : List ℕ) : Type 0 where
   targets : EachPlace bundles (IsTargetInside bundles)
   runs : EachPlace bundles (IsWithinRun bundles)
 
-bundles_of : codec.OneBundle → (bytes : List ℕ) → ArePassed (bundle_stages bytes) → AreSoundBundles bytes
-bundles_of one bytes (any, (targets, (runs, done))) = record {
+bundles_of : codec.OneBundle → (bytes : List ℕ) (later : List (Stage ImageFault)) → ArePassed (bundle_stages bytes later) → AreSoundBundles bytes
+bundles_of one bytes later (any, (targets, (runs, others))) = record {
   bundles = targets.0;
   spelled = targets.1;
   targets = targets.2;
   runs = subst (λ (l : List Bundle). EachPlace l (IsWithinRun l)) (same_bundles one bytes runs.0 targets.0 runs.1 targets.1) runs.2;
 }
 
+-- the relations are right for all bundles that have the bytes
+relations_of_passed : codec.OneBundle → (spelled entries : List ℕ) (relations : List Relation) (bytes : List ℕ) → ArePassed (bundle_stages spelled (relation_stage spelled entries relations bytes ∷ [])) → (bundles : List Bundle) → AreSpelled bundles spelled → AreRelationsRight bundles entries relations bytes
+relations_of_passed one spelled entries relations bytes (any, (targets, (runs, (right, done)))) bundles is =
+    subst (λ (l : List Bundle). AreRelationsRight l entries relations bytes) (same_bundles one spelled right.0 bundles right.1 is) right.2
+
 -- where every stage is passed, a program has the image
 image_of : codec.OneBundle → (bytes : List ℕ) → AreBytes bytes → ArePassed (image_stages bytes) → (p : Program) × Spells p bytes
-image_of one bytes are (long, (begins, (counts, (size, (entries, passed))))) = (p, spells_of_parts p bytes are program parts)
+image_of one bytes are (long, (begins, (counts, (size, (entries, passed))))) = (p, (begins.0, image_of_parts begins.0 p bytes are program parts padded))
   where
     sound : AreSoundBundles (bundle_bytes bytes)
-    sound = bundles_of one (bundle_bytes bytes) passed
+    sound = bundles_of one (bundle_bytes bytes) (relation_stages bytes) passed
+
+    right : AreRelationsRight sound.bundles (entries_of bytes) (relations_of bytes) (relation_bytes bytes)
+    right = relations_of_passed one (bundle_bytes bytes) (entries_of bytes) (relations_of bytes) (relation_bytes bytes) passed sound.bundles sound.spelled
 
     p : Program
-    p = record { bundles = sound.bundles; entries = entries_of bytes; bytes = data_of bytes }
+    p = record { bundles = sound.bundles; entries = entries_of bytes; bytes = data_of bytes; relations = relations_of bytes }
 
-    parts : ArePartsOf p bytes
-    parts = record { head = record { long = long; begins = begins; counts = counts; size = size }; entries = refl; spelled = sound.spelled; rest = refl }
+    parts : ArePartsOf begins.0 p bytes
+    parts = record {
+      head = head_of begins.0 bytes long begins.1 counts size;
+      entries = refl;
+      relations = refl;
+      spelled = sound.spelled;
+      rest = refl;
+    }
+
+    padded : IsPaddedImage bytes
+    padded n less = let r = right n (omega (arith, length-relations_in (relation_count bytes) (relation_bytes bytes))) in r.padded
 
     program : IsProgram p
     program = record {
       fit = spelled_fit sound.bundles (bundle_bytes bytes) sound.spelled;
-      counts = counts_right p bytes parts;
-      entries = entries_right p bytes parts entries;
+      counts = counts_right begins.0 p bytes parts;
+      entries = entries_right begins.0 p bytes parts entries;
       targets = sound.targets;
       runs = sound.runs;
-      bytes = bytes_drop (16 * bundle_count bytes) (after_entries bytes) (after_entries_are bytes are);
+      bytes = bytes_drop (16 * bundle_count bytes) (after_relations bytes) (after_relations_are bytes are);
+      relations = λ n less. let r = right n less in r.declared;
     }
 
 -- and where every stage of bare bundles is passed, they are those of a program
 raw_of : codec.OneBundle → (bytes : List ℕ) → ArePassed (raw_stages bytes) → (p : Program) × RawSpells p bytes
-raw_of one bytes (counts, (whole, passed)) = (p, record { program = program; spelled = sound.spelled; no_entries = refl; no_data = refl })
+raw_of one bytes (counts, (whole, passed)) = (p, record { program = program; spelled = sound.spelled; no_entries = refl; no_data = refl; no_relations = refl })
   where
     sound : AreSoundBundles bytes
-    sound = bundles_of one bytes passed
+    sound = bundles_of one bytes [] passed
 
     p : Program
-    p = record { bundles = sound.bundles; entries = []; bytes = [] }
+    p = record { bundles = sound.bundles; entries = []; bytes = []; relations = [] }
 
     program : IsProgram p
     program = record {
       fit = spelled_fit sound.bundles bytes sound.spelled;
-      counts = raw_counts p bytes whole counts sound.spelled refl refl;
+      counts = raw_counts p bytes whole counts sound.spelled refl refl refl;
       entries = λ n less. absurd (omega arith);
       targets = sound.targets;
       runs = sound.runs;
       bytes = λ i. omega arith;
+      relations = λ n less. absurd (omega arith);
     }
 
 pub fault_where_none_spelled : codec.OneBundle → codec.FaultWhereNoneSpelled → FaultWhereNoneSpelled

@@ -38,7 +38,7 @@ pub length-numbers : (n : ℕ) (bytes : List ℕ) → length (numbers n bytes) �
 length-numbers zero bytes = refl
 length-numbers (suc n) bytes = ap suc (length-numbers n (drop 4 bytes))
 
-first_four : (bytes : List ℕ) → 4 ≤ length bytes → AreBytes bytes → to_le_bytes w32 (number_at bytes 0) ≡ take 4 bytes
+pub first_four : (bytes : List ℕ) → 4 ≤ length bytes → AreBytes bytes → to_le_bytes w32 (number_at bytes 0) ≡ take 4 bytes
 first_four bytes long are = le_bytes_4 (take 4 bytes) (number_at bytes 0) (simp length-take (omega arith)) (bytes_take 4 bytes are) refl
 
 -- what was read is written as it was

@@ -1,27 +1,60 @@
 -- The image form: the bytes of a program, and those of bare bundles.
-use Rattle.std.specs.Prelude.{◌≡◌, ℕ, List, [], ◌∷◌, ◌++◌, length, codes, refl}
+use Rattle.std.specs.Prelude.{◌≡◌, ℕ, ◌≤◌, List, [], ◌∷◌, ◌++◌, length, take, codes, refl}
 use Rattle.std.specs.Int.{w32, to_le_bytes}
 use Rattle.std.specs.List.{flat_map}
+use Rattle.ia_insn.specs.declared.limits.TheConstants.{BUNDLE_LIMIT, RELATION_LIMIT}
+use Rattle.ia_insn.specs.declared.relations.Relation.{Relation}
 use Rattle.ia_insn.specs.Bundles.{Bundle}
 use Rattle.ia_insn.specs.Programs.{Program, IsProgram}
 use Rattle.insn_codec.specs.Spelling.{IsSpelled}
-use Rattle.image_form.specs.declared.head.TheConstants.{MAGIC}
+use Rattle.image_form.specs.declared.version.TheConstants.{IMAGE_BUNDLE_LIMIT, MAGIC_1, MAGIC_2}
+use Rattle.image_form.specs.declared.version.Version.{Version}
+use Rattle.image_form.specs.declared.version.Version.TheVariants.{One, Two}
 
--- what an image begins with
-abbrev pub magic : List ℕ
-magic = codes "IA64IMG1"
+-- what an image of a version begins with
+abbrev pub magic : Version → List ℕ
+magic One = codes "IA64IMG1"
+magic Two = codes "IA64IMG2"
 
--- which is what the code's constant has
-pub magic_constant : MAGIC.now ≡ magic
-magic_constant = refl
+-- which is what the code's constants have
+pub magic_constants : (MAGIC_1.now ≡ magic One) × (MAGIC_2.now ≡ magic Two)
+magic_constants = (refl, refl)
+
+-- how many bundles an image of a version has room for
+abbrev pub bundle_room : Version → ℕ
+bundle_room One = IMAGE_BUNDLE_LIMIT
+bundle_room Two = BUNDLE_LIMIT
+
+-- how many relations: an image of version 1 has none
+abbrev pub relation_room : Version → ℕ
+relation_room One = 0
+relation_room Two = RELATION_LIMIT
+
+-- the bytes begin as an image of this version does
+abbrev pub Begins : Version → List ℕ → Type 0
+Begins v bytes = take 8 bytes ≡ magic v
+
+-- the bytes begin as an image does
+abbrev pub BeginsAsImage : List ℕ → Type 0
+BeginsAsImage bytes = (v : Version) × Begins v bytes
 
 -- numbers, one after the other, in four bytes each, the lowest byte first
 abbrev pub number_bytes : List ℕ → List ℕ
 number_bytes ns = flat_map (to_le_bytes w32) ns
 
--- The head of an image: how many bundles, declared entries and bytes of data follow, and a zero.
-abbrev pub head_bytes : ℕ → ℕ → ℕ → List ℕ
-head_bytes bundles entries size = magic ++ number_bytes (bundles ∷ entries ∷ size ∷ 0 ∷ [])
+-- a relation in eight bytes: its bundle in four, its two predicates, and two zeros
+abbrev pub eight_bytes : Relation → List ℕ
+eight_bytes r = to_le_bytes w32 r.bundle ++ (r.p ∷ r.q ∷ 0 ∷ 0 ∷ [])
+
+-- relations, one after the other
+abbrev pub written_relations : List Relation → List ℕ
+written_relations rs = flat_map eight_bytes rs
+
+-- The head of an image: how many bundles, declared entries, bytes of data and relations follow. Of version 1 the last
+-- number is zero, since there is no room for relations.
+abbrev pub head_bytes : Version → ℕ → ℕ → ℕ → ℕ → List ℕ
+head_bytes v bundles entries size relations =
+    magic v ++ number_bytes (bundles ∷ entries ∷ size ∷ relations ∷ [])
 
 -- bundles, one after the other, in sixteen bytes each, and nothing else
 abbrev pub AreSpelled : List Bundle → List ℕ → Type 0
@@ -29,18 +62,35 @@ AreSpelled [] bytes = bytes ≡ []
 AreSpelled (b ∷ bs) bytes =
     (front : List ℕ) × (rest : List ℕ) × (bytes ≡ front ++ rest) × IsSpelled b front × AreSpelled bs rest
 
--- The bytes are the image of the program: its head, its declared entries, its bundles and its data.
-pub record Spells (p : Program) (bytes : List ℕ) : Type 0 where
+-- The bytes are the image of this version of the program, for which the version has room: its head, its declared
+-- entries, its relations, its bundles and its data.
+pub record IsImage (v : Version) (p : Program) (bytes : List ℕ) : Type 0 where
   pub program : IsProgram p
+  pub few : length p.bundles ≤ bundle_room v
+  pub room : length p.relations ≤ relation_room v
   pub bundles : List ℕ
   pub spelled : AreSpelled p.bundles bundles
   pub whole : bytes
-      ≡ head_bytes (length p.bundles) (length p.entries) (length p.bytes)
-      ++ (number_bytes p.entries ++ (bundles ++ p.bytes))
+      ≡ head_bytes v (length p.bundles) (length p.entries) (length p.bytes) (length p.relations)
+      ++ (number_bytes p.entries ++ (written_relations p.relations ++ (bundles ++ p.bytes)))
 
--- The bytes are the bare bundles of the program, which has no declared entries and no data.
+-- the bytes are an image of the program, of either version
+abbrev pub Spells : Program → List ℕ → Type 0
+Spells p bytes = (v : Version) × IsImage v p bytes
+
+-- the version in which a program with these relations is written: the first where there are none
+abbrev pub written_version : List Relation → Version
+written_version [] = One
+written_version (r ∷ rs) = Two
+
+-- the bytes are the image of the program in the version in which it is written
+abbrev pub Written : Program → List ℕ → Type 0
+Written p bytes = IsImage (written_version p.relations) p bytes
+
+-- The bytes are the bare bundles of the program, which has no declared entries, no data and no relations.
 pub record RawSpells (p : Program) (bytes : List ℕ) : Type 0 where
   pub program : IsProgram p
   pub spelled : AreSpelled p.bundles bytes
   pub no_entries : p.entries ≡ []
   pub no_data : p.bytes ≡ []
+  pub no_relations : p.relations ≡ []

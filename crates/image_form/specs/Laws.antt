@@ -1,26 +1,27 @@
--- Images and programs correspond one to one, and so do bare bundles and programs of them. Bytes are
--- the image of a program or have one first fault.
+-- Images of a version and programs for which it has room correspond one to one, and so do bare bundles and programs of
+-- them. Bytes are an image of a program or have one first fault.
 use Rattle.std.specs.Prelude.{◌≡◌, ℕ, ◌+◌, ◌*◌, List, length}
 use Rattle.ia_insn.specs.Programs.{Program, AreBytes}
 use Rattle.image_form.specs.declared.fault.ImageFault.{ImageFault}
-use Rattle.image_form.specs.Images.{Spells, RawSpells}
+use Rattle.image_form.specs.declared.version.Version.{Version}
+use Rattle.image_form.specs.Images.{IsImage, Spells, RawSpells}
 use Rattle.image_form.specs.Faults.{HasImageFault, HasRawFault}
 
--- bytes are the image of at most one program
+-- bytes are an image of at most one program, whatever the version
 abbrev pub OneProgram : Type 0
 OneProgram = (bytes : List ℕ) (p q : Program) → Spells p bytes → Spells q bytes → p ≡ q
 
--- a program has at most one image
+-- a program has at most one image of a version
 abbrev pub OneImage : Type 0
-OneImage = (p : Program) (x y : List ℕ) → Spells p x → Spells p y → x ≡ y
+OneImage = (v : Version) (p : Program) (x y : List ℕ) → IsImage v p x → IsImage v p y → x ≡ y
 
--- how many bytes the image of a program has
+-- how many bytes an image of a program has, where one without relations has none for them
 abbrev pub ImageSize : Type 0
 ImageSize =
     (p : Program) (bytes : List ℕ) → Spells p bytes
-    → length bytes ≡ 24 + 4 * length p.entries + 16 * length p.bundles + length p.bytes
+    → length bytes ≡ 24 + 4 * length p.entries + 8 * length p.relations + 16 * length p.bundles + length p.bytes
 
--- the image of a program has no fault
+-- an image of a program has no fault
 abbrev pub NoFaultWhereSpelled : Type 0
 NoFaultWhereSpelled =
     (p : Program) (bytes : List ℕ) (fault : ImageFault) → Spells p bytes → HasImageFault bytes fault → ⊥
@@ -42,7 +43,7 @@ OneFault = (bytes : List ℕ) (f g : ImageFault) → HasImageFault bytes f → H
 abbrev pub OneRawFault : Type 0
 OneRawFault = (bytes : List ℕ) (f g : ImageFault) → HasRawFault bytes f → HasRawFault bytes g → f ≡ g
 
--- bytes that are the image of no program are not without a fault
+-- bytes that are an image of no program are not without a fault
 abbrev pub FaultWhereNoneSpelled : Type 0
 FaultWhereNoneSpelled =
     (bytes : List ℕ) → AreBytes bytes

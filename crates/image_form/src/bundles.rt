@@ -3,7 +3,7 @@
 ghost use Rattle.std.specs.Prelude.{◌≡◌, ◌≢◌, ◌+◌, ◌%◌, ◌<◌, ◌^◌, ℕ, List, [], ◌∷◌, ◌++◌, length, vec_len, vec_capacity, IfOk, IfErr, OnOk};
 ghost use Rattle.first_fault.specs.Stages.{IsFirstFault};
 ghost use Rattle.image_form.specs.Images.{AreSpelled};
-ghost use Rattle.image_form.specs.Faults.{bundle_stages};
+ghost use Rattle.image_form.specs.Faults.{spelling_stage};
 
 use crate::fault::ImageFault;
 use ia_insn::BundleOf;
@@ -25,7 +25,7 @@ pub(crate) fn read_bundles(alloc: Global, bytes: &[u8]) -> Result<Vec<BundleOf>,
     requires whole { length bytes.now % 16 ≡ 0 }
     requires limit { length bytes.now < 2 ^ 32 }
     ensures found { IfOk result (λ bundles. AreSpelled bundles.items bytes.now) }
-    ensures fault { IfErr result (λ fault. fault ≢ ImageFault.Memory → IsFirstFault (bundle_stages bytes.now) fault) }
+    ensures fault { IfErr result (λ fault. fault ≢ ImageFault.Memory → IsFirstFault (spelling_stage bytes.now ∷ []) fault) }
 {
     let mut bundles = Vec::with_capacity(alloc, bytes.len() / 16)?;
     let mut rest = bytes;

@@ -15,11 +15,12 @@ pub enum ImageFault {
     /// There are fewer bytes than a head has, 24.
     #[error("fewer bytes than a head has")]
     Short,
-    /// The bytes don't begin with `IA64IMG1`.
+    /// The bytes begin neither with `IA64IMG1` nor with `IA64IMG2`.
     #[error("not the first eight bytes of an image")]
     Magic,
-    /// A number of the head is out of its range, or its last isn't zero. Of bare bundles: there are
-    /// none, or more whole ones than [`IMAGE_BUNDLE_LIMIT`](crate::IMAGE_BUNDLE_LIMIT).
+    /// A number of the head is out of its range, which is that of its version: in version 1 the last
+    /// is zero. Of bare bundles: there are none, or more whole ones than
+    /// [`BUNDLE_LIMIT`](ia_insn::limits::BUNDLE_LIMIT).
     #[error("a number that is out of its range")]
     Counts,
     /// The number of bytes isn't the one that the head says. Of bare bundles: bytes are left over.
@@ -52,6 +53,13 @@ pub enum ImageFault {
         /// The place of the first slot that is one too many.
         place: Place,
     },
+    /// A relation isn't above the one before it, isn't of an entry, or isn't of two of p1 to p15, the
+    /// lower one first; or its last two bytes aren't zero. This is the first one.
+    #[error("relation {n} may not be declared or doesn't end in two zero bytes")]
+    Relation {
+        /// Its number, from 0.
+        n: u32,
+    },
     /// There was no memory for the program.
     #[error("out of memory")]
     Memory,
@@ -76,6 +84,7 @@ impl From<ProgramFault> for ImageFault {
             ProgramFault::Entry { n } => ImageFault::Entry { n },
             ProgramFault::Target { place } => ImageFault::Target { place },
             ProgramFault::LongRun { place } => ImageFault::LongRun { place },
+            ProgramFault::Relation { n } => ImageFault::Relation { n },
         }
     }
 }

@@ -4,26 +4,27 @@ ghost use Rattle.image_form.specs.Laws.{OneProgram, OneImage, ImageSize, NoFault
 
 use insn_codec::{one_bundle, one_spelling};
 
-/// The law that bytes are the image of at most one program. It does nothing.
+/// The law that bytes are an image of at most one program, whatever the version. It does nothing.
 pub fn one_program()
     ensures { OneProgram }
 {
     one_bundle();
 }
 
-/// The law that a program has at most one image. It does nothing.
+/// The law that a program has at most one image of a version. It does nothing.
 pub fn one_image()
     ensures { OneImage }
 {
     one_spelling();
 }
 
-/// The law that an image has 24 bytes, 4 a declared entry, 16 a bundle, and its data. It does nothing.
+/// The law that an image has 24 bytes, 4 a declared entry, 8 a relation, 16 a bundle, and its data. It
+/// does nothing.
 pub fn image_size()
     ensures { ImageSize }
 {}
 
-/// The law that the image of a program has no fault. It does nothing.
+/// The law that an image of a program has no fault. It does nothing.
 pub fn no_fault_where_spelled()
     ensures { NoFaultWhereSpelled }
 {
@@ -66,7 +67,7 @@ pub fn one_raw_fault()
     insn_codec::no_fault_where_spelled();
 }
 
-/// The law that bytes that are the image of no program are not without a fault. It does nothing.
+/// The law that bytes that are an image of no program are not without a fault. It does nothing.
 ///
 /// It gives no way to the fault. [`read_image`](crate::read_image) answers it, but may answer want of
 /// memory in its place.

@@ -5,8 +5,8 @@ ghost use Rattle.first_fault.specs.Stages.{IsFirstFault};
 ghost use Rattle.ia_insn.specs.Programs.{Program as Parts, AreInRange, AreEntries, IsProgram};
 ghost use Rattle.image_form.specs.declared.fault.ImageFault.{ImageFault as FaultOf};
 ghost use Rattle.image_form.specs.Images.{AreSpelled, Spells, RawSpells};
-ghost use Rattle.image_form.specs.Parts.{numbers};
-ghost use Rattle.image_form.specs.Faults.{entry_stage, bundle_stages, HasImageFault, HasRawFault};
+ghost use Rattle.image_form.specs.Parts.{numbers, ArePadded};
+ghost use Rattle.image_form.specs.Faults.{entry_stage, bundle_stages, relation_stage, HasImageFault, HasRawFault};
 
 use crate::bundles::read_bundles;
 use crate::fault::ImageFault;
@@ -16,7 +16,9 @@ use crate::laws::{
     one_raw_program,
 };
 use crate::numbers::read_numbers;
-use ia_insn::{BundleOf, Program, misplaced_entry};
+use crate::relations::{read_relations, unpadded_relation};
+use crate::version::Version;
+use ia_insn::{BundleOf, Program, ProgramFault, Relation, misplaced_entry};
 use std::alloc::Global;
 
 /// The declared entries of an image of so many bundles, or the first that is misplaced.
@@ -32,17 +34,38 @@ fn read_entries(alloc: Global, count: u32, bytes: &[u8]) -> Result<Vec<u32>, Ima
     }
 }
 
-/// The program of these, whose counts and entries are right, or the first fault of the bundles.
-fn program(bundles: Vec<BundleOf>, entries: Vec<u32>, bytes: Vec<u8>) -> Result<Program, ImageFault>
-    requires counts { AreInRange (length bundles.items) (length entries.items) (length bytes.items) }
+/// The program of these, whose counts and entries are right, or the first fault of the bundles and
+/// then of the relations, which have these bytes.
+fn program(
+    bundles: Vec<BundleOf>,
+    entries: Vec<u32>,
+    bytes: Vec<u8>,
+    relations: Vec<Relation>,
+    relation_bytes: &[u8],
+) -> Result<Program, ImageFault>
+    requires counts { AreInRange (length bundles.items) (length entries.items) (length bytes.items) (length relations.items) }
     requires entries { AreEntries (length bundles.items) entries.items }
-    ensures found { IfOk result (λ p. (p ≡ record { bundles = bundles.items; entries = entries.items; bytes = bytes.items }) × IsProgram p) }
-    ensures fault { IfErr result (λ fault. (spelled : List ℕ) → AreSpelled bundles.items spelled → IsFirstFault (bundle_stages spelled) fault) }
+    requires relations { length relations.items ≡ length relation_bytes.now / 8 }
+    requires limit { length relation_bytes.now < 2 ^ 32 }
+    ensures found { IfOk result (λ p. (p ≡ record { bundles = bundles.items; entries = entries.items; bytes = bytes.items; relations = relations.items }) × IsProgram p × ArePadded (length relations.items) relation_bytes.now) }
+    ensures fault { IfErr result (λ fault. (spelled : List ℕ) → AreSpelled bundles.items spelled → IsFirstFault (bundle_stages spelled (relation_stage spelled entries.items relations.items relation_bytes.now ∷ [])) fault) }
 {
-    Ok(Program::of_checked(bundles, entries, bytes)?)
+    let unpadded = unpadded_relation(relation_bytes);
+    match Program::of_checked(bundles, entries, bytes, relations) {
+        Ok(program) => match unpadded {
+            None => Ok(program),
+            Some(n) => Err(ImageFault::Relation { n }),
+        },
+        Err(fault) => match fault {
+            ProgramFault::Relation { n } => Err(ImageFault::Relation {
+                n: unpadded.unwrap_or(n).min(n),
+            }),
+            _ => Err(fault.into()),
+        },
+    }
 }
 
-/// The program whose image the bytes are, or their first fault.
+/// The program of which the bytes are an image, or their first fault.
 fn read(alloc: Global, bytes: &[u8]) -> Result<Program, ImageFault>
     ensures found { IfOk result (λ p. Spells p bytes.now) }
     ensures fault { IfErr result (λ fault. fault ≢ ImageFault.Memory → HasImageFault bytes.now fault) }
@@ -50,19 +73,20 @@ fn read(alloc: Global, bytes: &[u8]) -> Result<Program, ImageFault>
     let head = Head::read(bytes)?;
     let parts = head.parts(bytes);
     let entries = read_entries(alloc, head.bundle_count, parts.entries)?;
+    let relations = read_relations(alloc, parts.relations)?;
     let bundles = read_bundles(alloc, parts.bundles)?;
     let data = Vec::from_slice(alloc, parts.data)?;
-    program(bundles, entries, data)
+    program(bundles, entries, data, relations, parts.relations)
 }
 
-/// The program whose image the bytes are.
+/// The program of which the bytes are an image, of either version.
 ///
 /// # Errors
 ///
 /// The first fault of the bytes, in the order of [`ImageFault`]; or `Memory`, which may come in
 /// place of any other answer.
 pub fn read_image(alloc: Global, bytes: &[u8]) -> Result<Program, ImageFault>
-    // What is answered has this image.
+    // What is answered has this image, of the version that it begins as.
     ensures found { IfOk result (λ p. Spells p bytes.now) }
 
     // A program that has this image is answered, so a fault comes only where none has it.
@@ -85,17 +109,24 @@ fn wrap(alloc: Global, bytes: &[u8]) -> Result<Program, ImageFault>
     ensures found { IfOk result (λ p. RawSpells p bytes.now) }
     ensures fault { IfErr result (λ fault. fault ≢ ImageFault.Memory → HasRawFault bytes.now fault) }
 {
-    if !are_image_counts(bytes.len() / 16, 0, 0) {
+    if !are_image_counts(Version::Two, bytes.len() / 16, 0, 0, 0) {
         return Err(ImageFault::Counts);
     }
     if bytes.len() % 16 != 0 {
         return Err(ImageFault::Length);
     }
     let bundles = read_bundles(alloc, bytes)?;
-    program(bundles, Vec::new(alloc), Vec::new(alloc))
+    program(
+        bundles,
+        Vec::new(alloc),
+        Vec::new(alloc),
+        Vec::new(alloc),
+        &[],
+    )
 }
 
-/// The program of bare bundles: these bytes, sixteen a bundle, and neither entries nor data.
+/// The program of bare bundles: these bytes, sixteen a bundle, and neither entries nor data nor
+/// relations.
 ///
 /// # Errors
 ///

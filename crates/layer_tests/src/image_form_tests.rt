@@ -1,6 +1,7 @@
 //! What reads and writes images answers them where there is memory.
 
-use image_form::{is_image, read_image, wrap_raw, write_image};
+use ia_insn::{Program, Relation};
+use image_form::{is_image, read_image, wrap_raw, write_image, write_image_2};
 use std::test::Fail;
 
 /// The image of a bundle: `nop.m 0`, `nop.i 0`, `nop.i 0` and a stop.
@@ -27,5 +28,37 @@ fn images_come_back(rt: HostRuntime) -> Result<(), Fail> {
     let wrapped = write_image(alloc, &wrap_raw(alloc, &ONE[24..])?)?;
     assert!(rt; wrapped.as_slice() == ONE.as_slice());
     assert!(rt; is_image(&wrapped));
+    let second = write_image_2(alloc, &read_image(alloc, &ONE)?)?;
+    assert!(rt; is_image(&second));
+    assert_eq!(rt; second.len(), 40);
+    let again = write_image(alloc, &read_image(alloc, &second)?)?;
+    assert!(rt; again.as_slice() == ONE.as_slice());
+    Ok(())
+}
+
+/// The image of two bundles, `cmp.eq p6,p7=r0,r0` and two moves, one under p6 and one under p7, of which the
+/// second is a declared entry with a relation.
+const RELATED: [u8; 68] = [
+    0x49, 0x41, 0x36, 0x34, 0x49, 0x4d, 0x47, 0x32, 0x02, 0x00, 0x00, 0x00, 0x01, 0x00, 0x00, 0x00,
+    0x00, 0x00, 0x00, 0x00, 0x01, 0x00, 0x00, 0x00, 0x01, 0x00, 0x00, 0x00, 0x01, 0x00, 0x00, 0x00,
+    0x06, 0x07, 0x00, 0x00, 0x01, 0x30, 0x00, 0x00, 0x07, 0x38, 0x00, 0x00, 0x00, 0x02, 0x00, 0x00,
+    0x00, 0x00, 0x04, 0x00, 0x01, 0x00, 0x00, 0x00, 0x01, 0x80, 0x81, 0x08, 0x00, 0x00, 0xc8, 0x03,
+    0x21, 0x00, 0x00, 0x90,
+];
+
+#[test]
+fn relations_come_back(rt: HostRuntime) -> Result<(), Fail> {
+    let alloc = rt.alloc();
+    let program = read_image(alloc, &RELATED)?;
+    let relation = Relation {
+        bundle: 1,
+        p: 6,
+        q: 7,
+    };
+    assert!(rt; program.relations() == [relation].as_slice());
+    assert!(rt; program.relations_at(1) == [relation].as_slice());
+    assert!(rt; program.relations_at(0).is_empty());
+    let written = write_image(alloc, &program)?;
+    assert!(rt; written.as_slice() == RELATED.as_slice());
     Ok(())
 }

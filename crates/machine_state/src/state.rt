@@ -1,6 +1,6 @@
 //! The state.
 
-ghost use Rattle.std.specs.Prelude.{◌≡◌, ◌<◌, ◌≤◌, ◌%◌, ◌^◌, length, get_or, if◌then◌else◌, IfOk};
+ghost use Rattle.std.specs.Prelude.{◌≡◌, ◌<◌, ◌≤◌, ◌%◌, ◌^◌, length, get_or, take, if◌then◌else◌, IfOk};
 ghost use Rattle.std.specs.Option.{option_map};
 ghost use Rattle.ia_insn.specs.declared.limits.TheConstants.{DATA_LIMIT};
 ghost use Rattle.ia_meaning.specs.Names.{spot, look, predicate_place, holds};
@@ -208,6 +208,13 @@ impl MachineState {
         ensures { result ≡ predicate_word self.now.registers.predicates }
     {
         word_of(&self.predicates)
+    }
+
+    /// The static predicates, p0 to p15, which stand at their own places in every frame.
+    pub fn static_predicates(&self) -> &[bool]
+        ensures { result.now ≡ take 16 self.now.registers.predicates }
+    {
+        &self.predicates[..16]
     }
 
     /// What a branch register holds.

@@ -1,8 +1,10 @@
 -- A step that doesn't end the run follows an edge or lands on an entry.
-use Rattle.std.proofs.Common.{◌≡◌, ℕ, ◌-◌, ◌/◌, ◌⊎◌, inl, inr, Bool, true, false, not, ◌&&◌, ◌==◌, nat_le, if◌then◌else◌, Option, Some, None, refl, sym, ap, subst, arith}
+use Rattle.std.proofs.Common.{◌≡◌, ℕ, ◌-◌, ◌/◌, ◌⊎◌, inl, inr, Bool, true, false, not, ◌&&◌, ◌==◌, nat_le, if◌then◌else◌, List, take, Option, Some, None, Err, refl, sym, ap, subst, arith}
 use Rattle.std.specs.Prelude.{ℤ, IfSome, IsSomeAnd}
 use Rattle.std.proofs.lemmas.Bool.Decides.{nat_tests}
+use Rattle.std.proofs.lemmas.Result.{IfOk-weaker}
 use Rattle.ia_insn.specs.declared.choices.BranchKind.TheVariants.{Cond}
+use Rattle.ia_insn.specs.declared.ending.FaultKind.TheVariants.{BadLanding}
 use Rattle.ia_insn.specs.declared.ending.How.TheVariants as how
 use Rattle.ia_insn.specs.declared.insn.Insn.{Insn}
 use Rattle.ia_insn.specs.declared.insn.Op.{Op}
@@ -16,30 +18,34 @@ use Rattle.ia_insn.specs.Targets.{displacement}
 use Rattle.ia_meaning.specs.declared.next.Next.{Next}
 use Rattle.ia_meaning.specs.declared.next.Next.TheVariants as next
 use Rattle.ia_meaning.specs.State.{Registers, Memory, State}
-use Rattle.ia_meaning.specs.Landings.{is_entry, landing}
+use Rattle.ia_meaning.specs.Landings.{is_entry, landing, arrival, breaks_relation}
 use Rattle.ia_meaning.specs.Outcomes.{Outcome}
 use Rattle.ia_meaning.specs.declared.form.Form.{Form}
-use Rattle.ia_meaning.specs.declared.form.Form.TheVariants.{Loop}
-use Rattle.ia_meaning.specs.Actions.{form_of}
+use Rattle.ia_meaning.specs.declared.form.Goal.TheVariants.{Indirect}
+use Rattle.ia_meaning.specs.declared.form.Form.TheVariants.{Test, JumpIndirect, Loop, Call, Return}
+use Rattle.ia_meaning.specs.Actions.{form_of, is_indirect}
 use Rattle.ia_meaning.specs.Effects.{Site, site, act, skip, effect}
 use Rattle.ia_meaning.specs.Sequence.{first_of, next_of, is_stopped}
-use Rattle.ia_meaning.specs.Steps.{Step, outcome_of, how_falling, place_after, step_by, step_of, seq_step}
+use Rattle.ia_meaning.specs.Steps.{Step, settled, registers_after, outcome_of, how_falling, place_after, step_by, step_of, seq_step}
 use Rattle.ia_meaning.proofs.Sequences.{entry_decides}
+use Rattle.ia_meaning.specs.Names.{holds}
+use Rattle.ia_meaning.proofs.Arrivals.{arrived_keeps}
+use Rattle.ia_meaning.proofs.Inversions.{act_cases}
 use Rattle.ia_meaning.proofs.GoesOn.{IsGoodNext, IsGoodWay, IsGoodTarget, AreGoodLandings, effect_on, settled_on, FallsTo, falls_to, effect_leaves}
 use Rattle.ia_meaning.proofs.StepHere.{by_insn}
 use Rattle.state_laws.specs.Kept.{KeepsState}
 use Rattle.predicate_rel.specs.declared.edge.Edge.{Edge}
 use Rattle.predicate_rel.specs.declared.edge.Edge.TheVariants.{Falls, Taken}
 use Rattle.predicate_rel.specs.Edges.{leaves, may_fall, displacement_of, target_at, edge_of, HasEdge}
-use Rattle.predicate_rel.specs.Steps.{edge_by, is_indirect, IsIndirect, LandsOnEntry, FollowsEdge, GoesAlong}
+use Rattle.predicate_rel.specs.Steps.{edge_by, IsIndirect, LandsOnEntry, FollowsEdge, GoesAlong}
 use Rattle.predicate_rel.proofs.EdgeEnds.{same_displacement, is_edge_end}
 
 -- a site on which no branch lands
 abbrev closed : Site → Site
-closed s = record { bundle = s.bundle; entry = λ _. None }
+closed s = record { bundle = s.bundle; arrival = λ _ _. Err BadLanding }
 
 -- what isn't an indirect branch does the same there
-act_closed : (s : Site) (o : Op) (r : Registers) (m : Memory) (unat : ℕ) → is_indirect o ≡ false → act s (form_of o) r m unat ≡ act (closed s) (form_of o) r m unat
+act_closed : (s : Site) (o : Op) (r : Registers) (m : Memory) (unat : ℕ) → is_indirect (form_of o) ≡ false → act s (form_of o) r m unat ≡ act (closed s) (form_of o) r m unat
 act_closed s (op.BrInd b2 wh many clr) r m unat n = absurd (cc)
 act_closed s (op.BrRet b2 wh many clr) r m unat n = absurd (cc)
 act_closed s (op.BrCallInd b1 b2 wh many clr) r m unat n = absurd (cc)
@@ -51,12 +57,15 @@ skip_closed : (s : Site) (form : Form) (r : Registers) (m : Memory) → skip s f
 skip_closed s (Loop kind disp) r m = refl
 skip_closed s form r m = refl
 
-effect_closed : (s : Site) (insn : Insn) (r : Registers) (m : Memory) (unat : ℕ) → is_indirect insn.op ≡ false → effect s insn r m unat ≡ effect (closed s) insn r m unat
+effect_closed : (s : Site) (insn : Insn) (r : Registers) (m : Memory) (unat : ℕ) → is_indirect (form_of insn.op) ≡ false → effect s insn r m unat ≡ effect (closed s) insn r m unat
 effect_closed s insn r m unat n = rw (act_closed s insn.op r m unat n, skip_closed s (form_of insn.op) r m) refl
 
--- where an instruction in a bundle goes to: its target, or, where it is an indirect branch, an entry
-abbrev IsWayOf : Program → ℕ → Op → ℕ → Type 0
-IsWayOf p bundle o to = (target_at bundle (displacement_of (form_of o)) ≡ Some (first_of to)) ⊎ (IsIndirect o × IsEntry p to)
+-- where an instruction in a bundle goes to: its target, or, where it is an indirect branch, an entry whose relations the
+-- first sixteen predicates don't break
+abbrev IsWayOf : Program → ℕ → List Bool → Insn → ℕ → Type 0
+IsWayOf p bundle low insn to =
+    (target_at bundle (displacement_of (form_of insn.op)) ≡ Some (first_of to))
+    ⊎ (IsIndirect insn × IsEntry p to × (breaks_relation p low to ≡ false))
 
 -- an address on which a branch lands is that of an entry
 landing_entry : (p : Program) (address : ℕ) → IfSome (landing p address) (IsEntry p)
@@ -69,27 +78,53 @@ landing_entry p address = chosen ((address - bundle_address 0) / 16) (nat_le (bu
     chosen n false b e = tt
 
 module _ (p : Program) (bundle : ℕ) (insn : Insn) (r : Registers) (m : Memory) (unat : ℕ) where
-  to_target : IsGoodTarget (IsWayOf p bundle insn.op) bundle (displacement insn.op)
+  abbrev Low : List Bool
+  Low = take 16 r.predicates
+
+  to_target : IsGoodTarget (IsWayOf p bundle Low insn) bundle (displacement insn.op)
   to_target = of (displacement insn.op) (same_displacement insn.op)
     where
-      of : (d : Option ℤ) → displacement_of (form_of insn.op) ≡ d → IsGoodTarget (IsWayOf p bundle insn.op) bundle d
+      of : (d : Option ℤ) → displacement_of (form_of insn.op) ≡ d → IsGoodTarget (IsWayOf p bundle Low insn) bundle d
       of None e = tt
       of (Some disp) e = inl (ap (target_at bundle) e)
 
-  to_entry : is_indirect insn.op ≡ true → AreGoodLandings (IsWayOf p bundle insn.op) (site p bundle)
-  to_entry indirect address = of (landing p address) (landing_entry p address)
-    where
-      of : (o : Option ℕ) → IfSome o (IsEntry p) → IfSome o (IsWayOf p bundle insn.op)
-      of None h = tt
-      of (Some to) h = inr (indirect, h)
+  to_entry : is_indirect (form_of insn.op) ≡ true → AreGoodLandings (IsWayOf p bundle Low insn) (site p bundle) Low
+  to_entry indirect address =
+      IfOk-weaker (arrival p Low address) _ _ (λ to kept. inr (indirect, kept.0, kept.1)) (arrived_keeps p Low (landing p address) (IsEntry p) (landing_entry p address))
 
-  effect_goes : IsGoodWay (IsWayOf p bundle insn.op) (effect (site p bundle) insn r m unat)
-  effect_goes = by_test (is_indirect insn.op) refl
+  effect_goes : IsGoodWay (IsWayOf p bundle Low insn) (effect (site p bundle) insn r m unat)
+  effect_goes = by_test (is_indirect (form_of insn.op)) refl
     where
-      by_test : (b : Bool) → is_indirect insn.op ≡ b → IsGoodWay (IsWayOf p bundle insn.op) (effect (site p bundle) insn r m unat)
-      by_test true e = effect_on (IsWayOf p bundle insn.op) (site p bundle) insn r m unat (to_entry e) to_target
-      by_test false e = subst (IsGoodWay (IsWayOf p bundle insn.op)) (sym (effect_closed (site p bundle) insn r m unat e))
-          (effect_on (IsWayOf p bundle insn.op) (closed (site p bundle)) insn r m unat (λ address. tt) to_target)
+      by_test : (b : Bool) → is_indirect (form_of insn.op) ≡ b → IsGoodWay (IsWayOf p bundle Low insn) (effect (site p bundle) insn r m unat)
+      by_test true e = effect_on (IsWayOf p bundle Low insn) (site p bundle) insn r m unat (to_entry e) to_target
+      by_test false e = subst (IsGoodWay (IsWayOf p bundle Low insn)) (sym (effect_closed (site p bundle) insn r m unat e))
+          (effect_on (IsWayOf p bundle Low insn) (closed (site p bundle)) insn r m unat (λ address. tt) to_target)
+
+-- An indirect branch leaves the predicates as they are.
+abbrev LeavesPredicates : Registers → Outcome → Type 0
+LeavesPredicates r o = (registers_after o r).predicates ≡ r.predicates
+
+indirect_act : (s : Site) (form : Form) (r : Registers) (m : Memory) (unat : ℕ) → is_indirect form ≡ true → LeavesPredicates r (act s form r m unat)
+indirect_act s (JumpIndirect b2) r m unat e = act_cases (LeavesPredicates r) s (JumpIndirect b2) r m unat (λ kind. refl, λ to k. refl)
+indirect_act s (Call b1 (Indirect b2)) r m unat e = act_cases (LeavesPredicates r) s (Call b1 (Indirect b2)) r m unat (λ kind. refl, λ to k. refl)
+indirect_act s (Return b2) r m unat e = act_cases (LeavesPredicates r) s (Return b2) r m unat (λ kind. refl, λ to k l. refl)
+indirect_act s form r m unat e = absurd (cc)
+
+indirect_skip : (s : Site) (form : Form) (r : Registers) (m : Memory) → is_indirect form ≡ true → LeavesPredicates r (skip s form r m)
+indirect_skip s (Test kind p1 p2 r2 r3 c) r m e = absurd (cc)
+indirect_skip s (Loop kind disp) r m e = absurd (cc)
+indirect_skip s form r m e = refl
+
+indirect_leaves : (s : Site) (insn : Insn) (r : Registers) (m : Memory) (unat : ℕ) → is_indirect (form_of insn.op) ≡ true → LeavesPredicates r (effect s insn r m unat)
+indirect_leaves s insn r m unat e = by_guard (holds r insn.qp)
+  where
+    by_guard : (b : Bool) → LeavesPredicates r (if b then act s (form_of insn.op) r m unat else skip s (form_of insn.op) r m)
+    by_guard true = indirect_act s (form_of insn.op) r m unat e
+    by_guard false = indirect_skip s (form_of insn.op) r m e
+
+settled_leaves : (r : Registers) (next : Option Place) (m : Memory) (way : Next) (o : Outcome) → LeavesPredicates r o → LeavesPredicates r (settled next m way o)
+settled_leaves r None m next.Falls o h = refl
+settled_leaves r next m way o h = h
 
 -- an instruction that falls through may do so
 leaving_op : (o : Op) → leaves (form_of o) ≡ true → IsLeaving o
@@ -116,7 +151,7 @@ falling_may s insn r m unat e = by_tests (insn.qp == 0) (leaves (form_of insn.op
 abbrev IsAlong : Program → State → Step → Type 0
 IsAlong p s step =
     HasEdge p s.place (edge_by step.how) step.state.place
-    ⊎ (IsSomeAnd (insn_at p.bundles s.place) (λ insn. IsIndirect insn.op) × (step.how ≡ Some how.Taken) × (step.state.place.slot ≡ 0) × IsEntry p step.state.place.bundle)
+    ⊎ (IsSomeAnd (insn_at p.bundles s.place) IsIndirect × (step.how ≡ Some how.Taken) × (step.state.place.slot ≡ 0) × IsEntry p step.state.place.bundle × (breaks_relation p (take 16 step.state.registers.predicates) step.state.place.bundle ≡ false))
 
 -- a fall, with a stop or without one
 pub edge_falling : (stopped : Bool) → edge_by (how_falling stopped) ≡ Falls
@@ -139,11 +174,16 @@ module _ (p : Program) (s : State) (insn : Insn) (program : IsProgram p) (here :
       let there : place_after s.place (next_of p.bundles s.place) ≡ f.place = ap (place_after s.place) f.is in
       inl (rw (edge_falling (is_stopped p.bundles s.place), there) edge)
 
-  going : (bundle : ℕ) → IsWayOf p s.place.bundle insn.op bundle → IsAlong p s (step_by p s (outcome_of p s insn) (next.Goes bundle))
-  going bundle (inl leads) = inl (has_edge Taken (first_of bundle) leads)
-  going bundle (inr (indirect, entry)) = inr (rw here indirect, refl, refl, entry)
+  abbrev Way : ℕ → Type 0
+  Way = IsWayOf p s.place.bundle (take 16 s.registers.predicates) insn
 
-  stepping : (way : Next) → (outcome_of p s insn).next ≡ way → IsGoodNext (IsWayOf p s.place.bundle insn.op) way → (step_by p s (outcome_of p s insn) way).end ≡ None → IsAlong p s (step_by p s (outcome_of p s insn) way)
+  going : (bundle : ℕ) → Way bundle → IsAlong p s (step_by p s (outcome_of p s insn) (next.Goes bundle))
+  going bundle (inl leads) = inl (has_edge Taken (first_of bundle) leads)
+  going bundle (inr (indirect, entry, kept)) =
+      let left : (registers_after (outcome_of p s insn) s.registers).predicates ≡ s.registers.predicates = settled_leaves s.registers (next_of p.bundles s.place) s.memory Here.next Here (indirect_leaves (site p s.place.bundle) insn s.registers s.memory s.registers.unat indirect) in
+      inr (rw here indirect, refl, refl, entry, rw left kept)
+
+  stepping : (way : Next) → (outcome_of p s insn).next ≡ way → IsGoodNext Way way → (step_by p s (outcome_of p s insn) way).end ≡ None → IsAlong p s (step_by p s (outcome_of p s insn) way)
   stepping next.Falls e good goes = falling e
   stepping (next.Goes bundle) e good goes = going bundle good
   stepping (next.Breaks imm) e good goes = absurd (cc)
@@ -152,7 +192,7 @@ module _ (p : Program) (s : State) (insn : Insn) (program : IsProgram p) (here :
   along_here : (step_of p s (Some insn)).end ≡ None → IsAlong p s (step_of p s (Some insn))
   along_here goes =
       stepping (outcome_of p s insn).next refl
-      (settled_on (IsWayOf p s.place.bundle insn.op) (next_of p.bundles s.place) s.memory Here (effect_goes p s.place.bundle insn s.registers s.memory s.registers.unat))
+      (settled_on Way (next_of p.bundles s.place) s.memory Here (effect_goes p s.place.bundle insn s.registers s.memory s.registers.unat))
       goes
 
 pub goes_along : KeepsState → GoesAlong
@@ -161,8 +201,8 @@ goes_along keeps p s program is goes =
   where
     of : IsAlong p s (seq_step p s) → FollowsEdge p s ⊎ LandsOnEntry p s
     of (inl edge) = inl edge
-    of (inr (indirect, taken, slot, entry)) = inr (record {
+    of (inr (indirect, taken, slot, entry, kept)) = inr (record {
       indirect = indirect;
       taken = taken;
-      start = record { state = keeps p s program is; slot = slot; entry = entry };
+      start = record { state = keeps p s program is; slot = slot; entry = entry; promised = kept };
     })

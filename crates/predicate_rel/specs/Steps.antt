@@ -1,13 +1,13 @@
 -- Which edge a sequential step follows, and what stays known of the predicates along it (volume 1, chapter 3, instruction
 -- sequencing and predication).
-use Rattle.std.specs.Prelude.{◌≡◌, ◌⊎◌, Bool, true, false, Option, Some, None, IsSomeAnd, IsTrue}
-use Rattle.ia_insn.specs.declared.insn.Op.{Op}
-use Rattle.ia_insn.specs.declared.insn.Op.TheVariants.{BrInd, BrRet, BrCallInd}
+use Rattle.std.specs.Prelude.{◌≡◌, ◌⊎◌, Option, Some, None, IsSomeAnd, IsTrue}
+use Rattle.ia_insn.specs.declared.insn.Insn.{Insn}
 use Rattle.ia_insn.specs.declared.ending.How.{How}
 use Rattle.ia_insn.specs.declared.ending.How.TheVariants as how
 use Rattle.ia_insn.specs.Places.{insn_at}
 use Rattle.ia_insn.specs.Programs.{Program, IsProgram}
 use Rattle.ia_meaning.specs.State.{State, IsState, IsStart}
+use Rattle.ia_meaning.specs.Actions.{insn_form, is_indirect}
 use Rattle.ia_meaning.specs.Steps.{seq_step}
 use Rattle.predicate_rel.specs.declared.edge.Edge.{Edge}
 use Rattle.predicate_rel.specs.declared.edge.Edge.TheVariants.{Falls, Taken}
@@ -26,18 +26,12 @@ abbrev pub FollowsEdge : Program → State → Type 0
 FollowsEdge p s = HasEdge p s.place (edge_by (seq_step p s).how) (seq_step p s).state.place
 
 -- an indirect branch, a return or an indirect call
-abbrev pub is_indirect : Op → Bool
-is_indirect (BrInd b2 wh many clr) = true
-is_indirect (BrRet b2 wh many clr) = true
-is_indirect (BrCallInd b1 b2 wh many clr) = true
-is_indirect op = false
-
-abbrev pub IsIndirect : Op → Type 0
-IsIndirect op = IsTrue (is_indirect op)
+abbrev pub IsIndirect : Insn → Type 0
+IsIndirect insn = IsTrue (is_indirect (insn_form insn))
 
 -- The slot is an indirect branch that is taken, and it leaves a state from which a run may start.
 pub record LandsOnEntry (p : Program) (s : State) : Type 0 where
-  pub indirect : IsSomeAnd (insn_at p.bundles s.place) (λ insn. IsIndirect insn.op)
+  pub indirect : IsSomeAnd (insn_at p.bundles s.place) IsIndirect
   pub taken : (seq_step p s).how ≡ Some how.Taken
   pub start : IsStart p (seq_step p s).state
 

@@ -7,10 +7,11 @@ use Rattle.std.proofs.lemmas.List.Elements.{Contains-append_left, Contains-appen
 use Rattle.ia_meaning.specs.declared.form.Form.{Form}
 use Rattle.ia_meaning.specs.declared.form.Form.TheVariants as form
 use Rattle.ia_meaning.specs.declared.form.Source.TheVariants as source
+use Rattle.ia_meaning.specs.declared.form.Goal.TheVariants.{Indirect}
 use Rattle.resource_sets.specs.declared.access.Resource.{Resource}
 use Rattle.resource_sets.specs.declared.access.Resource.TheVariants.{Gr, Pr, Br, Unat, Pfs, Lc, Ec, Cfm}
 use Rattle.resource_sets.specs.declared.access.Kind.{Kind}
-use Rattle.resource_sets.specs.declared.access.Kind.TheVariants.{Read, Write}
+use Rattle.resource_sets.specs.declared.access.Kind.TheVariants.{Read, BranchRead, Write}
 use Rattle.resource_sets.specs.declared.access.Access.{Access}
 use Rattle.resource_sets.specs.declared.row.Row.{Row}
 use Rattle.resource_sets.specs.declared.access_sets.AccessSet.{AccessSet}
@@ -166,6 +167,9 @@ pub placed_alike : (f : Form) → AreAlike (placed_kind f) (placed_rows f)
 unfolding mask_rows
 placed_alike (form.Fetch r1 source.Predicates) = place_alike 63 1 0x1ffff Read
 placed_alike (form.ToPredicates r2 mask w) = place_alike 63 1 mask Write
+placed_alike (form.JumpIndirect b2) = place_alike 63 1 0xfffe BranchRead
+placed_alike (form.Call b1 (Indirect b2)) = place_alike 63 1 0xfffe BranchRead
+placed_alike (form.Return b2) = place_alike 63 1 0xfffe BranchRead
 placed_alike f = tt
 
 -- the access sets of an instruction, part by part

@@ -115,6 +115,9 @@ pub placed_fit : (f : Form) → all_fit (placed_rows f) ≡ true
 unfolding mask_rows
 placed_fit (form.Fetch r1 source.Predicates) = place_fit 63 1 0x1ffff Read (λ p. refl)
 placed_fit (form.ToPredicates r2 mask w) = place_fit 63 1 mask Write (λ p. refl)
+placed_fit (form.JumpIndirect b2) = place_fit 63 1 0xfffe BranchRead (λ p. refl)
+placed_fit (form.Call b1 (goal.Indirect b2)) = place_fit 63 1 0xfffe BranchRead (λ p. refl)
+placed_fit (form.Return b2) = place_fit 63 1 0xfffe BranchRead (λ p. refl)
 placed_fit f = refl
 
 place_within : (left n mask : ℕ) (kind : Kind) → n + left ≤ 64 → AreWithin (place_rows left n mask kind)
@@ -125,6 +128,9 @@ pub placed_within : (f : Form) → AreWithin (placed_rows f)
 unfolding mask_rows
 placed_within (form.Fetch r1 source.Predicates) = place_within 63 1 0x1ffff Read (omega arith)
 placed_within (form.ToPredicates r2 mask w) = place_within 63 1 mask Write (omega arith)
+placed_within (form.JumpIndirect b2) = place_within 63 1 0xfffe BranchRead (omega arith)
+placed_within (form.Call b1 (goal.Indirect b2)) = place_within 63 1 0xfffe BranchRead (omega arith)
+placed_within (form.Return b2) = place_within 63 1 0xfffe BranchRead (omega arith)
 placed_within f = tt
 
 -- An element of a list, by what holds of all and of some.

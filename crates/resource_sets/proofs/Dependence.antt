@@ -1,5 +1,5 @@
 -- What the effect of an instruction depends on: registers that agree on its accesses give the same effect.
-use Rattle.std.proofs.Common.{◌≡◌, ℕ, zero, suc, Bool, true, false, ◌||◌, List, [], ◌∷◌, get_or, Option, Some, None, refl, sym, ◌∙◌, ap, ◌⊎◌, inl, inr}
+use Rattle.std.proofs.Common.{◌≡◌, ℕ, zero, suc, Bool, true, false, ◌||◌, List, [], ◌∷◌, get_or, take, Option, Some, None, refl, sym, ◌∙◌, ap, ◌⊎◌, inl, inr}
 use Rattle.std.proofs.lemmas.Bool.{and_from, or_left, or_right}
 use Rattle.ia_insn.specs.declared.choices.CmpKind.{CmpKind}
 use Rattle.ia_insn.specs.declared.choices.CmpKind.TheVariants.{Normal}
@@ -223,7 +223,9 @@ act_same s qp (Allocate r1 sof sol sor) v w m x y g h =
     cc
 act_same s qp (Jump disp) v w m x y g h = refl
 act_same s qp (JumpIndirect b2) v w m x y g h =
-    let b : get_or v.branches b2 0 ≡ get_or w.branches b2 0 = h.reads.0 refl g in cc
+    let b : get_or v.branches b2 0 ≡ get_or w.branches b2 0 = h.reads.0 refl g in
+    let l : take 16 v.predicates ≡ take 16 w.predicates = h.placed g in
+    cc
 act_same s qp (Loop kind disp) v w m x y g h = loop_same kind true qp (target_of s.bundle disp) v w m x y h.reads
 act_same s qp (Call b1 (Direct disp)) v w m x y g h =
     let f : v.frame ≡ w.frame = h.reads.0 refl g in
@@ -233,11 +235,13 @@ act_same s qp (Call b1 (Indirect b2)) v w m x y g h =
     let f : v.frame ≡ w.frame = h.reads.0 refl g in
     let e : v.ec ≡ w.ec = h.reads.1.1.1.0 refl g in
     let b : get_or v.branches b2 0 ≡ get_or w.branches b2 0 = h.reads.1.1.1.1.1.0 refl g in
+    let l : take 16 v.predicates ≡ take 16 w.predicates = h.placed g in
     cc
 act_same s qp (Return b2) v w m x y g h =
     let b : get_or v.branches b2 0 ≡ get_or w.branches b2 0 = h.reads.0 refl g in
     let p : v.pfs ≡ w.pfs = h.reads.1.0 refl g in
     let f : v.frame ≡ w.frame = h.reads.1.1.0 refl g in
+    let l : take 16 v.predicates ≡ take 16 w.predicates = h.placed g in
     cc
 act_same s qp (ClearBases pred_only) v w m x y g h = let f : v.frame ≡ w.frame = h.reads.0 refl g in cc
 act_same s qp (Stop unit imm) v w m x y g h = refl

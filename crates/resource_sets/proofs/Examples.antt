@@ -21,6 +21,7 @@ use Rattle.resource_sets.specs.declared.access.Access.{Access}
 use Rattle.resource_sets.specs.declared.clashes.Rule.TheVariants.{Raw, Waw, War63}
 use Rattle.resource_sets.specs.Accesses.{mask_rows, rows, accesses}
 use Rattle.resource_sets.specs.Clashes.{clash_of, clash, may_write_guard}
+use Rattle.resource_sets.specs.Masks.{may_clash}
 
 -- the accesses of an instruction under a qualifying predicate
 abbrev of : ℕ → Op → List Access
@@ -137,12 +138,12 @@ allocs : of 0 (op.Alloc 8 4 4 0) ≡ by 0 (Gr 8) Write ∷ by 0 Pfs Read ∷ by 
 unfolding rows
 allocs = refl
 
--- `br.cond.sptk.few 0` under p0 and under p6, `(p6) br.cond.sptk.few b6`
+-- `br.cond.sptk.few 0` under p0 and under p6, `(p6) br.cond.sptk.few b6`, which reads p1 to p15 besides, and not p16
 jumps :
     (of 0 (op.Br branch.Cond 0 false false (pos 0)) ≡ [])
     × (of 6 (op.Br branch.Cond 0 false false (pos 0)) ≡ by 0 (Pr 6) BranchRead ∷ [])
-    × (of 6 (op.BrInd 6 0 false false) ≡ by 0 (Pr 6) BranchRead ∷ by 6 (Br 6) BranchRead ∷ [])
-unfolding rows
+    × (of 6 (op.BrInd 6 0 false false) ≡ by 0 (Pr 6) BranchRead ∷ by 6 (Br 6) BranchRead ∷ predicates 15 1 6 BranchRead)
+unfolding rows mask_rows
 jumps = (refl, refl, refl)
 
 -- `(p6) br.call.sptk.few b0=0`, `(p16) br.call.sptk.few b0=b6`, `(p6) br.ret.sptk.few b0`
@@ -151,10 +152,11 @@ calls :
     ≡ by 0 (Pr 6) BranchRead ∷ by 6 Cfm Read ∷ by 6 Cfm Write ∷ by 6 Pfs Write ∷ by 6 Ec Read ∷ by 6 (Br 0) Write ∷ [])
     × (of 16 (op.BrCallInd 0 6 0 false false)
     ≡ by 0 Cfm Read ∷ by 0 (Pr 16) BranchRead ∷ by 16 Cfm Read ∷ by 16 Cfm Write ∷ by 16 Pfs Write ∷ by 16 Ec Read
-    ∷ by 16 (Br 0) Write ∷ by 16 (Br 6) BranchRead ∷ [])
+    ∷ by 16 (Br 0) Write ∷ by 16 (Br 6) BranchRead ∷ predicates 15 1 16 BranchRead)
     × (of 6 (op.BrRet 0 0 false false)
-    ≡ by 0 (Pr 6) BranchRead ∷ by 6 (Br 0) BranchRead ∷ by 6 Pfs BranchRead ∷ by 6 Cfm Write ∷ by 6 Ec Write ∷ [])
-unfolding rows
+    ≡ by 0 (Pr 6) BranchRead ∷ by 6 (Br 0) BranchRead ∷ by 6 Pfs BranchRead ∷ by 6 Cfm Write ∷ by 6 Ec Write
+    ∷ predicates 15 1 6 BranchRead)
+unfolding rows mask_rows
 calls = (refl, refl, refl)
 
 -- `br.cloop.sptk.few 0`, `br.ctop.sptk.few 0`, `(p6) br.wtop.sptk.few 0`: each access is made under p0, and p63 is a name of
@@ -225,6 +227,14 @@ p63 :
     × (clash (by 0 (Pr 63) Read) (by 0 (Pr 63) LoopWrite) ≡ None)
 unfolding clash_of
 p63 = (refl, refl, refl)
+
+-- An indirect branch may share a group with an earlier compare of the predicates that it reads, here
+-- `cmp.eq.or p6,p7=r8,r10` and `br.cond.sptk.few b6`, and with a later `br.ctop.sptk.few 0`.
+indirect_branches :
+    (may_clash (of 0 (op.Cmp false Eq cmp.Or 6 7 8 10)) (of 0 (op.BrInd 6 0 false false)) ≡ false)
+    × (may_clash (of 0 (op.BrInd 6 0 false false)) (of 0 (op.Br branch.Ctop 0 false false (pos 0))) ≡ false)
+unfolding rows mask_rows clash_of
+indirect_branches = (refl, refl)
 
 -- Two resources never clash.
 two_resources :

@@ -1,9 +1,9 @@
 -- What kinds of accesses there are: each row of each form is one of few kinds.
-use Rattle.std.proofs.Common.{◌≡◌, ◌≢◌, Some, None, ◌⊎◌, inl, inr, ℕ, zero, suc, ◌<◌, ◌≤◌, ◌+◌, Bool, true, false, ◌&&◌, List, [], ◌∷◌, ◌++◌, Contains, refl, sym, ◌∙◌, ap, if◌then◌else◌, arith, true≢false, eq-eqb}
+use Rattle.std.proofs.Common.{◌≡◌, ◌≢◌, Some, None, ◌⊎◌, inl, inr, ℕ, zero, suc, ◌<◌, ◌≤◌, ◌+◌, Bool, true, false, ◌&&◌, List, [], ◌∷◌, ◌++◌, Contains, take, refl, sym, ◌∙◌, ap, if◌then◌else◌, arith, true≢false, eq-eqb}
 use Rattle.std.proofs.lemmas.List.Elements.{Contains-append_right, Contains-append_cases}
 use Rattle.std.proofs.lemmas.Bool.{and_from, and_parts, or_left, or_right, cases_lt}
 use Rattle.std.proofs.lemmas.Bool.Decides.{nat_tests}
-use Rattle.std.proofs.lemmas.Nat.Bits.{bit_at_ones}
+use Rattle.std.proofs.lemmas.Nat.Bits.{bit_at_ones, bit_at-suc}
 use Rattle.ia_meaning.specs.Arithmetic.{bit}
 use Rattle.ia_meaning.specs.Moves.{is_masked}
 use Rattle.ia_insn.specs.declared.choices.CmpKind.{CmpKind}
@@ -27,7 +27,7 @@ use Rattle.ia_meaning.specs.declared.form.Form.{Form}
 use Rattle.ia_meaning.specs.declared.form.Form.TheVariants as form
 use Rattle.ia_meaning.specs.State.{Registers}
 use Rattle.ia_meaning.specs.Names.{is_stacked, is_rotating, holds}
-use Rattle.ia_meaning.specs.Actions.{form_of, is_branch, is_alloc, insn_form}
+use Rattle.ia_meaning.specs.Actions.{form_of, is_branch, is_indirect, is_alloc, insn_form}
 use Rattle.ia_meaning.specs.Loads.{update_register}
 use Rattle.resource_sets.specs.declared.access.Resource.{Resource}
 use Rattle.resource_sets.specs.declared.access.Resource.TheVariants.{Gr, Pr, Br, Unat, Cfm}
@@ -40,7 +40,7 @@ use Rattle.resource_sets.specs.Rows.{is_named, access, gr, pr, listed}
 use Rattle.resource_sets.specs.Accesses.{test_rows, is_updated, base_row, own_rows, other_name, application, call_rows, counting_rows, rotating_rows, loop_rows, place_rows, mask_rows, placed_rows, reads_plainly, qp_rows, is_framed, any_framed, frame_row, rows_by_name, rows, reads_as_branch}
 use Rattle.resource_sets.specs.Clashes.{is_resource, clash_of, clash, writes_guard, may_write_guard}
 use Rattle.resource_sets.specs.AccessLaws.{AgreesOn, AgreesAtEach, AgreesByPlace, HasRow, HasAccess}
-use Rattle.resource_sets.specs.Regularity.{IsLoop, IsChange, NamedAsFound, AgreeByAccesses, frame_read, HasNamedAccess, IsTarget, IsName, IsPredicate, IsCountOrFrame, GoesBy, IsRegular, AccessesAreRegular, GuardsAreRead, IsPlaced, NamedAccessesAreAccesses, AccessesAreNamedOrPlaced, AccessesAreGuarded, AllocWritesAreOfAlloc, PredicatesAreRead, ListedAreRows, AccessesAreListed, GuardsAreWritten, IsInRange, AccessesAreInRange, GuardsAreInRange, IsExcepted, AccessesClash, ChangesClash}
+use Rattle.resource_sets.specs.Regularity.{IsLoop, IsChange, NamedAsFound, AgreeByAccesses, frame_read, HasNamedAccess, IsTarget, IsName, IsPredicate, IsCountOrFrame, GoesBy, IsRegular, AccessesAreRegular, GuardsAreRead, IsPlaced, NamedAccessesAreAccesses, AccessesAreNamedOrPlaced, AccessesAreGuarded, AllocWritesAreOfAlloc, PredicatesAreRead, StaticsAreRead, ListedAreRows, AccessesAreListed, GuardsAreWritten, IsInRange, AccessesAreInRange, GuardsAreInRange, IsExcepted, AccessesClash, ChangesClash}
 use Rattle.resource_sets.proofs.Listing.{has_left, has_right, mask_row}
 
 -- Rows of a list that is put together.
@@ -280,19 +280,53 @@ unfolding rows
 named_accesses insn a h =
     has_left insn.qp a (rows_by_name insn.qp (insn_form insn)) (placed_rows (insn_form insn)) h
 
-places : (insn : Insn) (a : Access) (left n mask : ℕ) (kind : Kind) → (kind ≡ Read) ⊎ (kind ≡ Write) → 1 ≤ n → left + n ≤ 64
-    → HasRow insn.qp a (place_rows left n mask kind) → IsPlaced insn a
+-- What kinds of accesses by place there are under a mask: those of branches are of p1 to p15.
+record IsPlacedKind (f : Form) (mask : ℕ) (kind : Kind) : Type 0 where
+  some : (kind ≡ Read) ⊎ ((kind ≡ BranchRead) ⊎ (kind ≡ Write))
+  branch_read : kind ≡ BranchRead → (is_indirect f ≡ true) × ((p : ℕ) → is_masked mask p ≡ true → p < 16)
+
+read_kind : (f : Form) (mask : ℕ) → IsPlacedKind f mask Read
+read_kind f mask = record { some = inl refl; branch_read = λ e. absurd (cc) }
+
+write_kind : (f : Form) (mask : ℕ) → IsPlacedKind f mask Write
+write_kind f mask = record { some = inr (inr refl); branch_read = λ e. absurd (cc) }
+
+-- the mask of p1 to p15 has no place from that of p16 on
+low_masked : (p : ℕ) → is_masked 0xfffe p ≡ true → p < 16
+low_masked p e = elim (cases_lt p 16) [ inl low ↦ low | inr high ↦ absurd (grind (arith, nat_tests)) ]
+
+branch_kind : (f : Form) → is_indirect f ≡ true → IsPlacedKind f 0xfffe BranchRead
+branch_kind f e = record { some = inr (inl refl); branch_read = λ k. (e, low_masked) }
+
+places : (insn : Insn) (a : Access) (left n mask : ℕ) (kind : Kind) → IsPlacedKind (insn_form insn) mask kind → 1 ≤ n
+    → left + n ≤ 64 → HasRow insn.qp a (place_rows left n mask kind) → IsPlaced insn a
 places insn a zero n mask kind w h k r = absurd r
 places insn a (suc left) n mask kind w h k (inl r) =
-    record { name = n; some = h; below = omega arith; resource = cc; kind = rw (← r.1) w; guard = cc }
+    record {
+      name = n;
+      some = h;
+      below = omega arith;
+      resource = cc;
+      kind = rw (← r.1) w.some;
+      branch_read = λ e. let b = w.branch_read (ap (λ (x : Access). x.kind) r.1 ∙ e) in (b.0, b.1 n r.0);
+      guard = cc;
+    }
 places insn a (suc left) n mask kind w h k (inr r) = places insn a left (suc n) mask kind w (omega arith) (omega arith) r
 
-placed : (insn : Insn) (a : Access) (f : Form) → HasRow insn.qp a (placed_rows f) → IsPlaced insn a
+masked : (insn : Insn) (a : Access) (mask : ℕ) (kind : Kind) → IsPlacedKind (insn_form insn) mask kind
+    → HasRow insn.qp a (mask_rows mask kind) → IsPlaced insn a
 unfolding mask_rows
-placed insn a (form.Fetch r1 source.Predicates) h = places insn a 63 1 0x1ffff Read (inl refl) (omega arith) (omega arith) h
-placed insn a (form.Fetch r1 source) h = absurd h
-placed insn a (form.ToPredicates r2 mask w) h = places insn a 63 1 mask Write (inr refl) (omega arith) (omega arith) h
-placed insn a _ h = absurd h
+masked insn a mask kind w h = places insn a 63 1 mask kind w (omega arith) (omega arith) h
+
+placed : (insn : Insn) (a : Access) (f : Form) → insn_form insn ≡ f → HasRow insn.qp a (placed_rows f) → IsPlaced insn a
+placed insn a (form.Fetch r1 source.Predicates) e h = masked insn a 0x1ffff Read (read_kind _ _) h
+placed insn a (form.Fetch r1 source) e h = absurd h
+placed insn a (form.ToPredicates r2 mask w) e h = masked insn a mask Write (write_kind _ _) h
+placed insn a (form.JumpIndirect b2) e h = masked insn a 0xfffe BranchRead (branch_kind _ (ap is_indirect e)) h
+placed insn a (form.Call b1 (goal.Indirect b2)) e h =
+    masked insn a 0xfffe BranchRead (branch_kind _ (ap is_indirect e)) h
+placed insn a (form.Return b2) e h = masked insn a 0xfffe BranchRead (branch_kind _ (ap is_indirect e)) h
+placed insn a _ e h = absurd h
 
 pub named_or_placed : AccessesAreNamedOrPlaced
 unfolding rows
@@ -304,7 +338,7 @@ named_or_placed insn a h = by_part (has_append insn.qp a (rows_by_name insn.qp f
     by_part : HasRow insn.qp a (rows_by_name insn.qp f) ⊎ HasRow insn.qp a (placed_rows f)
         → HasNamedAccess insn a ⊎ IsPlaced insn a
     by_part (inl k) = inl k
-    by_part (inr k) = inr (placed insn a f k)
+    by_part (inr k) = inr (placed insn a f refl k)
 
 -- each guard is p0 or the qualifying predicate
 pub guarded : AccessesAreGuarded
@@ -314,9 +348,10 @@ guarded insn a h = guard_of insn.qp a (rows insn.qp (insn_form insn)) h
 pub alloc_writes : AllocWritesAreOfAlloc
 alloc_writes insn a h e = by_part (named_or_placed insn a h)
   where
-    by_kind : (a.kind ≡ Read) ⊎ (a.kind ≡ Write) → ⊥
+    by_kind : (a.kind ≡ Read) ⊎ ((a.kind ≡ BranchRead) ⊎ (a.kind ≡ Write)) → ⊥
     by_kind (inl k) = cc
-    by_kind (inr k) = cc
+    by_kind (inr (inl k)) = cc
+    by_kind (inr (inr k)) = cc
 
     by_part : HasNamedAccess insn a ⊎ IsPlaced insn a → (is_alloc (insn_form insn) ≡ true) × (a.resource ≡ Cfm)
     by_part (inl k) = (regular insn a k).alloc_write e
@@ -336,6 +371,30 @@ predicates_read insn r1 p e h k =
     let a : Access = record { resource = Pr p; kind = Read; guard = insn.qp } in
     let has = mask_row insn.qp p 0x1ffff Read h k (all_masked p) in
     has_right insn.qp a (rows_by_name insn.qp f) (placed_rows f) (rw e has)
+
+-- the mask of p1 to p15 has each of their places
+static_masked : (p : ℕ) → 1 ≤ p → p < 16 → is_masked 0xfffe p ≡ true
+static_masked zero some low = absurd (omega arith)
+static_masked (suc p) some low =
+    let set : bit 0xfffe (suc p) ≡ true = eq-eqb _ _ (bit_at-suc 0xfffe p ∙ bit_at_ones 15 p (omega arith)) in
+    grind (arith, nat_tests)
+
+static_row : (qp p : ℕ) (f : Form) → is_indirect f ≡ true → 1 ≤ p → p < 16
+    → HasRow qp (record { resource = Pr p; kind = BranchRead; guard = qp }) (placed_rows f)
+static_row qp p (form.JumpIndirect b2) e h k = mask_row qp p 0xfffe BranchRead h (omega arith) (static_masked p h k)
+static_row qp p (form.Call b1 (goal.Indirect b2)) e h k =
+    mask_row qp p 0xfffe BranchRead h (omega arith) (static_masked p h k)
+static_row qp p (form.Return b2) e h k = mask_row qp p 0xfffe BranchRead h (omega arith) (static_masked p h k)
+static_row qp p (form.Call b1 (goal.Direct disp)) e h k = absurd (true≢false (sym e))
+static_row qp p _ e h k = absurd (true≢false (sym e))
+
+-- an indirect branch reads p1 to p15
+pub statics_read : StaticsAreRead
+unfolding rows
+statics_read insn p e h k =
+    let f = insn_form insn in
+    let a : Access = record { resource = Pr p; kind = BranchRead; guard = insn.qp } in
+    has_right insn.qp a (rows_by_name insn.qp f) (placed_rows f) (static_row insn.qp p f e h k)
 
 -- The list of the accesses of rows.
 has_listed : (qp : ℕ) (a : Access) (from : List Row) → Contains (listed qp from) a → HasRow qp a from
@@ -405,10 +464,11 @@ named_write insn a g r = by_kind a.kind refl
     by_kind Spill e w (inr q) = absurd (let x = (r.spill e).1 in cc)
     by_kind _ e w x = absurd w
 
-placed_write : (insn : Insn) (a : Access) (g : ℕ) → (a.kind ≡ Read) ⊎ (a.kind ≡ Write) → IsChange a.kind
-    → IsGuard g a.resource → writes_guard g a.resource a.kind ≡ true
+placed_write : (insn : Insn) (a : Access) (g : ℕ) → (a.kind ≡ Read) ⊎ ((a.kind ≡ BranchRead) ⊎ (a.kind ≡ Write))
+    → IsChange a.kind → IsGuard g a.resource → writes_guard g a.resource a.kind ≡ true
 placed_write insn a g (inl e) w x = absurd (rw e at w)
-placed_write insn a g (inr e) w x = rw e (guard_write g a.resource x)
+placed_write insn a g (inr (inl e)) w x = absurd (rw e at w)
+placed_write insn a g (inr (inr e)) w x = rw e (guard_write g a.resource x)
 
 pub guards_written : GuardsAreWritten
 guards_written insn a g h w x =
@@ -514,13 +574,19 @@ agree_placed : (insn : Insn) (v w : Registers) (f : Form) → insn_form insn ≡
     → (is_branch f ≡ false
     → ((p : ℕ) → 1 ≤ p → p < 64 → HasAccess insn (record { resource = Pr p; kind = Read; guard = insn.qp }))
     → v.predicates ≡ w.predicates)
+    → (is_indirect f ≡ true
+    → ((p : ℕ) → 1 ≤ p → p < 16 → HasAccess insn (record { resource = Pr p; kind = BranchRead; guard = insn.qp }))
+    → take 16 v.predicates ≡ take 16 w.predicates)
     → AgreesByPlace f v w
-agree_placed insn v w (form.Fetch r1 source.Predicates) e h = h refl (λ p. predicates_read insn r1 p e)
-agree_placed insn v w (form.Fetch r1 source) e h = tt
-agree_placed insn v w _ e h = tt
+agree_placed insn v w (form.Fetch r1 source.Predicates) e h l = h refl (λ p. predicates_read insn r1 p e)
+agree_placed insn v w (form.Fetch r1 source) e h l = tt
+agree_placed insn v w (form.JumpIndirect b2) e h l = l refl (λ p. statics_read insn p (ap is_indirect e))
+agree_placed insn v w (form.Call b1 (goal.Indirect b2)) e h l = l refl (λ p. statics_read insn p (ap is_indirect e))
+agree_placed insn v w (form.Return b2) e h l = l refl (λ p. statics_read insn p (ap is_indirect e))
+agree_placed insn v w _ e h l = tt
 
 pub agree_by : AgreeByAccesses
-agree_by insn v w x y h p = record {
+agree_by insn v w x y h p l = record {
   named = agree_each insn.qp v w x y (rows_by_name insn.qp (insn_form insn)) h;
-  placed = λ g. agree_placed insn v w (insn_form insn) refl (λ r. p r g);
+  placed = λ g. agree_placed insn v w (insn_form insn) refl (λ r. p r g) (λ r. l r g);
 }

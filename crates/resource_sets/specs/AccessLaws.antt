@@ -1,12 +1,13 @@
 -- The laws of accesses: what the effect of an instruction depends on, and what it writes (volume 3, chapter 5, resource and
 -- dependency semantics).
-use Rattle.std.specs.Prelude.{◌≡◌, ◌≢◌, ◌⊎◌, ◌≤◌, ◌+◌, ◌*◌, ℕ, ◌<◌, Bool, true, false, List, [], ◌∷◌, get_or, All, AllPairs, Option, Some, None}
+use Rattle.std.specs.Prelude.{◌≡◌, ◌≢◌, ◌⊎◌, ◌≤◌, ◌+◌, ◌*◌, ℕ, ◌<◌, Bool, true, false, List, [], ◌∷◌, get_or, take, All, AllPairs, Option, Some, None}
 use Rattle.ia_meaning.specs.declared.limits.TheConstants.{STACK_LIMIT}
 use Rattle.ia_insn.specs.declared.insn.Insn.{Insn}
 use Rattle.ia_insn.specs.Listed.{IsListed}
 use Rattle.ia_meaning.specs.declared.form.Form.{Form}
 use Rattle.ia_meaning.specs.declared.form.Form.TheVariants as form
 use Rattle.ia_meaning.specs.declared.form.Source.TheVariants.{Predicates}
+use Rattle.ia_meaning.specs.declared.form.Goal.TheVariants.{Indirect}
 use Rattle.ia_meaning.specs.declared.next.Next.TheVariants.{Falls}
 use Rattle.ia_meaning.specs.declared.state.Cell.{Cell}
 use Rattle.ia_meaning.specs.declared.state.FrameShape.{FrameShape}
@@ -56,8 +57,13 @@ abbrev pub AgreesAtEach : ℕ → Registers → Registers → ℕ → ℕ → Li
 AgreesAtEach qp v w x y [] = Unit {0}
 AgreesAtEach qp v w x y (row ∷ rows) = AgreesAt qp v w x y row × AgreesAtEach qp v w x y rows
 
+-- A move from the predicates asks for all places, and an indirect branch for the first sixteen: those of p1 to p15,
+-- which it reads, and that of p0, which is always 1.
 abbrev pub AgreesByPlace : Form → Registers → Registers → Type 0
 AgreesByPlace (form.Fetch r1 Predicates) v w = v.predicates ≡ w.predicates
+AgreesByPlace (form.JumpIndirect b2) v w = take 16 v.predicates ≡ take 16 w.predicates
+AgreesByPlace (form.Call b1 (Indirect b2)) v w = take 16 v.predicates ≡ take 16 w.predicates
+AgreesByPlace (form.Return b2) v w = take 16 v.predicates ≡ take 16 w.predicates
 AgreesByPlace f v w = Unit {0}
 
 -- Registers v and w, with UNATs x and y, agree on what an instruction accesses from v.

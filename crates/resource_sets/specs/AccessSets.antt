@@ -2,8 +2,9 @@
 use Rattle.std.specs.Prelude.{◌≡◌, true, List, Contains}
 use Rattle.ia_meaning.specs.declared.form.Form.{Form}
 use Rattle.ia_meaning.specs.declared.form.Form.TheVariants as form
+use Rattle.ia_meaning.specs.declared.form.Goal.TheVariants.{Indirect}
 use Rattle.resource_sets.specs.declared.access.Kind.{Kind}
-use Rattle.resource_sets.specs.declared.access.Kind.TheVariants.{Read, Write}
+use Rattle.resource_sets.specs.declared.access.Kind.TheVariants.{Read, BranchRead, Write}
 use Rattle.resource_sets.specs.declared.access.Access.{Access}
 use Rattle.resource_sets.specs.declared.access_sets.AccessSet.{AccessSet}
 use Rattle.resource_sets.specs.ResourceSets.{has_resource}
@@ -26,4 +27,7 @@ pub record AreSetsOf (accesses : List Access) (sets : List AccessSet) : Type 0 w
 -- how predicates by place are accessed
 abbrev pub placed_kind : Form → Kind
 placed_kind (form.ToPredicates r2 mask w) = Write
+placed_kind (form.JumpIndirect b2) = BranchRead
+placed_kind (form.Call b1 (Indirect b2)) = BranchRead
+placed_kind (form.Return b2) = BranchRead
 placed_kind f = Read

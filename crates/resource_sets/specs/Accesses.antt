@@ -146,10 +146,14 @@ own_rows (form.ClearBases pred_only) = always true Cfm Write ∷ []
 own_rows (form.Stop unit imm) = []
 own_rows (form.Idle unit) = []
 
--- The rows of predicates by place. All of them are read: the mask has all bits.
+-- The rows of predicates by place. A move from them reads all: the mask has all bits. An indirect branch reads p1 to
+-- p15, since an entry declares which of them are not both 1.
 abbrev pub placed_rows : Form → List Row
 placed_rows (form.Fetch r1 source.Predicates) = mask_rows 0x1ffff Read
 placed_rows (form.ToPredicates r2 mask w) = mask_rows mask Write
+placed_rows (form.JumpIndirect b2) = mask_rows 0xfffe BranchRead
+placed_rows (form.Call b1 (goal.Indirect b2)) = mask_rows 0xfffe BranchRead
+placed_rows (form.Return b2) = mask_rows 0xfffe BranchRead
 placed_rows form = []
 
 -- how the qualifying predicate is read

@@ -1,5 +1,5 @@
 -- What kinds of accesses there are (volume 3, chapter 5, resource and dependency semantics).
-use Rattle.std.specs.Prelude.{◌≡◌, ◌≢◌, ◌⊎◌, ◌↔◌, ℕ, ◌<◌, ◌≤◌, true, false, List, Contains, Some, None}
+use Rattle.std.specs.Prelude.{◌≡◌, ◌≢◌, ◌⊎◌, ◌↔◌, ℕ, ◌<◌, ◌≤◌, true, false, List, Contains, take, Some, None}
 use Rattle.ia_insn.specs.declared.insn.Insn.{Insn}
 use Rattle.ia_insn.specs.Listed.{IsListed}
 use Rattle.ia_meaning.specs.declared.form.Source.TheVariants.{Predicates}
@@ -9,7 +9,7 @@ use Rattle.ia_meaning.specs.declared.form.Form.TheVariants as form
 use Rattle.ia_meaning.specs.declared.state.FrameShape.{FrameShape}
 use Rattle.ia_meaning.specs.State.{Registers, IsFrame}
 use Rattle.ia_meaning.specs.Names.{is_rotating, holds}
-use Rattle.ia_meaning.specs.Actions.{insn_form, is_branch, is_alloc}
+use Rattle.ia_meaning.specs.Actions.{insn_form, is_branch, is_indirect, is_alloc}
 use Rattle.resource_sets.specs.declared.access.Resource.{Resource}
 use Rattle.resource_sets.specs.declared.access.Resource.TheVariants.{Gr, Pr, Br, Unat, Pfs, Lc, Ec, Cfm}
 use Rattle.resource_sets.specs.declared.access.Kind.{Kind}
@@ -101,13 +101,15 @@ pub record ReadsGuard (insn : Insn) : Type 0 where
 abbrev pub GuardsAreRead : Type 0
 GuardsAreRead = (insn : Insn) → ReadsGuard insn
 
--- An access by place: `mov r1=pr` reads p1 to p63, and `mov pr=` writes some of them.
+-- An access by place: `mov r1=pr` reads p1 to p63, `mov pr=` writes some of them, and an indirect branch reads p1 to
+-- p15 as branches do.
 pub record IsPlaced (insn : Insn) (a : Access) : Type 0 where
   pub name : ℕ
   pub some : 1 ≤ name
   pub below : name < 64
   pub resource : a.resource ≡ Pr name
-  pub kind : (a.kind ≡ Read) ⊎ (a.kind ≡ Write)
+  pub kind : (a.kind ≡ Read) ⊎ ((a.kind ≡ BranchRead) ⊎ (a.kind ≡ Write))
+  pub branch_read : a.kind ≡ BranchRead → (is_indirect (insn_form insn) ≡ true) × (name < 16)
   pub guard : a.guard ≡ insn.qp
 
 abbrev pub NamedAccessesAreAccesses : Type 0
@@ -129,6 +131,11 @@ AllocWritesAreOfAlloc = (insn : Insn) (a : Access) → HasAccess insn a → a.ki
 abbrev pub PredicatesAreRead : Type 0
 PredicatesAreRead = (insn : Insn) (r1 p : ℕ) → insn_form insn ≡ form.Fetch r1 Predicates → 1 ≤ p → p < 64
     → HasAccess insn (record { resource = Pr p; kind = Read; guard = insn.qp })
+
+-- an indirect branch reads p1 to p15 as branches do
+abbrev pub StaticsAreRead : Type 0
+StaticsAreRead = (insn : Insn) (p : ℕ) → is_indirect (insn_form insn) ≡ true → 1 ≤ p → p < 16
+    → HasAccess insn (record { resource = Pr p; kind = BranchRead; guard = insn.qp })
 
 -- The list of the accesses of rows holds those of the rows that are there.
 abbrev pub ListedAreRows : Type 0
@@ -195,12 +202,16 @@ ChangesClash = (a b : Access) → a.resource ≡ b.resource → IsChange a.kind
 abbrev pub NamedAsFound : Type 0
 NamedAsFound = (f : Form) (shape : FrameShape) → is_alloc f ≡ false → naming_frame f shape ≡ shape
 
--- Registers agree on what an instruction accesses where they agree on each access by name whose guard is 1, and on the
--- predicates by place where it reads each of them.
+-- Registers agree on what an instruction accesses where they agree on each access by name whose guard is 1, on the
+-- predicates by place where it reads each of them, and on the first sixteen of these where it is an indirect branch,
+-- which reads p1 to p15 of them.
 abbrev pub AgreeByAccesses : Type 0
 AgreeByAccesses = (insn : Insn) (v w : Registers) (x y : ℕ)
     → ((a : Access) → HasNamedAccess insn a → holds v a.guard ≡ true → AgreesOn v w x y a.kind a.resource)
     → (is_branch (insn_form insn) ≡ false → holds v insn.qp ≡ true
     → ((p : ℕ) → 1 ≤ p → p < 64 → HasAccess insn (record { resource = Pr p; kind = Read; guard = insn.qp }))
     → v.predicates ≡ w.predicates)
+    → (is_indirect (insn_form insn) ≡ true → holds v insn.qp ≡ true
+    → ((p : ℕ) → 1 ≤ p → p < 16 → HasAccess insn (record { resource = Pr p; kind = BranchRead; guard = insn.qp }))
+    → take 16 v.predicates ≡ take 16 w.predicates)
     → Agree insn v w x y

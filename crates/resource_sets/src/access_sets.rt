@@ -18,7 +18,7 @@ use crate::row::Row;
 use crate::sets::ResourceSet;
 use arrayvec::ArrayVec;
 use ia_insn::Pr;
-use ia_meaning::Form;
+use ia_meaning::{Form, Goal};
 
 /// Accesses of an instruction, of one kind and under one guard.
 #[derive(Clone, Copy, Debug)]
@@ -113,6 +113,12 @@ fn placed_kind(form: &Form) -> Kind
 {
     match form {
         Form::ToPredicates { .. } => Kind::Write,
+        Form::JumpIndirect { .. }
+        | Form::Call {
+            goal: Goal::Indirect(_),
+            ..
+        }
+        | Form::Return { .. } => Kind::BranchRead,
         _ => Kind::Read,
     }
 }

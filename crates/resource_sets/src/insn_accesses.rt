@@ -334,7 +334,8 @@ fn mask_rows(mask: u64, kind: Kind) -> PlacedRows
     out
 }
 
-/// The rows of predicates by place. All of them are read: the mask has all bits.
+/// The rows of predicates by place. A move from them reads all: the mask has all bits. An indirect branch reads p1 to
+/// p15.
 pub(crate) fn placed_rows(form: &Form) -> PlacedRows
     ensures { result.items ≡ placed_rows form.now }
 {
@@ -344,6 +345,12 @@ pub(crate) fn placed_rows(form: &Form) -> PlacedRows
             ..
         } => mask_rows(0x1ffff, Kind::Read),
         Form::ToPredicates { mask, .. } => mask_rows(u64::from(mask), Kind::Write),
+        Form::JumpIndirect { .. }
+        | Form::Call {
+            goal: Goal::Indirect(_),
+            ..
+        }
+        | Form::Return { .. } => mask_rows(0xfffe, Kind::BranchRead),
         _ => ArrayVec::new(),
     }
 }

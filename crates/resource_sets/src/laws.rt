@@ -5,7 +5,7 @@
 //! follows from their accesses.
 
 ghost use Rattle.resource_sets.specs.AccessLaws.{DependsOnAccesses, WritesAreAccesses, CellsAreInside, WritesAreApart, SpillsAreAccesses, AllocWritesItsFrameFirst, AllocatedFramesAreFrames};
-ghost use Rattle.resource_sets.specs.Regularity.{AccessesAreRegular, GuardsAreRead, NamedAccessesAreAccesses, AccessesAreNamedOrPlaced, AccessesAreGuarded, AllocWritesAreOfAlloc, PredicatesAreRead, ListedAreRows, AccessesAreListed, AccessesAreInRange, GuardsAreInRange, LocationIsOneResource, PlacesAreOfPredicates, NamedAsFound, AgreeByAccesses, GuardsAreWritten, AccessesClash, ChangesClash};
+ghost use Rattle.resource_sets.specs.Regularity.{AccessesAreRegular, GuardsAreRead, NamedAccessesAreAccesses, AccessesAreNamedOrPlaced, AccessesAreGuarded, AllocWritesAreOfAlloc, PredicatesAreRead, StaticsAreRead, ListedAreRows, AccessesAreListed, AccessesAreInRange, GuardsAreInRange, LocationIsOneResource, PlacesAreOfPredicates, NamedAsFound, AgreeByAccesses, GuardsAreWritten, AccessesClash, ChangesClash};
 
 /// What an instruction does is the same from registers that agree on its accesses: on what those whose
 /// guard is 1 read, and on the frame where one of these accesses the frame.
@@ -38,6 +38,7 @@ pub fn accesses_are_regular()
     ensures guarded { AccessesAreGuarded }
     ensures allocs { AllocWritesAreOfAlloc }
     ensures predicates { PredicatesAreRead }
+    ensures statics { StaticsAreRead }
     ensures listed { ListedAreRows }
     ensures accesses { AccessesAreListed }
     ensures range { AccessesAreInRange }

@@ -71,14 +71,15 @@ none_inside bundles closed place is = of_bundle (slice_get bundles place.bundle)
     of_bundle None c = tt
     of_bundle (Some b) c = of_insn (slot_insn b.slots place.slot) (c.free place.slot)
 
-pub closed_program : (bundles : List Bundle) → AreClosed bundles → 1 ≤ length bundles → length bundles ≤ BUNDLE_LIMIT → IsProgram (record { bundles = bundles; entries = []; bytes = [] })
+pub closed_program : (bundles : List Bundle) → AreClosed bundles → 1 ≤ length bundles → length bundles ≤ BUNDLE_LIMIT → IsProgram (record { bundles = bundles; entries = []; bytes = []; relations = [] })
 closed_program bundles closed some most = record {
   fit = λ n. fit (slice_get bundles n) (closed n);
-  counts = record { some = some; bundles = most; entries = omega arith; bytes = omega arith; words = refl };
+  counts = record { some = some; bundles = most; entries = omega arith; bytes = omega arith; words = refl; relations = omega arith };
   entries = λ n h. absurd (omega arith);
   targets = none_inside bundles closed;
   runs = within_run bundles closed;
   bytes = λ i. omega arith;
+  relations = λ n h. absurd (omega arith);
 }
   where
     fit : (o : Option Bundle) → IfSome o IsClosed → IfSome o IsBundle

@@ -81,4 +81,5 @@ trial_program seed bundles = record {
   bundles = first_bundles seed (bundles - 1) ++ last_bundle ∷ [];
   entries = [];
   bytes = [];
+  relations = [];
 }

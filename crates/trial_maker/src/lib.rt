@@ -18,7 +18,7 @@ use ia_insn::{BundleOf, Program};
 use std::alloc::{AllocError, Global};
 
 /// The program of a seed with so many bundles, 1 to [`BUNDLE_LIMIT`](ia_insn::limits::BUNDLE_LIMIT),
-/// the last included. It has no declared entries and no data.
+/// the last included. It has no declared entries, no data and no declared relations.
 ///
 /// # Errors
 ///
@@ -31,7 +31,7 @@ pub fn make(alloc: Global, seed: u64, bundles: u32) -> Result<Program, AllocErro
 {
     let mut made = first_bundles(alloc, seed, bundles - 1)?;
     made.push(last_bundle())?;
-    Ok(Program::of_parts(made, Vec::new(alloc), Vec::new(alloc)))
+    Ok(Program::of_parts(made, Vec::new(alloc), Vec::new(alloc), Vec::new(alloc)))
 }
 
 /// The first bundles of a seed's programs, without a last.

@@ -17,12 +17,12 @@ const NOPS: [u8; 16] = [
     0x01, 0x00, 0x00, 0x00, 0x01, 0x00, 0x00, 0x00, 0x00, 0x02, 0x00, 0x00, 0x00, 0x00, 0x04, 0x00,
 ];
 
-/// What an input or an output is made of: the head of an image with these numbers, where there is
-/// one, entries, so many times a bundle, and an end.
+/// What an input or an output is made of: the head of an image of this version with these numbers, where
+/// there is one, entries and relations, so many times a bundle, and an end.
 #[derive(Clone, Copy)]
 struct Parts<'a> {
-    head: Option<[u32; 4]>,
-    entries: &'a [u8],
+    head: Option<(u8, [u32; 4])>,
+    declared: &'a [u8],
     count: usize,
     bundle: [u8; 16],
     end: &'a [u8],
@@ -32,18 +32,18 @@ struct Parts<'a> {
 fn bare(count: usize, bundle: [u8; 16], end: &[u8]) -> Parts<'_> {
     Parts {
         head: None,
-        entries: b"",
+        declared: b"",
         count,
         bundle,
         end,
     }
 }
 
-/// The head of an image with these numbers, and then the same.
+/// The head of an image of version 1 with these numbers, and then the same.
 fn headed(numbers: [u32; 4], count: usize, bundle: [u8; 16], end: &[u8]) -> Parts<'_> {
     Parts {
-        head: Some(numbers),
-        entries: b"",
+        head: Some((b'1', numbers)),
+        declared: b"",
         count,
         bundle,
         end,
@@ -62,13 +62,14 @@ fn text(text: &str) -> Parts<'_> {
 
 fn bytes_of(alloc: Global, parts: &Parts) -> Result<Vec<u8>, Fail> {
     let mut bytes = Vec::new(alloc);
-    if let Some(numbers) = parts.head {
-        bytes.extend_from_slice(b"IA64IMG1")?;
+    if let Some((version, numbers)) = parts.head {
+        bytes.extend_from_slice(b"IA64IMG")?;
+        bytes.push(version)?;
         for number in &numbers {
             bytes.extend_from_slice(&number.to_le_bytes())?;
         }
     }
-    bytes.extend_from_slice(parts.entries)?;
+    bytes.extend_from_slice(parts.declared)?;
     for _ in 0..parts.count {
         bytes.extend_from_slice(&parts.bundle)?;
     }

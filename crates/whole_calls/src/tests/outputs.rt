@@ -32,8 +32,8 @@ const BRANCH: [u8; 16] = [
 
 /// The image of a branch to the next bundle, and of three `nop`.
 const BRANCHING: Parts<'static> = Parts {
-    head: Some([2, 0, 0, 0]),
-    entries: b"",
+    head: Some((b'1', [2, 0, 0, 0])),
+    declared: b"",
     count: 1,
     bundle: BRANCH,
     end: &NOPS,
@@ -41,8 +41,8 @@ const BRANCHING: Parts<'static> = Parts {
 
 /// An image whose declared entry is no bundle from 1 on.
 const MISPLACED: Parts<'static> = Parts {
-    head: Some([1, 1, 0, 0]),
-    entries: &[1, 0, 0, 0],
+    head: Some((b'1', [1, 1, 0, 0])),
+    declared: &[1, 0, 0, 0],
     count: 1,
     bundle: NOPS,
     end: b"",
@@ -289,6 +289,133 @@ fn runs_have_their_output(rt: HostRuntime) -> Result<(), Fail> {
     ];
     for (command, input, status, output) in rows {
         answers(&rt, alloc, command, &input, status, &output)?;
+    }
+    Ok(())
+}
+
+/// `cmp.eq p6,p7=r0,r0`, two `nop` and a stop.
+const COMPARE: [u8; 16] = [
+    0x01, 0x30, 0x00, 0x00, 0x07, 0x38, 0x00, 0x00, 0x00, 0x02, 0x00, 0x00, 0x00, 0x00, 0x04, 0x00,
+];
+
+/// `nop.m 0`, `(p6) mov r8=1`, `(p7) mov r8=2` and a stop.
+const EITHER: [u8; 16] = [
+    0x01, 0x00, 0x00, 0x00, 0x01, 0x80, 0x81, 0x08, 0x00, 0x00, 0xc8, 0x03, 0x21, 0x00, 0x00, 0x90,
+];
+
+/// The image of these two, of which the second is a declared entry. It has the entry and relations of eight
+/// bytes each.
+fn promising(declared: &[u8]) -> Parts<'_> {
+    Parts {
+        head: Some((b'2', [2, 1, 0, declared.len() as u32 / 8])),
+        declared,
+        count: 1,
+        bundle: COMPARE,
+        end: &EITHER,
+    }
+}
+
+/// Three bundles that land on a fourth by `b6`, with p6 and p7 both 1: `movl r9=0x10030`, `mov b6=r9` and
+/// `cmp.eq.or p6,p7=r8,r10`, `br.cond b6`, and a `break`.
+const LANDING: [u8; 64] = [
+    0x05, 0x00, 0x00, 0x00, 0x01, 0x00, 0x00, 0x00, 0x00, 0x00, 0x00, 0x20, 0x01, 0x23, 0x00, 0x60,
+    0x01, 0x00, 0x00, 0x00, 0x01, 0x00, 0x60, 0x48, 0x04, 0x80, 0x03, 0xc0, 0x80, 0x50, 0x1c, 0xd1,
+    0x11, 0x00, 0x00, 0x00, 0x01, 0x00, 0x00, 0x00, 0x00, 0x02, 0x00, 0x00, 0x60, 0x00, 0x80, 0x00,
+    0x11, 0x00, 0x00, 0x00, 0x01, 0x00, 0x00, 0x00, 0x00, 0x02, 0x00, 0x00, 0x00, 0x00, 0x00, 0x00,
+];
+
+/// Its image, with the promise at the fourth bundle that p6 and p7 aren't both 1.
+const BROKEN: Parts<'static> = Parts {
+    head: Some((b'2', [4, 1, 0, 1])),
+    declared: &[3, 0, 0, 0, 3, 0, 0, 0, 6, 7, 0, 0],
+    count: 0,
+    bundle: NOPS,
+    end: &LANDING,
+};
+
+/// The state after it has landed.
+const BAD_RELATION: &str = "end fault BadRelation at 2.2
+groups 3
+frame 0 sof 0 sol 0 sor 0 rrb 0 0 0
+rse 0 0 0 0
+r9 0000000000010030
+pr 00000000000000c1
+b6 0000000000010030
+";
+
+#[test]
+fn relations_count_where_a_walk_begins(rt: HostRuntime) -> Result<(), Fail> {
+    let alloc = rt.alloc();
+    let clash = "violations 1\nWAW r8 1.1 1.2\n";
+    let rows = [
+        (&[1, 0, 0, 0, 1, 0, 0, 0, 6, 7, 0, 0][..], 0, "accepted\n"),
+        (&[1, 0, 0, 0][..], 1, clash),
+        (&[1, 0, 0, 0, 1, 0, 0, 0, 6, 8, 0, 0][..], 1, clash),
+        (&[1, 0, 0, 0, 0, 0, 0, 0, 6, 7, 0, 0][..], 1, clash),
+    ];
+    for (declared, status, output) in rows {
+        let input = promising(declared);
+        answers(&rt, alloc, "check", &input, status, &text(output))?;
+    }
+    answers(&rt, alloc, "run 9", &BROKEN, 9, &text(BAD_RELATION))
+}
+
+/// An entry, and two relations: the first one ends in a byte that isn't zero, and the second one doesn't rise.
+const PAD_FIRST: [u8; 20] = [1, 0, 0, 0, 1, 0, 0, 0, 6, 7, 1, 0, 1, 0, 0, 0, 6, 7, 0, 0];
+
+/// The other way round: the first one isn't in order, and the second one ends in a byte that isn't zero.
+const PAD_LAST: [u8; 20] = [1, 0, 0, 0, 1, 0, 0, 0, 7, 6, 0, 0, 1, 0, 0, 0, 8, 9, 0, 1];
+
+#[test]
+fn relations_are_refused(rt: HostRuntime) -> Result<(), Fail> {
+    let alloc = rt.alloc();
+    let (first, second) = ("image: relation 0\n", "image: relation 1\n");
+    let rows = [
+        (&[1, 0, 0, 0, 1, 0, 0, 0, 6, 5, 0, 0][..], first),
+        (&[1, 0, 0, 0, 1, 0, 0, 0, 0, 5, 0, 0][..], first),
+        (&[1, 0, 0, 0, 1, 0, 0, 0, 6, 16, 0, 0][..], first),
+        (&[1, 0, 0, 0, 2, 0, 0, 0, 6, 7, 0, 0][..], first),
+        (&[1, 0, 0, 0, 1, 0, 0, 0, 6, 7, 1, 0][..], first),
+        (&[1, 0, 0, 0, 1, 0, 0, 0, 6, 7, 0, 1][..], first),
+        (&PAD_FIRST[..], first),
+        (&PAD_LAST[..], first),
+        (
+            &[1, 0, 0, 0, 1, 0, 0, 0, 6, 7, 0, 0, 1, 0, 0, 0, 6, 7, 0, 0][..],
+            second,
+        ),
+        (
+            &[1, 0, 0, 0, 1, 0, 0, 0, 6, 7, 0, 0, 0, 0, 0, 0, 8, 9, 0, 0][..],
+            second,
+        ),
+    ];
+    for (declared, output) in rows {
+        answers(&rt, alloc, "check", &promising(declared), 3, &text(output))?;
+    }
+    Ok(())
+}
+
+/// The image of version 2 of three `nop`.
+const NOPS_LIFTED: Parts<'static> = Parts {
+    head: Some((b'2', [1, 0, 0, 0])),
+    declared: b"",
+    count: 1,
+    bundle: NOPS,
+    end: b"",
+};
+
+#[test]
+fn lift_has_its_output(rt: HostRuntime) -> Result<(), Fail> {
+    let alloc = rt.alloc();
+    let related = promising(&[1, 0, 0, 0, 1, 0, 0, 0, 6, 7, 0, 0]);
+    let rows = [
+        (image(1, NOPS), 0, NOPS_LIFTED),
+        (NOPS_LIFTED, 0, NOPS_LIFTED),
+        (related, 0, related),
+        (image(1, RESERVED), 3, text("image: bundle 0: template\n")),
+        (text(CLASH_TEXT), 3, text("image: magic\n")),
+    ];
+    for (input, status, output) in rows {
+        answers(&rt, alloc, "lift", &input, status, &output)?;
     }
     Ok(())
 }

@@ -7,7 +7,7 @@ pub loop-bundle-preserved : goal.loop-bundle-preserved
 loop-bundle-preserved c =
     elim c.if-is_entry.branch [
       | then-is_entry w ↦
-          rw (w.table-is, w.dirty-is, w.insert.ensures) (enters c.args.program.now c.loop-bundle.table.items c.loop-bundle.dirty c.loop-bundle.bundle w.place_number-first.result w.empty.result c.loop-bundle.invariant (w.if-is_entry.ensures.0 refl) w.place_number-first.ensures w.empty.ensures)
+          rw (w.table-is, w.dirty-is, w.insert.ensures) (enters c.args.program.now c.loop-bundle.table.items c.loop-bundle.dirty c.loop-bundle.bundle w.place_number-first.result w.known_first.result c.loop-bundle.invariant (w.if-is_entry.ensures.0 refl) w.place_number-first.ensures w.known_first.ensures)
       | else-is_entry w ↦
           rw (w.table-is, w.dirty-is) (passes_by c.args.program.now c.loop-bundle.table.items c.loop-bundle.dirty c.loop-bundle.bundle c.loop-bundle.invariant (λ entry. absurd (let bad = w.if-is_entry.ensures.1 entry in cc)))
     ]

@@ -1,5 +1,5 @@
 use Rattle.std.proofs.Common.{rules}
-use Rattle.ia64_top.specs.Readings.{BeginsAsImage}
+use Rattle.image_form.specs.Images.{BeginsAsImage}
 use Rattle.ia64_top.proofs.Outputs.{if_ok, image_taken, text_taken}
 use Rattle.ia64_top.proofs.answer.take.Goals as goal
 

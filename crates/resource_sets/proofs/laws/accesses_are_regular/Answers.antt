@@ -1,4 +1,4 @@
-use Rattle.resource_sets.proofs.Regularity.{regular, guards, named_accesses, named_or_placed, guarded, alloc_writes, predicates_read, listed_has, accesses_listed, in_range, guards_in_range, named_as_found, agree_by}
+use Rattle.resource_sets.proofs.Regularity.{regular, guards, named_accesses, named_or_placed, guarded, alloc_writes, predicates_read, statics_read, listed_has, accesses_listed, in_range, guards_in_range, named_as_found, agree_by}
 use Rattle.resource_sets.proofs.laws.accesses_are_regular.Goals as goal
 
 pub returns-clause-regular : goal.returns-clause-regular
@@ -21,6 +21,9 @@ returns-clause-allocs c = alloc_writes
 
 pub returns-clause-predicates : goal.returns-clause-predicates
 returns-clause-predicates c = predicates_read
+
+pub returns-clause-statics : goal.returns-clause-statics
+returns-clause-statics c = statics_read
 
 pub returns-clause-listed : goal.returns-clause-listed
 returns-clause-listed c = listed_has
