@@ -245,6 +245,7 @@ mark_led_answers _ before after = refl
 led_by_answers : (w : KindAndText) (before after : List KindAndText) → Answers (beside_word w before after) (led_by w before after)
 led_by_answers (kind.Name, text) before after = among_answers (named_forms text) text before after
 led_by_answers (kind.Number, text) before after = refl
+led_by_answers (kind.Quoted, text) before after = refl
 led_by_answers (kind.Mark, text) before after = mark_led_answers (token_of kind.Mark text) before after
 
 led_at_answers : (ws : List KindAndText) (o : Option ℕ) → Answers (option_and_then (beside_at ws) o) (led_at ws o)

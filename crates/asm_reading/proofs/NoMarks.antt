@@ -100,16 +100,17 @@ not_colon x h = refl
 pub name_is_not_open : (name : List ℕ) → is_open (name_token name) ≡ false
 name_is_not_open name = not_open (name_token name) (name_no_mark name)
 
-named_mark : (k : WordKind) (text : List ℕ) → pick k true false false ≡ true → is_mark (token_of k text) ≡ false
+named_mark : (k : WordKind) (text : List ℕ) → pick k true false false false ≡ true → is_mark (token_of k text) ≡ false
 named_mark kind.Name text h = name_no_mark text
 named_mark kind.Number text h = cc
+named_mark kind.Quoted text h = cc
 named_mark kind.Mark text h = cc
 
-pub name_opens_nothing : (k : WordKind) (text : List ℕ) → pick k true false false ≡ true → false ≡ is_open (token_of k text)
+pub name_opens_nothing : (k : WordKind) (text : List ℕ) → pick k true false false false ≡ true → false ≡ is_open (token_of k text)
 name_opens_nothing k text h = sym (not_open (token_of k text) (named_mark k text h))
 
-pub name_closes_nothing : (k : WordKind) (text : List ℕ) → pick k true false false ≡ true → false ≡ is_close (token_of k text)
+pub name_closes_nothing : (k : WordKind) (text : List ℕ) → pick k true false false false ≡ true → false ≡ is_close (token_of k text)
 name_closes_nothing k text h = sym (not_close (token_of k text) (named_mark k text h))
 
-pub name_is_no_colon : (k : WordKind) (text : List ℕ) → pick k true false false ≡ true → false ≡ is_colon (token_of k text)
+pub name_is_no_colon : (k : WordKind) (text : List ℕ) → pick k true false false false ≡ true → false ≡ is_colon (token_of k text)
 name_is_no_colon k text h = sym (not_colon (token_of k text) (named_mark k text h))

@@ -51,6 +51,7 @@ beside_mark _ before after = None
 abbrev pub beside_word : KindAndText → List KindAndText → List KindAndText → Option Beside
 beside_word (kind.Name, text) before after = beside_name (named_forms text) before after
 beside_word (kind.Number, text) before after = None
+beside_word (kind.Quoted, text) before after = None
 beside_word (kind.Mark, text) before after = beside_mark (token_of kind.Mark text) before after
 
 -- the leading word is the one at this place

@@ -266,6 +266,7 @@ mark_led _ before after = Err fault.Name
 abbrev pub led_by : KindAndText → List KindAndText → List KindAndText → Result Line LineFault
 led_by (kind.Name, text) before after = worded text before after
 led_by (kind.Number, text) before after = Err fault.Name
+led_by (kind.Quoted, text) before after = Err fault.Name
 led_by (kind.Mark, text) before after = mark_led (token_of kind.Mark text) before after
 
 abbrev led_by_some : Option KindAndText → List KindAndText → List KindAndText → Result Line LineFault
@@ -281,7 +282,7 @@ abbrev pub led : List KindAndText → Result Line LineFault
 led ws = led_at ws (lead_at (tokens ws))
 
 abbrev pub is_name_word : KindAndText → Bool
-is_name_word w = pick w.0 true false false
+is_name_word w = pick w.0 true false false false
 
 abbrev pub is_colon : Token → Bool
 is_colon t.Colon = true

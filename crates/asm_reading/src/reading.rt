@@ -435,7 +435,7 @@ fn led_by(
     let text = word.text(line);
     match word.kind {
         WordKind::Name => worded(text, line, before, after, buffer),
-        WordKind::Number => Err(LineFault::Name),
+        WordKind::Number | WordKind::Quoted => Err(LineFault::Name),
         WordKind::Mark => match token(WordKind::Mark, text) {
             Token::Stop => marked(Line::Stop, line, before, after),
             Token::CloseBrace => marked(Line::Close, line, before, after),
@@ -502,7 +502,7 @@ fn label_of(text: &[u8], line: &[u8], rest: &[Word]) -> Result<Line, LineFault>
 
 /// Whether the word is a name.
 fn is_name(word: &Word) -> bool
-    ensures { result ≡ pick word.now.kind true false false }
+    ensures { result ≡ pick word.now.kind true false false false }
 {
     matches!(word.kind, WordKind::Name)
 }

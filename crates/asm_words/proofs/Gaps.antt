@@ -77,6 +77,7 @@ sharp_gap word.Name (c ∷ cs) = elim (eqb c 35) as (λ t. eqb c 35 ≡ t → (i
   | false ↦ λ e. (rw e refl, rw e refl)
 ] refl
 sharp_gap word.Number rest = (refl, refl)
+sharp_gap word.Quoted rest = (refl, refl)
 sharp_gap word.Mark rest = (refl, refl)
 
 middle : (done gap cs : List ℕ) (at : ℕ) → at ≡ length done + length gap → slice_range (done ++ (gap ++ cs)) (length done) at ≡ gap

@@ -5,17 +5,22 @@ use Rattle.std.proofs.lemmas.List.Elements.{All-from_recursion}
 use Rattle.asm_words.specs.declared.word.WordKind.{WordKind}
 use Rattle.asm_words.specs.declared.word.WordKind.TheVariants as word
 use Rattle.asm_words.specs.Bytes.{is_blank, is_name_byte, begins_with}
-use Rattle.asm_words.specs.Words.{begins_comment, name_run, kind_at, more_at, sharp_at, words_from, pick}
+use Rattle.asm_words.specs.Words.{begins_comment, name_run, quoted_run, kind_at, more_at, sharp_at, words_from, pick}
 use Rattle.asm_words.specs.Slices.{IsPart, AreInOrder, AreSlices}
 
 run_le : (cs : List ℕ) → name_run cs ≤ length cs
 run_le [] = omega arith
 run_le (c ∷ cs) = elim (is_name_byte c) as (λ b. cond b (name_run cs + 1) 0 ≤ suc (length cs)) [ true ↦ let h = run_le cs in omega arith | false ↦ omega arith ]
 
-by_kind : (k : WordKind) (a m n : ℕ) → a ≤ n → m ≤ n → pick k a a m ≤ n
-by_kind word.Name a m n ha hm = ha
-by_kind word.Number a m n ha hm = ha
-by_kind word.Mark a m n ha hm = hm
+quoted_le : (cs : List ℕ) → quoted_run cs ≤ length cs
+quoted_le [] = omega arith
+quoted_le (c ∷ cs) = elim (eqb c 34) as (λ b. cond b 1 (quoted_run cs + 1) ≤ suc (length cs)) [ true ↦ omega arith | false ↦ let h = quoted_le cs in omega arith ]
+
+by_kind : (k : WordKind) (a q m n : ℕ) → a ≤ n → q ≤ n → m ≤ n → pick k a a q m ≤ n
+by_kind word.Name a q m n ha hq hm = ha
+by_kind word.Number a q m n ha hq hm = ha
+by_kind word.Quoted a q m n ha hq hm = hq
+by_kind word.Mark a q m n ha hq hm = hm
 
 semi : (b : Bool) (cs : List ℕ) → cond (b && begins_with 59 cs) 1 0 ≤ length cs
 semi true [] = omega arith
@@ -23,7 +28,7 @@ semi true (c ∷ cs) = elim (eqb c 59) as (λ b. cond b 1 0 ≤ suc (length cs))
 semi false cs = omega arith
 
 pub more_le : (c : ℕ) (cs : List ℕ) → more_at c cs ≤ length cs
-more_le c cs = by_kind (kind_at c cs) (name_run cs) _ (length cs) (run_le cs) (semi (eqb c 59) cs)
+more_le c cs = by_kind (kind_at c cs) (name_run cs) (quoted_run cs) _ (length cs) (run_le cs) (quoted_le cs) (semi (eqb c 59) cs)
 
 parts : (skip at n : ℕ) (cs : List ℕ) → at + length cs ≤ n → AllByRecursion (IsPart n) (words_from skip at cs)
 parts skip at n [] h = tt

@@ -21,7 +21,7 @@ pub record AreSlices (line : List ℕ) (ws : List Word) : Type 0 where
   pub order : AreInOrder 0 ws
 
 abbrev pub is_name : WordKind → Bool
-is_name k = pick k true false false
+is_name k = pick k true false false false
 
 -- directly after a name, what follows its `#`
 abbrev pub without_sharp : Bool → List ℕ → List ℕ

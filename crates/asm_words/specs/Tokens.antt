@@ -23,6 +23,9 @@ or_other_name None name = other_name name
 abbrev pub name_token : List ℕ → Token
 name_token name = or_other_name (register_of name) name
 
+abbrev pub quoted_token : List ℕ → Token
+quoted_token word = if bytes_eq word (codes "\"mutex\"") then t.Mutex else t.Quoted
+
 abbrev pub mark_token : List ℕ → Token
 mark_token mark =
     if bytes_eq mark (codes "=") then t.Equals
@@ -41,4 +44,5 @@ mark_token mark =
 abbrev pub token_of : WordKind → List ℕ → Token
 token_of word.Name text = name_token text
 token_of word.Number text = number_token text
+token_of word.Quoted text = quoted_token text
 token_of word.Mark text = mark_token text

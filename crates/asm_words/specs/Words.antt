@@ -1,7 +1,8 @@
 -- The words of a line.
 use Rattle.std.specs.Prelude.{ℕ, zero, suc, ◌+◌, Bool, false, ◌&&◌, ◌==◌, if◌then◌else◌, List, [], ◌∷◌, drop}
+use Rattle.std.specs.List.{list_any}
 use Rattle.asm_words.specs.declared.word.WordKind.{WordKind}
-use Rattle.asm_words.specs.declared.word.WordKind.TheVariants.{Name, Number, Mark}
+use Rattle.asm_words.specs.declared.word.WordKind.TheVariants.{Name, Number, Quoted, Mark}
 use Rattle.asm_words.specs.declared.word.Word.{Word}
 use Rattle.asm_words.specs.Bytes.{is_blank, is_digit_byte, is_name_byte, begins_digit, begins_with}
 
@@ -10,27 +11,39 @@ abbrev pub name_run : List ℕ → ℕ
 name_run [] = 0
 name_run (c ∷ cs) = if is_name_byte c then name_run cs + 1 else 0
 
+-- a quotation mark is among the bytes
+abbrev pub has_quote : List ℕ → Bool
+has_quote cs = list_any (λ c. c == 34) cs
+
+-- how many bytes there are up to the first quotation mark, it among them, or all where there is none
+abbrev pub quoted_run : List ℕ → ℕ
+quoted_run [] = 0
+quoted_run (c ∷ cs) = if c == 34 then 1 else quoted_run cs + 1
+
 -- the kind of the word that begins with c, where cs follows
 abbrev pub kind_at : ℕ → List ℕ → WordKind
 kind_at c cs =
     if is_digit_byte c then Number
     else (if is_name_byte c then Name
     else (if (c == 45) && begins_digit cs then Number
-    else Mark))
+    else (if (c == 34) && has_quote cs then Quoted
+    else Mark)))
 
 -- a value for each kind
-abbrev pub pick : {A : Type 0} → WordKind → A → A → A → A
-pick Name a b m = a
-pick Number a b m = b
-pick Mark a b m = m
+abbrev pub pick : {A : Type 0} → WordKind → A → A → A → A → A
+pick Name a b q m = a
+pick Number a b q m = b
+pick Quoted a b q m = q
+pick Mark a b q m = m
 
--- how many bytes after c belong to its word: a run of bytes of names, or the second `;` of a stop
+-- how many bytes after c belong to its word: a run of bytes of names, all up to the second quotation mark, or
+-- the second `;` of a stop
 abbrev pub more_at : ℕ → List ℕ → ℕ
-more_at c cs = pick (kind_at c cs) (name_run cs) (name_run cs) (if (c == 59) && begins_with 59 cs then 1 else 0)
+more_at c cs = pick (kind_at c cs) (name_run cs) (name_run cs) (quoted_run cs) (if (c == 59) && begins_with 59 cs then 1 else 0)
 
 -- a `#` directly after a name belongs to no word
 abbrev pub has_sharp : WordKind → List ℕ → Bool
-has_sharp k rest = pick k (begins_with 35 rest) false false
+has_sharp k rest = pick k (begins_with 35 rest) false false false
 
 -- how many bytes after the word of c belong to no word for that reason
 abbrev pub sharp_at : ℕ → List ℕ → ℕ

@@ -1,6 +1,6 @@
 //! The words of a line of assembly text, and what each word may be read as.
 //!
-//! A line is cut into words: names, numbers and marks. A word is a part of the line, given by its
+//! A line is cut into words: names, numbers, quoted words and marks. A word is a part of the line, given by its
 //! first byte and the byte after its last, so no memory is taken, and the list that they are put
 //! into ([`words_into`]) serves one line after the other. Then each word is a token: a
 //! register, a number, a name or a mark. `specs/` says what the words of a line are (`Words`), which

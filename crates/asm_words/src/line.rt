@@ -4,7 +4,7 @@ ghost use Rattle.std.specs.Prelude.{◌≡◌, ◌≤◌, length, [], IfOk, IfEr
 ghost use Rattle.asm_words.specs.declared.limits.TheConstants.{LINE_LIMIT};
 ghost use Rattle.asm_words.specs.Bytes.{has_only_plain};
 ghost use Rattle.asm_words.specs.Slices.{AreSlices, LeavesOutGaps};
-ghost use Rattle.asm_words.specs.Words.{name_run, kind_at, more_at, has_sharp, sharp_at, begins_comment, words_from};
+ghost use Rattle.asm_words.specs.Words.{name_run, has_quote, quoted_run, kind_at, more_at, has_sharp, sharp_at, begins_comment, words_from};
 
 use crate::bytes::{
     begins_digit, begins_with, has_only_plain, is_blank, is_digit_byte, is_name_byte,
@@ -16,7 +16,8 @@ use arrayvec::ArrayVec;
 
 /// The words of a line, in order; or Char where a byte is neither a tab nor one from 0x20 to 0x7e,
 /// in a comment too. The words are parts of the line, in order; what they leave out is spaces, tabs,
-/// a `#` directly after a name, and the comment from `//` to the end.
+/// a `#` directly after a name, and the comment from `//` to the end. A `//` between two quotation marks
+/// begins no comment.
 pub fn words(line: &[u8]) -> Result<ArrayVec<Word, LINE_LIMIT>, LineFault>
     requires { length line.now ≤ LINE_LIMIT }
     ensures ok { IfOk result (λ ws. (has_only_plain line.now ≡ true) × (ws.items ≡ words_from 0 0 line.now)) }
@@ -100,9 +101,22 @@ fn kind_at(first: u8, rest: &[u8]) -> WordKind
         WordKind::Name
     } else if first == b'-' && begins_digit(rest) {
         WordKind::Number
+    } else if first == b'"' && has_quote(rest) {
+        WordKind::Quoted
     } else {
         WordKind::Mark
     }
+}
+
+fn has_quote(bytes: &[u8]) -> bool
+    ensures { result ≡ has_quote bytes.now }
+{
+    for byte in bytes {
+        if *byte == b'"' {
+            return true;
+        }
+    }
+    false
 }
 
 // How many bytes after the first belong to the word.
@@ -111,6 +125,7 @@ fn more_at(first: u8, rest: &[u8]) -> usize
     ensures bound { result ≤ length rest.now }
 {
     match kind_at(first, rest) {
+        WordKind::Quoted => quoted_run(rest),
         WordKind::Mark => {
             if first == b';' && begins_with(b';', rest) {
                 1
@@ -129,6 +144,21 @@ fn name_run(bytes: &[u8]) -> usize
 {
     let mut at = 0;
     while at < bytes.len() && is_name_byte(bytes[at]) {
+        at += 1;
+    }
+    at
+}
+
+// How many bytes there are up to the first `"`, it among them, or all where there is none.
+fn quoted_run(bytes: &[u8]) -> usize
+    ensures value { result ≡ quoted_run bytes.now }
+    ensures bound { result ≤ length bytes.now }
+{
+    let mut at = 0;
+    while at < bytes.len() {
+        if bytes[at] == b'"' {
+            return at + 1;
+        }
         at += 1;
     }
     at

@@ -2,7 +2,7 @@
 
 ghost use Rattle.std.specs.Prelude.{◌≡◌};
 ghost use Rattle.asm_words.specs.Bytes.{begins_letter};
-ghost use Rattle.asm_words.specs.Tokens.{name_token, other_name, mark_token, token_of};
+ghost use Rattle.asm_words.specs.Tokens.{name_token, other_name, quoted_token, mark_token, token_of};
 
 use crate::bytes::is_letter;
 use crate::limits::NAME_LIMIT;
@@ -18,6 +18,7 @@ pub fn token(kind: WordKind, text: &[u8]) -> Token
     match kind {
         WordKind::Name => name_token(text),
         WordKind::Number => number_token(text),
+        WordKind::Quoted => quoted_token(text),
         WordKind::Mark => mark_token(text),
     }
 }
@@ -54,6 +55,16 @@ fn begins_letter(name: &[u8]) -> bool
     match name {
         [first, ..] => is_letter(*first),
         _ => false,
+    }
+}
+
+fn quoted_token(word: &[u8]) -> Token
+    ensures { result ≡ quoted_token word.now }
+{
+    if word == b"\"mutex\"".as_slice() {
+        Token::Mutex
+    } else {
+        Token::Quoted
     }
 }
 

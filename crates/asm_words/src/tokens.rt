@@ -38,6 +38,10 @@ pub enum Token {
     Symbol,
     /// A name of 64 bytes and more that begins with `_`, `.` or `$`.
     LongSymbol,
+    /// `"mutex"`
+    Mutex,
+    /// Any other quoted word.
+    Quoted,
     /// `=`
     Equals,
     /// `,`

@@ -2,14 +2,16 @@
 
 ghost use Rattle.std.specs.Prelude.{◌≡◌, ◌≤◌, length, slice_range};
 
-/// The three kinds of words.
+/// The four kinds of words.
 #[derive(Clone, Copy, Debug, PartialEq, Eq)]
 pub enum WordKind {
     /// A longest run of letters, digits, `_`, `.` and `$` that begins with no digit.
     Name,
     /// A longest run of the same bytes that begins with a digit, and a `-` directly before it.
     Number,
-    /// `;;`, or any other single byte that is no space and no tab.
+    /// A run from a `"` to the next one on the line, whatever stands between the two.
+    Quoted,
+    /// `;;`, or any other single byte that is no space and no tab: a `"` too where no other follows it.
     Mark,
 }
 
