@@ -5,12 +5,14 @@ that read an image or bare bundles are given what `build` makes of the text.
 Prints the input of a name: bench/inputs.py empty_lines
 """
 
+import math
 import sys
 
-INPUT_LIMIT = 4194304
+INPUT_LIMIT = 16777216
 BUNDLE_LIMIT = 4096
 ENTRY_LIMIT = 1024
 DATA_LIMIT = 1048576
+RELATION_LIMIT = 4096
 LINE_LIMIT = 240
 NAME_LIMIT = 63
 GROUP_BUNDLES = 64  # 192 slots
@@ -153,12 +155,13 @@ def rising_labels():
 def scattered_labels():
     """The most labels, each far from the one before it."""
     lines = labels((INPUT_LIMIT - len(NOPS)) // 6, 4)
-    return ("".join(lines[432413 * n % len(lines)] for n in range(len(lines))) + NOPS).encode()
+    step = next(n for n in range(round(0.618 * len(lines)), len(lines)) if math.gcd(n, len(lines)) == 1)
+    return ("".join(lines[step * n % len(lines)] for n in range(len(lines))) + NOPS).encode()
 
 
 def long_labels():
     """The most labels whose names differ in their last bytes alone, so that a comparison reads both whole."""
-    lines = labels((INPUT_LIMIT - len(NOPS)) // 65, 3, "x" * (NAME_LIMIT - 3))
+    lines = labels((INPUT_LIMIT - len(NOPS)) // 65, 4, "x" * (NAME_LIMIT - 4))
     return ("".join(lines) + NOPS).encode()
 
 
@@ -170,24 +173,41 @@ def late_labels():
     return filled("".join(lines) + NOPS + entries, "\n", ".entry missing\n")
 
 
+def relation_lines():
+    """The most lines that declare relations, whose bundle is looked up each time among the most entries, the last of them."""
+    entries = "".join(f".entry L{n}\nL{n}:\n{NOPS}" for n in range(1, ENTRY_LIMIT + 1))
+    return filled(NOPS + entries.removesuffix(NOPS), '.pred.rel"mutex",p1,p2\n')
+
+
+def relation_pairs():
+    """The most pairs: lines with all 105 of an entry, for so many entries that there are the most relations, which each
+    pair is looked up among."""
+    every = '.pred.rel"mutex"' + "".join(f",p{p}" for p in range(1, 16)) + "\n"
+    entries = RELATION_LIMIT // 105
+    count = (INPUT_LIMIT - entries * (len(NOPS) + len(".entry L99\nL99:\n"))) // (entries * len(every))
+    return "".join(f".entry L{n}\nL{n}:\n{every * count}{NOPS}" for n in range(entries)).encode()
+
+
 # Programs with a large image, for `show`, `list` and `wrap`
 
 
-def most_bundles():
-    """The most bundles, each of which is the target of branches, and has slots whose lines are long."""
+def most_bundles(related=0):
+    """The most bundles, each of which is the target of branches, and has slots whose lines are long; and relations of
+    the last ones, so many."""
+    relations = "".join(f'.pred.rel "mutex",p{p},p15\n' for p in range(11, 15))
     load = "(p63)ld8.c.clr.acq.nta r127=[r126],-256"
     call = "(p63)br.call.dptk.many.clr b7=L4095"
     return "".join(
-        f"L{n}:\n" + stopped("mmb", load, f"(p63)chk.s.m r127,L{BUNDLE_LIMIT - 1 - n}", call)
+        f"L{n}:\n" + relations * (n >= BUNDLE_LIMIT - related) + stopped("mmb", load, f"(p63)chk.s.m r127,L{BUNDLE_LIMIT - 1 - n}", call)
         for n in range(BUNDLE_LIMIT)
     ).encode()
 
 
 def largest_program():
-    """The most bundles, declared entries and data, with the longest canonical text and the longest listing."""
+    """The most bundles, declared entries, relations and data, with the longest canonical text and the longest listing."""
     entries = "".join(f".entry L{n}\n" for n in range(BUNDLE_LIMIT - ENTRY_LIMIT, BUNDLE_LIMIT))
     words = ("data8 " + ",".join(["-1"] * 32) + "\n") * (DATA_LIMIT // 256)
-    return entries.encode() + most_bundles() + (".data\n" + words).encode()
+    return entries.encode() + most_bundles(RELATION_LIMIT // 4) + (".data\n" + words).encode()
 
 
 # Programs with long groups, for `check`

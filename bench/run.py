@@ -12,7 +12,7 @@ group is one bundle.
 
 The last table has the worst inputs within the limits (`inputs.py`). Its seconds are those of the processor,
 the best of three, and its megabytes the greatest peak, at least that of this script, about 15. It ends with
-status 1 where an input takes longer than is allowed, or more than 256 MB, or isn't answered at all.
+status 1 where an input takes longer than is allowed, or more than 640 MB, or isn't answered at all.
 
 Call it after the program was built: bench/run.py [--worst] [--count]
 --worst prints the last table alone. --count adds millions of instructions, as valgrind counts them: they are
@@ -142,18 +142,18 @@ def measure_loop(name, folder):
 
 # The worst inputs: the words of a command, what makes its input, and how many seconds it may take at most.
 # To `run` and `watch` time isn't limited.
-MEGABYTES = 256
+MEGABYTES = 640
 BUILDS = (
     inputs.empty_lines, inputs.stop_lines, inputs.section_lines, inputs.ignored_lines, inputs.skip_lines,
     inputs.comment_lines, inputs.blank_lines, inputs.numbers, inputs.number_lines, inputs.long_numbers,
     inputs.short_slots, inputs.long_slots, inputs.rising_labels, inputs.scattered_labels, inputs.long_labels,
-    inputs.late_labels,
+    inputs.late_labels, inputs.relation_lines, inputs.relation_pairs,
 )
 CHECKS = (
     inputs.largest_program, inputs.most_violations, inputs.most_excuses, inputs.losses_past_nops,
     inputs.losses_past_compares, inputs.losses_past_branches, inputs.losses_past_violations,
 )
-WORST = [("build", make, 4) for make in BUILDS]
+WORST = [("build", make, 12) for make in BUILDS]
 WORST += [(words, inputs.largest_program, 1) for words in ("show", "list")]
 WORST += [("wrap", inputs.most_bundles, 1)]
 WORST += [("check", make, 10) for make in CHECKS]

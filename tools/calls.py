@@ -7,10 +7,10 @@ import resource
 import subprocess
 
 import printed_forms
-from printed_forms import (BUNDLE_LIMIT, MAGICS, Layout, bundles_of, has_form, head, lifted_image, takes_image,
-                           without_relations)
+from printed_forms import (BUNDLE_LIMIT, MAGICS, Layout, bundles_of, has_form, head, lifted_image,
+                           relation_lines_oddity, takes_image, without_relations, written_image)
 
-INPUT_LIMIT = 4194304
+INPUT_LIMIT = 16777216
 DONE, VIOLATED, REFUSED = 0, 1, 3
 
 # The commands, their words joined by zero bytes, and the highest numbers of those that take some.
@@ -201,12 +201,14 @@ class Calls:
 
     def shown(self, image, text, listed, answers):
         """Holds an image to its canonical text, its listing and its bundles."""
-        built = Answer(DONE, without_relations(image))
+        built = Answer(DONE, written_image(image))
         self.same("build", self.call("build", data=text), built, "the image that was shown")
+        self.all_same(self.verdicts(text), answers, "of the image")
         if Layout(image).relations:
-            self.related(answers, self.verdicts(text))
-        else:
-            self.all_same(self.verdicts(text), answers, "of the image")
+            self.related(answers, self.verdicts(without_relations(image)))
+        oddity = relation_lines_oddity(image, text)
+        if oddity:
+            self.note(["show"], oddity)
         code = Layout(image).code_of(image)
         wanted = [f"{n} {code[16 * n:16 * n + 16].hex()}" for n in range(len(code) // 16)]
         if re.findall(r"^\S+ \S+", listed.output.decode(), re.M) != wanted:
@@ -216,8 +218,8 @@ class Calls:
         self.wrap(code)
 
     def related(self, answers, others):
-        """Holds the answers on an image with relations to those on its text, which doesn't say them: each of its
-        violations is one of the text too, and its run is the same, unless it ends with BadRelation."""
+        """Holds the answers on an image with relations to those without them: each of its violations is one there
+        too, and its run is the same, unless it ends with BadRelation."""
         (count, found), (most, known) = violations(answers[0]), violations(others[0])
         if count > most or (len(known) == most and found - known):
             self.note(["check"], "violations that are none without the relations")

@@ -46,7 +46,7 @@ def cut(random, data):
 BYTE_EDITS = (flip, flip, insert, drop, double, exchange, cut)
 PIECES = [b"{", b"}", b";;", b"\n", b"\r\n", b"\r", b"\t", b" ", b"\0", b",", b"=", b"(p6)", b"//", b"[", b"r0", b"r127", b"p63",
           b"b0", b":", b"#", b"-1", b"0x", b"0" * 300, b"9" * 40, b".data\n", b".text\n", b".entry ", b"ar.pfs", b"{ .mlx\n",
-          b"nop 0 ;;\n", b"\xc3\xa9", *MAGICS]
+          b"nop 0 ;;\n", b'"', b'"mutex"', b'.pred.rel "mutex",p6,p7\n', b"\xc3\xa9", *MAGICS]
 
 
 # Edits of texts, by lines.
@@ -73,11 +73,12 @@ def line_edit(random, data):
 
 
 def more_lines(random, data):
-    """A long line, or many labels, entries, blank lines or stops somewhere."""
+    """A long line, or many labels, entries, relations, blank lines or stops somewhere."""
     lines = data.split(b"\n")
     count = random.choice((3, 200, 241, 1025, 5000))
+    relations = [b'.pred.rel "mutex",p%d,p%d' % (n % 14 + 1, n % 14 + 2) for n in range(count)]
     more = random.choice(([b"//" + b"x" * count], [b"x%d:" % n for n in range(count)], [b".entry x0"] * count,
-                          [b""] * count, [b";;"] * count))
+                          relations, [b""] * count, [b";;"] * count))
     at = random.randrange(len(lines) + 1)
     return b"\n".join(lines[:at] + more + lines[at:])
 

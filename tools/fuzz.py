@@ -11,13 +11,12 @@ fault, whose reason and line are known.
 Of each call it looks at the status, the form of what is printed, that nothing is on standard error, that
 a refusal names a place of the input, and at the processor time (`FOR_A_BYTE` of calls.py); and over several calls:
 
-- `build` of what `show` prints is the image again, in version 1 and without its relations; `list` has the
-  bundles' bytes and the lines of the slots; `wrap` of the bundles is refused as the image of them is, or
-  gives it;
+- `build` of what `show` prints is the image again, in version 1 where it has no relations; the lines of
+  relations are those of the image; `list` has the bundles' bytes and the lines of the slots; `wrap` of the
+  bundles is refused as the image of them is, or gives it;
 - `check`, `run N` and `watch N` answer the same of a text, its image and the image's text, and refuse
-  what `build`, or of an image `show`, refuses, in the same way. With relations an image has no other
-  violations than its text, and the same run, unless this ends with BadRelation; and one whose relation is
-  refused is read without its relations;
+  what `build`, or of an image `show`, refuses, in the same way. An image whose relation is refused is read
+  without its relations;
 - `run N` and `watch N` print what `check` does exactly where that isn't `accepted`; `watch N` ends with
   what `run N` prints, and its reports and the state are of one run.
 

@@ -206,6 +206,18 @@ data 1
 (p6) // add r8=r9,r10
 $foo
 _
+.pred "mutex",p6,p7
+.pred.rel.mutex p6,p7
+.pred.rel_ "mutex",p6,p7
+.Pred.rel "mutex",p6,p7
+pred.rel "mutex",p6,p7
+"mutex",p6,p7
+".pred.rel" "mutex",p6,p7
+(p6) "nop.i" 0
+"x":
+{ ".mii"
+"
+" // "
 """
 
 REGISTER = """\
@@ -468,6 +480,29 @@ movl ;;
 (b0) add 5=r9,r10
 (-1) alloc r8=ar.pfs,97,0,0,0
 (pr) mov r8=pr
+.pred.rel "mutex",5
+.pred.rel "mutex",6,7
+.pred.rel "mutex",p6,-7
+.pred.rel "mutex",r6,p16
+.pred.rel "mutex",p6,r7
+.pred.rel "mutex",p6,b7
+.pred.rel "mutex",p6,p64
+.pred.rel "mutex",p6,p64,p16
+.pred.rel "mutex",p06,p7
+.pred.rel "mutex",P6,p7
+.pred.rel "mutex",pr,p7
+.pred.rel "mutex",pr.rot,p7
+.pred.rel "mutex",foo,p7
+.pred.rel "mutex",,p6,p7
+.pred.rel "mutex",p6,,p7
+.pred.rel "mutex",;;
+.pred.rel "mutex",p6,;;
+.pred.rel "mutex",p6,"mutex"
+.pred.rel "mutex",p6,"p7"
+.pred.rel "mutex",(p6),p7
+popcnt r8="r9"
+br.cond "x"
+(" ") nop.i 0
 """ + "\n".join((
     f"add r8={TOO_LONG},r9",
     f"mov r8={TOO_LONG}",
@@ -637,6 +672,10 @@ data8 1,- 1
 .skip ;;
 .skip 1x
 .skip - 1
+add r8="r9",r10
+adds r8="5",r9
+data1 "5"
+nop.i "mutex"
 """ + f"nop.i {TOO_LONG}\ndata1 {TOO_LONG}\n"
 
 # Numbers one past an edge are made by `line_texts.py` besides these.
@@ -698,6 +737,15 @@ data8 -9223372036854775809
 .skip 1048577
 .skip -1
 .skip 1048577 x
+.pred.rel "mutex",p0,p7
+.pred.rel "mutex",p0
+.pred.rel "mutex",p16
+.pred.rel "mutex",p16,p16
+.pred.rel "mutex",p6,p16
+.pred.rel "mutex",p6,p16,p6
+.pred.rel "mutex",p6,p16 x
+.pred.rel "mutex",p6,p63,r7
+.pred.rel "mutex",p1,p2,p3,p4,p5,p6,p7,p8,p9,p10,p11,p12,p13,p14,p15,p16
 """ + f"nop.i {HUGE}\ndata8 0,{HUGE}\nadd r8=-{HUGE},r9\n"
 
 FORM = """\
@@ -1019,6 +1067,59 @@ data8 1:
 ;; x
 ;; nop.i 0
 ;;;
+.pred.rel
+.pred.rel ;;
+.pred.rel x
+.pred.rel 5
+.pred.rel,"mutex",p6,p7
+.pred.rel p6,p7
+.pred.rel mutex,p6,p7
+.pred.rel @mutex,p6,p7
+.pred.rel "mutex
+.pred.rel "mutex,p6,p7
+.pred.rel mutex",p6,p7
+.pred.rel "mutex//",p6,p7
+.pred.rel "//mutex",p6,p7
+.pred.rel "Mutex",p6,p7
+.pred.rel " mutex",p6,p7
+.pred.rel "mutex ",p6,p7
+.pred.rel "",p6,p7
+.pred.rel "clear"
+.pred.rel "clear",p6,p7
+.pred.rel "imply",p6,p7
+.pred.rel "repeat",p6,p7
+.pred.rel "mutex"
+.pred.rel "mutex" ;;
+.pred.rel "mutex"//,p6,p7
+.pred.rel "mutex" p6,p7
+.pred.rel "mutex" "mutex",p6,p7
+.pred.rel "mutex",
+.pred.rel "mutex",p6
+.pred.rel "mutex",p6 ;;
+.pred.rel "mutex",p6,
+.pred.rel "mutex",p6,p6
+.pred.rel "mutex",p6,p7,p6
+.pred.rel "mutex",p6,p6,p16
+.pred.rel "mutex",p6,p7,
+.pred.rel "mutex",p6,p7 p8
+.pred.rel "mutex",p6 p16
+.pred.rel "mutex",p6-p9
+.pred.rel "mutex",p6=p7
+.pred.rel "mutex",p6;p7
+.pred.rel "mutex",p6,p7 ;;
+.pred.rel "mutex",p6,p7 x
+.pred.rel "mutex",p6,p7 "mutex"
+.pred.rel "mutex",p1,p2,p3,p4,p5,p6,p7,p8,p9,p10,p11,p12,p13,p14,p15,p1
+(p6) .pred.rel "mutex",p6,p7
+(p0) .pred.rel "mutex",p6,p7
+nop.i 0 "
+nop.i 0 "x"
+nop.i 0 " // "
+x: "
+.text "mutex"
+.entry "x"
+ld8 r8="[r9]"
+} "
 """ + "\n".join((
     f"{TOO_LONG}:",
     f"br.cond {TOO_LONG}",

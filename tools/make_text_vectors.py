@@ -10,18 +10,22 @@ in any folder. It writes `crates/text_vectors/stdin` and `crates/text_vectors/st
 cover. The same tools give the same files.
 
 A line of `stdin` is the image of a program in hexadecimal, a space, and a text with a `\\` for each line
-feed. The bundles and the data are those of the GNU assembler, which is given the text as it stands; its
+feed. The bundles and the data are those of the GNU assembler, which is given the text with a label before each line of relations; its
 linker puts the bundles at 0x10000 and the data at 0x100000, so that it makes the displacements and the
-addresses of the labels; and the numbers of the declared entries are read off the linker's table of
-symbols. So the image has nothing of the program that it is compared with.
+addresses of the labels; and the numbers of the declared entries, and of the bundles that lines of relations
+speak of, are read off the linker's table of symbols. So the image has nothing of the program that it is
+compared with.
 
 In the last rows one thing of a text is changed on purpose, and the image is that of the text before: a label
-stands a bundle later, two bundles are exchanged, an entry isn't declared, a word of data is left out.
+stands a bundle later, two bundles are exchanged, an entry isn't declared, a word of data is left out, a relation
+stands a bundle later, or one of its predicates is left out.
 `stdout` has `text_vectors` name them.
 """
 
+import itertools
 import os
 import random as randoms
+import re
 import struct
 import subprocess
 import sys
@@ -84,6 +88,15 @@ WRITTEN = {
         "second:", "{ .mii", "nop.m 0", "nop.i 0", "nop.i 0 ;;", "}", ".entry fourth",
         "third:", "{ .mii", "nop.m 0", "nop.i 0", "nop.i 0 ;;", "}",
         "fourth:", "{ .mii", "nop.m 0", "nop.i 0", "nop.i 0 ;;", "}", ".data", ".entry second", "x:", "data1 1"],
+    "relations": [
+        '.pred.rel "mutex",p6,p7', ".entry third", "{ .mib", "(p6) adds r8=1,r0", "(p7) adds r8=2,r0",
+        "br.call.sptk.few b0=third ;;", "}",
+        '\t.pred.rel "mutex" , p15,p1,p8 // p1, p8 and p15', "", '.pred.rel "mutex",p8,p15',
+        "{ .mii", "nop.m 0", "nop.i 0", "nop.i 0 ;;", "}",
+        '.pred.rel "mutex",p2,p3', "third:", ".data", "x:", "data8 1", ".text", '.pred.rel "mutex",p1,p2',
+        "{ .mii", "nop.m 0", "nop.i 0", "nop.i 0 ;;", "}",
+        ".entry last", "last:", '.pred.rel "mutex",p1,p2,p3,p4,p5,p6,p7,p8,p9,p10,p11,p12,p13,p14,p15',
+        "{ .mii", "nop.m 0", "nop.i 0", "nop.i 0 ;;", "}"],
     "data of all sizes": [
         "{ .mlx", "nop.m 0", "movl r8=bytes ;;", "}", "{ .mlx", "nop.m 0", "movl r9=end ;;", "}",
         ".data", "bytes:", "data1 1,-1,255,-128", "data1 0,0,0,0", "data2 0x1234,-32768", "data4 0x89abcdef",
@@ -125,14 +138,26 @@ def linked(text):
         return (*parts, {name: int(address, 16) for address, _, name in symbols})
 
 
+def predicates(line):
+    """The predicates of a line that declares relations, and none of any other line."""
+    text = line.partition("//")[0].strip()
+    return sorted(int(number) for number in re.findall(r"\bp(\d+)", text)) if text.startswith(".pred.rel") else []
+
+
 def image(lines):
-    """The image of a text."""
-    code, data, labels = linked("".join(line + "\n" for line in lines))
+    """The image of a text. Before each line of relations a label is put, so that the linker says which bundle is next."""
+    related = {f"relation.{n}": predicates(line) for n, line in enumerate(lines) if predicates(line)}
+    marked = (f"relation.{n}:\n" * (f"relation.{n}" in related) + line + "\n" for n, line in enumerate(lines))
+    code, data, labels = linked("".join(marked))
     named = {line.split()[1] for line in lines if line.startswith(".entry ")}
     entries = sorted({(labels[name] - CODE) // 16 for name in named} - {0})
+    relations = sorted({((labels[name] - CODE) // 16, *pair)
+                        for name, ps in related.items() for pair in itertools.combinations(ps, 2)})
     data += bytes(-len(data) % 8)
-    head = struct.pack("<8s4I", b"IA64IMG1", len(code) // 16, len(entries), len(data), 0)
-    return head + struct.pack(f"<{len(entries)}I", *entries) + code + data
+    magic = b"IA64IMG2" if relations else b"IA64IMG1"
+    head = struct.pack("<8s4I", magic, len(code) // 16, len(entries), len(data), len(relations))
+    pairs = b"".join(struct.pack("<I2B2x", *relation) for relation in relations)
+    return head + struct.pack(f"<{len(entries)}I", *entries) + pairs + code + data
 
 
 def kept():
@@ -202,6 +227,21 @@ def drawn_bundle(random, names, data, last):
     return lines
 
 
+def related(random, lines):
+    """The lines with relations before some of the bundles that are entries."""
+    entries = {line.split()[1] for line in lines if line.startswith(".entry ")}
+    made, is_entry = [], True
+    for line in lines:
+        if line.startswith("{"):
+            while is_entry and random.random() < 0.6:
+                some = random.sample(range(1, 16), random.choice((2, 2, 3, 15)))
+                made.append('.pred.rel "mutex"' + "".join(f",p{p}" for p in some))
+            is_entry = False
+        is_entry = is_entry or line[:-1] in entries or "br.call" in line
+        made.append(line)
+    return made
+
+
 def maybe_blank(random, lines):
     if random.random() < 0.15:
         lines.append(random.choice(BLANKS))
@@ -223,12 +263,16 @@ def wrong():
     yield image(lines), [line for line in lines if line != ".entry second"]
     lines = WRITTEN["data of all sizes"]
     yield image(lines), [line for line in lines if line != ".skip 3"]
+    lines = WRITTEN["relations"]
+    at = lines.index('.pred.rel "mutex",p1,p2')
+    yield image(lines), lines[:at] + lines[at + 1:at + 8] + [lines[at]] + lines[at + 8:]
+    yield image(lines), [line.replace(",p14,", ",") for line in lines]
 
 
 def main():
-    random = randoms.Random(1)
+    random, other = randoms.Random(1), randoms.Random(2)
     programs = kept()
-    texts = [*WRITTEN.values(), *programs, *(drawn(random) for _ in range(DRAWN))]
+    texts = [*WRITTEN.values(), *programs, *(related(other, drawn(random)) for _ in range(DRAWN))]
     rows = [row(image(lines), lines) for lines in texts]
     changed = [row(made, lines) for made, lines in wrong()]
     (FOLDER / "stdin").write_text("".join(rows + changed))

@@ -31,7 +31,7 @@ VIOLATIONS = rf"violations [1-9][0-9]*\n(?:{VIOLATION}){{1,100}}"
 
 # The refusals of a text and of an image.
 REASONS = ("limit", "char", "name", "register", "number", "range", "form", "misplaced", "twice", "template",
-           "slot kind", "empty", "no label", "long run")
+           "slot kind", "empty", "no label", "relation", "long run")
 TEXT_REFUSED = rf"line [1-9][0-9]*: (?:{'|'.join(REASONS)})\n"
 SLOT_FAULT = "slot [012]: (?:unlisted|target|long run)"
 IMAGE_REFUSED = (rf"image: (?:short|magic|counts|length|entry {N}|bundle {N}(?:: template| {SLOT_FAULT})"
@@ -58,21 +58,23 @@ TOKEN = rf"(?:r{GENERAL}|p{PREDICATE}|b[0-7]|ar\.(?:unat|pfs|lc|ec)|pr|pr\.rot|i
 SLOT = (rf"  (?:\(p(?!0\)){PREDICATE}\) )?[a-z][a-z0-9]*(?:\.[a-z0-9]+)*"
         rf"(?: (?:{TOKEN}|\[{TOKEN}\])(?:[=,](?:{TOKEN}|\[{TOKEN}\]))*)?(?: ;;)?\n")
 BUNDLE = rf"(?:mlx\n(?:{SLOT}){{2}}|(?:{'|'.join(SHAPES)})\n(?:{SLOT}){{3}})"
-CANONICAL = (rf"(?:(?:\.entry L{N}\n)?(?:L{N}:\n)?{{ \.{BUNDLE}}}\n)+"
+RELATED = "(?:1[0-5]|[1-9])"
+RELATION_LINE = rf'\.pred\.rel "mutex",p{RELATED},p{RELATED}\n'
+CANONICAL = (rf"(?:(?:\.entry L{N}\n)?(?:L{N}:\n)?(?:{RELATION_LINE})*{{ \.{BUNDLE}}}\n)+"
              rf"(?:\.data\n(?:data8 {HEX}(?:,{HEX}){{7}}\n)*data8 {HEX}(?:,{HEX}){{0,7}}\n)?")
 LISTING = rf"(?:{N} [0-9a-f]{{32}} {BUNDLE})+"
 
 TRIAL = rf"trial {N} [1-9][0-9]*\naccepted\n(?:{BROKEN}|{LIMITED}|{FAULTED}){GROUPS}sum {WORD}\n"
-IMAGE, LIFTED = (magic.decode() + "(?s:.){16,}" for magic in MAGICS)
+FIRST, SECOND = (magic.decode() + "(?s:.){16,}" for magic in MAGICS)
 
 # Of each command: the form of what it prints with each of its statuses. With 3 it is a refusal of what
 # it takes, and with the statuses 2, 4, 5 and 7 there is nothing.
 FORMS = {
-    "build": {0: IMAGE},
+    "build": {0: f"{FIRST}|{SECOND}"},
     "show": {0: CANONICAL},
     "list": {0: LISTING},
-    "wrap": {0: IMAGE},
-    "lift": {0: LIFTED},
+    "wrap": {0: FIRST},
+    "lift": {0: SECOND},
     "check": {0: ACCEPTED, 1: VIOLATIONS},
     "run": {0: BROKEN + REST, 1: VIOLATIONS, 8: LIMITED + REST, 9: FAULTED + REST},
     "watch": {0: REPORTS + BROKEN + REST, 1: VIOLATIONS, 8: REPORTS + LIMITED + REST, 9: REPORTS + FAULTED + REST},
@@ -186,6 +188,24 @@ def lifted_image(image):
     return with_relations(image, Layout(image).relations_of(image))
 
 
+def written_image(image):
+    """The image of the same program in the version in which `build` writes it: 2 where it has relations, else 1."""
+    return lifted_image(image) if Layout(image).relations else without_relations(image)
+
+
+def relation_lines_oddity(image, text):
+    """What is wrong with the lines of relations of a canonical text: other ones than the image has, others' places."""
+    wanted = [(bundle, f'.pred.rel "mutex",p{p},p{q}') for bundle, p, q, _ in Layout(image).relations_of(image)]
+    bundle, found = 0, []
+    for line in text.decode().splitlines():
+        bundle += line.startswith("{")
+        found += [(bundle, line)] * line.startswith(".pred.rel")
+    differing = next((n for n, (one, other) in enumerate(zip(wanted, found)) if one != other), None)
+    if differing is not None:
+        return f"{found[differing]} in place of {wanted[differing]}"
+    return None if len(found) == len(wanted) else f"{len(found)} lines of {len(wanted)} relations"
+
+
 def takes_image(word, data):
     return word in ("show", "list", "wrap", "lift") or (word != "build" and data.startswith(MAGICS))
 
@@ -245,6 +265,8 @@ def text_refusal_oddity(data, output):
     """What is wrong with a refusal of a text: a line that it doesn't have."""
     number, lines = int(re.search(rb"\d+", output)[0]), data.count(b"\n") + (data[-1:] not in (b"", b"\n"))
     past = lines + output.endswith((b"misplaced\n", b"empty\n"))
+    if output.endswith(b"relation\n") and b".pred.rel" not in data:
+        return "a relation of a text without one"
     return f"line {number} of {lines}" if number > past or (b"empty" in output and number != past) else None
 
 

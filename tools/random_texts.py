@@ -1,10 +1,11 @@
 """Random programs as texts, and such texts with one fault, of which it is known what is answered.
 
 A program is made of every row of the table of instructions and of the other texts of slot lines, with
-labels, entries, data, predicates, stops and spellings at random. It is right but for runs of slots that
+labels, entries, relations, data, predicates, stops and spellings at random. It is right but for runs of slots that
 may be too long. A text is a list of lines without their ends.
 """
 
+import re
 from string import Template
 
 from gnu_as import TEMPLATES, nops, units
@@ -12,7 +13,7 @@ from instruction_rows import GR, PR, TARGET, rows_of
 from line_faults import FAULTS
 from line_texts import OTHERWISE, PSEUDO
 from make_line_vectors import blank_and_comment, drawn, name, of_row, past_edges, places_of_text, styled
-from printed_forms import BUNDLE_LIMIT, DATA_LIMIT, ENTRY_LIMIT
+from printed_forms import BUNDLE_LIMIT, DATA_LIMIT, ENTRY_LIMIT, RELATION_LIMIT
 
 RUN_LIMIT = 192
 LINE_FAULTS = [*FAULTS, *past_edges()]
@@ -23,8 +24,9 @@ FRAMES = ("0,48,0,0", "0,40,8,8", "4,40,4,48", "0,0,0,0")
 
 class Shape:
     """How a program is made: its bundles, how often a slot does nothing and a bundle ends with a stop,
-    which registers and predicates it names for the most, how often a bundle has a label and is an entry,
-    whether its slots are spelled in all ways, and whether it begins with a frame and ends with a `break`."""
+    which registers and predicates it names for the most, how often a bundle has a label and is an entry, and how
+    often an entry has relations, whether its slots are spelled in all ways, and whether it begins with a frame and
+    ends with a `break`."""
 
     def __init__(self, random, bundles=None, stops=None):
         few, some, many = random.randrange(1, 9), random.randrange(9, 40), random.randrange(40, 300)
@@ -34,6 +36,7 @@ class Shape:
         self.registers = random.choice((range(8, 12), range(8, 16), range(30, 40), range(128)))
         self.predicates = random.choice(((0,), (0, 0, 6, 7), (0, 6, 16, 17, 63)))
         self.labels, self.entries = random.choice((0.1, 0.5, 1)), random.choice((0, 0, 0.2))
+        self.relations = random.choice((0, 0.2, 1))
         self.is_styled, self.is_framed = random.randrange(4) == 0, random.randrange(4) > 0
 
     def draw(self, random, operand):
@@ -120,10 +123,49 @@ def data_part(random, label):
     return [".data", f"{label}:", *lines, ".text"]
 
 
+def spaced(random, *words):
+    """The words of a line with blanks between them that mean nothing, most often with none."""
+    return "".join(word + random.choice(("", "", "", " ", "\t ")) for word in words).rstrip()
+
+
+def relation_line(random, predicates):
+    """A line that declares relations between each two of these predicates, in any order."""
+    words = [word for p in random.sample(list(predicates), len(predicates)) for word in (",", f"p{p}")]
+    return spaced(random, random.choice((".pred.rel", ".pred.rel#")) + " ", '"mutex"', *words)
+
+
+def relation_part(random):
+    """Up to three lines that declare relations of one bundle."""
+    some = random.sample(range(1, 16), random.randrange(2, 16))
+    count = random.choice((1, 1, 1, 2, 3))
+    return [relation_line(random, random.choice(((6, 7), (6, 7), (6, 7, 8), some))) for _ in range(count)]
+
+
+# How many relations such lines have at the most.
+MOST_OF_A_PART = 3 * 105
+
+
+def has_call(lines):
+    return any(re.match(r"\s*(\([^)]*\)\s*)?br\.call\b[^:]*=", line) for line in lines)
+
+
+def relate(random, shape, names, parts):
+    """Puts relations before bundles that are entries: bundle 0, those that a line `.entry` names, and those behind a
+    call. They stand before the labels and the line `.entry` of the bundle, or behind them."""
+    declared = {line.split()[1] for lines in parts for line in lines if line.startswith(".entry ")}
+    entries = [n for n in range(len(parts)) if n == 0 or names.code.get(n) in declared or has_call(parts[n - 1])]
+    related = [n for n in entries if random.random() < shape.relations]
+    for n in related[:RELATION_LIMIT // MOST_OF_A_PART]:
+        first = next(number for number, line in enumerate(parts[n]) if line.startswith("{"))
+        at = random.choice((0, first))
+        parts[n][at:at] = relation_part(random)
+
+
 def random_lines(random, shape):
     """The lines of a program."""
     names = Names(random, shape)
     parts = [code_part(random, shape, names, n) for n in range(shape.bundles)]
+    relate(random, shape, names, parts)
     for label in names.data:
         parts.insert(random.randrange(len(parts) + 1), data_part(random, label))
     lines = [line for part in parts for line in part]
@@ -180,9 +222,10 @@ def long_line(random, lines):
 
 
 MISPLACED = {
-    "bundle": ("fresh:", ".text", ".data", ".entry x", ".global x", "{ .mii", "data1 0", ".skip 0"),
+    "bundle": ("fresh:", ".text", ".data", ".entry x", ".global x", '.pred.rel "mutex",p6,p7', "{ .mii", "data1 0",
+               ".skip 0"),
     "code": ("}", ";;", "nop.i 0", "data1 0", ".skip 0"),
-    "data": ("{ .mii", "}", ";;", "nop.m 0"),
+    "data": ('.pred.rel "mutex",p1,p2,p3', "{ .mii", "}", ";;", "nop.m 0"),
 }
 
 
@@ -247,6 +290,33 @@ def past_entries(random, lines):
     return text, len(text), "limit"
 
 
+STOPPED_NOPS = [*NOPS[:-2], "nop.i 0 ;;", "}"]
+
+
+def past_relations(random, _lines):
+    """39 entries with all 105 relations, and one with those that are too many; what is declared again doesn't count."""
+    every = relation_line(random, range(1, 16))
+    text = [line for n in range(39) for line in (f".entry x{n}", f"x{n}:", every, *STOPPED_NOPS)]
+    twice = [relation_line(random, (14, 15)), relation_line(random, (14, 15)), relation_line(random, (13, 15))]
+    text += random.choice((twice, [relation_line(random, (6, 7, 8))]))
+    return [*text, "x:", *STOPPED_NOPS, ".entry x"], len(text), "limit"
+
+
+def unrelated(lines):
+    """The lines but those of relations, whose bundles would be others where bundles are put in."""
+    return [line for line in lines if not line.startswith(".pred.rel")]
+
+
+def no_entry(random, lines):
+    """A relation of a bundle that is no entry, or behind the last bundle."""
+    line = relation_line(random, random.choice(((6, 7), range(1, 16))))
+    if random.randrange(2):
+        return [*lines, line], len(lines) + 1, "relation"
+    lines, more = unrelated(lines), [*STOPPED_NOPS, line, *random.choice(([], ["fresh:"])), *STOPPED_NOPS]
+    at = random.choice(gaps(lines, "code"))
+    return put(lines, at, *more), at + len(STOPPED_NOPS) + 1, "relation"
+
+
 def open_bundle(random, lines):
     at = random.choice(gaps(lines, "bundle"))
     return lines[:at], at + 1, "misplaced"
@@ -272,10 +342,12 @@ def no_target(random, lines):
 
 
 def long_run(random, lines):
+    lines = unrelated(lines)
     at = random.choice(gaps(lines, "code"))
     return put(lines, at, *NOPS * (RUN_LIMIT // 3 + 1)), at + len(NOPS) * (RUN_LIMIT // 3) + 2, "long run"
 
 
 FAULT_KINDS = [line_by_itself] * 20 + [
     long_line, misplaced, early_stop, same_label, one_slot_more, one_slot_less, wrong_stop, wrong_kind, past_data,
-    open_bundle, label_at_the_end, no_bundle, no_target, long_run] * 4 + [past_bundles, past_entries]
+    open_bundle, label_at_the_end, no_bundle, no_target, no_entry, long_run] * 4 + [
+    past_bundles, past_entries, past_relations]

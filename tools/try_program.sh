@@ -26,7 +26,7 @@ printf 'image: length\n' > "$dir/length"
 printf 'image: counts\n' > "$dir/counts"
 : > "$dir/nothing"
 head -c 39 examples/three_nops.image > "$dir/cut"
-head -c 4194305 /dev/zero > "$dir/too_long"
+head -c 16777217 /dev/zero > "$dir/too_long"
 head -c 100 /dev/zero > "$dir/no_image"
 
 try accepted 0 "$dir/accepted" examples/three_nops.image check
@@ -92,7 +92,7 @@ try_watch() {
 }
 
 # What the comment of an example says that `run` prints.
-for name in count counted_loop pipelined_loop predicated call speculation; do
+for name in count counted_loop pipelined_loop predicated behind_a_call call speculation; do
   sed -n 's|^//   ||p' "examples/$name.s" > "$dir/$name"
   try "$name, as it says" 0 "$dir/$name" "examples/$name.s" run 100
   try_watch "$name" 0 "$dir/$name" "examples/$name.s" 100
@@ -216,7 +216,7 @@ for words in '1 4097' '1 0' '1 01' '-1 1' '01 1' '18446744073709551616 1' '1' '1
 done
 
 # The examples that are right: accepted, as text and as image. Built, shown and built again they give one image.
-for name in count predicated counted_loop pipelined_loop call deep_recursion speculation; do
+for name in count predicated behind_a_call counted_loop pipelined_loop call deep_recursion speculation; do
   try "$name" 0 "$dir/accepted" "examples/$name.s" check
   "$program" build < "examples/$name.s" > "$dir/image" && "$program" show < "$dir/image" > "$dir/shown"
   note $? "$name: not built or not shown"
@@ -309,6 +309,7 @@ refused_text limit 3 '.data\n.skip 1048576\ndata1 0\n'
 refused_text misplaced 1 'nop.i 0\n'
 refused_text misplaced 2 '{ .mii\n'
 refused_text empty 1 ''
+refused_text relation 6 '{ .mii\nnop 0\nnop 0\nnop 0\n}\n.pred.rel "mutex",p6,p7\n'
 long=
 for _ in {1..65}; do long+='{ .mii\nnop 0\nnop 0\nnop 0\n}\n'; done
 refused_text 'long run' 322 "$long"
@@ -352,19 +353,68 @@ try 'a relation' 0 "$dir/accepted" "$dir/promised" check
 for image in plain first; do try "no relation, $image" 1 "$dir/waw" "$dir/$image" check; done
 for command in run watch; do try "no relation, $command" 1 "$dir/waw" "$dir/plain" "$command" 9; done
 
-# What is shown and listed says no relations, and builds the image of version 1.
-{
-  printf '{ .mii\n  cmp.eq p6,p7=r0,r0\n  nop.i 0x0\n  nop.i 0x0 ;;\n}\n.entry L1\nL1:\n'
+# What is shown says the relation, and builds the image of version 2; without relations it builds that of version 1. What is
+# listed doesn't say it.
+shown() {
+  printf '{ .mii\n  cmp.eq p6,p7=r0,r0\n  nop.i 0x0\n  nop.i 0x0 ;;\n}\n.entry L1\nL1:\n%s' "$1"
   printf '{ .mii\n  nop.m 0x0\n  (p6) addl r8=1,r0\n  (p7) addl r8=2,r0 ;;\n}\n'
-} > "$dir/text"
+}
+shown $'.pred.rel "mutex",p6,p7\n' > "$dir/promised_text"
+shown '' > "$dir/text"
 "$program" list < "$dir/first" > "$dir/listing"
 note $? "no relation, list: another status than 0"
-for image in promised plain first; do
-  try "$image, shown" 0 "$dir/text" "$dir/$image" show
-  try "$image, listed" 0 "$dir/listing" "$dir/$image" list
+for image in promised plain first; do try "$image, listed" 0 "$dir/listing" "$dir/$image" list; done
+for image in plain first; do try "$image, shown" 0 "$dir/text" "$dir/$image" show; done
+try 'a relation, shown' 0 "$dir/promised_text" "$dir/promised" show
+try 'a relation that was shown' 0 "$dir/promised" "$dir/promised_text" build
+try 'a relation that was shown, checked' 0 "$dir/accepted" "$dir/promised_text" check
+try 'no relation that was shown' 0 "$dir/first" "$dir/text" build
+try 'no relation that was shown, checked' 1 "$dir/waw" "$dir/text" check
+
+# The same program as a text, with the line at each place where it speaks of bundle 1, spelled in some ways.
+first_bundle='{ .mii\ncmp.eq p6,p7=r0,r0\nnop.i 0\nnop.i 0 ;;\n}\n'
+second_bundle='{ .mii\nnop.m 0\n(p6) mov r8=1\n(p7) mov r8=2 ;;\n}\n'
+line='.pred.rel "mutex",p6,p7\n'
+for between in ".entry e\ne:\n$line" ".entry e\n${line}e:\n" "$line.entry e\ne:\n" ".entry e\ne:\n$line$line" \
+  "$line.data\n.skip 0\n.text\n\n// a comment\ne:\n.entry e\n" 'e:\n\t.pred.rel\t"mutex" , p7,p6 // p8\n.entry e\n'; do
+  printf "$first_bundle$between$second_bundle" > "$dir/related"
+  try "a relation of a text, $between" 0 "$dir/promised" "$dir/related" build
+  try "a relation of a text, $between, checked" 0 "$dir/accepted" "$dir/related" check
 done
-try 'a relation that was shown' 0 "$dir/first" "$dir/text" build
-try 'a relation that was shown, checked' 1 "$dir/waw" "$dir/text" check
+printf "$first_bundle.entry e\ne:\n.pred.rel \"mutex\",p8,p7,p6\n$second_bundle" > "$dir/related"
+made three "$(front 2 1 3)$entry$promise$(relation 1 6 8)$(relation 1 7 8)$compare$moves"
+try 'three predicates' 0 "$dir/three" "$dir/related" build
+shown "$(printf '.pred.rel "mutex",p%s,p%s\n' 6 7 6 8 7 8)"$'\n' > "$dir/three_text"
+try 'three predicates, shown' 0 "$dir/three_text" "$dir/three" show
+
+# Before the first bundle, which is an entry, and faults of the line by itself.
+printf '.pred.rel "mutex",p6,p7\n{ .mii\nnop.m 0\nnop.i 0\nnop.i 0 ;;\n}\n' > "$dir/related"
+made wanted "$(front 1 0 1)$(relation 0 6 7)$nops"
+try 'a relation before bundle 0' 0 "$dir/wanted" "$dir/related" build
+refused_text range 1 '.pred.rel "mutex",p6,p16\n'
+refused_text range 1 '.pred.rel "mutex",p0,p7\n'
+refused_text register 1 '.pred.rel "mutex",p6,r7\n'
+for wrong in '' ' "mutex"' ' "mutex",p6' ' "mutex",p6,' ' "mutex",p6,p6' ' "mutex" p6,p7' ' "imply",p6,p7' ' "clear"' ' mutex,p6,p7' \
+  ' "mutex,p6,p7' ' "mutex//",p6,p7' ' "mutex",p6,p7 ;;' ' "mutex",p6-p9'; do
+  refused_text form 1 ".pred.rel$wrong\n"
+done
+refused_text form 1 '(p6) .pred.rel "mutex",p6,p7\n'
+refused_text name 1 '.pred.rel.mutex p6,p7\n'
+refused_text misplaced 2 '{ .mii\n.pred.rel "mutex",p6,p7\n'
+refused_text misplaced 2 '.data\n.pred.rel "mutex",p6,p7\n'
+
+# Of the whole text: after missing labels and before long runs, at the first line that has one.
+other='.pred.rel "mutex",p1,p2\n'
+refused_text relation 6 "$first_bundle$line$second_bundle$other"
+refused_text relation 14 "$first_bundle.entry e\ne:\n$line$second_bundle$other$second_bundle$line"
+refused_text relation 12 "$line$first_bundle$second_bundle$other"
+refused_text 'no label' 12 "$first_bundle$line$second_bundle.entry e\n"
+refused_text empty 2 "$line"
+refused_text misplaced 8 "$first_bundle$line{ .mii\n"
+long=
+for _ in {1..65}; do long+='{ .mii\nnop 0\nnop 0\nnop 0\n}\n'; done
+refused_text relation 326 "$long$line"
+refused_text 'long run' 323 "$line$long"
 
 # A walk that comes from a bundle that sets neither predicate doesn't know what the entry promises.
 made direct "$(front 2 1 1)$entry$promise$nops$moves"
@@ -437,12 +487,26 @@ for n in {1..39}; do entries+=$(number "$n") code+=$nops; done
 for n in {0..38}; do all+=${pairs//_/"$(number "$n")"}; done
 first=$(relation 39 1 2) second=$(relation 39 1 3)
 made most "$(front 40 39 4096)$entries$all$first$code"
-{
-  printf '{ .mii\n  nop.m 0x0\n  nop.i 0x0\n  nop.i 0x0 ;;\n}\n'
-  for n in {1..39}; do printf '.entry L%s\nL%s:\n{ .mii\n  nop.m 0x0\n  nop.i 0x0\n  nop.i 0x0 ;;\n}\n' "$n" "$n"; done
-} > "$dir/text"
+lines=$(for p in {1..14}; do for q in $(seq $((p + 1)) 15); do echo ".pred.rel \"mutex\",p$p,p$q"; done; done)
+one='.pred.rel "mutex",p1,p2'
+bundle=$'{ .mii\n  nop.m 0x0\n  nop.i 0x0\n  nop.i 0x0 ;;\n}'
+# LINES LAST: the text of these bundles, with these lines before each but the last, and these before the last.
+all_related() {
+  printf '%s\n%s\n' "$1" "$bundle"
+  for n in {1..38}; do printf '.entry L%s\nL%s:\n%s\n%s\n' "$n" "$n" "$1" "$bundle"; done
+  printf '.entry L39\nL39:\n%s\n%s\n' "$2" "$bundle"
+}
+all_related "$lines" "$one" > "$dir/text"
 try 'the most relations' 0 "$dir/accepted" "$dir/most" check
 try 'the most relations, shown' 0 "$dir/text" "$dir/most" show
+try 'the most relations, built' 0 "$dir/most" "$dir/text" build
+every=.pred.rel$(printf ' "mutex"'; printf ',p%s' {1..15})
+all_related "$every" "$one"$'\n'"$one" > "$dir/text"
+try 'the most relations on few lines, built' 0 "$dir/most" "$dir/text" build
+# One more: the third line before the last bundle, which is line 315.
+all_related "$every" "$one"$'\n'"$one"$'\n.pred.rel "mutex",p1,p3' > "$dir/text"
+printf 'line 315: limit\n' > "$dir/wanted"
+try 'one relation more' 3 "$dir/wanted" "$dir/text" build
 refused 'counts' check "$(front 40 39 4097)$entries$all$first$second$code"
 refused 'relation 4095' check "$(front 40 39 4096)$entries$all$(relation 38 1 2)$code"
 

@@ -29,7 +29,7 @@ PROGRAM = str(HERE / "crates" / "ia64_cli" / "out" / "ia64_cli")
 SECONDS = 60        # the longest that anything may take
 PAGE = 4096         # the least room of a pipe
 PAUSE = 0.001       # of a slow reader and a slow writer
-LIMIT = 4_194_304   # the longest input
+LIMIT = 16_777_216  # the longest input
 CLOSED = None       # in place of a stream
 
 # ---- Inputs and answers ----------------------------------------------------------------------------------

@@ -44,6 +44,7 @@ try 'a run' 0 "$dir/count" '' examples/count.s ./ia64 run 100
 try 'a run that is watched' 0 "$dir/watched" '' examples/count.s ./ia64 watch 100
 try 'a hazard that is watched' 1 "$dir/raw" '' examples/read_after_write.s ./ia64 watch 100
 try 'two predicates' 0 "$dir/accepted" '' examples/predicated.s ./ia64 check
+try 'two predicates behind a call' 0 "$dir/accepted" '' examples/behind_a_call.s ./ia64 check
 try 'a run of a pipelined loop' 0 "$dir/pipelined_loop" '' examples/pipelined_loop.s ./ia64 run 100
 try 'a violation on the way back' 1 "$dir/loop_edge" '' examples/loop_edge.s ./ia64 check
 try 'a run with register frames' 0 "$dir/call" '' examples/call.s ./ia64 run 100
@@ -87,8 +88,8 @@ try 'an unknown word' 2 "$dir/nothing" "no command 'assemble'" /dev/null ./ia64 
 try 'help' 0 "$dir/help" '' /dev/null ./ia64 --help
 for command in check 'run N' 'watch N' build show list wrap lift 'trial SEED'; do grep -q "^  $command " "$dir/help"; note $? "--help has no $command"; done
 try 'a refusal' 3 "$dir/magic" "'list' refused its input; the reason went to standard output" examples/call.s ./ia64 list
-head -c 4194305 /dev/zero > "$dir/too_long"
-try 'a long input' 4 "$dir/nothing" 'longer than 4,194,304 bytes' "$dir/too_long" ./ia64 check
+head -c 16777217 /dev/zero > "$dir/too_long"
+try 'a long input' 4 "$dir/nothing" 'longer than 16,777,216 bytes' "$dir/too_long" ./ia64 check
 try 'a folder' 5 "$dir/nothing" 'reading standard input failed' "$dir" ./ia64 check
 ./ia64 check < examples/count.s > /dev/full 2> "$dir/err"
 [ $? = 6 ] && grep -q 'writing standard output failed' "$dir/err"

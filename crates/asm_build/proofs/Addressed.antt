@@ -1,5 +1,5 @@
 -- An instruction with an address put in fits its slot as before, and its target is the bundle of the label.
-use Rattle.std.proofs.Common.{◌≡◌, ◌∙◌, subst, sym, inl, inr, ℕ, zero, suc, ◌+◌, ◌-◌, ◌/◌, ◌<◌, ◌≤◌, ◌^◌, true, false, cond, ltb, pos, negsuc, ◌+ℤ◌, ◌-ℤ◌, ◌≤ℤ◌, ◌<ℤ◌, Option, Some, None, arith}
+use Rattle.std.proofs.Common.{◌≡◌, ◌∙◌, subst, sym, inl, inr, ℕ, zero, suc, ◌-◌, ◌/◌, ◌<◌, ◌^◌, true, false, cond, ltb, pos, negsuc, ◌+ℤ◌, ◌-ℤ◌, ◌≤ℤ◌, ◌<ℤ◌, Option, Some, None, arith}
 use Rattle.std.specs.Prelude.{IfSome}
 use lib.Dec.{le→leb, lt→ltb}
 use Rattle.std.proofs.Math.IntN.{+ℤ_comm, -ℤ-+ℤ_cancel}

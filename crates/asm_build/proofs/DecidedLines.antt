@@ -36,6 +36,7 @@ has_some lines = yes tt
 
 may_stand : (s : TextParts) (value : Line) → Dec (MayStand s value)
 may_stand s line.Empty = yes tt
+may_stand s (line.Relation predicates) = is_in section.Text s
 may_stand s (line.Numbers size values) = is_in section.Data s
 may_stand s (line.Skip count) = is_in section.Data s
 may_stand s (line.Open shape) = is_in section.Text s

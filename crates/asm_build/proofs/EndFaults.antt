@@ -1,13 +1,18 @@
 -- The faults after the last line are of a line, for a reason.
-use Rattle.std.proofs.Common.{◌≡◌, ◌∙◌, inl, inr, refl, subst, ℕ, ◌+◌, Bool, true, false, List, [], ◌∷◌, length, Option, Some, None, Result, Ok, Err, IfSome, IfErr, nat_lt, if◌then◌else◌}
+use Rattle.std.proofs.Common.{◌≡◌, ◌∙◌, inl, inr, refl, sym, subst, ℕ, ◌+◌, Bool, true, false, List, [], ◌∷◌, length, Option, Some, None, Result, Ok, Err, IfSome, IfErr, nat_lt, if◌then◌else◌}
 use Rattle.first_fault.specs.Stages.{IsFirstFault}
 use Rattle.ia_insn.specs.declared.limits.TheConstants.{ENTRY_LIMIT}
+use Rattle.ia_insn.specs.declared.relations.Relation.{Relation}
+use Rattle.ia_insn.specs.Bundles.{Bundle}
 use Rattle.asm_build.specs.declared.text_parts.EntryLine.{EntryLine}
+use Rattle.asm_build.specs.declared.text_parts.RelationLine.{RelationLine}
 use Rattle.asm_build.specs.declared.reason.Reason.{Reason}
+use Rattle.asm_build.specs.declared.reason.Reason.TheVariants as reason
 use Rattle.asm_build.specs.declared.reason.Reason.TheVariants.{NoLabel, Limit, Misplaced, Empty, LongRun}
 use Rattle.asm_build.specs.declared.reason.TextError.{TextError}
 use Rattle.asm_build.specs.declared.reason.TextError.TheVariants.{Fault, Memory}
-use Rattle.asm_build.specs.Names.{bundle_at, declared, declared_by, and_then, all_declared, earlier_of, no_label, earlier, unnamed_bundle, name_fault, line_at}
+use Rattle.asm_build.specs.Names.{bundle_at, declared, declared_by, and_then, all_declared, earlier_of, no_label, earlier, unnamed_bundle, name_fault, program_of, line_at}
+use Rattle.asm_build.specs.Relations.{related, relation_stages}
 use Rattle.asm_build.specs.TextParts.{TextParts, Labels, address_of}
 use Rattle.asm_build.specs.TextReading.{end_stages}
 
@@ -53,11 +58,20 @@ of_names (Some line) (Err e) is = of_earlier line e is
 name_of_line : (s : TextParts) → IfSome (name_fault s) IsOfLine
 name_of_line s = of_names (unnamed_bundle s.labels 0 s.bundles) (all_declared s.labels [] s.entries) (of_entries s.labels [] s.entries)
 
+-- of relations
+of_relations : (bundles : List Bundle) (entries : List ℕ) (before : List Relation) (lines : List RelationLine) (e : TextError) → IsFirstFault (relation_stages bundles entries before lines) e → IsOfLine e
+of_relations bundles entries before [] e never = absurd never
+of_relations bundles entries before (l ∷ ls) e (inl (key, is, other)) = (l.line, reason.Relation, is)
+of_relations bundles entries before (l ∷ ls) e (inr (entry, inl (key, is, over))) = (l.line, Limit, is)
+of_relations bundles entries before (l ∷ ls) e (inr (entry, inr (few, later))) = of_relations bundles entries (related before l) ls e later
+
 pub end_of_line : (count : ℕ) (s : TextParts) (e : TextError) → IsFirstFault (end_stages count s) e → IsOfLine e
 end_of_line count s e (inl (key, is, open_still)) = (count + 1, Misplaced, is)
 end_of_line count s e (inr (closed, inl (key, is, empty))) = (count + 1, Empty, is)
 end_of_line count s e (inr (closed, inr (some, inl (named, is, found)))) =
     let h : IsOfLine named = subst (λ (o : Option TextError). IfSome o IsOfLine) found (name_of_line s) in
     (h.0, h.1, is ∙ h.2)
-end_of_line count s e (inr (closed, inr (some, inr (none, inl (place, is, long))))) = (line_at s.bundles place, LongRun, is)
-end_of_line count s e (inr (closed, inr (some, inr (none, inr (runs, never))))) = absurd never
+end_of_line count s e (inr (closed, inr (some, inr (none, inl (related, is, found))))) =
+    subst IsOfLine (sym is) (of_relations (program_of s).bundles (program_of s).entries [] s.relations related found)
+end_of_line count s e (inr (closed, inr (some, inr (none, inr (relations, inl (place, is, long)))))) = (line_at s.bundles place, LongRun, is)
+end_of_line count s e (inr (closed, inr (some, inr (none, inr (relations, inr (runs, never)))))) = absurd never

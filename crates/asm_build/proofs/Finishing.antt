@@ -5,11 +5,12 @@ use Rattle.std.specs.List.{AllByRecursion}
 use Rattle.std.specs.Option.{option_map}
 use Rattle.std.specs.Map.{values_of}
 use Rattle.std.proofs.lemmas.List.{length-append, length-replicate}
-use Rattle.first_fault.specs.Stages.{IsFirstFault}
+use Rattle.first_fault.specs.Stages.{IsFirstFault, ArePassed}
 use Rattle.ia_insn.specs.declared.limits.TheConstants.{DATA_LIMIT}
 use Rattle.ia_insn.specs.declared.insn.Insn.{Insn}
 use Rattle.ia_insn.specs.declared.insn.Op.{Op}
 use Rattle.ia_insn.specs.declared.place.Place.{Place}
+use Rattle.ia_insn.specs.declared.relations.Relation.{Relation}
 use Rattle.ia_insn.specs.declared.bundle.Slots.{Slots}
 use Rattle.ia_insn.specs.declared.bundle.Slots.TheVariants.{Three, Long}
 use Rattle.ia_insn.specs.Bundles.{Bundle, slot_insn}
@@ -19,6 +20,7 @@ use Rattle.ia_insn.specs.Runs.{IsWithinRun}
 use Rattle.ia_insn.specs.Targets.{displacement, IsBundleAt, IsTargetInside}
 use Rattle.asm_build.specs.declared.draft.BundleLines.{BundleLines}
 use Rattle.asm_build.specs.declared.draft.SlotName.{SlotName}
+use Rattle.asm_build.specs.declared.text_parts.RelationLine.{RelationLine}
 use Rattle.asm_build.specs.declared.address.Address.{Address}
 use Rattle.asm_build.specs.declared.reason.Reason.TheVariants.{LongRun}
 use Rattle.asm_build.specs.declared.reason.TextError.{TextError}
@@ -27,10 +29,12 @@ use Rattle.asm_build.specs.TextReading.{end_stages}
 use Rattle.asm_build.specs.Addresses.{IsInside}
 use Rattle.asm_build.specs.Addresses.{addressed}
 use Rattle.asm_build.specs.Names.{addressed_by, named, is_named, slot_names, unnamed_among, unnamed_slot, or_else, unnamed_bundle, slots_named, bundles_named, all_declared, earlier, name_fault, or_none, padded, program_of, line_at}
+use Rattle.asm_build.specs.Relations.{relation_stages}
 use Rattle.asm_build.specs.TextParts.{TextParts, Labels, address_of, IsWithinLimits, AreLabelsInside}
 use Rattle.asm_build.proofs.Addressed.{target_inside}
 use Rattle.asm_build.proofs.Entries.{AreGood, declared_good, entries_of_rising}
 use Rattle.asm_build.proofs.LabelValues.{label_within}
+use Rattle.asm_build.proofs.RelationFaults.{few_related}
 
 pub length_named : (labels : Labels) (n : ℕ) (bs : List BundleLines) → length (bundles_named labels n bs) ≡ length bs
 length_named labels n [] = refl
@@ -51,9 +55,13 @@ entries_good s inside none =
     let named = no_fault_named (unnamed_bundle s.labels 0 s.bundles) (all_declared s.labels [] s.entries) none in
     declared_good s.labels (length s.bundles) [] (program_of s).entries s.entries inside (tt, omega arith) named.1
 
-pub in_range : (s : TextParts) → IsWithinLimits s → 1 ≤ length s.bundles → AreLabelsInside s → name_fault s ≡ None
-    → AreInRange (length (program_of s).bundles) (length (program_of s).entries) (length (program_of s).bytes) 0
-in_range s limits some inside none =
+-- lines that declare relations have no fault
+abbrev pub AreRelated : TextParts → Type 0
+AreRelated s = ArePassed (relation_stages (program_of s).bundles (program_of s).entries [] s.relations)
+
+pub in_range : (s : TextParts) → IsWithinLimits s → 1 ≤ length s.bundles → AreLabelsInside s → name_fault s ≡ None → AreRelated s
+    → AreInRange (length (program_of s).bundles) (length (program_of s).entries) (length (program_of s).bytes) (length (program_of s).relations)
+in_range s limits some inside none related =
     let count : length (program_of s).bundles ≡ length s.bundles = length_named s.labels 0 s.bundles in
     let zeros = (8 - length s.bytes % 8) % 8 in
     let size : length (padded s.bytes) ≡ length s.bytes + zeros = length-append s.bytes (replicate zeros 0) ∙ ap (λ k. length s.bytes + k) (length-replicate zeros 0) in
@@ -64,7 +72,7 @@ in_range s limits some inside none =
       entries = (entries_good s inside none).1;
       bytes = rw size fits.0;
       words = rw size fits.1;
-      relations = omega arith;
+      relations = few_related (program_of s).bundles (program_of s).entries [] s.relations (omega arith) related;
     }
 
 pub entries_are : (s : TextParts) → AreLabelsInside s → name_fault s ≡ None → AreEntries (length (program_of s).bundles) (program_of s).entries
@@ -163,8 +171,15 @@ targets_are s inside none place is =
     rw (length_named s.labels 0 s.bundles)
     (at_place (length s.bundles) place.bundle place.slot (slice_get (program_of s).bundles place.bundle) (bundles_inside s.labels (length s.bundles) 0 s.bundles inside named.0 place.bundle place.bundle (omega arith)))
 
--- What is known of bundles, entries and data that are the program's: their counts and entries are right.
-pub record AreParts (s : TextParts) (bundles : List Bundle) (entries bytes : List ℕ) : Type 0 where
+-- lines have none where they have none among the program's bundles and entries
+pub related_of : (s : TextParts) (bundles : List Bundle) (entries : List ℕ) (lines : List RelationLine) → bundles ≡ (program_of s).bundles → entries ≡ (program_of s).entries → lines ≡ s.relations
+    → ArePassed (relation_stages bundles entries [] lines) → AreRelated s
+related_of s bundles entries lines bs es ls passed =
+    subst (λ cs. ArePassed (relation_stages cs (program_of s).entries [] s.relations)) bs
+    (subst (λ fs. ArePassed (relation_stages bundles fs [] s.relations)) es (subst (λ ks. ArePassed (relation_stages bundles entries [] ks)) ls passed))
+
+-- What is known of bundles, entries, data and relations that are the program's: their counts and entries are right.
+pub record AreParts (s : TextParts) (bundles : List Bundle) (entries bytes : List ℕ) (relations : List Relation) : Type 0 where
   pub limits : IsWithinLimits s
   pub some : 1 ≤ length s.bundles
   pub inside : AreLabelsInside s
@@ -172,32 +187,34 @@ pub record AreParts (s : TextParts) (bundles : List Bundle) (entries bytes : Lis
   pub bundles_are : bundles ≡ (program_of s).bundles
   pub entries_are : entries ≡ (program_of s).entries
   pub bytes_are : bytes ≡ padded s.bytes
+  pub related : AreRelated s
+  pub relations_are : relations ≡ (program_of s).relations
 
-pub parts_in_range : (s : TextParts) (bundles : List Bundle) (entries bytes : List ℕ) → AreParts s bundles entries bytes
-    → AreInRange (length bundles) (length entries) (length bytes) 0
-parts_in_range s bundles entries bytes h =
-    rw (h.bundles_are, h.entries_are, h.bytes_are) (in_range s h.limits h.some h.inside h.none)
+pub parts_in_range : (s : TextParts) (bundles : List Bundle) (entries bytes : List ℕ) (relations : List Relation) → AreParts s bundles entries bytes relations
+    → AreInRange (length bundles) (length entries) (length bytes) (length relations)
+parts_in_range s bundles entries bytes relations h =
+    rw (h.bundles_are, h.entries_are, h.bytes_are, h.relations_are) (in_range s h.limits h.some h.inside h.none h.related)
 
-pub parts_rise : (s : TextParts) (bundles : List Bundle) (entries bytes : List ℕ) → AreParts s bundles entries bytes → AreEntries (length bundles) entries
-parts_rise s bundles entries bytes h = rw (h.bundles_are, h.entries_are) (entries_are s h.inside h.none)
+pub parts_rise : (s : TextParts) (bundles : List Bundle) (entries bytes : List ℕ) (relations : List Relation) → AreParts s bundles entries bytes relations → AreEntries (length bundles) entries
+parts_rise s bundles entries bytes relations h = rw (h.bundles_are, h.entries_are) (entries_are s h.inside h.none)
 
-pub parts_inside : (s : TextParts) (bundles : List Bundle) (entries bytes : List ℕ) → AreParts s bundles entries bytes → EachPlace bundles (IsTargetInside bundles)
-parts_inside s bundles entries bytes h = rw h.bundles_are (targets_are s h.inside h.none)
+pub parts_inside : (s : TextParts) (bundles : List Bundle) (entries bytes : List ℕ) (relations : List Relation) → AreParts s bundles entries bytes relations → EachPlace bundles (IsTargetInside bundles)
+parts_inside s bundles entries bytes relations h = rw h.bundles_are (targets_are s h.inside h.none)
 
 -- After the last line there was no fault but the run.
-pub run_is_first : (count : ℕ) (s : TextParts) (place : Place) (line : ℕ) → s.current ≡ None → AreLabelsInside s → 1 ≤ length s.bundles → name_fault s ≡ None
+pub run_is_first : (count : ℕ) (s : TextParts) (place : Place) (line : ℕ) → s.current ≡ None → AreLabelsInside s → 1 ≤ length s.bundles → name_fault s ≡ None → AreRelated s
     → IsFirstBad (program_of s).bundles (IsWithinRun (program_of s).bundles) place → line ≡ line_at s.bundles place
     → IsFirstFault (end_stages count s) (error.Fault line LongRun)
-run_is_first count s place line closed inside some none first is =
-    inr ((closed, inside), inr (some, inr (none, inl (place, ap (λ l. error.Fault l LongRun) is, first))))
+run_is_first count s place line closed inside some none related first is =
+    inr ((closed, inside), inr (some, inr (none, inr (related, inl (place, ap (λ l. error.Fault l LongRun) is, first)))))
 
 -- So the fault of a run is the first one.
-pub run_reported : {T : Type 0} (count : ℕ) (s : TextParts) (lines : List BundleLines) (bundles : List Bundle) (r : Result T TextError) → s.current ≡ None → AreLabelsInside s → 1 ≤ length s.bundles → name_fault s ≡ None
+pub run_reported : {T : Type 0} (count : ℕ) (s : TextParts) (lines : List BundleLines) (bundles : List Bundle) (r : Result T TextError) → s.current ≡ None → AreLabelsInside s → 1 ≤ length s.bundles → name_fault s ≡ None → AreRelated s
     → lines ≡ s.bundles → bundles ≡ (program_of s).bundles
     → IfErr r (λ e. (place : Place) × IsFirstBad bundles (IsWithinRun bundles) place × (e ≡ error.Fault (line_at lines place) LongRun))
     → IfErr r (λ e. (e ≡ error.Memory) ⊎ IsFirstFault (end_stages count s) e)
-run_reported count s lines bundles (Ok t) closed inside some none same are h = tt
-run_reported count s lines bundles (Err e) closed inside some none same are (place, first, is) =
+run_reported count s lines bundles (Ok t) closed inside some none related same are h = tt
+run_reported count s lines bundles (Err e) closed inside some none related same are (place, first, is) =
     let line : line_at lines place ≡ line_at s.bundles place = ap (λ b. line_at b place) same in
-    let fault = run_is_first count s place (line_at lines place) closed inside some none (subst (λ b. IsFirstBad b (IsWithinRun b) place) are first) line in
+    let fault = run_is_first count s place (line_at lines place) closed inside some none related (subst (λ b. IsFirstBad b (IsWithinRun b) place) are first) line in
     inr (subst (IsFirstFault (end_stages count s)) (sym is) fault)

@@ -21,6 +21,11 @@ mod Taking
 mod PutIn
 mod LabelsSoFar
 mod EntriesSoFar
+mod Membership
+mod SortedSets
+mod RelationSets
+mod RelationsSoFar
+mod RelationFaults
 mod NamedTemplates
 mod OpenBundles
 mod UntargetedSlots
@@ -40,4 +45,5 @@ mod SaidLines
 mod SaidBundles
 mod SaidLabels
 mod SaidEntries
+mod SaidRelations
 mod SaidTexts

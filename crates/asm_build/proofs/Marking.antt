@@ -11,6 +11,7 @@ use Rattle.ia_insn.specs.declared.bundle.Slots.{Slots}
 use Rattle.ia_insn.specs.declared.bundle.Slots.TheVariants.{Three, Long}
 use Rattle.asm_printing.specs.SlotTexts.{target_of}
 use Rattle.ia_insn.specs.Bundles.{Bundle}
+use Rattle.ia_insn.specs.declared.relations.Relation.{Relation}
 use Rattle.asm_build.specs.CanonicalText.{is_among, listed_once, bundle_targets, targets_from, bundles_text}
 use Rattle.asm_build.specs.Marks.{AreMarks, Marked, marked_texts}
 
@@ -109,8 +110,8 @@ next_bundle count bs at bundle slots a b less is same g h =
     rw (next_targets bs at bundle less is) (more_marks count (targets_from 0 (take at bs)) (bundle_targets at bundle.slots) a b g marked)
 
 -- the texts of bundles by marks and by the lists that they mark
-pub texts_alike : (count : ℕ) (entries targets : List ℕ) (entry_marks target_marks : List Bool) (n : ℕ) (bs : List Bundle) → AreMarks count entries entry_marks → AreMarks count targets target_marks
-    → n + length bs ≡ count → marked_texts entry_marks target_marks n bs ≡ bundles_text entries targets n bs
-texts_alike count entries targets em tm n [] e t h = refl
-texts_alike count entries targets em tm n (b ∷ bs) e t h =
-    rw (e.each n (omega (arith, h)), t.each n (omega (arith, h)), texts_alike count entries targets em tm (n + 1) bs e t (omega (arith, h))) refl
+pub texts_alike : (count : ℕ) (entries targets : List ℕ) (relations : List Relation) (entry_marks target_marks : List Bool) (n : ℕ) (bs : List Bundle) → AreMarks count entries entry_marks → AreMarks count targets target_marks
+    → n + length bs ≡ count → marked_texts entry_marks target_marks relations n bs ≡ bundles_text entries targets relations n bs
+texts_alike count entries targets relations em tm n [] e t h = refl
+texts_alike count entries targets relations em tm n (b ∷ bs) e t h =
+    rw (e.each n (omega (arith, h)), t.each n (omega (arith, h)), texts_alike count entries targets relations em tm (n + 1) bs e t (omega (arith, h))) refl

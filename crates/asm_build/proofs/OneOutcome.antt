@@ -1,17 +1,22 @@
 -- Lines come to one state or to one fault, and not to both.
 use Rattle.std.proofs.Common.{◌≡◌, ◌∙◌, inl, inr, refl, sym, ap, ℕ, ◌+◌, List, [], ◌∷◌, length, Option, Result, Ok, Err, arith}
+use Rattle.first_fault.specs.Stages.{Stage}
 use Rattle.first_fault.proofs.Laws.{IsSound, AreSound, unless_sound, one_fault, no_fault}
+use Rattle.ia_insn.specs.declared.relations.Relation.{Relation}
+use Rattle.ia_insn.specs.Bundles.{Bundle}
 use Rattle.ia_insn.proofs.ProgramFaults.{one_first_bad}
 use Rattle.asm_reading.specs.declared.line.Line.{Line}
 use Rattle.asm_reading.specs.OneAnswer.{HasOneValue, HasOneFault, HasNoFault}
 use Rattle.asm_build.specs.declared.reason.Reason.{Reason}
 use Rattle.asm_build.specs.declared.reason.TextError.{TextError}
 use Rattle.asm_build.specs.declared.reason.TextError.TheVariants.{Fault}
+use Rattle.asm_build.specs.declared.text_parts.RelationLine.{RelationLine}
 use Rattle.asm_build.specs.Laws.{OneTextProgram, OneTextFault, NoFaultWhereRead}
 use Rattle.asm_build.specs.Names.{name_fault, program_of}
 use Rattle.asm_build.specs.Reasons.{reason_of}
+use Rattle.asm_build.specs.Relations.{related, relation_stages}
 use Rattle.asm_build.specs.TextParts.{TextParts, start, after, value_stages}
-use Rattle.asm_build.specs.TextReading.{text_lines, Says, SaysNothing, IsRefused, IsTaken, ComesTo, found, end_stages, AllSay}
+use Rattle.asm_build.specs.TextReading.{text_lines, Says, SaysNothing, IsRefused, IsTaken, ComesTo, found, first_of, end_stages, AllSay}
 
 -- what is known of each line: it has one value or one fault, and not both
 pub record HaveOneAnswer : Type 0 where
@@ -76,10 +81,26 @@ one_state one text s t a b = ok_same s t (Ok s) (Ok t) refl refl (one_outcome on
 found_sound : (o : Option TextError) → IsSound (found o)
 found_sound o = record { one = λ e f is are. cc; none = λ e is none. cc }
 
+first_sound : (stages : List (Stage TextError)) → AreSound stages → IsSound (first_of stages)
+first_sound stages sound = record { one = λ e f is are. one_fault stages sound e f is are; none = λ e is passed. no_fault stages sound passed e is }
+
+relations_sound : (bundles : List Bundle) (entries : List ℕ) (before : List Relation) (lines : List RelationLine) → AreSound (relation_stages bundles entries before lines)
+relations_sound bundles entries before [] = tt
+relations_sound bundles entries before (l ∷ ls) = (unless_sound _ _, (unless_sound _ _, relations_sound bundles entries (related before l) ls))
+
 end_sound : (count : ℕ) (s : TextParts) → AreSound (end_stages count s)
 end_sound count s = (
   unless_sound _ _,
-  (unless_sound _ _, (found_sound (name_fault s), (record { one = λ p q a b. one_first_bad _ _ p q a b; none = λ p a all. a.bad (all p a.is) }, tt))),
+  (
+    unless_sound _ _,
+    (
+      found_sound (name_fault s),
+      (
+        first_sound _ (relations_sound (program_of s).bundles (program_of s).entries [] s.relations),
+        (record { one = λ p q a b. one_first_bad _ _ p q a b; none = λ p a all. a.bad (all p a.is) }, tt),
+      ),
+    ),
+  ),
 )
 
 -- the three laws

@@ -150,6 +150,7 @@ one_grown s n (line.Label name) vs end passed h = stays s.bundles end _ _ (outsi
 one_grown s n line.Text vs end passed h = stays s.bundles end _ _ (outside s.current line.Text vs passed.0 refl) h
 one_grown s n line.Data vs end passed h = stays s.bundles end _ _ (outside s.current line.Data vs passed.0 refl) h
 one_grown s n (line.Entry name) vs end passed h = stays s.bundles end _ _ (outside s.current (line.Entry name) vs passed.0 refl) h
+one_grown s n (line.Relation predicates) vs end passed h = stays s.bundles end _ _ (outside s.current (line.Relation predicates) vs passed.0.closed refl) h
 one_grown s n line.Ignored vs end passed h = stays s.bundles end _ _ (outside s.current line.Ignored vs passed.0 refl) h
 one_grown s n (line.Numbers size values) vs end passed h = stays s.bundles end _ _ (outside s.current (line.Numbers size values) vs passed.0.closed refl) h
 one_grown s n (line.Skip count) vs end passed h = stays s.bundles end _ _ (outside s.current (line.Skip count) vs passed.0.closed refl) h

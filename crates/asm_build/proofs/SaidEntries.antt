@@ -1,5 +1,5 @@
 -- The declared entries of a text are the bundles that its lines `.entry` name.
-use Rattle.std.proofs.Common.{◌≡◌, ◌∙◌, refl, sym, ap, subst, inl, inr, ◌⊎◌, ℕ, zero, suc, ◌≤◌, Bool, true, false, List, [], ◌∷◌, length, Option, Some, None, Result, Ok, Err, arith}
+use Rattle.std.proofs.Common.{◌≡◌, ◌∙◌, refl, sym, ap, subst, inl, inr, ◌⊎◌, ℕ, ◌≤◌, Bool, true, false, List, [], ◌∷◌, length, Option, Some, None, Result, Ok, Err, arith}
 use Rattle.std.specs.Prelude.{Contains, nat_lt, if◌then◌else◌}
 use Rattle.std.specs.BTreeSet.{insert_key}
 use Rattle.std.specs.Ordering.{nat_cmp}
@@ -15,21 +15,8 @@ use Rattle.asm_build.specs.declared.reason.TextError.{TextError}
 use Rattle.asm_build.specs.declared.reason.TextError.TheVariants as error
 use Rattle.asm_build.specs.Names.{bundle_at, declared, declared_by, and_then, all_declared}
 use Rattle.asm_build.specs.TextParts.{Labels, address_of}
+use Rattle.asm_build.proofs.Membership.{first_there, later_there, first_or_later, none_there}
 use Rattle.asm_build.proofs.SaidLines.{names_of}
-
--- what a list with one more in front contains
-first_there : {X : Type 0} (x : X) (xs : List X) → Contains (x ∷ xs) x
-first_there x xs = (0, omega arith, refl)
-
-later_there : {X : Type 0} (x y : X) (xs : List X) → Contains xs y → Contains (x ∷ xs) y
-later_there x y xs (k, less, is) = (suc k, omega (arith, less), is)
-
-first_or_later : {X : Type 0} (x y : X) (xs : List X) → Contains (x ∷ xs) y → (x ≡ y) ⊎ Contains xs y
-first_or_later x y xs (zero, less, is) = inl is
-first_or_later x y xs (suc k, less, is) = inr (k, omega (arith, less), is)
-
-none_there : {X : Type 0} (x : X) → Contains [] x → ⊥
-none_there x (k, less, is) = omega (arith, less)
 
 -- what a set with one more contains
 put_there : (k : ℕ) (ns : List ℕ) → Contains (insert_key nat_cmp ns k) k

@@ -68,11 +68,11 @@ all_kept s n [] t name a h is = ap (λ (u : TextParts). address_of u.labels name
 all_kept s n (v ∷ vs) t name a h is = all_kept (after s n v) (n + 1) vs t name a h.1 (one_kept s n v name a h.0 is)
 
 -- how many bundles have begun, with the open one
-abbrev open_count : Option OpenBundle → ℕ
+abbrev pub open_count : Option OpenBundle → ℕ
 open_count None = 0
 open_count (Some o) = 1
 
-abbrev begun : TextParts → ℕ
+abbrev pub begun : TextParts → ℕ
 begun s = length s.bundles + open_count s.current
 
 -- what a label names after these lines more
@@ -86,7 +86,7 @@ open_mapped : (f : OpenBundle → OpenBundle) (o : Option OpenBundle) → open_c
 open_mapped f None = refl
 open_mapped f (Some o) = refl
 
-none_open : (o : Option OpenBundle) → o ≡ None → open_count o ≡ 0
+pub none_open : (o : Option OpenBundle) → o ≡ None → open_count o ≡ 0
 none_open None none = refl
 none_open (Some o) none = absurd cc
 
@@ -117,6 +117,14 @@ one_place s n line.Stop before passed =
     same_place (section_after s.section before) _ _ _ _ (ap (λ c. length s.bundles + c + length (bundles_in before)) (open_mapped stopped s.current)) refl
 one_place s n line.Close before passed = closed_places s (closed_of s.current) before (close_begun s s.current passed.0 passed.1.1.0)
 one_place s n v before passed = refl
+
+-- how many bundles have begun with those on these lines, a line more or less
+pub one_begun : (s : TextParts) (n : ℕ) (v : Line) (before : List Line) → ArePassed (value_stages s v) → begun s + length (bundles_in (v ∷ before)) ≡ begun (after s n v) + length (bundles_in before)
+one_begun s n (line.Open name) before passed = omega (arith, none_open s.current passed.0.closed)
+one_begun s n (line.Slot d stop) before passed = ap (λ c. length s.bundles + c + length (bundles_in before)) (open_mapped (λ o. added o n d stop) s.current)
+one_begun s n line.Stop before passed = ap (λ c. length s.bundles + c + length (bundles_in before)) (open_mapped stopped s.current)
+one_begun s n line.Close before passed = ap (λ c. c + length (bundles_in before)) (sym (close_begun s s.current passed.0 passed.1.1.0))
+one_begun s n v before passed = refl
 
 here_is : (s : TextParts) → s.current ≡ None → here s ≡ place_from s []
 here_is s none = by s.section

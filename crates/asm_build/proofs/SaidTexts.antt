@@ -1,6 +1,7 @@
 -- What a text reads as is what its lines say, looked at all at once.
 use Rattle.std.proofs.Common.{◌≡◌, ◌∙◌, refl, sym, ap, subst, ℕ, ◌+◌, Bool, true, false, List, [], ◌∷◌, length, Option, Some, None, Result, Ok, Err, arith}
 use Rattle.std.specs.Prelude.{IfSome, Contains, is_some, unwrap_or, if◌then◌else◌}
+use Rattle.first_fault.specs.Stages.{ArePassed}
 use Rattle.ia_insn.specs.declared.insn.Insn.{Insn}
 use Rattle.ia_insn.specs.declared.insn.Op.{Op}
 use Rattle.ia_insn.specs.Programs.{Program, AreEntries}
@@ -15,6 +16,7 @@ use Rattle.asm_build.specs.declared.draft.SlotName.{SlotName}
 use Rattle.asm_build.specs.declared.reason.TextError.{TextError}
 use Rattle.asm_build.specs.Addresses.{IsInside, addressed}
 use Rattle.asm_build.specs.Names.{addressed_by, named, is_named, put_in, slot_names, slots_named, bundle_named, bundles_named, unnamed_among, unnamed_slot, unnamed_bundle, or_else, all_declared, earlier, name_fault, or_none, padded, program_of}
+use Rattle.asm_build.specs.Relations.{relation_stages}
 use Rattle.asm_build.specs.TextParts.{TextParts, Labels, start, address_of, AreLabelsInside}
 use Rattle.asm_build.specs.TextReading.{text_lines}
 use Rattle.asm_build.specs.WholeTexts.{SlotSaid, IsLabel, IsOpSaid, IsInsnSaid, IsBundleSaid, AreBundlesSaid, bundles_in, entries_in, IsDeclared, IsProgramSaid, MeansWhatItReads}
@@ -23,6 +25,9 @@ use Rattle.asm_build.proofs.LabelValues.{label_within}
 use Rattle.asm_build.proofs.SaidBundles.{IsDrafted, AreDrafted, all_drafted}
 use Rattle.asm_build.proofs.SaidEntries.{IsDeclaredBy, entry_named, named_entry}
 use Rattle.asm_build.proofs.SaidLabels.{label_found, label_said}
+use Rattle.asm_build.proofs.Membership.{none_there}
+use Rattle.asm_build.proofs.RelationFaults.{related_landed}
+use Rattle.asm_build.proofs.SaidRelations.{relation_said, said_relation, rise_with}
 use Rattle.asm_build.proofs.SaidLines.{Follow, taken_as, all_data, all_entries, names_of}
 
 -- what is found among labels is a label on a line
@@ -144,8 +149,9 @@ said_declared lines labels names n same found (some, name, among, is) =
     (some, name, subst (λ all. Contains all name) (sym same) among, found name (address.Bundle n) is)
 
 -- The program that lines come to is what they say.
-program_said : (lines : List Line) (t : TextParts) → Follow start 1 lines t → t.current ≡ None → AreLabelsInside t → NoNameFault t → IsProgramSaid lines (program_of t)
-program_said lines t follow closed inside clean =
+program_said : (lines : List Line) (t : TextParts) → Follow start 1 lines t → t.current ≡ None → AreLabelsInside t → NoNameFault t → ArePassed (relation_stages (program_of t).bundles (program_of t).entries [] t.relations)
+    → IsProgramSaid lines (program_of t)
+program_said lines t follow closed inside clean related =
     let found : SameLabels lines t.labels = λ name a is. label_found lines t name a follow is in
     let said : AreSaidLabels lines t.labels = λ name a is. label_said lines t name a follow is in
     let names : names_of t.entries ≡ entries_in lines = all_entries start 1 lines t follow in
@@ -161,7 +167,9 @@ program_said lines t follow closed inside clean =
         (λ is. named_entry t.labels entries t.entries n clean.entries (said_declared lines t.labels (names_of t.entries) n names found is)),
       );
       bytes = ap padded (all_data start 1 lines t follow);
-      relations = refl;
+      ordered = rise_with [] t.relations tt;
+      relations = λ r. ((λ is. relation_said lines t r follow is), (λ is. said_relation lines t r follow is));
+      landed = related_landed (program_of t).bundles (program_of t).entries [] t.relations related (λ r never. absurd (none_there r never));
       once = λ name a b one other. same_address a b (address_of t.labels name) (found name a one) (found name b other);
       inside = λ name a is. subst (λ n. IsInside n a) (sym many) (is_inside count a (address_of t.labels name) (found name a is) (label_within (IsInside count) t.labels name inside));
     }
@@ -170,5 +178,5 @@ program_said lines t follow closed inside clean =
 pub means_what_it_reads : (text : List ℕ) (p : Program) → MeansWhatItReads text p
 means_what_it_reads text p h =
     let taken = taken_as start 1 (text_lines text) h.parts (Ok h.parts) refl h.lines in
-    let said = program_said taken.values h.parts taken.follow h.whole.0.0 h.whole.0.1 (no_name_fault h.parts h.whole.1.1.0) in
+    let said = program_said taken.values h.parts taken.follow h.whole.0.0 h.whole.0.1 (no_name_fault h.parts h.whole.1.1.0) h.whole.1.1.1.0 in
     record { lines = taken.values; said = taken.said; program = subst (IsProgramSaid taken.values) (sym h.program) said }

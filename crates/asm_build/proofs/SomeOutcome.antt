@@ -2,7 +2,7 @@
 use Rattle.std.proofs.Common.{◌⊎◌, inl, inr, refl, subst, ℕ, ◌+◌, List, [], ◌∷◌, length, Option, Some, None, Ok, Err, arith}
 use Rattle.std.proofs.Math.Decide.{dec_le, dec_lt}
 use Rattle.std.specs.Map.{values_of}
-use Rattle.first_fault.specs.Stages.{IsFirstFault}
+use Rattle.first_fault.specs.Stages.{Stage, IsFirstFault}
 use Rattle.first_fault.proofs.Laws.{IsDecided, AreDecided, some_fault}
 use Rattle.asm_words.specs.declared.limits.TheConstants.{LINE_LIMIT}
 use Rattle.asm_reading.specs.declared.line.Line.{Line}
@@ -19,10 +19,11 @@ use Rattle.asm_build.specs.Names.{name_fault, program_of}
 use Rattle.asm_build.specs.Reasons.{reason_of}
 use Rattle.asm_build.specs.Laws.{TextOrFault}
 use Rattle.asm_build.specs.TextParts.{TextParts, start, after, value_stages, AreLabelsInside}
-use Rattle.asm_build.specs.TextReading.{text_lines, Says, SaysNothing, IsRefused, IsTaken, ComesTo, found, end_stages, AllSay}
+use Rattle.asm_build.specs.TextReading.{text_lines, Says, SaysNothing, IsRefused, IsTaken, ComesTo, found, first_of, end_stages, AllSay}
 use Rattle.asm_build.proofs.DecidedLines.{decided, value_decided}
 use Rattle.asm_build.proofs.DecidedRuns.{long_run_or_none}
 use Rattle.asm_build.proofs.EndFaults.{end_of_line}
+use Rattle.asm_build.proofs.RelationFaults.{relations_decided}
 
 -- what is known of each line
 abbrev pub HaveAnswers : Type 0
@@ -74,10 +75,13 @@ found_decided : (o : Option TextError) → IsDecided (found o)
 found_decided None = inr refl
 found_decided (Some e) = inl (e, refl)
 
+first_decided : (stages : List (Stage TextError)) → AreDecided stages → IsDecided (first_of stages)
+first_decided stages decided = some_fault stages decided
+
 end_decided : (count : ℕ) (s : TextParts) → AreDecided (end_stages count s)
 end_decided count s = (
   decided (both (is_none s.current) (labels_inside s)),
-  (decided (dec_le 1 (length s.bundles)), (found_decided (name_fault s), (long_run_or_none (program_of s).bundles, tt))),
+  (decided (dec_le 1 (length s.bundles)), (found_decided (name_fault s), (first_decided _ (relations_decided (program_of s).bundles (program_of s).entries [] s.relations), (long_run_or_none (program_of s).bundles, tt)))),
 )
 
 all_taken : (text : List ℕ) (s : TextParts) → AllSay text s → TextOrFault text

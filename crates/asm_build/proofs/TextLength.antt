@@ -1,6 +1,8 @@
 -- The length of canonical texts, by the length of their slot lines.
-use Rattle.std.proofs.Common.{◌≡◌, ℕ, suc, ◌+◌, ◌*◌, ◌/◌, ◌<◌, ◌≤◌, ◌%◌, ◌^◌, Bool, true, false, ◌||◌, ◌==◌, List, [], ◌∷◌, ◌++◌, length, map, codes, refl, sym, subst, arith, length-append, lit<, mul-suc}
-use Rattle.std.specs.Prelude.{if◌then◌else◌}
+use Rattle.std.proofs.Common.{◌≡◌, ℕ, ◌+◌, ◌*◌, ◌/◌, ◌<◌, ◌≤◌, ◌%◌, ◌^◌, Bool, true, false, ◌||◌, ◌==◌, List, [], ◌∷◌, ◌++◌, length, map, codes, refl, sym, ap, subst, arith, length-append, lit<, mul-suc}
+use Rattle.std.specs.Prelude.{nat_lt, if◌then◌else◌}
+use Rattle.std.specs.List.{AllByRecursion}
+use Rattle.std.proofs.lemmas.List.Sums.{length-filter, count_by-le-length}
 use Rattle.std.specs.Fmt.{digits}
 use Rattle.std.proofs.lemmas.Bool.Decides.{nat_tests}
 use Rattle.std.proofs.lemmas.Fmt.{length-decimal-le}
@@ -11,18 +13,20 @@ use Rattle.ia_insn.specs.declared.bundle.Slots.{Slots}
 use Rattle.ia_insn.specs.declared.bundle.Slots.TheVariants as slots
 use Rattle.ia_insn.specs.Bundles.{Bundle, IsBundle}
 use Rattle.ia_insn.specs.Listed.{IsListed}
-use Rattle.ia_insn.specs.Programs.{Program, IsProgram, AreBytes}
+use Rattle.ia_insn.specs.declared.relations.Relation.{Relation}
+use Rattle.ia_insn.specs.Programs.{Program, IsProgram, AreBytes, relations_at}
 use Rattle.asm_reading.specs.declared.line.Shape.{Shape}
 use Rattle.asm_reading.specs.declared.line.Shape.TheVariants as shape
 use Rattle.asm_printing.specs.declared.limits.TheConstants.{SLOT_LINE_LIMIT}
 use Rattle.asm_printing.specs.SlotTexts.{label_text, slot_text}
 use Rattle.asm_printing.proofs.Short.{hex_is_short}
-use Rattle.asm_build.specs.CanonicalText.{line as text_line, has_stop, is_among, unit_letter, head_text, slots_text, bundle_text, bundles_text, targets_from, words_of, words_text, is_nothing, data_text, canonical_text}
+use Rattle.asm_build.specs.CanonicalText.{line as text_line, has_stop, is_among, unit_letter, relation_text, relations_text, head_text, slots_text, bundle_text, bundles_text, targets_from, words_of, words_text, data_text, canonical_text}
 use Rattle.asm_build.specs.Marks.{AreSound}
 use Rattle.asm_build.specs.RoundTrip.{CanonicalTextIsShort, CanonicalTextFits}
 use Rattle.asm_build.specs.TemplateNames.{units_named}
 use Rattle.asm_build.proofs.DataBack.{AreWords, words_small}
 use Rattle.asm_build.proofs.NamedTemplates.{has_name}
+use Rattle.asm_build.proofs.RelationsSoFar.{relations_below, BundlesFrom, one_bundle_more, relations_rise, relations_fit, IsPrinted, printed_at, relation_is_short}
 use Rattle.asm_build.proofs.WrittenTexts.{AreGood, good_of}
 
 -- the slot lines of listed instructions have at most so many bytes
@@ -73,12 +77,20 @@ slots_short most within count n template (slots.Long a b) low sound =
     let lb = line_short (slot_text b n (has_stop template 2)) most (within b n (has_stop template 2) sound.1.listed low) in
     omega (arith, both_short (text_line (slot_text a n false)) (text_line (slot_text b n (has_stop template 2))) (most + 1) (most + 1) la lb)
 
--- the bytes of a bundle, with its entry and its label
+-- the lines of relations
+relations_short : (n : ℕ) (rs : List Relation) → AllByRecursion (IsPrinted n) rs → length (relations_text rs) ≤ 26 * length rs
+relations_short n [] h = omega arith
+relations_short n (r ∷ rs) h =
+    let here = line_short (relation_text r.p r.q) 25 (relation_is_short r.p r.q (omega (arith, h.0.apart, h.0.static)) h.0.static) in
+    omega (arith, here, relations_short n rs h.1, length-append (text_line (relation_text r.p r.q)) (relations_text rs))
+
+-- the bytes of a bundle without relations, with its entry and its label
 abbrev bundle_bytes : ℕ → ℕ
 bundle_bytes most = 3 * (most + 1) + 29
 
-bundle_short : (most : ℕ) → AreSlotLinesWithin most → (entries targets : List ℕ) (count n : ℕ) (b : Bundle) → n < BUNDLE_LIMIT → IsBundle b → AreSound count n b.slots → length (bundle_text entries targets n b) ≤ bundle_bytes most
-bundle_short most within entries targets count n b low fit sound =
+bundle_short : (most : ℕ) → AreSlotLinesWithin most → (entries targets : List ℕ) (relations : List Relation) (count n : ℕ) (b : Bundle) → n < BUNDLE_LIMIT → IsBundle b → AreSound count n b.slots → AllByRecursion (IsPrinted n) (relations_at relations n)
+    → length (bundle_text entries targets relations n b) ≤ bundle_bytes most + 26 * length (relations_at relations n)
+bundle_short most within entries targets relations count n b low fit sound printed =
     let entry = is_among entries n in
     let labelled = is_among entries n || is_among targets n in
     let label = label_short n low in
@@ -89,15 +101,24 @@ bundle_short most within entries targets count n b low fit sound =
     let body = slots_text n b.template b.slots ++ text_line (codes "}") in
     let contents = both_short (slots_text n b.template b.slots) (text_line (codes "}")) (3 * (most + 1)) 2 (slots_short most within count n b.template b.slots (omega (arith, low)) sound) (omega arith) in
     let headed = both_short (head_text b.template) body 7 (3 * (most + 1) + 2) (head_short b fit) contents in
-    let named = both_short (if labelled then text_line (label_text n ++ codes ":") else []) (head_text b.template ++ body) 7 (7 + (3 * (most + 1) + 2)) second headed in
-    omega (arith, both_short (if entry then text_line (codes ".entry " ++ label_text n) else []) ((if labelled then text_line (label_text n ++ codes ":") else []) ++ (head_text b.template ++ body)) 13 (7 + (7 + (3 * (most + 1) + 2))) first named)
+    let lines = relations_text (relations_at relations n) in
+    let many = 26 * length (relations_at relations n) in
+    let related = both_short lines (head_text b.template ++ body) many (7 + (3 * (most + 1) + 2)) (relations_short n (relations_at relations n) printed) headed in
+    let named = both_short (if labelled then text_line (label_text n ++ codes ":") else []) (lines ++ (head_text b.template ++ body)) 7 (many + (7 + (3 * (most + 1) + 2))) second related in
+    omega (arith, both_short (if entry then text_line (codes ".entry " ++ label_text n) else []) ((if labelled then text_line (label_text n ++ codes ":") else []) ++ (lines ++ (head_text b.template ++ body))) 13 (7 + (many + (7 + (3 * (most + 1) + 2)))) first named)
 
-bundles_short : (most : ℕ) → AreSlotLinesWithin most → (entries targets : List ℕ) (count n : ℕ) (bs : List Bundle) → n + length bs ≤ BUNDLE_LIMIT → AreGood count n bs → length (bundles_text entries targets n bs) ≤ bundle_bytes most * length bs
-bundles_short most within entries targets count n [] few good = omega arith
-bundles_short most within entries targets count n (b ∷ bs) few good =
-    let here = bundle_short most within entries targets count n b (omega (arith, few)) good.0.0 good.0.1 in
-    let later = bundles_short most within entries targets count (n + 1) bs (omega (arith, few)) good.1 in
-    rw (mul-suc (bundle_bytes most) (length bs)) (omega (arith, here, later, length-append (bundle_text entries targets n b) (bundles_text entries targets (n + 1) bs)))
+few_below : (n : ℕ) (rs : List Relation) → length (relations_below n rs) ≤ length rs
+few_below n rs = omega (arith, length-filter (λ (r : Relation). nat_lt r.bundle n) rs, count_by-le-length (λ (r : Relation). nat_lt r.bundle n) rs)
+
+bundles_short : (most : ℕ) → AreSlotLinesWithin most → (entries targets : List ℕ) (relations : List Relation) (count n : ℕ) (bs : List Bundle) → BundlesFrom 0 relations → ((m : ℕ) → AllByRecursion (IsPrinted m) (relations_at relations m)) → n + length bs ≤ BUNDLE_LIMIT → AreGood count n bs
+    → length (bundles_text entries targets relations n bs) + 26 * length (relations_below n relations) ≤ bundle_bytes most * length bs + 26 * length relations
+bundles_short most within entries targets relations count n [] order printed few good = omega (arith, few_below n relations)
+bundles_short most within entries targets relations count n (b ∷ bs) order printed few good =
+    let here = bundle_short most within entries targets relations count n b (omega (arith, few)) good.0.0 good.0.1 (printed n) in
+    let later = bundles_short most within entries targets relations count (n + 1) bs order printed (omega (arith, few)) good.1 in
+    let more = length-append (relations_below n relations) (relations_at relations n) in
+    let next = ap length (one_bundle_more n 0 relations order) in
+    rw (mul-suc (bundle_bytes most) (length bs)) (omega (arith, here, later, more, next, length-append (bundle_text entries targets relations n b) (bundles_text entries targets relations (n + 1) bs)))
 
 -- The k-th word begins with `data8 ` where it is the first of its line, and ends the line where it is the last.
 begin_short : (k : ℕ) (b : Bool) → (k % 8 == 0) ≡ b → length {A = ℕ} (if b then codes "data8 " else codes ",") + 5 * ((k + 7) / 8) ≤ 1 + 5 * ((k + 8) / 8)
@@ -144,15 +165,17 @@ data_short : (bytes : List ℕ) → AreBytes bytes → length (data_text bytes) 
 data_short [] small = omega arith
 data_short (b ∷ bytes) small = omega (arith, words_short 0 (words_of (b ∷ bytes)) (words_small (b ∷ bytes) small), length-append (text_line (codes ".data")) (words_text 0 (words_of (b ∷ bytes))))
 
-text_short : (most : ℕ) → AreSlotLinesWithin most → (p : Program) → IsProgram p → length (canonical_text p) ≤ bundle_bytes most * length p.bundles + data_bytes (length (words_of p.bytes))
+text_short : (most : ℕ) → AreSlotLinesWithin most → (p : Program) → IsProgram p → length (canonical_text p) ≤ bundle_bytes most * length p.bundles + 26 * length p.relations + data_bytes (length (words_of p.bytes))
 text_short most within p h =
     let targets = targets_from 0 p.bundles in
-    let bundles = bundles_short most within p.entries targets (length p.bundles) 0 p.bundles (omega (arith, h.counts.bundles)) (good_of p h) in
-    omega (arith, bundles, data_short p.bytes h.bytes, length-append (bundles_text p.entries targets 0 p.bundles) (data_text p.bytes))
+    let printed : (m : ℕ) → AllByRecursion (IsPrinted m) (relations_at p.relations m) = λ m. printed_at p.bundles p.entries m p.relations (relations_fit p.bundles p.entries p.relations h.relations) in
+    let order = relations_rise p.bundles p.entries p.relations h.relations in
+    let bundles = bundles_short most within p.entries targets p.relations (length p.bundles) 0 p.bundles order printed (omega (arith, h.counts.bundles)) (good_of p h) in
+    omega (arith, bundles, data_short p.bytes h.bytes, length-append (bundles_text p.entries targets p.relations 0 p.bundles) (data_text p.bytes))
 
 -- The canonical text of a program fits in what a command takes.
 pub text_fits : AreSlotLinesWithin SLOT_LINE_LIMIT → (p : Program) → CanonicalTextFits p
-text_fits within p h = omega (arith, text_short SLOT_LINE_LIMIT within p h, few_words p.bytes, h.counts.bundles, h.counts.bytes)
+text_fits within p h = omega (arith, text_short SLOT_LINE_LIMIT within p h, few_words p.bytes, h.counts.bundles, h.counts.relations, h.counts.bytes)
 
 -- And so it is short enough to be read.
 pub text_is_short : AreSlotLinesWithin SLOT_LINE_LIMIT → (p : Program) → CanonicalTextIsShort p

@@ -8,6 +8,7 @@ use Rattle.ia_insn.specs.declared.limits.TheConstants.{DATA_LIMIT}
 use Rattle.asm_reading.specs.declared.line.Line.TheVariants as says
 use Rattle.asm_build.specs.declared.draft.BundleLines.{BundleLines}
 use Rattle.asm_build.specs.declared.text_parts.EntryLine.{EntryLine}
+use Rattle.asm_build.specs.declared.text_parts.RelationLine.{RelationLine}
 use Rattle.asm_build.specs.declared.text_parts.Section.TheVariants as section
 use Rattle.asm_build.specs.CanonicalText.{line as text_line, words_text, is_nothing}
 use Rattle.asm_build.specs.TextParts.{TextParts, Labels, numbers_bytes}
@@ -19,8 +20,8 @@ use Rattle.asm_build.proofs.Taking.{Goes, stays, goes_on, line_goes}
 use Rattle.asm_build.proofs.WrittenBundles.{outside}
 
 -- outside a bundle, where data are being written
-abbrev pub in_data : List BundleLines → List EntryLine → Labels → List ℕ → TextParts
-in_data bs es ls bytes = record { section = section.Data; current = None; bundles = bs; entries = es; labels = ls; bytes = bytes }
+abbrev pub in_data : List BundleLines → List EntryLine → List RelationLine → Labels → List ℕ → TextParts
+in_data bs es rs ls bytes = record { section = section.Data; current = None; bundles = bs; entries = es; relations = rs; labels = ls; bytes = bytes }
 
 -- the line feed after a word, where it has one
 abbrev end_text : ℕ → List ℕ → List ℕ
@@ -84,40 +85,40 @@ numbers_both : (xs ys : List ℕ) → numbers_bytes 8 (xs ++ ys) ≡ numbers_byt
 numbers_both xs ys = flat_map-append (λ v. take 8 (to_le_bytes w64 v)) xs ys
 
 -- Lines that come to data.
-pub record DataGoes (from : TextParts) (bs : List BundleLines) (es : List EntryLine) (ls : Labels) (line : ℕ) (text bytes : List ℕ) : Type 0 where
+pub record DataGoes (from : TextParts) (bs : List BundleLines) (es : List EntryLine) (rs : List RelationLine) (ls : Labels) (line : ℕ) (text bytes : List ℕ) : Type 0 where
   pub next : ℕ
-  pub goes : Goes from line text (in_data bs es ls bytes) next
+  pub goes : Goes from line text (in_data bs es rs ls bytes) next
 
 -- the lines of words
-words_go : (fuel : ℕ) (bs : List BundleLines) (es : List EntryLine) (ls : Labels) (bytes : List ℕ) (line k : ℕ) (ws : List ℕ) → length ws ≤ fuel → k % 8 ≡ 0 → AreWords ws → length bytes + length (numbers_bytes 8 ws) ≤ DATA_LIMIT
-    → DataGoes (in_data bs es ls bytes) bs es ls line (words_text k ws) (bytes ++ numbers_bytes 8 ws)
-words_go fuel bs es ls bytes line k [] short eights small room = record { next = line; goes = subst (λ all. Goes (in_data bs es ls bytes) line [] (in_data bs es ls all) line) (sym (append-nil bytes)) (stays (in_data bs es ls bytes) line) }
-words_go zero bs es ls bytes line k (w ∷ ws) short eights small room = absurd (omega (arith, short))
-words_go (suc fuel) bs es ls bytes line k (w ∷ ws) short eights small room =
+words_go : (fuel : ℕ) (bs : List BundleLines) (es : List EntryLine) (rs : List RelationLine) (ls : Labels) (bytes : List ℕ) (line k : ℕ) (ws : List ℕ) → length ws ≤ fuel → k % 8 ≡ 0 → AreWords ws → length bytes + length (numbers_bytes 8 ws) ≤ DATA_LIMIT
+    → DataGoes (in_data bs es rs ls bytes) bs es rs ls line (words_text k ws) (bytes ++ numbers_bytes 8 ws)
+words_go fuel bs es rs ls bytes line k [] short eights small room = record { next = line; goes = subst (λ all. Goes (in_data bs es rs ls bytes) line [] (in_data bs es rs ls all) line) (sym (append-nil bytes)) (stays (in_data bs es rs ls bytes) line) }
+words_go zero bs es rs ls bytes line k (w ∷ ws) short eights small room = absurd (omega (arith, short))
+words_go (suc fuel) bs es rs ls bytes line k (w ∷ ws) short eights small room =
     let here = w ∷ take 7 ws in
     let both : numbers_bytes 8 (w ∷ ws) ≡ numbers_bytes 8 here ++ numbers_bytes 8 (drop 7 ws) = ap (λ vs. numbers_bytes 8 (w ∷ vs)) (sym (take-append-drop 7 ws)) ∙ numbers_both here (drop 7 ws) in
     let long = length-append (numbers_bytes 8 here) (numbers_bytes 8 (drop 7 ws)) in
     let size = ap length both in
     let now = bytes ++ numbers_bytes 8 here in
-    let later = words_go fuel bs es ls now (line + 1) (k + 8) (drop 7 ws) (omega (arith, short, length-drop 7 ws)) (omega (arith, eights)) (words_left 7 ws small.1) (omega (arith, room, long, size, length-append bytes (numbers_bytes 8 here))) in
-    let one : Goes (in_data bs es ls bytes) line (text_line (numbers_text w (take 7 ws))) (in_data bs es ls now) (line + 1) =
-    line_goes (in_data bs es ls bytes) line (numbers_text w (take 7 ws)) (says.Numbers 8 here) (numbers_say w (take 7 ws) (few_taken 7 ws) (small.0, words_taken 7 ws small.1)) (record { closed = refl; same = refl }, (tt, (tt, (tt, (omega (arith, room, long, size), tt))))) in
+    let later = words_go fuel bs es rs ls now (line + 1) (k + 8) (drop 7 ws) (omega (arith, short, length-drop 7 ws)) (omega (arith, eights)) (words_left 7 ws small.1) (omega (arith, room, long, size, length-append bytes (numbers_bytes 8 here))) in
+    let one : Goes (in_data bs es rs ls bytes) line (text_line (numbers_text w (take 7 ws))) (in_data bs es rs ls now) (line + 1) =
+    line_goes (in_data bs es rs ls bytes) line (numbers_text w (take 7 ws)) (says.Numbers 8 here) (numbers_say w (take 7 ws) (few_taken 7 ws) (small.0, words_taken 7 ws small.1)) (record { closed = refl; same = refl }, (tt, (tt, (tt, (omega (arith, room, long, size), tt))))) in
     let all : now ++ numbers_bytes 8 (drop 7 ws) ≡ bytes ++ numbers_bytes 8 (w ∷ ws) = append_assoc bytes (numbers_bytes 8 here) (numbers_bytes 8 (drop 7 ws)) ∙ ap (λ more. bytes ++ more) (sym both) in
-    let go = goes_on (in_data bs es ls bytes) (in_data bs es ls now) (in_data bs es ls (now ++ numbers_bytes 8 (drop 7 ws))) line (line + 1) later.next (text_line (numbers_text w (take 7 ws))) (words_text (k + 8) (drop 7 ws)) one later.goes in
+    let go = goes_on (in_data bs es rs ls bytes) (in_data bs es rs ls now) (in_data bs es rs ls (now ++ numbers_bytes 8 (drop 7 ws))) line (line + 1) later.next (text_line (numbers_text w (take 7 ws))) (words_text (k + 8) (drop 7 ws)) one later.goes in
     record {
       next = later.next;
-      goes = subst (λ end. Goes (in_data bs es ls bytes) line (words_text k (w ∷ ws)) (in_data bs es ls end) later.next) all
-          (subst (λ text. Goes (in_data bs es ls bytes) line text (in_data bs es ls (now ++ numbers_bytes 8 (drop 7 ws))) later.next) (sym (words_by_line k w ws eights)) go);
+      goes = subst (λ end. Goes (in_data bs es rs ls bytes) line (words_text k (w ∷ ws)) (in_data bs es rs ls end) later.next) all
+          (subst (λ text. Goes (in_data bs es rs ls bytes) line text (in_data bs es rs ls (now ++ numbers_bytes 8 (drop 7 ws))) later.next) (sym (words_by_line k w ws eights)) go);
     }
 
 -- The lines of data that there are.
-pub data_goes : (bs : List BundleLines) (es : List EntryLine) (ls : Labels) (line : ℕ) (ws : List ℕ) → AreWords ws → length (numbers_bytes 8 ws) ≤ DATA_LIMIT
-    → DataGoes (outside bs es ls) bs es ls line (text_line (codes ".data") ++ words_text 0 ws) (numbers_bytes 8 ws)
-data_goes bs es ls line ws small room =
-    let words = words_go (length ws) bs es ls [] (line + 1) 0 ws (omega arith) refl small (omega (arith, room)) in
+pub data_goes : (bs : List BundleLines) (es : List EntryLine) (rs : List RelationLine) (ls : Labels) (line : ℕ) (ws : List ℕ) → AreWords ws → length (numbers_bytes 8 ws) ≤ DATA_LIMIT
+    → DataGoes (outside bs es rs ls) bs es rs ls line (text_line (codes ".data") ++ words_text 0 ws) (numbers_bytes 8 ws)
+data_goes bs es rs ls line ws small room =
+    let words = words_go (length ws) bs es rs ls [] (line + 1) 0 ws (omega arith) refl small (omega (arith, room)) in
     record {
       next = words.next;
-      goes = goes_on (outside bs es ls) (in_data bs es ls []) (in_data bs es ls (numbers_bytes 8 ws)) line (line + 1) words.next (text_line (codes ".data")) (words_text 0 ws)
-          (line_goes (outside bs es ls) line (codes ".data") says.Data data_says (refl, (tt, (tt, (tt, (tt, tt))))))
+      goes = goes_on (outside bs es rs ls) (in_data bs es rs ls []) (in_data bs es rs ls (numbers_bytes 8 ws)) line (line + 1) words.next (text_line (codes ".data")) (words_text 0 ws)
+          (line_goes (outside bs es rs ls) line (codes ".data") says.Data data_says (refl, (tt, (tt, (tt, (tt, tt))))))
           words.goes;
     }

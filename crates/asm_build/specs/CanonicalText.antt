@@ -1,13 +1,14 @@
 -- The canonical text of a program: its bundles in order, and its data.
 use Rattle.std.specs.Prelude.{ℕ, ◌+◌, ◌*◌, ◌%◌, ◌==◌, ◌||◌, Bool, true, false, if◌then◌else◌, List, [], ◌∷◌, ◌++◌, map, codes, Option, Some, None}
 use Rattle.std.specs.List.{list_any}
-use Rattle.std.specs.Fmt.{digits}
+use Rattle.std.specs.Fmt.{decimal, digits}
 use Rattle.ia_insn.specs.declared.choices.Unit.{Unit as ExecutionUnit}
 use Rattle.ia_insn.specs.declared.choices.Unit.TheVariants as unit
 use Rattle.ia_insn.specs.declared.bundle.Slots.{Slots}
 use Rattle.ia_insn.specs.declared.bundle.Slots.TheVariants.{Three, Long}
 use Rattle.ia_insn.specs.Bundles.{Bundle}
-use Rattle.ia_insn.specs.Programs.{Program}
+use Rattle.ia_insn.specs.declared.relations.Relation.{Relation}
+use Rattle.ia_insn.specs.Programs.{Program, relations_at}
 use Rattle.ia_insn.specs.Templates.{units_of, stops_of}
 use Rattle.asm_printing.specs.SlotTexts.{label_text, slot_text, target_of}
 
@@ -54,16 +55,27 @@ unit_letter unit.X = 120
 abbrev pub head_text : ℕ → List ℕ
 head_text template = line (codes "{ ." ++ map unit_letter (units_of template))
 
--- A bundle: that it is a declared entry, its label where it is one or a target, and its slots.
-abbrev pub bundle_text : List ℕ → List ℕ → ℕ → Bundle → List ℕ
-bundle_text entries targets n b =
+-- `.pred.rel "mutex",p6,p7`, of a relation between two predicates
+abbrev pub relation_text : ℕ → ℕ → List ℕ
+relation_text p q = codes ".pred.rel \"mutex\",p" ++ decimal p ++ codes ",p" ++ decimal q
+
+-- the lines of relations
+abbrev pub relations_text : List Relation → List ℕ
+relations_text [] = []
+relations_text (r ∷ rs) = line (relation_text r.p r.q) ++ relations_text rs
+
+-- A bundle: that it is a declared entry, its label where it is one or a target, its relations, and its slots.
+abbrev pub bundle_text : List ℕ → List ℕ → List Relation → ℕ → Bundle → List ℕ
+bundle_text entries targets relations n b =
     (if is_among entries n then line (codes ".entry " ++ label_text n) else [])
     ++ ((if is_among entries n || is_among targets n then line (label_text n ++ codes ":") else [])
-    ++ (head_text b.template ++ (slots_text n b.template b.slots ++ line (codes "}"))))
+    ++ (relations_text (relations_at relations n)
+    ++ (head_text b.template ++ (slots_text n b.template b.slots ++ line (codes "}")))))
 
-abbrev pub bundles_text : List ℕ → List ℕ → ℕ → List Bundle → List ℕ
-bundles_text entries targets n [] = []
-bundles_text entries targets n (b ∷ bs) = bundle_text entries targets n b ++ bundles_text entries targets (n + 1) bs
+abbrev pub bundles_text : List ℕ → List ℕ → List Relation → ℕ → List Bundle → List ℕ
+bundles_text entries targets relations n [] = []
+bundles_text entries targets relations n (b ∷ bs) =
+    bundle_text entries targets relations n b ++ bundles_text entries targets relations (n + 1) bs
 
 -- a word of eight bytes, the lowest first
 abbrev pub data_word : ℕ → ℕ → ℕ → ℕ → ℕ → ℕ → ℕ → ℕ → ℕ
@@ -91,4 +103,4 @@ data_text (b ∷ bytes) = line (codes ".data") ++ words_text 0 (words_of (b ∷ 
 
 -- the canonical text
 abbrev pub canonical_text : Program → List ℕ
-canonical_text p = bundles_text p.entries (targets_from 0 p.bundles) 0 p.bundles ++ data_text p.bytes
+canonical_text p = bundles_text p.entries (targets_from 0 p.bundles) p.relations 0 p.bundles ++ data_text p.bytes

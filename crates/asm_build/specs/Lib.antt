@@ -6,6 +6,7 @@ pub mod Addresses
 pub mod TemplateNames
 pub mod Drafts
 pub mod TextParts
+pub mod Relations
 pub mod Names
 pub mod TextReading
 pub mod WholeTexts

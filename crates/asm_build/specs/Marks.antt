@@ -3,11 +3,13 @@ use Rattle.std.specs.Prelude.{◌≡◌, ℕ, ◌+◌, ◌<◌, Bool, false, ◌
 use Rattle.ia_insn.specs.declared.insn.Insn.{Insn}
 use Rattle.ia_insn.specs.declared.bundle.Slots.{Slots}
 use Rattle.ia_insn.specs.declared.bundle.Slots.TheVariants.{Three, Long}
+use Rattle.ia_insn.specs.declared.relations.Relation.{Relation}
 use Rattle.ia_insn.specs.Bundles.{Bundle}
 use Rattle.ia_insn.specs.Listed.{IsListed}
+use Rattle.ia_insn.specs.Programs.{relations_at}
 use Rattle.ia_insn.specs.Targets.{displacement, IsBundleAt}
 use Rattle.asm_printing.specs.SlotTexts.{label_text}
-use Rattle.asm_build.specs.CanonicalText.{is_among, line, head_text, slots_text}
+use Rattle.asm_build.specs.CanonicalText.{is_among, line, relations_text, head_text, slots_text}
 
 -- The marks of so many bundles: those of these numbers are marked.
 pub record AreMarks (bundle_count : ℕ) (numbers : List ℕ) (marks : List Bool) : Type 0 where
@@ -33,15 +35,17 @@ AreSound count n (Long first long) = IsSound count n first × IsSound count n lo
 abbrev pub AreAllSound : ℕ → List Bundle → Type 0
 AreAllSound count bundles = (n : ℕ) → IfSome (slice_get bundles n) (λ b. AreSound count n b.slots)
 
--- the text of a bundle, where it is known whether it is an entry and whether it is a target
-abbrev pub marked_text : Bool → Bool → ℕ → Bundle → List ℕ
-marked_text entry target n b =
+-- the text of a bundle, where it is known whether it is an entry and whether it is a target, and its relations
+abbrev pub marked_text : Bool → Bool → List Relation → ℕ → Bundle → List ℕ
+marked_text entry target relations n b =
     (if entry then line (codes ".entry " ++ label_text n) else [])
     ++ ((if entry || target then line (label_text n ++ codes ":") else [])
-    ++ (head_text b.template ++ (slots_text n b.template b.slots ++ line (codes "}"))))
+    ++ (relations_text relations
+    ++ (head_text b.template ++ (slots_text n b.template b.slots ++ line (codes "}")))))
 
 -- the text of bundles, the first of which is the n-th
-abbrev pub marked_texts : List Bool → List Bool → ℕ → List Bundle → List ℕ
-marked_texts entries targets n [] = []
-marked_texts entries targets n (b ∷ bs) =
-    marked_text (get_or entries n false) (get_or targets n false) n b ++ marked_texts entries targets (n + 1) bs
+abbrev pub marked_texts : List Bool → List Bool → List Relation → ℕ → List Bundle → List ℕ
+marked_texts entries targets relations n [] = []
+marked_texts entries targets relations n (b ∷ bs) =
+    marked_text (get_or entries n false) (get_or targets n false) (relations_at relations n) n b
+    ++ marked_texts entries targets relations (n + 1) bs

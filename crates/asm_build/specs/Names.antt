@@ -21,6 +21,7 @@ use Rattle.asm_build.specs.declared.reason.TextError.{TextError}
 use Rattle.asm_build.specs.declared.reason.TextError.TheVariants as error
 use Rattle.asm_build.specs.declared.reason.Reason.TheVariants.{NoLabel, Limit}
 use Rattle.asm_build.specs.Addresses.{addressed}
+use Rattle.asm_build.specs.Relations.{all_related}
 use Rattle.asm_build.specs.TextParts.{TextParts, Labels, address_of}
 
 abbrev pub addressed_by : Option Address → Op → ℕ → Option Op
@@ -131,10 +132,10 @@ or_none (Err e) = []
 abbrev pub padded : List ℕ → List ℕ
 padded bytes = bytes ++ replicate ((8 - length bytes % 8) % 8) 0
 
--- The program that the lines say, which declare no relations.
+-- The program that the lines say.
 abbrev pub program_of : TextParts → Program
 program_of s =
-    record { bundles = bundles_named s.labels 0 s.bundles; entries = or_none (all_declared s.labels [] s.entries); bytes = padded s.bytes; relations = [] }
+    record { bundles = bundles_named s.labels 0 s.bundles; entries = or_none (all_declared s.labels [] s.entries); bytes = padded s.bytes; relations = all_related [] s.relations }
 
 -- the line of a slot
 abbrev pub slot_line : ℕ → BundleLines → ℕ

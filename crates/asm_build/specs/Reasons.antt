@@ -21,6 +21,7 @@ reason_text reason.Limit = codes "limit"
 reason_text reason.LongRun = codes "long run"
 reason_text reason.Misplaced = codes "misplaced"
 reason_text reason.Empty = codes "empty"
+reason_text reason.Relation = codes "relation"
 
 -- the reason for which a line is refused by itself
 abbrev pub reason_of : LineFault → Reason

@@ -1,17 +1,13 @@
--- The canonical text of a program is read as the program without its relations, and is short.
-use Rattle.std.specs.Prelude.{◌+◌, ◌<◌, ◌≤◌, ◌^◌, [], length}
+-- The canonical text of a program is read as the program, and is short.
+use Rattle.std.specs.Prelude.{◌+◌, ◌<◌, ◌≤◌, ◌^◌, length}
 use Rattle.ia_insn.specs.Programs.{Program, IsProgram}
 use Rattle.asm_build.specs.declared.limits.TheConstants.{TEXT_LIMIT}
 use Rattle.asm_build.specs.CanonicalText.{canonical_text}
 use Rattle.asm_build.specs.TextReading.{Reads}
 
--- the program without its relations, which a text doesn't say
-abbrev pub bare : Program → Program
-bare p = record p { relations = [] }
-
--- the canonical text of a program reads as it, but for its relations
+-- the canonical text of a program reads as it
 abbrev pub CanonicalTextReads : Program → Type 0
-CanonicalTextReads p = IsProgram p → Reads (canonical_text p) (bare p)
+CanonicalTextReads p = IsProgram p → Reads (canonical_text p) p
 
 -- and is short enough to be read
 abbrev pub CanonicalTextIsShort : Program → Type 0

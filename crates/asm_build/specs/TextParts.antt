@@ -16,6 +16,7 @@ use Rattle.asm_build.specs.declared.address.Address.TheVariants.{Bundle, Byte}
 use Rattle.asm_build.specs.declared.draft.BundleLines.{BundleLines}
 use Rattle.asm_build.specs.declared.draft.SlotLines.TheVariants as slots
 use Rattle.asm_build.specs.declared.text_parts.EntryLine.{EntryLine}
+use Rattle.asm_build.specs.declared.text_parts.RelationLine.{RelationLine}
 use Rattle.asm_build.specs.declared.text_parts.Section.{Section}
 use Rattle.asm_build.specs.declared.text_parts.Section.TheVariants as section
 use Rattle.asm_build.specs.declared.reason.Reason.{Reason}
@@ -30,18 +31,19 @@ abbrev pub Labels : Type 0
 Labels = List (List ℕ × Address)
 
 -- What the lines so far say: whether bundles or data are being written, the bundle that is open, the
--- bundles, the declared entries, the labels, and the data.
+-- bundles, the declared entries, the declared relations, the labels, and the data.
 pub record TextParts : Type 0 where
   pub section : Section
   pub current : Option OpenBundle
   pub bundles : List BundleLines
   pub entries : List EntryLine
+  pub relations : List RelationLine
   pub labels : Labels
   pub bytes : List ℕ
 
 -- what no lines say
 abbrev pub start : TextParts
-start = record { section = section.Text; current = None; bundles = []; entries = []; labels = []; bytes = [] }
+start = record { section = section.Text; current = None; bundles = []; entries = []; relations = []; labels = []; bytes = [] }
 
 -- what a label names
 abbrev pub address_of : Labels → List ℕ → Option Address
@@ -53,23 +55,26 @@ numbers_bytes size values = flat_map (λ v. take size (to_le_bytes w64 v)) value
 
 -- the same with another section, open bundle, labels or data
 abbrev pub turned : TextParts → Section → TextParts
-turned s section = record { section = section; current = s.current; bundles = s.bundles; entries = s.entries; labels = s.labels; bytes = s.bytes }
+turned s section = record { section = section; current = s.current; bundles = s.bundles; entries = s.entries; relations = s.relations; labels = s.labels; bytes = s.bytes }
 
 abbrev pub with_open : TextParts → Option OpenBundle → TextParts
-with_open s bundle = record { section = s.section; current = bundle; bundles = s.bundles; entries = s.entries; labels = s.labels; bytes = s.bytes }
+with_open s bundle = record { section = s.section; current = bundle; bundles = s.bundles; entries = s.entries; relations = s.relations; labels = s.labels; bytes = s.bytes }
 
 abbrev pub with_label : TextParts → List ℕ → Address → TextParts
-with_label s name address = record { section = s.section; current = s.current; bundles = s.bundles; entries = s.entries; labels = insert_entry (slice_cmp nat_cmp) s.labels name address; bytes = s.bytes }
+with_label s name address = record { section = s.section; current = s.current; bundles = s.bundles; entries = s.entries; relations = s.relations; labels = insert_entry (slice_cmp nat_cmp) s.labels name address; bytes = s.bytes }
 
 abbrev pub with_bytes : TextParts → List ℕ → TextParts
-with_bytes s more = record { section = s.section; current = s.current; bundles = s.bundles; entries = s.entries; labels = s.labels; bytes = s.bytes ++ more }
+with_bytes s more = record { section = s.section; current = s.current; bundles = s.bundles; entries = s.entries; relations = s.relations; labels = s.labels; bytes = s.bytes ++ more }
 
 abbrev pub with_entry : TextParts → EntryLine → TextParts
-with_entry s entry = record { section = s.section; current = s.current; bundles = s.bundles; entries = s.entries ++ entry ∷ []; labels = s.labels; bytes = s.bytes }
+with_entry s entry = record { section = s.section; current = s.current; bundles = s.bundles; entries = s.entries ++ entry ∷ []; relations = s.relations; labels = s.labels; bytes = s.bytes }
+
+abbrev pub with_relation : TextParts → RelationLine → TextParts
+with_relation s relation = record { section = s.section; current = s.current; bundles = s.bundles; entries = s.entries; relations = s.relations ++ relation ∷ []; labels = s.labels; bytes = s.bytes }
 
 abbrev pub with_bundle : TextParts → Option BundleLines → TextParts
 with_bundle s None = s
-with_bundle s (Some b) = record { section = s.section; current = None; bundles = s.bundles ++ b ∷ []; entries = s.entries; labels = s.labels; bytes = s.bytes }
+with_bundle s (Some b) = record { section = s.section; current = None; bundles = s.bundles ++ b ∷ []; entries = s.entries; relations = s.relations; labels = s.labels; bytes = s.bytes }
 
 abbrev pub closed_of : Option OpenBundle → Option BundleLines
 closed_of None = None
@@ -90,6 +95,8 @@ after s n (line.Label name) = with_label s name (here s)
 after s n line.Text = turned s section.Text
 after s n line.Data = turned s section.Data
 after s n (line.Entry name) = with_entry s (record { line = n; name = name })
+after s n (line.Relation predicates) =
+    with_relation s (record { line = n; bundle = length s.bundles; predicates = predicates })
 after s n line.Ignored = s
 after s n (line.Numbers size values) = with_bytes s (numbers_bytes size values)
 after s n (line.Skip count) = with_bytes s (replicate count 0)
@@ -103,10 +110,11 @@ pub record IsIn (section : Section) (s : TextParts) : Type 0 where
   pub closed : s.current ≡ None
   pub same : s.section ≡ section
 
--- A line may stand here: slots, stops and `}` within a bundle, and a stop after a slot; bundles in text,
+-- A line may stand here: slots, stops and `}` within a bundle, and a stop after a slot; bundles and relations in text,
 -- data in data, all else but blank lines outside a bundle.
 abbrev pub MayStand : TextParts → Line → Type 0
 MayStand s line.Empty = ⊤
+MayStand s (line.Relation predicates) = IsIn section.Text s
 MayStand s (line.Numbers size values) = IsIn section.Data s
 MayStand s (line.Skip count) = IsIn section.Data s
 MayStand s (line.Open shape) = IsIn section.Text s

@@ -16,6 +16,7 @@ use Rattle.asm_build.specs.declared.reason.TextError.{TextError}
 use Rattle.asm_build.specs.declared.reason.TextError.TheVariants.{Fault}
 use Rattle.asm_build.specs.Names.{name_fault, program_of, line_at}
 use Rattle.asm_build.specs.Reasons.{reason_of}
+use Rattle.asm_build.specs.Relations.{relation_stages}
 use Rattle.asm_build.specs.TextParts.{TextParts, start, after, value_stages, AreLabelsInside}
 
 -- the lines of a text, without the line feed, or the carriage return and line feed, that ends each
@@ -54,13 +55,18 @@ ComesTo s n (line ∷ lines) r =
 abbrev pub found : Option TextError → Stage TextError
 found o = first TextError (λ e. e) (λ e. o ≡ Some e) (o ≡ None)
 
+-- the stage whose fault is the first that these find
+abbrev pub first_of : List (Stage TextError) → Stage TextError
+first_of stages = first TextError (λ e. e) (IsFirstFault stages) (ArePassed stages)
+
 -- What is looked for after the last line, in this order: a bundle that is open or a label without one, that
--- there are bundles, names, and the slots of runs. `count` lines were read.
+-- there are bundles, names, relations, and the slots of runs. `count` lines were read.
 abbrev pub end_stages : ℕ → TextParts → List (Stage TextError)
 end_stages count s =
     unless ((s.current ≡ None) × AreLabelsInside s) (Fault (count + 1) Misplaced)
     ∷ unless (1 ≤ length s.bundles) (Fault (count + 1) Empty)
     ∷ found (name_fault s)
+    ∷ first_of (relation_stages (program_of s).bundles (program_of s).entries [] s.relations)
     ∷ first Place (λ place. Fault (line_at s.bundles place) LongRun)
     (IsFirstBad (program_of s).bundles (IsWithinRun (program_of s).bundles))
     (EachPlace (program_of s).bundles (IsWithinRun (program_of s).bundles))

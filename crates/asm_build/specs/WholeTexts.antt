@@ -1,11 +1,12 @@
--- What a whole text says, by all of its lines at once: its bundles, labels, declared entries and data are read off
--- the list of what the lines say, and nothing is handed on from line to line.
-use Rattle.std.specs.Prelude.{◌≡◌, ◌↔◌, ℕ, ◌+◌, ◌≤◌, Bool, true, false, ◌||◌, List, [], ◌∷◌, ◌++◌, length, flat_map, replicate, Contains, Option, Some, None, ⊤}
+-- What a whole text says, by all of its lines at once: its bundles, labels, declared entries, declared relations and
+-- data are read off the list of what the lines say, and nothing is handed on from line to line.
+use Rattle.std.specs.Prelude.{◌≡◌, ◌↔◌, ℕ, ◌+◌, ◌<◌, ◌≤◌, Bool, true, false, ◌||◌, List, [], ◌∷◌, ◌++◌, length, flat_map, replicate, Contains, Option, Some, None, ⊤}
 use Rattle.ia_insn.specs.declared.insn.Insn.{Insn}
 use Rattle.ia_insn.specs.declared.insn.Op.{Op}
 use Rattle.ia_insn.specs.declared.bundle.Slots.TheVariants.{Three, Long}
 use Rattle.ia_insn.specs.Bundles.{Bundle}
-use Rattle.ia_insn.specs.Programs.{Program, AreEntries}
+use Rattle.ia_insn.specs.declared.relations.Relation.{Relation}
+use Rattle.ia_insn.specs.Programs.{Program, AreEntries, IsEntryOf, IsRelationBefore, relation_at, relation_before}
 use Rattle.asm_reading.specs.declared.line.Line.{Line}
 use Rattle.asm_reading.specs.declared.line.Line.TheVariants as line
 use Rattle.asm_reading.specs.declared.line.Shape.{Shape}
@@ -128,15 +129,34 @@ AreBundlesSaid lines n more bs = ⊥
 abbrev pub IsDeclared : List Line → ℕ → Type 0
 IsDeclared lines n = (1 ≤ n) × (name : List ℕ) × Contains (entries_in lines) name × IsLabel lines name (address.Bundle n)
 
+-- A line declares relations, as many bundles stand before it as before the relation's bundle, and both predicates are
+-- among its own, the lower one first.
+pub record IsRelationSaid (lines : List Line) (r : Relation) : Type 0 where
+  pub predicates : List ℕ
+  pub before : List Line
+  pub after : List Line
+  pub stands : lines ≡ before ++ line.Relation predicates ∷ after
+  pub bundle : r.bundle ≡ length (bundles_in before)
+  pub lower : Contains predicates r.p
+  pub higher : Contains predicates r.q
+  pub apart : r.p < r.q
+
+-- Each relation comes before the next.
+abbrev pub RelationsRise : List Relation → Type 0
+RelationsRise relations = (n : ℕ) → n < length relations → IsRelationBefore (relation_before relations n) (relation_at relations n)
+
 -- The lines say the program: its bundles are those on the lines, in order; its declared entries, which rise, are the
--- bundles that lines `.entry` name; and its data are those on the lines, in order, with zeros up to a multiple of
--- eight; it has no relations. What labels with one name are names one place, which in code is a bundle of the program.
+-- bundles that lines `.entry` name; its data are those on the lines, in order, with zeros up to a multiple of eight; and
+-- its relations, which rise and are of its entries, are those between each two predicates of the lines that declare
+-- them. What labels with one name are names one place, which in code is a bundle of the program.
 pub record IsProgramSaid (lines : List Line) (p : Program) : Type 0 where
   pub bundles : AreBundlesSaid lines 0 (bundles_in lines) p.bundles
   pub rising : AreEntries (length p.bundles) p.entries
   pub entries : (n : ℕ) → Contains p.entries n ↔ IsDeclared lines n
   pub bytes : p.bytes ≡ padded (data_in lines)
-  pub relations : p.relations ≡ []
+  pub ordered : RelationsRise p.relations
+  pub relations : (r : Relation) → Contains p.relations r ↔ IsRelationSaid lines r
+  pub landed : (r : Relation) → Contains p.relations r → IsEntryOf p.bundles p.entries r.bundle
   pub once : (name : List ℕ) (a b : Address) → IsLabel lines name a → IsLabel lines name b → a ≡ b
   pub inside : (name : List ℕ) (a : Address) → IsLabel lines name a → IsInside (length p.bundles) a
 

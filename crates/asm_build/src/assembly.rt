@@ -5,7 +5,7 @@ ghost use Rattle.first_fault.specs.Stages.{ArePassed, IsFirstFault};
 ghost use Rattle.ia_insn.specs.declared.place.Place.{Place as PlaceOf};
 ghost use Rattle.ia_insn.specs.Bundles.{AreBundles};
 ghost use Rattle.ia_insn.specs.Places.{EachPlace, IsFirstBad};
-ghost use Rattle.ia_insn.specs.Programs.{Program as ProgramOf, AreInRange, AreEntries};
+ghost use Rattle.ia_insn.specs.Programs.{Program as ProgramOf, AreInRange, AreEntries, AreRelations};
 ghost use Rattle.ia_insn.specs.Runs.{IsWithinRun};
 ghost use Rattle.ia_insn.specs.Targets.{IsTargetInside};
 ghost use Rattle.asm_reading.specs.declared.line.Line.{Line as LineValue};
@@ -21,11 +21,12 @@ use crate::draft::BundleLines;
 use crate::laws::{no_fault_where_read, one_text_fault, one_text_program};
 use crate::names::{all_declared, bundles_named};
 use crate::reason::{Reason, TextError, fault, reason_of};
+use crate::relations::all_related;
 use crate::text_parts::TextParts;
 use asm_text::{LineBuffers, read_line_with};
 use asm_words::limits::LINE_LIMIT;
 use bstr::ByteSlice;
-use ia_insn::{BundleOf, Place, Program, long_run};
+use ia_insn::{BundleOf, Place, Program, Relation, long_run};
 use std::alloc::{AllocError, Global};
 use std::collections::BTreeSet;
 
@@ -106,15 +107,15 @@ fn named(alloc: Global, parts: &TextParts) -> Result<NamedParts, TextError>
     }
 }
 
-/// The numbers of a set, rising.
-fn rising(alloc: Global, set: &BTreeSet<u32>) -> Result<Vec<u32>, AllocError>
-    ensures { IfOk result (λ numbers. numbers.items ≡ set.now.keys) }
+/// The items of a set, rising.
+fn rising<T: Copy + Ord>(alloc: Global, set: &BTreeSet<T>) -> Result<Vec<T>, AllocError>
+    ensures { IfOk result (λ items. items.items ≡ set.now.keys) }
 {
-    let mut numbers = Vec::with_capacity(alloc, set.len())?;
-    for number in set {
-        numbers.push(*number)?;
+    let mut items = Vec::with_capacity(alloc, set.len())?;
+    for item in set {
+        items.push(*item)?;
     }
-    Ok(numbers)
+    Ok(items)
 }
 
 /// The data with zeros up to a multiple of eight.
@@ -143,20 +144,19 @@ fn checked(
     bundles: Vec<BundleOf>,
     entries: Vec<u32>,
     bytes: Vec<u8>,
+    relations: Vec<Relation>,
 ) -> Result<Program, TextError>
     requires fit { AreBundles bundles.items }
-    requires counts { AreInRange (length bundles.items) (length entries.items) (length bytes.items) 0 }
+    requires counts { AreInRange (length bundles.items) (length entries.items) (length bytes.items) (length relations.items) }
     requires entries { AreEntries (length bundles.items) entries.items }
     requires targets { EachPlace bundles.items (IsTargetInside bundles.items) }
-    ensures ok { IfOk result (λ p. (p ≡ record { bundles = bundles.items; entries = entries.items; bytes = bytes.items; relations = [] }) × EachPlace bundles.items (IsWithinRun bundles.items)) }
+    requires relations { AreRelations bundles.items entries.items relations.items }
+    ensures ok { IfOk result (λ p. (p ≡ record { bundles = bundles.items; entries = entries.items; bytes = bytes.items; relations = relations.items }) × EachPlace bundles.items (IsWithinRun bundles.items)) }
     ensures err { IfErr result (λ e. (place : PlaceOf) × IsFirstBad bundles.items (IsWithinRun bundles.items) place × (e ≡ error.Fault (line_at lines.now place) reason.LongRun)) }
 {
     match long_run(&bundles) {
         Some(place) => Err(fault(line_at(lines, place), Reason::LongRun)),
-        None => {
-            let relations = Vec::new(*bundles.allocator());
-            Ok(Program::of_parts(bundles, entries, bytes, relations))
-        }
+        None => Ok(Program::of_parts(bundles, entries, bytes, relations)),
     }
 }
 
@@ -176,8 +176,10 @@ fn finish(alloc: Global, lines: Lines) -> Result<Program, TextError>
     }
     let named = named(alloc, &parts)?;
     let entries = rising(alloc, &named.entries)?;
+    let related = all_related(alloc, &named.bundles, &entries, &parts.relations)?;
+    let relations = rising(alloc, &related)?;
     let bytes = padded(parts.data)?;
-    checked(&parts.bundles, named.bundles, entries, bytes)
+    checked(&parts.bundles, named.bundles, entries, bytes, relations)
 }
 
 /// The program that a text says, or its first fault.
@@ -198,7 +200,8 @@ fn read(alloc: Global, text: &[u8]) -> Result<Program, TextError>
 /// ([`Reason::Limit`]), of the line by itself ([`Reason::Char`] to [`Reason::Form`]), `Misplaced`, `Twice`,
 /// `Template`, `SlotKind`, and `Limit` for a bundle or for data. After the last come `Misplaced` and `Empty`,
 /// at the line one past it; then, in the order of their lines, names without a label that fits and declared
-/// entries past the limit; and last `LongRun`. Or want of memory, which may come in place of any other answer.
+/// entries past the limit; then, in the order of theirs, `Relation` and declared relations past the limit; and
+/// last `LongRun`. Or want of memory, which may come in place of any other answer.
 pub fn assemble(alloc: Global, text: &[u8]) -> Result<Program, TextError>
     requires { length text.now + 1 < 2 ^ 32 }
 

@@ -3,11 +3,11 @@
 ghost use Rattle.std.specs.Prelude.{◌≡◌, ◌++◌, [], ◌<◌, ◌≤◌, length, codes, if◌then◌else◌, OnOk};
 ghost use Rattle.ia_insn.specs.declared.limits.TheConstants.{BUNDLE_LIMIT};
 ghost use Rattle.asm_printing.specs.SlotTexts.{label_text, slot_text};
-ghost use Rattle.asm_build.specs.CanonicalText.{has_stop, line, unit_letter, head_text, slots_text};
+ghost use Rattle.asm_build.specs.CanonicalText.{has_stop, line, unit_letter, relation_text, relations_text, head_text, slots_text};
 ghost use Rattle.asm_build.specs.Marks.{IsSound, AreSound, AreAllSound, marked_text, marked_texts};
 
 use asm_text::{print_slot, push_bytes, push_decimal};
-use ia_insn::{BundleOf, Insn, Place, Slots, Template, Unit};
+use ia_insn::{BundleOf, Insn, Place, Program, Relation, Slots, Template, Unit};
 use std::alloc::AllocError;
 
 fn push_label(out: &mut Vec<u8>, n: u32) -> Result<(), AllocError>
@@ -143,37 +143,61 @@ fn push_label_line(out: &mut Vec<u8>, labeled: bool, n: u32) -> Result<(), Alloc
     push_bytes(out, b":\n")
 }
 
+/// The text of a relation between two predicates, as `.pred.rel "mutex",p6,p7`.
+fn push_relation(out: &mut Vec<u8>, p: u8, q: u8) -> Result<(), AllocError>
+    ensures { OnOk result (out.new.items ≡ out.old.items ++ relation_text p q) }
+{
+    push_bytes(out, b".pred.rel \"mutex\",p")?;
+    push_decimal(out, u64::from(p))?;
+    push_bytes(out, b",p")?;
+    push_decimal(out, u64::from(q))
+}
+
+/// The lines of relations.
+fn push_relations(out: &mut Vec<u8>, relations: &[Relation]) -> Result<(), AllocError>
+    ensures { OnOk result (out.new.items ≡ out.old.items ++ relations_text relations.now) }
+{
+    for relation in relations {
+        push_relation(out, relation.p, relation.q)?;
+        push_bytes(out, b"\n")?;
+    }
+    Ok(())
+}
+
 fn push_bundle(
     out: &mut Vec<u8>,
     count: usize,
     entry: bool,
     target: bool,
+    relations: &[Relation],
     n: u32,
     bundle: &BundleOf,
 ) -> Result<(), AllocError>
     requires { AreSound count n bundle.now.slots }
-    ensures { OnOk result (out.new.items ≡ out.old.items ++ marked_text entry target n bundle.now) }
+    ensures { OnOk result (out.new.items ≡ out.old.items ++ marked_text entry target relations.now n bundle.now) }
 {
     push_entry(out, entry, n)?;
     push_label_line(out, entry || target, n)?;
+    push_relations(out, relations)?;
     push_head(out, bundle.template())?;
     push_slots(out, count, n, bundle.template(), bundle.slots())?;
     push_bytes(out, b"}\n")
 }
 
-/// The text of bundles, of which it is marked which are declared entries and which are targets.
+/// The text of a program's bundles, of which it is marked which are declared entries and which are targets.
 pub(crate) fn push_bundles(
     out: &mut Vec<u8>,
-    bundles: &[BundleOf],
+    program: &Program,
     entries: &[bool],
     targets: &[bool],
 ) -> Result<(), AllocError>
-    requires few { length bundles.now ≤ BUNDLE_LIMIT }
-    requires sound { AreAllSound (length bundles.now) bundles.now }
-    requires entries { length entries.now ≡ length bundles.now }
-    requires targets { length targets.now ≡ length bundles.now }
-    ensures { OnOk result (out.new.items ≡ out.old.items ++ marked_texts entries.now targets.now 0 bundles.now) }
+    requires few { length program.now.bundles ≤ BUNDLE_LIMIT }
+    requires sound { AreAllSound (length program.now.bundles) program.now.bundles }
+    requires entries { length entries.now ≡ length program.now.bundles }
+    requires targets { length targets.now ≡ length program.now.bundles }
+    ensures { OnOk result (out.new.items ≡ out.old.items ++ marked_texts entries.now targets.now program.now.relations 0 program.now.bundles) }
 {
+    let bundles = program.bundles();
     let mut at = 0;
     while at < bundles.len() {
         push_bundle(
@@ -181,6 +205,7 @@ pub(crate) fn push_bundles(
             bundles.len(),
             entries[at],
             targets[at],
+            program.relations_at(at as u32),
             at as u32,
             &bundles[at],
         )?;

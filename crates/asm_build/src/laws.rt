@@ -36,8 +36,8 @@ pub fn text_or_fault()
     line_or_fault();
 }
 
-/// The law that the canonical text of a program reads as the program without its relations, and is short
-/// enough for [`assemble`](crate::assemble): it has at most 4,194,304 bytes. It does nothing.
+/// The law that the canonical text of a program reads as the program, and is short
+/// enough for [`assemble`](crate::assemble): it has at most 16,777,216 bytes. It does nothing.
 pub fn canonical_texts_are_read_back()
     ensures back { (p : Program) → CanonicalTextReads p }
     ensures short { (p : Program) → CanonicalTextIsShort p }
@@ -47,7 +47,7 @@ pub fn canonical_texts_are_read_back()
 }
 
 /// The law that a text means what its lines say, looked at all at once: the bundles of the program that it reads as,
-/// its declared entries and its data are those on the lines, in order, it has no relations, and a label names what
+/// its declared entries, its declared relations and its data are those on the lines, in order, and a label names what
 /// as many bundles, or as many bytes of data, stand before as before the label in the text. It does nothing.
 pub fn texts_mean_their_lines()
     ensures { (text : List ℕ) (p : Program) → MeansWhatItReads text p }

@@ -1,9 +1,9 @@
 //! Programs as text, both ways.
 //!
 //! [`assemble`] takes the lines of a text one by one: `text_parts` keeps what they say so far, with the bundle that
-//! is open in `draft`, and after the last line `names` puts in what labels name. It answers the program
-//! that the text says, or its first fault. [`disassemble`] gives the canonical text of a program, which reads
-//! as the program again, and [`list`] its bundles by their bytes.
+//! is open in `draft`, and after the last line `names` puts in what labels name, and `relations` gathers the declared
+//! relations. It answers the program that the text says, or its first fault. [`disassemble`] gives the canonical text
+//! of a program, which reads as the program again, and [`list`] its bundles by their bytes.
 #![tactic(auto)]
 
 mod address;
@@ -18,6 +18,7 @@ pub mod limits;
 mod listing;
 mod names;
 mod reason;
+mod relations;
 mod template_name;
 mod text_parts;
 

@@ -33,8 +33,8 @@ pub enum Reason {
     Twice,
     /// No label that fits has the name.
     NoLabel,
-    /// A line over [`LINE_LIMIT`](asm_words::limits::LINE_LIMIT) bytes, or a bundle, data or a declared entry past
-    /// its [limit](ia_insn::limits).
+    /// A line over [`LINE_LIMIT`](asm_words::limits::LINE_LIMIT) bytes, or a bundle, data, a declared entry or a
+    /// declared relation past its [limit](ia_insn::limits).
     Limit,
     /// A slot past [`RUN_LIMIT`](ia_insn::limits::RUN_LIMIT) others of its run.
     LongRun,
@@ -43,6 +43,8 @@ pub enum Reason {
     Misplaced,
     /// After the last line: there is no bundle.
     Empty,
+    /// A line declares relations, and the next bundle isn't an entry, or there is none.
+    Relation,
 }
 
 impl fmt::Display for Reason {
@@ -65,6 +67,7 @@ impl fmt::Display for Reason {
             Reason::LongRun => write!(f, "long run"),
             Reason::Misplaced => write!(f, "misplaced"),
             Reason::Empty => write!(f, "empty"),
+            Reason::Relation => write!(f, "relation"),
         }
     }
 }

@@ -11,7 +11,7 @@ ghost use Rattle.asm_build.specs.declared.text_parts.Section.TheVariants as sect
 use crate::address::Address;
 use crate::draft::{BundleLines, Open};
 use crate::reason::{Reason, TextError, fault};
-use asm_text::{Draft, Line, Shape, Values};
+use asm_text::{Draft, Line, Predicates, Shape, Values};
 use asm_words::Name;
 use ia_insn::limits::{BUNDLE_LIMIT, DATA_LIMIT};
 use std::alloc::{AllocError, Global};
@@ -34,6 +34,17 @@ pub(crate) struct EntryLine {
     pub name: Name,
 }
 
+/// A line that declares relations of the next bundle, between each two of its predicates.
+#[derive(Drop)]
+pub(crate) struct RelationLine {
+    /// Its number, from 1.
+    pub line: u32,
+    /// How many bundles stand before it, which is the number of the next one.
+    pub bundle: u32,
+    /// The predicates.
+    pub predicates: Predicates,
+}
+
 /// What the lines so far say. Contracts see its lists, and the labels in the order of their names.
 #[derive(Drop)]
 pub(crate) struct TextParts {
@@ -41,6 +52,7 @@ pub(crate) struct TextParts {
     pub current: Option<Open>,
     pub bundles: Vec<BundleLines>,
     pub entries: Vec<EntryLine>,
+    pub relations: Vec<RelationLine>,
     pub labels: BTreeMap<Name, Address>,
     pub data: Vec<u8>,
 }
@@ -48,9 +60,9 @@ pub(crate) struct TextParts {
 impl Model for TextParts {
     ghost Value = { PartsOf };
 
-    ghost view = { λ s. record { section = s.section; current = s.current; bundles = s.bundles.items; entries = s.entries.items; labels = s.labels.entries; bytes = s.data.items } };
+    ghost view = { λ s. record { section = s.section; current = s.current; bundles = s.bundles.items; entries = s.entries.items; relations = s.relations.items; labels = s.labels.entries; bytes = s.data.items } };
 
-    ghost invariant = { λ s. IsWithinLimits (record { section = s.section; current = s.current; bundles = s.bundles.items; entries = s.entries.items; labels = s.labels.entries; bytes = s.data.items }) };
+    ghost invariant = { λ s. IsWithinLimits (record { section = s.section; current = s.current; bundles = s.bundles.items; entries = s.entries.items; relations = s.relations.items; labels = s.labels.entries; bytes = s.data.items }) };
 }
 
 impl TextParts {
@@ -63,6 +75,7 @@ impl TextParts {
             current: None,
             bundles: Vec::new(alloc),
             entries: Vec::new(alloc),
+            relations: Vec::new(alloc),
             labels: BTreeMap::new(alloc),
             data: Vec::new(alloc),
         }
@@ -84,6 +97,7 @@ impl TextParts {
             Line::Text => self.turn_to(n, Section::Text),
             Line::Data => self.turn_to(n, Section::Data),
             Line::Entry { name } => self.entry(n, name),
+            Line::Relation { predicates } => self.relation(n, predicates),
             Line::Ignored => self.ignored(n),
             Line::Numbers { size, values } => self.numbers(n, size, &values),
             Line::Skip { count } => self.skip(n, count),
@@ -155,6 +169,21 @@ impl TextParts {
         Ok(())
     }
 
+    fn relation(&mut self, n: u32, predicates: Predicates) -> Result<(), TextError>
+        ensures ok { OnOk result (ArePassed (value_stages self.old (line.Relation predicates)) × (self.new ≡ after self.old n (line.Relation predicates))) }
+        ensures err { IfErr result (IsValueError self.old n (line.Relation predicates)) }
+    {
+        if !self.is_in_text() {
+            return Err(fault(n, Reason::Misplaced));
+        }
+        self.relations.push(RelationLine {
+            line: n,
+            bundle: self.bundles.len() as u32,
+            predicates,
+        })?;
+        Ok(())
+    }
+
     /// Whether data may stand here.
     fn is_in_data(&self) -> bool
         ensures { IsTrue result ↔ IsIn section.Data self.now }
@@ -162,7 +191,7 @@ impl TextParts {
         self.current.is_none() && self.section == Section::Data
     }
 
-    /// Whether a bundle may begin here.
+    /// Whether a bundle or relations may stand here.
     fn is_in_text(&self) -> bool
         ensures { IsTrue result ↔ IsIn section.Text self.now }
     {

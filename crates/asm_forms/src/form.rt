@@ -16,6 +16,8 @@ pub enum Form {
     Entry,
     /// `.global name`.
     Global,
+    /// `.pred.rel "mutex",p1,p2..`.
+    PredRel,
     /// `.proc name`.
     Proc,
     /// `.skip n`.

@@ -56,11 +56,12 @@ macro_rules! row {
 }
 
 /// The rows of the forms with a word that begins with a dot, `a` or `b`.
-pub(crate) static ROWS_TO_B: [Row; 28] = [
+pub(crate) static ROWS_TO_B: [Row; 29] = [
     row!(Data, b".data", []),
     row!(Endp, b".endp", [], Label),
     row!(Entry, b".entry", [], Label),
     row!(Global, b".global", [], Label),
+    row!(PredRel, b".pred.rel", []),
     row!(Proc, b".proc", [], Label),
     row!(Skip, b".skip", [], Skip),
     row!(Text, b".text", []),
@@ -239,7 +240,7 @@ pub(crate) static ROWS_FROM_O: [Row; 33] = [
 
 pub(crate) fn rows_to_b() -> &'static [Row]
     ensures value { map seen result.now ≡ rows_to_b }
-    ensures count { length result.now ≡ 28 }
+    ensures count { length result.now ≡ 29 }
 {
     &ROWS_TO_B
 }
@@ -267,17 +268,17 @@ pub(crate) fn rows_from_o() -> &'static [Row]
 
 /// The row at a place of the table.
 fn row_at(at: usize) -> Row
-    requires { at < 127 }
+    requires { at < 128 }
     ensures { seen result ≡ slice_index_or rows at first_row }
 {
-    if at < 28 {
+    if at < 29 {
         rows_to_b()[at]
-    } else if at < 58 {
-        rows_c_to_i()[at - 28]
-    } else if at < 94 {
-        rows_l_to_n()[at - 58]
+    } else if at < 59 {
+        rows_c_to_i()[at - 29]
+    } else if at < 95 {
+        rows_l_to_n()[at - 59]
     } else {
-        rows_from_o()[at - 94]
+        rows_from_o()[at - 95]
     }
 }
 

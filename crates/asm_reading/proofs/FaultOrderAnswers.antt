@@ -1,6 +1,6 @@
 -- What a line's reading answers is what its stages find.
 use Rattle.std.proofs.Common.{◌≡◌, ◌⊎◌, ◌≤◌, ◌∙◌, inl, inr, refl, sym, ℕ, zero, suc, ◌+◌, ◌%◌, ◌==◌, ◌&&◌, Bool, true, false, if◌then◌else◌, List, [], ◌∷◌, length, take, drop, Option, Some, None, Result, Ok, Err, arith}
-use Rattle.std.specs.Prelude.{is_some, slice_get}
+use Rattle.std.specs.Prelude.{is_some, nat_le, slice_get}
 use Rattle.std.specs.List.{find}
 use Rattle.std.specs.Option.{option_and_then, option_map}
 use Rattle.std.proofs.lemmas.Bool.{eqb-true}
@@ -25,8 +25,9 @@ use Rattle.asm_reading.specs.declared.line.Line.{Line}
 use Rattle.asm_reading.specs.declared.line.Line.TheVariants as line
 use Rattle.asm_reading.specs.declared.line.Shape.{Shape}
 use Rattle.asm_reading.specs.Instructions.{op_of}
-use Rattle.asm_reading.specs.Lines.{◌>>=◌, or_fault, KindAndText, tokens, label_name, name_of, lead_at, without_stop, predicate_of, completers_or_none, slot_under, slot_of, data_field, agreed_data, data_fault, data_of, named, directive_value, directive_of, alone, formed, among, marked, shape_of, opened_as, mark_led, led_by, led_at, led, is_name_word, is_colon, label_of, value_of}
-use Rattle.asm_reading.specs.FaultOrder.{Beside, beside, beside_name, beside_mark, beside_word, beside_at, beside_lead, beside_of, name_instruction, fault_in, predicate_fault, fault_before, data_size, right_count, fault_among, before_stage, after_stage}
+use Rattle.asm_reading.specs.Relations.{named_predicates, agreed_relation, relation_of}
+use Rattle.asm_reading.specs.Lines.{◌>>=◌, or_fault, KindAndText, tokens, label_name, name_of, lead_at, without_stop, predicate_of, completers_or_none, slot_under, slot_of, data_field, agreed_data, data_of, named, directive_value, directive_of, alone, formed, among, marked, shape_of, opened_as, mark_led, led_by, led_at, led, is_name_word, is_colon, label_of, value_of}
+use Rattle.asm_reading.specs.FaultOrder.{Beside, beside, beside_name, beside_mark, beside_word, beside_at, beside_lead, beside_of, name_instruction, fault_in, predicate_fault, fault_before, Operands, Numbers, Predicates, OfForms, operands_of, right_count, fault_among, before_stage, after_stage}
 use Rattle.asm_words.proofs.Bools.{left}
 use Rattle.asm_reading.proofs.FaultOrderFronts.{right_within, fault_front, first_wrong, spelled_all, spelled_with_stop, found_all}
 
@@ -72,9 +73,10 @@ abbrev after_stages : List Form → List Token → List (Stage LineFault)
 after_stages forms xs = after_stage (record { forms = forms; before = []; after = xs }) ∷ []
 
 -- no token is left
-no_token : (z : Option AccessSize) (forms : List Form) (xs : List Token) → slice_get xs (right_count z forms xs) ≡ None → fault_among z forms xs ≡ fault.Form
-no_token None forms xs e = rw e refl
-no_token (Some z) forms xs e = rw e refl
+no_token : (z : Operands) (forms : List Form) (xs : List Token) → slice_get xs (right_count z forms xs) ≡ None → fault_among z forms xs ≡ fault.Form
+no_token (Numbers z) forms xs e = rw e refl
+no_token Predicates forms xs e = rw e refl
+no_token OfForms forms xs e = rw e refl
 
 none_past : (xs : List Token) (k : ℕ) → slice_get xs k ≡ None → length xs ≤ k
 none_past [] k e = omega arith
@@ -85,25 +87,19 @@ all_right : (k n : ℕ) → k ≤ n → n ≤ k → k ≡ n
 all_right k n h l = omega (arith, h, l)
 
 -- The fault where no more tokens are right is the first wrong one's, or Form where no token is left.
-stopped_at : (forms : List Form) (xs : List Token) (o : Option Token) (e : LineFault) → slice_get xs (right_count (data_size forms) forms xs) ≡ o
-    → e ≡ fault_among (data_size forms) forms xs → IsFoundFault (after_stages forms xs) e
+stopped_at : (forms : List Form) (xs : List Token) (o : Option Token) (e : LineFault) → slice_get xs (right_count (operands_of forms) forms xs) ≡ o
+    → e ≡ fault_among (operands_of forms) forms xs → IsFoundFault (after_stages forms xs) e
 stopped_at forms xs None e none is =
-    inr ((all_right _ _ (right_within (data_size forms) forms xs) (none_past xs _ none), tt), is ∙ no_token (data_size forms) forms xs none)
+    inr ((all_right _ _ (right_within (operands_of forms) forms xs) (none_past xs _ none), tt), is ∙ no_token (operands_of forms) forms xs none)
 stopped_at forms xs (Some x) e there is =
-    inl (inl (right_count (data_size forms) forms xs, is ∙ sym (fault_front (data_size forms) forms xs), first_wrong forms xs _ refl (slice_get_within xs _ x there)))
+    inl (inl (right_count (operands_of forms) forms xs, is ∙ sym (fault_front (operands_of forms) forms xs), first_wrong forms xs _ refl (slice_get_within xs _ x there)))
 
-stopped : (forms : List Form) (xs : List Token) (e : LineFault) → e ≡ fault_among (data_size forms) forms xs → IsFoundFault (after_stages forms xs) e
+stopped : (forms : List Form) (xs : List Token) (e : LineFault) → e ≡ fault_among (operands_of forms) forms xs → IsFoundFault (after_stages forms xs) e
 stopped forms xs e is = stopped_at forms xs _ e refl is
 
--- the fault of forms, and of numbers
-same_fault : (z : Option AccessSize) (forms : List Form) (xs : List Token) → z ≡ None → fault_of forms xs ≡ fault_among z forms xs
-same_fault None forms xs e = refl
-same_fault (Some z) forms xs e = cc
-
-same_data : (z : AccessSize) (o : Option AccessSize) (forms : List Form) (xs : List Token) → o ≡ Some z
-    → data_fault (agreed_data (data_field z) 0 xs) xs ≡ fault_among o forms xs
-same_data z None forms xs e = cc
-same_data z (Some y) forms xs e = let same : y ≡ z = cc in rw same refl
+-- the fault of what forms have
+same_fault : (z : Operands) (forms : List Form) (xs : List Token) → z ≡ OfForms → fault_of forms xs ≡ fault_among z forms xs
+same_fault z forms xs e = rw e refl
 
 -- a value or a fault
 or_found : {A : Type 0} (stages : List (Stage LineFault)) (o : Option A) (e : LineFault) → ((x : A) → o ≡ Some x → ArePassed stages)
@@ -116,29 +112,30 @@ if_found : {A : Type 0} (stages : List (Stage LineFault)) (b : Bool) (x : A) (e 
 if_found stages true x e passed found = passed refl
 if_found stages false x e passed found = found
 
-reach_all : (z : Option AccessSize) (forms : List Form) (xs : List Token) → z ≡ None → length xs ≤ reach forms xs → right_count z forms xs ≡ length xs
-reach_all (Some z) forms xs e h = cc
-reach_all None forms xs e h = omega (arith, h, right_within None forms xs)
-
-data_all : (z : AccessSize) (o : Option AccessSize) (forms : List Form) (xs : List Token) → o ≡ Some z → agreed_data (data_field z) 0 xs ≡ length xs
-    → right_count o forms xs ≡ length xs
-data_all z None forms xs e h = cc
-data_all z (Some y) forms xs e h = let same : y ≡ z = cc in rw same h
+reach_all : (z : Operands) (forms : List Form) (xs : List Token) → z ≡ OfForms → length xs ≤ reach forms xs → right_count z forms xs ≡ length xs
+reach_all z forms xs e h = rw e (omega (arith, h, right_within OfForms forms xs))
 
 -- the form of the operands
-form_found : (forms : List Form) (operands xs : List Token) → data_size forms ≡ None
+form_found : (forms : List Form) (operands xs : List Token) → operands_of forms ≡ OfForms
     → ((f : Form) → is_spelled operands f ≡ true → length xs ≤ agreed (row_of f).items xs) → IsFound (after_stages forms xs) (read_form forms operands xs)
-form_found forms operands xs no_data all =
+form_found forms operands xs by_form all =
     or_found (after_stages forms xs) (find (is_spelled operands) forms) (fault_of forms xs)
-    (λ f is. (reach_all (data_size forms) forms xs no_data (found_all (is_spelled operands) xs all forms f is), tt))
-    (stopped forms xs (fault_of forms xs) (same_fault (data_size forms) forms xs no_data))
+    (λ f is. (reach_all (operands_of forms) forms xs by_form (found_all (is_spelled operands) xs all forms f is), tt))
+    (stopped forms xs (fault_of forms xs) (same_fault (operands_of forms) forms xs by_form))
 
 -- the numbers of a data line
-data_found : (z : AccessSize) (forms : List Form) (xs : List Token) → data_size forms ≡ Some z → IsFound (after_stages forms xs) (data_of z xs)
+data_found : (z : AccessSize) (forms : List Form) (xs : List Token) → operands_of forms ≡ Numbers z → IsFound (after_stages forms xs) (data_of z xs)
 data_found z forms xs is =
     if_found (after_stages forms xs) ((agreed_data (data_field z) 0 xs == length xs) && (length xs % 2 == 1)) _ _
-    (λ h. (data_all z (data_size forms) forms xs is (eqb-true _ _ (left _ _ h)), tt))
-    (stopped forms xs _ (same_data z (data_size forms) forms xs is))
+    (λ h. (rw is (eqb-true _ _ (left _ _ h)), tt))
+    (stopped forms xs _ (rw is refl))
+
+-- the predicates of a relation line
+relation_found : (forms : List Form) (xs : List Token) → operands_of forms ≡ Predicates → IsFound (after_stages forms xs) (relation_of xs)
+relation_found forms xs is =
+    if_found (after_stages forms xs) ((agreed_relation [] xs == length xs) && ((length xs % 2 == 1) && nat_le 2 (length (named_predicates xs)))) _ _
+    (λ h. (rw is (eqb-true _ _ (left _ _ h)), tt))
+    (stopped forms xs _ (rw is refl))
 
 named_only : (o : Option (List ℕ)) (value : List ℕ → Line) → OnlyForm (named o value)
 named_only None value = refl
@@ -154,14 +151,14 @@ directive_value_only form.Endp after = tt
 directive_value_only form.Skip after = tt
 directive_value_only _ after = refl
 
-directive_found : (forms : List Form) (after : List KindAndText) → data_size forms ≡ None → IsFound (after_stages forms (tokens after)) (directive_of forms after)
-directive_found forms after no_data =
-    then_found (after_stages forms (tokens after)) _ _ (form_found forms (tokens after) (tokens after) no_data (spelled_all (tokens after))) (λ f. directive_value_only f after)
+directive_found : (forms : List Form) (after : List KindAndText) → operands_of forms ≡ OfForms → IsFound (after_stages forms (tokens after)) (directive_of forms after)
+directive_found forms after by_form =
+    then_found (after_stages forms (tokens after)) _ _ (form_found forms (tokens after) (tokens after) by_form (spelled_all (tokens after))) (λ f. directive_value_only f after)
 
-slot_under_found : (qp : ℕ) (forms : List Form) (name : List ℕ) (xs : List Token) (after : List KindAndText) → data_size forms ≡ None
+slot_under_found : (qp : ℕ) (forms : List Form) (name : List ℕ) (xs : List Token) (after : List KindAndText) → operands_of forms ≡ OfForms
     → IsFound (after_stages forms xs) (slot_under qp forms name xs after)
-slot_under_found qp forms name xs after no_data =
-    then_found (after_stages forms xs) _ _ (form_found forms (without_stop xs) xs no_data (spelled_with_stop xs))
+slot_under_found qp forms name xs after by_form =
+    then_found (after_stages forms xs) _ _ (form_found forms (without_stop xs) xs by_form (spelled_with_stop xs))
     (λ f. then_only _ _ (or_only (op_of f (completers_or_none f name) (taken (row_of f).items (without_stop xs)))) (λ x. tt))
 
 -- The stages beside a leading word.
@@ -178,11 +175,11 @@ same_predicate true [] is = refl
 same_predicate true (x ∷ xs) is = refl
 same_predicate false xs is = cc
 
-slot_found : (forms : List Form) (name : List ℕ) (before after : List KindAndText) → name_instruction forms ≡ true → data_size forms ≡ None
+slot_found : (forms : List Form) (name : List ℕ) (before after : List KindAndText) → name_instruction forms ≡ true → operands_of forms ≡ OfForms
     → IsFound (beside_stages (beside forms before after)) (slot_of forms name before after)
-slot_found forms name before after is no_data =
+slot_found forms name before after is by_form =
     predicate_found (beside forms before after) (predicate_of (tokens before)) (λ qp. slot_under qp forms name (tokens after) after)
-    (same_predicate (name_instruction forms) (tokens before) is) (λ qp. slot_under_found qp forms name (tokens after) after no_data)
+    (same_predicate (name_instruction forms) (tokens before) is) (λ qp. slot_under_found qp forms name (tokens after) after by_form)
 
 nothing_before : (instruction : Bool) (x : Token) (xs : List Token) → instruction ≡ false → predicate_fault instruction (x ∷ xs) ≡ Some fault.Form
 nothing_before true x xs other = cc
@@ -203,6 +200,7 @@ formed_found form.Data1 fs name before after = alone_found (form.Data1 ∷ fs) b
 formed_found form.Data2 fs name before after = alone_found (form.Data2 ∷ fs) before after _ refl (data_found size.Two (form.Data2 ∷ fs) (tokens after) refl)
 formed_found form.Data4 fs name before after = alone_found (form.Data4 ∷ fs) before after _ refl (data_found size.Four (form.Data4 ∷ fs) (tokens after) refl)
 formed_found form.Data8 fs name before after = alone_found (form.Data8 ∷ fs) before after _ refl (data_found size.Eight (form.Data8 ∷ fs) (tokens after) refl)
+formed_found form.PredRel fs name before after = alone_found (form.PredRel ∷ fs) before after _ refl (relation_found (form.PredRel ∷ fs) (tokens after) refl)
 formed_found form.Text fs name before after = alone_found (form.Text ∷ fs) before after _ refl (directive_found (form.Text ∷ fs) after refl)
 formed_found form.Data fs name before after = alone_found (form.Data ∷ fs) before after _ refl (directive_found (form.Data ∷ fs) after refl)
 formed_found form.Entry fs name before after = alone_found (form.Entry ∷ fs) before after _ refl (directive_found (form.Entry ∷ fs) after refl)

@@ -1,5 +1,5 @@
 -- Tokens are read from left to right: on a front of them as many are right as on all, or all of the front.
-use Rattle.std.proofs.Common.{◌≡◌, ◌≤◌, ◌<◌, ◌∙◌, refl, sym, ap, ℕ, zero, suc, ◌+◌, ◌-◌, min, max, Bool, true, false, ◌&&◌, ◌==◌, if◌then◌else◌, cond, List, [], ◌∷◌, length, take, drop, Option, Some, None, arith}
+use Rattle.std.proofs.Common.{◌≡◌, ◌≤◌, ◌<◌, ◌∙◌, refl, sym, ap, ℕ, zero, suc, ◌+◌, ◌-◌, min, max, Bool, true, false, ◌&&◌, ◌==◌, if◌then◌else◌, cond, List, [], ◌∷◌, ◌++◌, length, take, drop, Option, Some, None, arith}
 use Rattle.std.specs.Prelude.{slice_get, nat_lt}
 use Rattle.std.specs.List.{list_any, find}
 use Rattle.std.specs.Cmp.Lexicographic.{pointwise}
@@ -9,7 +9,6 @@ use Rattle.std.proofs.lemmas.List.{length-take}
 use Rattle.std.proofs.lemmas.Option.{slice_get_within}
 use Rattle.asm_words.specs.declared.tokens.Token.{Token}
 use Rattle.asm_words.proofs.Bools.{left, right}
-use Rattle.asm_forms.specs.declared.choices.AccessSize.{AccessSize}
 use Rattle.asm_forms.specs.declared.form.Form.{Form}
 use Rattle.asm_forms.specs.declared.items.Item.{Item}
 use Rattle.asm_forms.specs.declared.items.NumberField.{NumberField}
@@ -17,7 +16,8 @@ use Rattle.asm_forms.specs.Items.{accepts, is_stop}
 use Rattle.asm_forms.specs.Matching.{is_spelled, agreed_items, is_stop_next, agreed, reach, fault_at, fault_of}
 use Rattle.asm_forms.specs.Rows.{row_of}
 use Rattle.asm_reading.specs.Lines.{is_some_stop, ends_in_stop, without_stop, data_field, data_item, agreed_data, data_fault}
-use Rattle.asm_reading.specs.FaultOrder.{right_count, fault_among, data_size, IsFirstWrong}
+use Rattle.asm_reading.specs.Relations.{may_follow, agreed_relation, relation_fault}
+use Rattle.asm_reading.specs.FaultOrder.{Operands, Numbers, Predicates, OfForms, operands_of, right_count, fault_among, IsFirstWrong}
 
 -- on how many tokens items agree, token by token
 abbrev walked : List Item → List Token → ℕ
@@ -125,14 +125,26 @@ data_within : (f : NumberField) (at : ℕ) (xs : List Token) → agreed_data f a
 data_within f at [] = omega arith
 data_within f at (x ∷ xs) = more_at_most (nat_lt at 63 && accepts (data_item f at) x) _ _ (data_within f (at + 1) xs)
 
--- both
-right_front : (z : Option AccessSize) (forms : List Form) (n : ℕ) (xs : List Token) → right_count z forms (take n xs) ≡ min n (right_count z forms xs)
-right_front None forms n xs = reach_front forms n xs
-right_front (Some z) forms n xs = data_front (data_field z) 0 n xs
+-- predicates and commas
+relation_front : (before : List Token) (n : ℕ) (xs : List Token) → agreed_relation before (take n xs) ≡ min n (agreed_relation before xs)
+relation_front before zero xs = none_min (agreed_relation before xs)
+relation_front before (suc n) [] = omega arith
+relation_front before (suc n) (x ∷ xs) = min_more n (agreed_relation (before ++ x ∷ []) xs) (may_follow before x) _ (relation_front (before ++ x ∷ []) n xs)
 
-pub right_within : (z : Option AccessSize) (forms : List Form) (xs : List Token) → right_count z forms xs ≤ length xs
-right_within None forms xs = reach_within forms xs
-right_within (Some z) forms xs = data_within (data_field z) 0 xs
+relation_within : (before xs : List Token) → agreed_relation before xs ≤ length xs
+relation_within before [] = omega arith
+relation_within before (x ∷ xs) = more_at_most (may_follow before x) _ _ (relation_within (before ++ x ∷ []) xs)
+
+-- all of them
+right_front : (z : Operands) (forms : List Form) (n : ℕ) (xs : List Token) → right_count z forms (take n xs) ≡ min n (right_count z forms xs)
+right_front (Numbers z) forms n xs = data_front (data_field z) 0 n xs
+right_front Predicates forms n xs = relation_front [] n xs
+right_front OfForms forms n xs = reach_front forms n xs
+
+pub right_within : (z : Operands) (forms : List Form) (xs : List Token) → right_count z forms xs ≤ length xs
+right_within (Numbers z) forms xs = data_within (data_field z) 0 xs
+right_within Predicates forms xs = relation_within [] xs
+right_within OfForms forms xs = reach_within forms xs
 
 -- Where no form goes further, the forms want on a front that goes further what they want on all the tokens.
 wants_one : (items : List Item) (n at : ℕ) (xs : List Token) (p : Bool) → at < n → agreed items xs ≤ at
@@ -173,25 +185,32 @@ data_fault_front f n at xs is less =
     let same : agreed_data f 0 (take n xs) ≡ at = omega (arith, data_front f 0 n xs, is, less) in
     rw (same, sym is, token_front xs n at less) refl
 
-pub fault_front : (z : Option AccessSize) (forms : List Form) (xs : List Token) → fault_among z forms (take (right_count z forms xs + 1) xs) ≡ fault_among z forms xs
-fault_front None forms xs = forms_fault forms (reach forms xs + 1) (reach forms xs) xs refl (omega arith)
-fault_front (Some z) forms xs = data_fault_front (data_field z) _ (agreed_data (data_field z) 0 xs) xs refl (omega arith)
+relation_fault_front : (n at : ℕ) (xs : List Token) → at ≡ agreed_relation [] xs → at < n
+    → relation_fault (agreed_relation [] (take n xs)) (take n xs) ≡ relation_fault (agreed_relation [] xs) xs
+relation_fault_front n at xs is less =
+    let same : agreed_relation [] (take n xs) ≡ at = omega (arith, relation_front [] n xs, is, less) in
+    rw (same, sym is, token_front xs n at less) refl
+
+pub fault_front : (z : Operands) (forms : List Form) (xs : List Token) → fault_among z forms (take (right_count z forms xs + 1) xs) ≡ fault_among z forms xs
+fault_front OfForms forms xs = forms_fault forms (reach forms xs + 1) (reach forms xs) xs refl (omega arith)
+fault_front Predicates forms xs = relation_fault_front _ (agreed_relation [] xs) xs refl (omega arith)
+fault_front (Numbers z) forms xs = data_fault_front (data_field z) _ (agreed_data (data_field z) 0 xs) xs refl (omega arith)
 
 -- The first wrong token stands where as many are right, and nowhere else.
 pub wrong_place : (forms : List Form) (xs : List Token) (at : ℕ) → IsFirstWrong forms xs at
-    → (at ≡ right_count (data_size forms) forms xs) × (right_count (data_size forms) forms xs < length xs)
+    → (at ≡ right_count (operands_of forms) forms xs) × (right_count (operands_of forms) forms xs < length xs)
 wrong_place forms xs at is =
-    let most : right_count (data_size forms) forms xs ≤ length xs = right_within (data_size forms) forms xs in
-    let right : right_count (data_size forms) forms (take at xs) ≡ length (take at xs) = is.right in
-    let wrong : ¬ (right_count (data_size forms) forms (take (at + 1) xs) ≡ length (take (at + 1) xs)) = is.wrong in
-    let front = right_front (data_size forms) forms at xs in
-    let more = right_front (data_size forms) forms (at + 1) xs in
+    let most : right_count (operands_of forms) forms xs ≤ length xs = right_within (operands_of forms) forms xs in
+    let right : right_count (operands_of forms) forms (take at xs) ≡ length (take at xs) = is.right in
+    let wrong : ¬ (right_count (operands_of forms) forms (take (at + 1) xs) ≡ length (take (at + 1) xs)) = is.wrong in
+    let front = right_front (operands_of forms) forms at xs in
+    let more = right_front (operands_of forms) forms (at + 1) xs in
     (omega (arith, most, right, wrong, front, more, length-take at xs, length-take (at + 1) xs), omega (arith, most, right, wrong, front, more, length-take at xs, length-take (at + 1) xs))
 
-pub first_wrong : (forms : List Form) (xs : List Token) (at : ℕ) → at ≡ right_count (data_size forms) forms xs → at < length xs → IsFirstWrong forms xs at
+pub first_wrong : (forms : List Form) (xs : List Token) (at : ℕ) → at ≡ right_count (operands_of forms) forms xs → at < length xs → IsFirstWrong forms xs at
 first_wrong forms xs at is inside = record {
-  right = omega (arith, is, inside, right_front (data_size forms) forms at xs, length-take at xs);
-  wrong = λ all. omega (arith, is, inside, all, right_front (data_size forms) forms (at + 1) xs, length-take (at + 1) xs);
+  right = omega (arith, is, inside, right_front (operands_of forms) forms at xs, length-take at xs);
+  wrong = λ all. omega (arith, is, inside, all, right_front (operands_of forms) forms (at + 1) xs, length-take (at + 1) xs);
 }
 
 -- Operands that a form has are right, and a stop after them.

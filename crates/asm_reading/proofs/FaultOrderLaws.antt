@@ -9,12 +9,13 @@ use Rattle.asm_words.specs.declared.tokens.Token.TheVariants as t
 use Rattle.asm_words.specs.declared.fault.LineFault.{LineFault}
 use Rattle.asm_words.specs.declared.fault.LineFault.TheVariants as fault
 use Rattle.asm_words.specs.Bytes.{has_only_plain}
-use Rattle.asm_forms.specs.declared.choices.AccessSize.{AccessSize}
 use Rattle.asm_forms.specs.declared.form.Form.{Form}
 use Rattle.asm_forms.specs.Items.{is_long_name, begins_with_letter}
 use Rattle.asm_forms.specs.Matching.{reach, number_fault, fault_at}
+use Rattle.asm_reading.specs.Related.{is_related}
+use Rattle.asm_reading.specs.Relations.{wants_predicate, agreed_relation, unrelated_fault, relation_fault_at}
 use Rattle.asm_reading.specs.Lines.{predicate_of, data_field, agreed_data, FaultOf}
-use Rattle.asm_reading.specs.FaultOrder.{words_of, Beside, nothing, beside_of, name_instruction, fault_in, predicate_fault, fault_before, data_size, AreRight, fault_among, before_stage, after_stage, HasValue, HasBeside}
+use Rattle.asm_reading.specs.FaultOrder.{words_of, Beside, nothing, beside_of, name_instruction, fault_in, predicate_fault, fault_before, Operands, Numbers, Predicates, OfForms, operands_of, AreRight, fault_among, before_stage, after_stage, HasValue, HasBeside}
 use Rattle.asm_reading.proofs.FaultOrder.{stages, fault_found, found_fault, no_value}
 use Rattle.asm_reading.proofs.SomeAnswer.{line_or_fault}
 
@@ -39,9 +40,18 @@ token_beside register number label (Some x) =
     if_beside (label && is_long_name x) _ _ tt
     (if_beside (register && (begins_with_letter x || not number)) _ _ tt (if_beside number _ _ (number_beside x) tt))
 
-among_beside : (z : Option AccessSize) (forms : List Form) (xs : List Token) → IsBeside (fault_among z forms xs)
-among_beside (Some z) forms xs = token_beside false _ false (slice_get xs (agreed_data (data_field z) 0 xs))
-among_beside None forms xs = token_beside _ _ _ (slice_get xs (reach forms xs))
+unrelated_beside : (x : Token) → IsBeside (unrelated_fault x)
+unrelated_beside (t.Pr p) = if_beside (is_related p) _ _ tt tt
+unrelated_beside _ = tt
+
+relation_beside : (wanted : Bool) (o : Option Token) → IsBeside (relation_fault_at wanted o)
+relation_beside wanted None = tt
+relation_beside wanted (Some x) = if_beside wanted _ _ (unrelated_beside x) tt
+
+among_beside : (z : Operands) (forms : List Form) (xs : List Token) → IsBeside (fault_among z forms xs)
+among_beside Predicates forms xs = relation_beside (wants_predicate (agreed_relation [] xs)) (slice_get xs (agreed_relation [] xs))
+among_beside (Numbers z) forms xs = token_beside false _ false (slice_get xs (agreed_data (data_field z) 0 xs))
+among_beside OfForms forms xs = token_beside _ _ _ (slice_get xs (reach forms xs))
 
 -- a predicate's too
 abbrev AreBeside : Option LineFault → Type 0
@@ -64,7 +74,7 @@ before_beside true (x ∷ xs) = predicate_beside (x ∷ xs)
 -- Only the first two stages find Char and Name.
 later_beside : (b : Beside) (Last : Type 0) (e : LineFault) → IsFirstFault (before_stage b ∷ after_stage b ∷ unless Last fault.Form ∷ []) e → IsBeside e
 later_beside b Last e (inl (f, is, found)) = subst IsBeside (sym is) (subst AreBeside found (before_beside (name_instruction b.forms) b.before))
-later_beside b Last e (inr (before, inl (at, is, found))) = subst IsBeside (sym is) (among_beside (data_size b.forms) b.forms (take (at + 1) b.after))
+later_beside b Last e (inr (before, inl (at, is, found))) = subst IsBeside (sym is) (among_beside (operands_of b.forms) b.forms (take (at + 1) b.after))
 later_beside b Last e (inr (before, inr (after, inl (key, is, found)))) = subst IsBeside (sym is) tt
 later_beside b Last e (inr (before, inr (after, inr (value, found)))) = absurd found
 
@@ -129,7 +139,7 @@ front_with [] x ys = refl
 front_with (y ∷ xs) x ys = ap (λ l. y ∷ l) (front_with xs x ys)
 
 pub token_decides : (bytes : List ℕ) (b : Beside) (xs rest : List Token) (x : Token) → HasBeside bytes b → fault_before b ≡ None → b.after ≡ xs ++ x ∷ rest
-    → AreRight b.forms xs → ¬ AreRight b.forms (xs ++ x ∷ []) → FaultOf bytes (fault_among (data_size b.forms) b.forms (xs ++ x ∷ []))
+    → AreRight b.forms xs → ¬ AreRight b.forms (xs ++ x ∷ []) → FaultOf bytes (fault_among (operands_of b.forms) b.forms (xs ++ x ∷ []))
 token_decides bytes b xs rest x has before is right wrong =
     let front : take (length xs) b.after ≡ xs = rw is (take-append_seam xs (x ∷ rest)) in
     let more : take (length xs + 1) b.after ≡ xs ++ x ∷ [] = rw (is, add-one (length xs)) (front_with xs x rest) in

@@ -9,3 +9,4 @@ mod WordLists
 pub mod Decided
 pub mod DecidedFormats
 mod SomeAnswer
+pub mod NamedPredicates

@@ -28,6 +28,7 @@ formed_slot form.Data forms name before after h = cc
 formed_slot form.Endp forms name before after h = cc
 formed_slot form.Entry forms name before after h = cc
 formed_slot form.Global forms name before after h = cc
+formed_slot form.PredRel forms name before after h = cc
 formed_slot form.Proc forms name before after h = cc
 formed_slot form.Skip forms name before after h = cc
 formed_slot form.Text forms name before after h = cc

@@ -18,6 +18,7 @@ use Rattle.asm_forms.specs.declared.form.Form.TheVariants as form
 use Rattle.asm_forms.specs.Matching.{reach, fault_of}
 use Rattle.asm_forms.specs.Naming.{named_forms}
 use Rattle.asm_reading.specs.declared.line.Line.{Line}
+use Rattle.asm_reading.specs.Relations.{agreed_relation, relation_fault}
 use Rattle.asm_reading.specs.Lines.{KindAndText, texts, tokens, lead_at, predicate_of, data_field, agreed_data, data_fault, shape_of, is_name_word, is_colon, LineOf}
 
 abbrev pub words_of : List ℕ → List KindAndText
@@ -79,6 +80,7 @@ is_instruction form.Text = false
 is_instruction form.Data = false
 is_instruction form.Entry = false
 is_instruction form.Global = false
+is_instruction form.PredRel = false
 is_instruction form.Proc = false
 is_instruction form.Endp = false
 is_instruction form.Skip = false
@@ -103,28 +105,37 @@ predicate_fault true (x ∷ xs) = fault_in (predicate_of (x ∷ xs))
 abbrev pub fault_before : Beside → Option LineFault
 fault_before b = predicate_fault (name_instruction b.forms) b.before
 
--- the size of the numbers, if the forms are a data line's
-abbrev pub data_size : List Form → Option AccessSize
-data_size (form.Data1 ∷ fs) = Some size.One
-data_size (form.Data2 ∷ fs) = Some size.Two
-data_size (form.Data4 ∷ fs) = Some size.Four
-data_size (form.Data8 ∷ fs) = Some size.Eight
-data_size _ = None
+-- What stands after a leading word: the numbers of a data line, the predicates of a relation line, or what one of
+-- the word's forms has.
+pub data Operands : Type 0 where
+  Numbers : AccessSize → Operands
+  Predicates : Operands
+  OfForms : Operands
 
--- how many tokens at the front are right: numbers and commas in turn, or what one of the forms has there, with a
--- stop after all that it has
-abbrev pub right_count : Option AccessSize → List Form → List Token → ℕ
-right_count (Some z) forms xs = agreed_data (data_field z) 0 xs
-right_count None forms xs = reach forms xs
+abbrev pub operands_of : List Form → Operands
+operands_of (form.Data1 ∷ fs) = Numbers size.One
+operands_of (form.Data2 ∷ fs) = Numbers size.Two
+operands_of (form.Data4 ∷ fs) = Numbers size.Four
+operands_of (form.Data8 ∷ fs) = Numbers size.Eight
+operands_of (form.PredRel ∷ fs) = Predicates
+operands_of _ = OfForms
+
+-- how many tokens at the front are right: numbers and commas in turn, `"mutex"` and then commas and predicates in
+-- turn, or what one of the forms has there, with a stop after all that it has
+abbrev pub right_count : Operands → List Form → List Token → ℕ
+right_count (Numbers z) forms xs = agreed_data (data_field z) 0 xs
+right_count Predicates forms xs = agreed_relation [] xs
+right_count OfForms forms xs = reach forms xs
 
 -- each of the tokens is right
 abbrev pub AreRight : List Form → List Token → Type 0
-AreRight forms xs = right_count (data_size forms) forms xs ≡ length xs
+AreRight forms xs = right_count (operands_of forms) forms xs ≡ length xs
 
 -- the fault of the first of the tokens that isn't right, by what is wanted in its place
-abbrev pub fault_among : Option AccessSize → List Form → List Token → LineFault
-fault_among (Some z) forms xs = data_fault (agreed_data (data_field z) 0 xs) xs
-fault_among None forms xs = fault_of forms xs
+abbrev pub fault_among : Operands → List Form → List Token → LineFault
+fault_among (Numbers z) forms xs = data_fault (agreed_data (data_field z) 0 xs) xs
+fault_among Predicates forms xs = relation_fault (agreed_relation [] xs) xs
+fault_among OfForms forms xs = fault_of forms xs
 
 -- The token at a place is the first that is wrong: those before it are right, and not with it.
 pub record IsFirstWrong (forms : List Form) (xs : List Token) (at : ℕ) : Type 0 where
@@ -133,7 +144,7 @@ pub record IsFirstWrong (forms : List Form) (xs : List Token) (at : ℕ) : Type 
 
 -- the fault of the token at a place, by this one and those before it alone
 abbrev pub fault_of_token : List Form → List Token → ℕ → LineFault
-fault_of_token forms xs at = fault_among (data_size forms) forms (take (at + 1) xs)
+fault_of_token forms xs at = fault_among (operands_of forms) forms (take (at + 1) xs)
 
 -- What is looked for beside a leading word: the fault of what stands before it, and the first wrong token after it.
 abbrev pub before_stage : Beside → Stage LineFault

@@ -40,6 +40,7 @@ use Rattle.asm_reading.specs.declared.line.Draft.{Draft}
 use Rattle.asm_reading.specs.declared.line.Shape.{Shape}
 use Rattle.asm_reading.specs.declared.line.Shape.TheVariants as shape
 use Rattle.asm_reading.specs.Instructions.{op_of}
+use Rattle.asm_reading.specs.Relations.{relation_of}
 use Rattle.asm_reading.specs.Operands.{u32_at, magnitude, is_negative, wrapped, bytes, completer_at, is_present}
 
 infixl 10 ◌>>=◌
@@ -204,6 +205,7 @@ formed form.Data1 forms name before after = alone before (data_of size.One (toke
 formed form.Data2 forms name before after = alone before (data_of size.Two (tokens after))
 formed form.Data4 forms name before after = alone before (data_of size.Four (tokens after))
 formed form.Data8 forms name before after = alone before (data_of size.Eight (tokens after))
+formed form.PredRel forms name before after = alone before (relation_of (tokens after))
 formed form.Text forms name before after = alone before (directive_of forms after)
 formed form.Data forms name before after = alone before (directive_of forms after)
 formed form.Entry forms name before after = alone before (directive_of forms after)

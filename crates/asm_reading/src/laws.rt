@@ -7,7 +7,7 @@ ghost use Rattle.asm_words.specs.declared.fault.LineFault.TheVariants as fault;
 ghost use Rattle.asm_words.specs.declared.tokens.Token.{Token};
 ghost use Rattle.asm_words.specs.Bytes.{has_only_plain};
 ghost use Rattle.asm_words.specs.Words.{words_from};
-ghost use Rattle.asm_reading.specs.FaultOrder.{AreRight, Beside, HasBeside, HasValue, beside_of, data_size, fault_among, fault_before, line_stages, words_of};
+ghost use Rattle.asm_reading.specs.FaultOrder.{AreRight, Beside, HasBeside, HasValue, beside_of, operands_of, fault_among, fault_before, line_stages, words_of};
 ghost use Rattle.asm_reading.specs.Lines.{FaultOf, texts, reading_of};
 ghost use Rattle.asm_reading.specs.OneAnswer.{HasOneValue, HasOneFault, HasNoFault};
 ghost use Rattle.asm_reading.specs.SomeAnswer.{LineOrFault};
@@ -57,7 +57,7 @@ pub fn the_first_wrong_token_decides()
     ensures before { (bytes : List ℕ) (b : Beside) (e : LineFault) → HasBeside bytes b → fault_before b ≡ Some e → FaultOf bytes e }
     ensures after { (bytes : List ℕ) (b : Beside) (xs rest : List Token) (x : Token) → HasBeside bytes b → fault_before b ≡ None
         → b.after ≡ xs ++ x ∷ rest → AreRight b.forms xs → ¬ AreRight b.forms (xs ++ x ∷ [])
-        → FaultOf bytes (fault_among (data_size b.forms) b.forms (xs ++ x ∷ [])) }
+        → FaultOf bytes (fault_among (operands_of b.forms) b.forms (xs ++ x ∷ [])) }
 {}
 
 /// The law that a line says something or has the fault Form where what stands before its leading word is right, and

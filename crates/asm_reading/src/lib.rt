@@ -2,7 +2,8 @@
 //!
 //! A line is cut into words, and the leading name names one or more forms. `reading` finds the form that the
 //! operands have and the line's value, or the first fault. `instruction` has what each form means. The marks and
-//! operands of a line go by the rows of the forms; numbers in a line of data and the names of templates don't.
+//! operands of a line go by the rows of the forms; numbers in a line of data, the predicates of a relation and the
+//! names of templates don't.
 #![tactic(auto)]
 
 mod buffers;
@@ -12,6 +13,7 @@ mod laws;
 mod line;
 mod operands;
 mod reading;
+mod relation;
 mod shape;
 
 pub use buffers::LineBuffers;
@@ -19,5 +21,5 @@ pub use laws::{
     a_line_has_one_answer, a_line_is_read_by_its_words, char_comes_first, faults_in_order,
     form_comes_last, line_or_fault, name_comes_next, the_first_wrong_token_decides,
 };
-pub use line::{Draft, Line, Shape, Values};
+pub use line::{Draft, Line, Predicates, Shape, Values};
 pub use reading::{read_line, read_line_with};

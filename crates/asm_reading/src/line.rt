@@ -1,6 +1,7 @@
 //! What a line says.
 
 ghost use Rattle.std.specs.Prelude.{◌≡◌, ℕ, ◌≤◌, List, length};
+ghost use Rattle.asm_reading.specs.Related.{ArePredicates};
 
 use arrayvec::ArrayVec;
 use asm_words::Name;
@@ -25,6 +26,12 @@ pub enum Line {
     Entry {
         /// The name of the label.
         name: Name,
+    },
+    /// `.pred.rel "mutex",p1,p2..`: whoever lands on the next bundle promises that of these predicates no two
+    /// are both 1.
+    Relation {
+        /// The predicates.
+        predicates: Predicates,
     },
     /// `.global`, `.proc` or `.endp` and a name, which have no effect.
     Ignored,
@@ -112,6 +119,40 @@ impl Values {
     pub fn numbers(&self) -> &[u64]
         ensures value { result.now ≡ self.now }
         ensures within { (1 ≤ length self.now) × (length self.now ≤ 32) }
+    {
+        self.numbers.as_slice()
+    }
+}
+
+/// 2 to 15 of p1 to p15, in rising order. Contracts see the list of their numbers.
+#[derive(Debug, Drop)]
+pub struct Predicates {
+    numbers: ArrayVec<u8, 15>,
+}
+
+impl Model for Predicates {
+    ghost Value = { List ℕ };
+
+    ghost view = { λ p. p.numbers.items };
+
+    ghost invariant = { λ p. ArePredicates p.numbers.items };
+
+    ghost inverse = { λ numbers. record { numbers = record { items = numbers } } };
+}
+
+impl Predicates {
+    /// The predicates with these numbers.
+    pub(crate) fn of_numbers(numbers: ArrayVec<u8, 15>) -> Self
+        requires { ArePredicates numbers.items }
+        ensures { result ≡ numbers.items }
+    {
+        Predicates { numbers }
+    }
+
+    /// Their numbers, of which there are 2 to 15, each from 1 to 15 and above the one before it.
+    pub fn numbers(&self) -> &[u8]
+        ensures value { result.now ≡ self.now }
+        ensures within { ArePredicates self.now }
     {
         self.numbers.as_slice()
     }

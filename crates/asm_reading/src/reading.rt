@@ -5,6 +5,7 @@ ghost use Rattle.asm_words.specs.declared.limits.TheConstants.{LINE_LIMIT};
 ghost use Rattle.asm_words.specs.Tokens.{token_of};
 ghost use Rattle.asm_words.specs.Words.{pick};
 ghost use Rattle.asm_reading.specs.Lines.{AreParts, texts, tokens, name_of, label_name, lead_at, past_parenthesis, ends_in_stop, without_stop, predicate_of, is_bare, completers_or_none, slot_under, slot_of, directive_value, directive_of, alone, data_of, among, worded, marked, shape_of, opened, mark_led, led_by, led, led_at, is_colon, is_open, is_close, label_of, value_of, reading_of, IsListedLine, LineOf, FaultOf};
+ghost use Rattle.asm_reading.specs.Relations.{relation_of};
 ghost use Rattle.asm_reading.specs.SlotReading.{slot_line, is_directive_name};
 
 use crate::buffers::{LineBuffers, Tokens};
@@ -12,6 +13,7 @@ use crate::data::data_of;
 use crate::instruction::op_of;
 use crate::line::{Draft, Line};
 use crate::operands::{is_present_at, u32_at};
+use crate::relation::relation_of;
 use crate::shape::shape_of;
 use asm_forms::{
     AccessSize, Completer, Completers, Form, Item, Kind, Spelled, completers, find_spelled, named,
@@ -293,6 +295,26 @@ fn data_line(
     }
 }
 
+/// A relation line, before which no predicate stands.
+fn relation_line(
+    line: &[u8],
+    before: &[Word],
+    after: &[Word],
+    buffer: &mut Tokens,
+) -> Result<Line, LineFault>
+    requires few { length after.now ≤ LINE_LIMIT }
+    requires parts { AreParts line.now after.now }
+    ensures { result ≡ alone (texts line.now before.now) (relation_of (tokens (texts line.now after.now))) }
+{
+    match before {
+        [] => {
+            tokens_into(line, after, buffer);
+            relation_of(buffer.as_slice())
+        }
+        [_, ..] => Err(LineFault::Form),
+    }
+}
+
 /// A directive, before which no predicate stands.
 fn directive_line(
     forms: &[Form],
@@ -330,6 +352,7 @@ fn among(
         [Form::Data2, ..] => data_line(AccessSize::Two, line, before, after, buffer),
         [Form::Data4, ..] => data_line(AccessSize::Four, line, before, after, buffer),
         [Form::Data8, ..] => data_line(AccessSize::Eight, line, before, after, buffer),
+        [Form::PredRel, ..] => relation_line(line, before, after, buffer),
         [
             Form::Text
             | Form::Data

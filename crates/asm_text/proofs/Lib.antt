@@ -12,3 +12,4 @@ mod ReadsBackM
 mod ReadsBackX
 pub mod SlotLines
 pub mod Untargeted
+pub mod RelationLines

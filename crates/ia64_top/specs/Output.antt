@@ -10,7 +10,6 @@ use Rattle.ia_insn.specs.Programs.{Program}
 use Rattle.image_form.specs.Images.{IsImage, Written, BeginsAsImage}
 use Rattle.image_form.specs.declared.version.Version.TheVariants.{Two}
 use Rattle.asm_build.specs.CanonicalText.{canonical_text}
-use Rattle.asm_build.specs.RoundTrip.{bare}
 use Rattle.asm_build.specs.Listing.{IsListing}
 use Rattle.ia64_top.specs.Words.{command_of}
 use Rattle.ia64_top.specs.Judgements.{IsJudgement, IsJudgedViolated, PrintsClashes}
@@ -34,10 +33,10 @@ IsMadeOutput reading Makes input bytes Done = (program : Program) × reading.Giv
 IsMadeOutput reading Makes input bytes Refused = reading.Refuses input bytes
 IsMadeOutput reading Makes input bytes status = ⊥
 
--- The text is the canonical one of the program, and reads as the program without its relations.
+-- The text is the canonical one of the program, and reads as the program.
 pub record IsCanonical (program : Program) (text : List ℕ) : Type 0 where
   pub canonical : text ≡ canonical_text program
-  pub back : as_text.Gives text (bare program)
+  pub back : as_text.Gives text program
 
 -- What `check` writes and answers of an input that is read in a way.
 abbrev pub IsCheckedAs : Reading → List ℕ → List ℕ → Status → Type 0

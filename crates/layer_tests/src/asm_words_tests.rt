@@ -14,6 +14,11 @@ fn number(start: usize, end: usize) -> Word {
     Word { kind, start, end }
 }
 
+fn quoted(start: usize, end: usize) -> Word {
+    let kind = WordKind::Quoted;
+    Word { kind, start, end }
+}
+
 fn mark(start: usize, end: usize) -> Word {
     let kind = WordKind::Mark;
     Word { kind, start, end }
@@ -32,7 +37,7 @@ fn is_cut(line: &[u8], want: &[Word]) -> bool {
 
 #[test]
 fn lines_are_cut(rt: HostRuntime) {
-    let lines: [(&[u8], &[Word]); 7] = [
+    let lines: [(&[u8], &[Word]); 9] = [
         (b"", &[]),
         (b" \t // add r1", &[]),
         (
@@ -56,6 +61,11 @@ fn lines_are_cut(rt: HostRuntime) {
             ],
         ),
         (b"a##1x.", &[name(0, 1), mark(2, 3), number(3, 6)]),
+        (
+            b"a\"// \"1 \"",
+            &[name(0, 1), quoted(1, 6), number(6, 7), mark(8, 9)],
+        ),
+        (b"\"\",// \"", &[quoted(0, 2), mark(2, 3)]),
         (b"a #/", &[name(0, 1), mark(2, 3), mark(3, 4)]),
         (
             b"1#;;;",

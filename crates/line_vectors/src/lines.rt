@@ -47,6 +47,7 @@ fn is_what(line: &Line, what: &str) -> bool {
     kind == kind_of(line)
         && match line {
             Line::Label { name } | Line::Entry { name } => is_named(name, held),
+            Line::Relation { predicates } => are_predicates(predicates.numbers(), held),
             Line::Numbers { size, values } => are_numbers(*size, values.numbers(), held),
             Line::Skip { count } => held.parse::<u32>() == Ok(*count),
             Line::Open { shape } => held == shape_name(shape),
@@ -63,6 +64,7 @@ fn kind_of(line: &Line) -> &'static str {
         Line::Data => "data",
         Line::Entry { .. } => "entry",
         Line::Ignored => "ignored",
+        Line::Relation { .. } => "relation",
         Line::Numbers { .. } => "numbers",
         Line::Skip { .. } => "skip",
         Line::Open { .. } => "open",
@@ -91,6 +93,20 @@ fn shape_name(shape: &Shape) -> &'static str {
         Shape::Mmb => "mmb",
         Shape::Mfb => "mfb",
     }
+}
+
+/// Whether these are the numbers of the text, with blanks between them.
+fn are_predicates(numbers: &[u8], text: &str) -> bool {
+    let mut words = text.split_whitespace();
+    for number in numbers {
+        let Some(word) = words.next() else {
+            return false;
+        };
+        if word.parse::<u8>() != Ok(*number) {
+            return false;
+        }
+    }
+    words.next().is_none()
 }
 
 /// Whether these are the size and then the numbers of the text, with blanks between them.

@@ -21,7 +21,8 @@ const NOPS: [u8; 16] = [
 /// there is one, entries and relations, so many times a bundle, and an end.
 #[derive(Clone, Copy)]
 struct Parts<'a> {
-    head: Option<(u8, [u32; 4])>,
+    version: u8,
+    head: Option<[u32; 4]>,
     declared: &'a [u8],
     count: usize,
     bundle: [u8; 16],
@@ -31,6 +32,7 @@ struct Parts<'a> {
 /// So many times a bundle, and then an end.
 fn bare(count: usize, bundle: [u8; 16], end: &[u8]) -> Parts<'_> {
     Parts {
+        version: b'1',
         head: None,
         declared: b"",
         count,
@@ -42,7 +44,8 @@ fn bare(count: usize, bundle: [u8; 16], end: &[u8]) -> Parts<'_> {
 /// The head of an image of version 1 with these numbers, and then the same.
 fn headed(numbers: [u32; 4], count: usize, bundle: [u8; 16], end: &[u8]) -> Parts<'_> {
     Parts {
-        head: Some((b'1', numbers)),
+        version: b'1',
+        head: Some(numbers),
         declared: b"",
         count,
         bundle,
@@ -62,9 +65,9 @@ fn text(text: &str) -> Parts<'_> {
 
 fn bytes_of(alloc: Global, parts: &Parts) -> Result<Vec<u8>, Fail> {
     let mut bytes = Vec::new(alloc);
-    if let Some((version, numbers)) = parts.head {
+    if let Some(numbers) = parts.head {
         bytes.extend_from_slice(b"IA64IMG")?;
-        bytes.push(version)?;
+        bytes.push(parts.version)?;
         for number in &numbers {
             bytes.extend_from_slice(&number.to_le_bytes())?;
         }

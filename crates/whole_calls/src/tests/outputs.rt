@@ -32,7 +32,8 @@ const BRANCH: [u8; 16] = [
 
 /// The image of a branch to the next bundle, and of three `nop`.
 const BRANCHING: Parts<'static> = Parts {
-    head: Some((b'1', [2, 0, 0, 0])),
+    version: b'1',
+    head: Some([2, 0, 0, 0]),
     declared: b"",
     count: 1,
     bundle: BRANCH,
@@ -41,7 +42,8 @@ const BRANCHING: Parts<'static> = Parts {
 
 /// An image whose declared entry is no bundle from 1 on.
 const MISPLACED: Parts<'static> = Parts {
-    head: Some((b'1', [1, 1, 0, 0])),
+    version: b'1',
+    head: Some([1, 1, 0, 0]),
     declared: &[1, 0, 0, 0],
     count: 1,
     bundle: NOPS,
@@ -107,6 +109,15 @@ nop.i 0 ;;
 x:
 x:
 {";
+
+/// Relations behind the last bundle.
+const UNRELATED_TEXT: &str = "{ .mii
+nop.m 0
+nop.i 0
+nop.i 0 ;;
+}
+.pred.rel \"mutex\",p6,p7
+";
 
 /// A sum whose value `break` leaves, and its end.
 const BREAK_TEXT: &str = "{ .mii
@@ -186,6 +197,13 @@ fn commands_have_their_output(rt: HostRuntime) -> Result<(), Fail> {
             text("line 2: slot kind\n"),
         ),
         ("build", text(""), 3, text("line 1: empty\n")),
+        ("build", text(UNRELATED_TEXT), 3, text("line 6: relation\n")),
+        (
+            "build",
+            text(".pred.rel \"mutex\",p6,p16\n"),
+            3,
+            text("line 1: range\n"),
+        ),
         ("show", image(1, CLASH), 0, text(CLASH_TEXT)),
         ("show", text(""), 3, text("image: short\n")),
         (
@@ -207,9 +225,9 @@ fn commands_have_their_output(rt: HostRuntime) -> Result<(), Fail> {
 #[test]
 fn images_are_refused(rt: HostRuntime) -> Result<(), Fail> {
     let alloc = rt.alloc();
-    let long = headed([1, 0, 0, 0], 262_142, NOPS, b"8 bytes.");
+    let long = headed([1, 0, 0, 0], 1_048_574, NOPS, b"8 bytes.");
     let rows = [
-        // An input of 4,194,304 bytes is read.
+        // An input of 16,777,216 bytes is read.
         (long, "image: length\n"),
         (text("IA64IMG1"), "image: short\n"),
         (text("IA64IMG1 has 23 bytes.."), "image: short\n"),
@@ -307,7 +325,8 @@ const EITHER: [u8; 16] = [
 /// bytes each.
 fn promising(declared: &[u8]) -> Parts<'_> {
     Parts {
-        head: Some((b'2', [2, 1, 0, declared.len() as u32 / 8])),
+        version: b'2',
+        head: Some([2, 1, 0, u32::try_from(declared.len() / 8).unwrap_or(0)]),
         declared,
         count: 1,
         bundle: COMPARE,
@@ -326,7 +345,8 @@ const LANDING: [u8; 64] = [
 
 /// Its image, with the promise at the fourth bundle that p6 and p7 aren't both 1.
 const BROKEN: Parts<'static> = Parts {
-    head: Some((b'2', [4, 1, 0, 1])),
+    version: b'2',
+    head: Some([4, 1, 0, 1]),
     declared: &[3, 0, 0, 0, 3, 0, 0, 0, 6, 7, 0, 0],
     count: 0,
     bundle: NOPS,
@@ -396,7 +416,8 @@ fn relations_are_refused(rt: HostRuntime) -> Result<(), Fail> {
 
 /// The image of version 2 of three `nop`.
 const NOPS_LIFTED: Parts<'static> = Parts {
-    head: Some((b'2', [1, 0, 0, 0])),
+    version: b'2',
+    head: Some([1, 0, 0, 0]),
     declared: b"",
     count: 1,
     bundle: NOPS,
@@ -420,9 +441,10 @@ fn lift_has_its_output(rt: HostRuntime) -> Result<(), Fail> {
     Ok(())
 }
 
-/// A canonical text: a stop inside a bundle, a declared entry, a target, a long instruction, a predicate and
-/// nine words of data.
+/// A canonical text: a stop inside a bundle, a declared entry, relations of it and of bundle 0, a target, a long
+/// instruction, a predicate and nine words of data.
 const WHOLE_TEXT: &[u8] = b"L0:
+.pred.rel \"mutex\",p1,p15
 { .mii
   add r4=r5,r6
   nop.i 0x0 ;;
@@ -430,6 +452,8 @@ const WHOLE_TEXT: &[u8] = b"L0:
 }
 .entry L1
 L1:
+.pred.rel \"mutex\",p6,p7
+.pred.rel \"mutex\",p6,p8
 { .mlx
   nop.m 0x1
   movl r7=0xfedcba9876543210 ;;

@@ -91,9 +91,9 @@ fn streams_fail(rt: HostRuntime) -> Result<(), Fail> {
         leaves(&rt, alloc, "check", source, sink, 6, output.as_bytes())?;
     }
 
-    // The input is too long with the byte that call 1024 takes.
-    let too_long = vec![in alloc; b'/'; 4_194_305]?;
-    for (call, status) in [(1024, 5), (1025, 4)] {
+    // The input is too long with the byte that call 4096 takes.
+    let too_long = vec![in alloc; b'/'; 16_777_217]?;
+    for (call, status) in [(4096, 5), (4097, 4)] {
         let source = source_of(alloc, &too_long, 4096, Some(call))?;
         let sink = sink_of(alloc, 100, 1, None)?;
         leaves(&rt, alloc, "check", source, sink, status, b"")?;

@@ -1,5 +1,5 @@
 use Rattle.std.proofs.Common.{◌≡◌, ◌++◌}
 use Rattle.asm_build.proofs.assembly.rising.Given as goal
 
-abbrev pub invariant-loop-number : goal.invariant-loop-number
-invariant-loop-number l = l.numbers.items ++ l.number-iterator ≡ l.set.keys
+abbrev pub invariant-loop-item : goal.invariant-loop-item
+invariant-loop-item g l = l.items.items ++ l.item-iterator ≡ l.set.keys
