@@ -214,6 +214,7 @@ pred.rel "mutex",p6,p7
 "mutex",p6,p7
 ".pred.rel" "mutex",p6,p7
 (p6) "nop.i" 0
+("p6) add r8="r9,r10
 "x":
 { ".mii"
 "
