@@ -91,11 +91,17 @@ marked dirty place = value_at 0 dirty place
 abbrev pub dirty_count : List ℕ → ℕ
 dirty_count dirty = sum_by (λ (rows : ℕ). if rows == 0 then 0 else 1) dirty
 
--- How the dirty places are kept: none is below this number, and each is in a block of 64 places that is marked.
-pub record IsKept (dirty : List ℕ) (blocks : List Bool) (low : ℕ) : Type 0 where
-  pub long : length dirty ≤ 64 * length blocks
+-- The marks of so many places each cover the dirty places: each of these is among places that are marked.
+pub record Covers (size : ℕ) (marks : List Bool) (dirty : List ℕ) : Type 0 where
+  pub long : length dirty ≤ size * length marks
+  pub unmarked : (n : ℕ) → slice_index_or marks (n / size) false ≡ false → slice_index_or dirty n 0 ≡ 0
+
+-- How the dirty places are kept: none is below this number, and each is in a block of 64 places and in a region of 4,096
+-- places that are marked.
+pub record IsKept (dirty : List ℕ) (blocks regions : List Bool) (low : ℕ) : Type 0 where
   pub below : (n : ℕ) → n < low → slice_index_or dirty n 0 ≡ 0
-  pub unmarked : (n : ℕ) → slice_index_or blocks (n / 64) false ≡ false → slice_index_or dirty n 0 ≡ 0
+  pub by_block : Covers 64 blocks dirty
+  pub by_region : Covers 4096 regions dirty
 
 -- The place of this number is the lowest dirty one.
 pub record IsLowest (dirty : List ℕ) (n : ℕ) : Type 0 where

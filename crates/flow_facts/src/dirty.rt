@@ -9,17 +9,21 @@ use std::marker::Model;
 /// How many places a block has.
 const BLOCK: usize = 64;
 
+/// How many places a region has, which is 64 blocks.
+const REGION: usize = 4096;
+
 /// The dirty places, and of each the rows that have changed since it was last gone on from: bit x is that of the
 /// pairs of the x-th predicate. Contracts see a list that says of the place of each number which rows are
 /// marked. Where none is, the place isn't dirty.
 ///
 /// The lowest of them is found in few steps: the search begins where the last one ended, or at a lower
-/// place that was inserted since, and passes a block that isn't marked in one step.
+/// place that was inserted since, and passes a region or a block that isn't marked in one step.
 #[derive(Drop)]
 pub(crate) struct DirtyPlaces {
     rows: Vec<u64>,
-    // Of each block of places, in order, whether it may have a dirty one.
+    // Of each block of places, in order, whether it may have a dirty one; and of each region.
     blocks: Vec<bool>,
+    regions: Vec<bool>,
     // No place below this number is dirty.
     low: usize,
 }
@@ -29,7 +33,7 @@ impl Model for DirtyPlaces {
 
     ghost view = { λ d. d.rows.items };
 
-    ghost invariant = { λ d. IsKept d.rows.items d.blocks.items d.low };
+    ghost invariant = { λ d. IsKept d.rows.items d.blocks.items d.regions.items d.low };
 }
 
 impl DirtyPlaces {
@@ -43,9 +47,11 @@ impl DirtyPlaces {
     {
         let rows = vec![in alloc; 0; count]?;
         let blocks = vec![in alloc; false; count / BLOCK + 1]?;
+        let regions = vec![in alloc; false; count / REGION + 1]?;
         Ok(DirtyPlaces {
             rows,
             blocks,
+            regions,
             low: 0,
         })
     }
@@ -57,6 +63,7 @@ impl DirtyPlaces {
     {
         self.rows[n] |= rows;
         self.blocks[n / BLOCK] = true;
+        self.regions[n / REGION] = true;
         if n < self.low {
             self.low = n;
         }
@@ -80,8 +87,14 @@ impl DirtyPlaces {
     {
         'looking: while self.low < self.rows.len() {
             let n = self.low;
-            if !self.blocks[n / BLOCK] {
+            if !self.regions[n / REGION] {
+                self.low = REGION * (n / REGION + 1);
+            } else if !self.blocks[n / BLOCK] {
                 self.low = BLOCK * (n / BLOCK + 1);
+                // The search has gone past the whole region.
+                if self.low % REGION == 0 {
+                    self.regions[n / REGION] = false;
+                }
             } else if self.rows[n] != 0 {
                 return Some(n);
             } else {
