@@ -9,7 +9,7 @@ import math
 import sys
 
 INPUT_LIMIT = 16777216
-BUNDLE_LIMIT = 4096
+BUNDLE_LIMIT = 32768
 ENTRY_LIMIT = 1024
 DATA_LIMIT = 1048576
 RELATION_LIMIT = 4096
@@ -138,11 +138,12 @@ def short_slots():
 
 
 def long_slots():
-    """The most slots, as long as they may be, with the most completers and operands."""
+    """The most slots that are as long as they may be, with the most completers and operands."""
     load = spaced("(p63)ld8.c.clr.acq.nta r127=[r126],-256")
     compare = spaced("(p63)cmp4.geu.unc p62,p61=-128,r127")
     deposit = spaced("(p63)dep r127=-1,r126,63,64;;")
-    return filled(bundle("mii", load, compare, deposit) * BUNDLE_LIMIT, "\n", "")
+    slots = bundle("mii", load, compare, deposit)
+    return filled(slots * (INPUT_LIMIT // len(slots)), "\n", "")
 
 
 def rising_labels():
@@ -196,7 +197,7 @@ def most_bundles(related=0):
     the last ones, so many."""
     relations = "".join(f'.pred.rel "mutex",p{p},p15\n' for p in range(11, 15))
     load = "(p63)ld8.c.clr.acq.nta r127=[r126],-256"
-    call = "(p63)br.call.dptk.many.clr b7=L4095"
+    call = f"(p63)br.call.dptk.many.clr b7=L{BUNDLE_LIMIT - 1}"
     return "".join(
         f"L{n}:\n" + relations * (n >= BUNDLE_LIMIT - related) + stopped("mmb", load, f"(p63)chk.s.m r127,L{BUNDLE_LIMIT - 1 - n}", call)
         for n in range(BUNDLE_LIMIT)
@@ -214,14 +215,14 @@ def largest_program():
 
 
 def most_violations():
-    """The most violations, 35 million. In each of 64 groups of 192 slots 128 move to all predicates under one
+    """The most violations, 279 million. In each of 512 groups of 192 slots 128 move to all predicates under one
     of them: each two break 64 rules."""
     move = "(p1)mov pr=r1,-1"
     return in_groups(BUNDLE_LIMIT, "mii", "(p1)cmp.eq.unc p2,p3=r1,r1", move, move).encode()
 
 
 def most_excuses():
-    """The most clashes that are excused, 33 million: moves as in `most_violations`, under a predicate that
+    """The most clashes that are excused, 268 million: moves as in `most_violations`, under a predicate that
     they don't write and that is known to be 0. The program is accepted."""
     move = "(p1)mov pr=r1,-4"
     moves = in_groups(BUNDLE_LIMIT - 2, "mii", "(p1)cmp.eq p2,p3=r1,r1", move, move)
@@ -256,15 +257,28 @@ def loop_of_losses(bit):
     ])
 
 
-def chain_of_losses(shape, *slots):
-    """The most visits of slots until facts are at their fixpoint, 22 million. All places but 500 are a chain of
-    these slots, through which 1,859 losses go one by one: behind it stand loops that lose a fact in each
+def losses_through(chain):
+    """The most visits of slots until facts are at their fixpoint, 181 million. All places but 500 are a chain, made for
+    so many bundles, through which 1,859 losses go one by one: behind it stand loops that lose a fact in each
     turn, and the lowest place is gone on from first."""
     enters = "".join(stopped("mib", "nop", "nop", f"(p2)br enter{bit}") for bit in range(6))
     leave = stopped("mib", "nop", "nop", "br out")
     front = exclusive() + enters + leave + "chain:\n"
     back = leave + "".join(loop_of_losses(bit) for bit in range(6)) + "out:\n" + HALT
-    return front + in_groups(BUNDLE_LIMIT - (front + back).count("{"), shape, *slots) + back
+    return front + chain(BUNDLE_LIMIT - (front + back).count("{")) + back
+
+
+def chain_of_losses(shape, *slots):
+    """Losses through a chain of these slots, in order."""
+    return losses_through(lambda count: in_groups(count, shape, *slots))
+
+
+def zigzag(count):
+    """A chain that goes back and forth between the bundles of a lower and of a higher half, and to `out`."""
+    half = count // 2
+    lower = [f"low{n}:\n" + stopped("bbb", f"br high{n}", "nop", "nop") for n in range(half)]
+    higher = [f"high{n}:\n" + stopped("bbb", f"br low{n + 1}", "nop", "nop") for n in range(half)]
+    return "".join(lower + higher).replace(f"br low{half}\n", "br out\n")
 
 
 def losses_past_nops():
@@ -280,6 +294,11 @@ def losses_past_compares():
 def losses_past_branches():
     """Losses past branches, each of which has a second edge."""
     return chain_of_losses("bbb", *["(p1)br out"] * 3).encode()
+
+
+def losses_in_zigzag():
+    """Losses through a chain in which the next place is far from the last one each time, and has to be found."""
+    return losses_through(zigzag).encode()
 
 
 def losses_past_violations():

@@ -32,7 +32,7 @@ import inputs
 
 ROOT = pathlib.Path(__file__).resolve().parent.parent
 PROGRAM = ROOT / "crates" / "ia64_cli" / "out" / "ia64_cli"
-SIZES = (1024, 4096)
+SIZES = (1024, 4096, 32768)
 TRIALS = (256, 1024, 4096)
 RUNS = 5
 AS, OBJDUMP, OBJCOPY = (f"ia64-linux-gnu-{name}" for name in ("as", "objdump", "objcopy"))
@@ -151,12 +151,12 @@ BUILDS = (
 )
 CHECKS = (
     inputs.largest_program, inputs.most_violations, inputs.most_excuses, inputs.losses_past_nops,
-    inputs.losses_past_compares, inputs.losses_past_branches, inputs.losses_past_violations,
+    inputs.losses_past_compares, inputs.losses_past_branches, inputs.losses_in_zigzag, inputs.losses_past_violations,
 )
 WORST = [("build", make, 12) for make in BUILDS]
 WORST += [(words, inputs.largest_program, 1) for words in ("show", "list")]
 WORST += [("wrap", inputs.most_bundles, 1)]
-WORST += [("check", make, 10) for make in CHECKS]
+WORST += [("check", make, 60) for make in CHECKS]
 WORST += [
     ("trial 1 4096", inputs.nothing, 10),
     ("run 1", inputs.largest_state, None),

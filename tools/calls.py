@@ -7,16 +7,16 @@ import resource
 import subprocess
 
 import printed_forms
-from printed_forms import (BUNDLE_LIMIT, MAGICS, Layout, bundles_of, has_form, head, lifted_image,
+from printed_forms import (MAGICS, Layout, bundles_of, has_form, head, lifted_image,
                            relation_lines_oddity, takes_image, without_relations, written_image)
 
-INPUT_LIMIT = 16777216
+INPUT_LIMIT, GROUP_LIMIT, TRIAL_LIMIT = 16777216, 10**7, 4096
 DONE, VIOLATED, REFUSED = 0, 1, 3
 
 # The commands, their words joined by zero bytes, and the highest numbers of those that take some.
 COMMANDS = re.compile(
     rb"build|show|list|wrap|lift|check|(?:run|watch)\0[1-9][0-9]*|trial\0(?:0|[1-9][0-9]*)\0[1-9][0-9]*")
-HIGHEST = {b"run": (10**7,), b"watch": (10**7,), b"trial": (2**64 - 1, BUNDLE_LIMIT)}
+HIGHEST = {b"run": (GROUP_LIMIT,), b"watch": (GROUP_LIMIT,), b"trial": (2**64 - 1, TRIAL_LIMIT)}
 
 # How much processor time a call may take, in nanoseconds: START, so many for each byte of the input, and
 # of a run for each group, of a trial for each bundle. Much more than random programs need; a check that was

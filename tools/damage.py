@@ -6,7 +6,7 @@ import struct
 from fault_rows import SWEEPS
 from gnu_as import join, split, word_index
 from make_vectors import PLACES, swept_word
-from printed_forms import BUNDLE_LIMIT, HEAD, MAGICS, RELATION_LIMIT, Layout, entries_of, with_relations
+from printed_forms import BUNDLE_LIMIT, HEAD, VERSION_1_BUNDLE_LIMIT, MAGICS, RELATION_LIMIT, Layout, entries_of, with_relations
 
 def span(random, data):
     """Two places in the bytes, most often close to each other."""
@@ -92,7 +92,7 @@ TEXT_EDITS = (*BYTE_EDITS, *[line_edit] * 4, more_lines)
 def head_edit(random, image):
     at = random.randrange(8, HEAD, 4)
     number, = struct.unpack("<I", image[at:at + 4])
-    number = random.choice((number + 1, number - 1, number + 8, 0, random.getrandbits(32), BUNDLE_LIMIT + 1)) % 2**32
+    number = random.choice((number + 1, number - 1, number + 8, 0, random.getrandbits(32), VERSION_1_BUNDLE_LIMIT + 1, BUNDLE_LIMIT + 1)) % 2**32
     return image[:at] + struct.pack("<I", number) + image[at + 4:]
 
 

@@ -11,7 +11,7 @@ fault, whose reason and line are known.
 Of each call it looks at the status, the form of what is printed, that nothing is on standard error, that
 a refusal names a place of the input, and at the processor time (`FOR_A_BYTE` of calls.py); and over several calls:
 
-- `build` of what `show` prints is the image again, in version 1 where it has no relations; the lines of
+- `build` of what `show` prints is the image again, in version 1 where that has room for it; the lines of
   relations are those of the image; `list` has the bundles' bytes and the lines of the slots; `wrap` of the
   bundles is refused as the image of them is, or gives it;
 - `check`, `run N` and `watch N` answer the same of a text, its image and the image's text, and refuse
@@ -138,7 +138,7 @@ def any_bytes(calls, random):
     data = random.choice((
         data, magic + data, magic[:random.randrange(8)],
         head(count, version=version) + random_bytes(random, 16 * 20)[:16 * count],
-        head(*(random.choice((0, 1, 2, 8, 1024, 4096, 1 << 20, 2**32 - 1)) for _ in range(4)), version) + data,
+        head(*(random.choice((0, 1, 2, 8, 1024, 4096, 1 << 15, 1 << 20, 2**32 - 1)) for _ in range(4)), version) + data,
         bytes(b % 95 + 32 for b in data), b"\n" * len(data), data.replace(b"\n", b"") * 3))
     if random.randrange(500) == 0:
         data = data or b"\n"

@@ -13,7 +13,8 @@ from gnu_as import RESERVED, TEMPLATES, split, units
 MAGICS = b"IA64IMG1", b"IA64IMG2"
 HEAD = 24
 RELATION = "<I2BH"
-BUNDLE_LIMIT, ENTRY_LIMIT, DATA_LIMIT, RELATION_LIMIT = 4096, 1024, 1048576, 4096
+BUNDLE_LIMIT, ENTRY_LIMIT, DATA_LIMIT, RELATION_LIMIT = 32768, 1024, 1048576, 4096
+VERSION_1_BUNDLE_LIMIT = 4096  # of an image of version 1
 
 N = "(?:0|[1-9][0-9]*)"
 HEX = "0x(?:0|[1-9a-f][0-9a-f]*)"
@@ -66,14 +67,15 @@ LISTING = rf"(?:{N} [0-9a-f]{{32}} {BUNDLE})+"
 
 TRIAL = rf"trial {N} [1-9][0-9]*\naccepted\n(?:{BROKEN}|{LIMITED}|{FAULTED}){GROUPS}sum {WORD}\n"
 FIRST, SECOND = (magic.decode() + "(?s:.){16,}" for magic in MAGICS)
+WRITTEN = f"{FIRST}|{SECOND}"
 
 # Of each command: the form of what it prints with each of its statuses. With 3 it is a refusal of what
 # it takes, and with the statuses 2, 4, 5 and 7 there is nothing.
 FORMS = {
-    "build": {0: f"{FIRST}|{SECOND}"},
+    "build": {0: WRITTEN},
     "show": {0: CANONICAL},
     "list": {0: LISTING},
-    "wrap": {0: FIRST},
+    "wrap": {0: WRITTEN},
     "lift": {0: SECOND},
     "check": {0: ACCEPTED, 1: VIOLATIONS},
     "run": {0: BROKEN + REST, 1: VIOLATIONS, 8: LIMITED + REST, 9: FAULTED + REST},
@@ -166,8 +168,11 @@ class Layout:
         return image[self.code:self.end]
 
 
-def head(bundles, entries=0, data=0, relations=0, version=1):
-    return MAGICS[version - 1] + struct.pack("<4I", bundles, entries, data, relations)
+def head(bundles, entries=0, data=0, relations=0, version=None):
+    """The head of an image, of the version in which `build` writes it unless another one is named: of the first where
+    that has room for it."""
+    written = 1 if bundles <= VERSION_1_BUNDLE_LIMIT and not relations else 2
+    return MAGICS[(version or written) - 1] + struct.pack("<4I", bundles, entries, data, relations)
 
 
 def with_relations(image, relations):
@@ -178,7 +183,7 @@ def with_relations(image, relations):
 
 
 def without_relations(image):
-    """The image of version 1 of the same program without its relations."""
+    """The image of the same program without its relations, in the version in which `build` writes it."""
     layout = Layout(image)
     return head(layout.bundles, layout.entries, layout.data) + image[HEAD:layout.after_entries] + image[layout.code:]
 
@@ -189,7 +194,7 @@ def lifted_image(image):
 
 
 def written_image(image):
-    """The image of the same program in the version in which `build` writes it: 2 where it has relations, else 1."""
+    """The image of the same program in the version in which `build` writes it."""
     return lifted_image(image) if Layout(image).relations else without_relations(image)
 
 
@@ -222,8 +227,8 @@ def head_fault(data):
     if not data.startswith(MAGICS):
         return "magic"
     bundles, entries, size, relations = struct.unpack("<4I", data[8:HEAD])
-    most = 0 if data.startswith(MAGICS[0]) else RELATION_LIMIT
-    if not 1 <= bundles <= BUNDLE_LIMIT or entries > ENTRY_LIMIT or size > DATA_LIMIT or size % 8 or relations > most:
+    most, related = (VERSION_1_BUNDLE_LIMIT, 0) if data.startswith(MAGICS[0]) else (BUNDLE_LIMIT, RELATION_LIMIT)
+    if not 1 <= bundles <= most or entries > ENTRY_LIMIT or size > DATA_LIMIT or size % 8 or relations > related:
         return "counts"
     if len(data) != HEAD + 4 * entries + 8 * relations + 16 * bundles + size:
         return "length"

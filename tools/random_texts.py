@@ -13,7 +13,7 @@ from instruction_rows import GR, PR, TARGET, rows_of
 from line_faults import FAULTS
 from line_texts import OTHERWISE, PSEUDO
 from make_line_vectors import blank_and_comment, drawn, name, of_row, past_edges, places_of_text, styled
-from printed_forms import BUNDLE_LIMIT, DATA_LIMIT, ENTRY_LIMIT, RELATION_LIMIT
+from printed_forms import BUNDLE_LIMIT, DATA_LIMIT, ENTRY_LIMIT, VERSION_1_BUNDLE_LIMIT, RELATION_LIMIT
 
 RUN_LIMIT = 192
 LINE_FAULTS = [*FAULTS, *past_edges()]
@@ -30,7 +30,8 @@ class Shape:
 
     def __init__(self, random, bundles=None, stops=None):
         few, some, many = random.randrange(1, 9), random.randrange(9, 40), random.randrange(40, 300)
-        self.bundles = bundles or random.choice([few] * 240 + [some] * 80 + [many] * 30 + [BUNDLE_LIMIT])
+        most = random.choice((VERSION_1_BUNDLE_LIMIT, VERSION_1_BUNDLE_LIMIT + 1, BUNDLE_LIMIT))
+        self.bundles = bundles or random.choice([few] * 240 + [some] * 80 + [many] * 30 + [most])
         self.nops = random.choice((0, 0.3, 0.6, 0.9))
         self.stops = random.choice((0, 0.5, 0.9, 1, 1)) if stops is None else stops
         self.registers = random.choice((range(8, 12), range(8, 16), range(30, 40), range(128)))

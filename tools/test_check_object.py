@@ -485,8 +485,8 @@ class NotJudged(Case):
 
     def test_limits_of_images(self):
         nops = bundles(NOPS)
-        self.gives(one_function(4094 * nops + bundles(RETURN)), 0)
-        self.gives(one_function(4096 * nops), 0, "a.o(.text+0x0) f: not judged: 4096 bundles, and it may have 4095")
+        self.gives(one_function(32766 * nops + bundles(RETURN)), 0)
+        self.gives(one_function(32768 * nops), 0, "a.o(.text+0x0) f: not judged: 32768 bundles, and it may have 32767")
         self.gives(many_functions([RETURN, 65 * bundles(bundle("mii", stop=False)) + bundles(RETURN), WRITES + RETURN]), 1,
                    "a.o(.text+0x10) f1: not judged: more than 192 slots without a stop, up to +0x410 slot 0",
                    writes_twice(0x430, "f2"))
@@ -888,7 +888,7 @@ g:
             "mii", "nop.m 0", "(p6) adds r8=1,r0", "(p7) adds r8=2,r0") + RETURN
         text = "        .explicit\n        .proc f#\nf:\n" + excused + "        .endp f#\n        .proc g#\ng:\n"
         for far in (bundle("mlx", "nop.m 0", "brl.cond.sptk.few .Lmid"),
-                    4096 * bundle("mii", "nop.m 0", "nop.i 0", "nop.i 0") + bundle("mib", "nop.m 0", "nop.i 0", "br.cond.sptk.few .Lmid")):
+                    32768 * bundle("mii", "nop.m 0", "nop.i 0", "nop.i 0") + bundle("mib", "nop.m 0", "nop.i 0", "br.cond.sptk.few .Lmid")):
             got = self.call(self.made(text + far + "        .endp g#\n"))
             self.assertEqual((got[0], got[1][-1]), (1, "0 accepted, 1 violated, 1 not judged"), got[1][:3])
 

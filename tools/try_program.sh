@@ -134,15 +134,18 @@ for text in tries/*.s; do
   try "$text, checked" 0 "$dir/accepted" "$text" check
 done
 
-# The largest program: 4,096 bundles and 1,048,576 bytes of data, whose last word is loaded.
+# COUNT: a text of so many bundles, three `nop` and a stop each.
+all_nops() { yes $'{ .mii\nnop 0\nnop 0\nnop 0 ;;\n}' | head -n "$((5 * $1))"; }
+
+# The largest program: 32,768 bundles and 1,048,576 bytes of data, whose last word is loaded.
 {
   printf '{ .mlx\n  nop.m 0\n  movl r8=0x1ffff8 ;;\n}\n{ .mii\n  ld8 r9=[r8]\n  nop 0\n  nop 0 ;;\n}\n'
-  for _ in {3..4096}; do printf '{ .mii\nnop 0\nnop 0\nnop 0 ;;\n}\n'; done
+  all_nops 32766
   printf '.data\n.skip 1048568\ndata8 7\n'
 } > "$dir/largest"
-printf 'end fault FellOff at 4095.2\ngroups 4096\nframe 0 sof 0 sol 0 sor 0 rrb 0 0 0\nrse 0 0 0 0\nr8 00000000001ffff8\nr9 0000000000000007\npr 0000000000000001\nm 00000000001ffff8 0000000000000007\n' > "$dir/largest_state"
-try 'the largest program' 9 "$dir/largest_state" "$dir/largest" run 10000
-try_watch 'the largest program' 9 "$dir/largest_state" "$dir/largest" 10000
+printf 'end fault FellOff at 32767.2\ngroups 32768\nframe 0 sof 0 sol 0 sor 0 rrb 0 0 0\nrse 0 0 0 0\nr8 00000000001ffff8\nr9 0000000000000007\npr 0000000000000001\nm 00000000001ffff8 0000000000000007\n' > "$dir/largest_state"
+try 'the largest program' 9 "$dir/largest_state" "$dir/largest" run 100000
+try_watch 'the largest program' 9 "$dir/largest_state" "$dir/largest" 100000
 
 # The longest state but for registers: 131,072 words of data.
 {
@@ -238,17 +241,17 @@ for text in tries/check/*.s; do
   fi
 done
 
-# 4,096 bundles with two clashes each: all are counted, and the first hundred are shown.
-for _ in {1..4096}; do printf '{ .mii\nnop 0\nadd r8=r9,r10\nadd r8=r8,r9 ;;\n}\n'; done > "$dir/clashes"
+# 32,768 bundles with two clashes each: all are counted, and the first hundred are shown.
+yes $'{ .mii\nnop 0\nadd r8=r9,r10\nadd r8=r8,r9 ;;\n}' | head -n 163840 > "$dir/clashes"
 {
-  echo 'violations 8192'
+  echo 'violations 65536'
   for n in {0..49}; do printf 'RAW r8 %d.1 %d.2\nWAW r8 %d.1 %d.2\n' "$n" "$n" "$n" "$n"; done
 } > "$dir/hundred"
 try 'the most bundles that clash' 1 "$dir/hundred" "$dir/clashes" check
 try 'the most bundles that clash, run' 1 "$dir/hundred" "$dir/clashes" run 100
 
 # The same number of bundles in groups of 192 slots, in which each slot is held against all before it.
-for n in {1..4096}; do printf '{ .mii\nnop 0\nnop 0\nnop 0%s\n}\n' "$([ $((n % 64)) = 0 ] && echo ' ;;')"; done > "$dir/long_groups"
+awk 'BEGIN { for (n = 1; n <= 32768; n++) printf "{ .mii\nnop 0\nnop 0\nnop 0%s\n}\n", n % 64 ? "" : " ;;" }' > "$dir/long_groups"
 try 'the longest groups' 0 "$dir/accepted" "$dir/long_groups" check
 
 # Groups of 120 slots, in which each slot reads what the first writes under the other predicate of a compare.
@@ -337,6 +340,69 @@ relation() { printf '%s\\x%02x\\x%02x\\0\\0' "$(number "$1")" "$2" "$3"; }
 
 # NAME BYTES: a file with these bytes, given as printf takes them.
 made() { printf "$2" > "$dir/$1"; }
+
+# The most bundles, three `nop` and a stop each. With up to 4,096 of them an image is written in version 1, and with up to
+# 32,768 in version 2.
+made bundles "$nops"
+for _ in {1..15}; do cat "$dir/bundles" "$dir/bundles" > "$dir/twice" && mv "$dir/twice" "$dir/bundles"; done
+# NAME FRONT COUNT: a file with these bytes, given as printf takes them, and so many bundles.
+many() {
+  made "$1" "$2"
+  head -c $((16 * $3)) "$dir/bundles" >> "$dir/$1"
+}
+zeros='\0\0\0\0\0\0\0\0\0\0\0\0'
+many image_4096 "IA64IMG1$(number 4096)$zeros" 4096
+many lifted_4096 "$(front 4096 0 0)" 4096
+for count in 4097 32768; do many "image_$count" "$(front $count 0 0)" $count; done
+for count in 4096 4097 32768; do
+  many bare '' $count
+  all_nops $count > "$dir/text"
+  try "$count bundles, wrapped" 0 "$dir/image_$count" "$dir/bare" wrap
+  try "$count bundles, built" 0 "$dir/image_$count" "$dir/text" build
+  try "$count bundles, checked" 0 "$dir/accepted" "$dir/image_$count" check
+  "$program" show < "$dir/image_$count" > "$dir/shown"
+  try "$count bundles, shown and built again" 0 "$dir/image_$count" "$dir/shown" build
+done
+try '4096 bundles, lifted' 0 "$dir/lifted_4096" "$dir/image_4096" lift
+try '4096 bundles, lifted and lifted again' 0 "$dir/lifted_4096" "$dir/lifted_4096" lift
+try '4097 bundles, lifted' 0 "$dir/image_4097" "$dir/image_4097" lift
+printf 'image: counts\n' > "$dir/counts"
+{ cat "$dir/bundles"; printf "$nops"; } > "$dir/bare"
+try '32769 bundles, wrapped' 3 "$dir/counts" "$dir/bare" wrap
+{ printf "$(front 32769 0 0)"; cat "$dir/bare"; } > "$dir/refused"
+try '32769 bundles in version 2' 3 "$dir/counts" "$dir/refused" check
+many refused "IA64IMG1$(number 4097)$zeros" 4097
+for command in check show lift; do try "4097 bundles in version 1, $command" 3 "$dir/counts" "$dir/refused" "$command"; done
+all_nops 32769 > "$dir/text"
+printf 'line 163841: limit\n' > "$dir/wanted"
+try '32769 bundles, built' 3 "$dir/wanted" "$dir/text" build
+
+# The most declared entries, 1,024, and one more.
+entries=''
+for n in {1..1024}; do entries+=$(number "$n"); done
+many image "IA64IMG1$(number 1025)$(number 1024)${zeros:0:16}$entries" 1025
+try 'the most entries' 0 "$dir/accepted" "$dir/image" check
+"$program" show < "$dir/image" > "$dir/text"
+try 'the most entries, shown and built again' 0 "$dir/image" "$dir/text" build
+many refused "IA64IMG1$(number 1026)$(number 1025)${zeros:0:16}$entries$(number 1025)" 1026
+try 'one entry more' 3 "$dir/counts" "$dir/refused" check
+{ printf '.entry L1025\nL1025:\n'; all_nops 1; } >> "$dir/text"
+printf 'line 7174: limit\n' > "$dir/wanted"
+try 'one entry more, built' 3 "$dir/wanted" "$dir/text" build
+
+# The farthest branches, from the first bundle to the last and from the last to the first.
+{
+  printf 'first:\n{ .mib\nnop 0\nnop 0\n(p6) br last ;;\n}\n'
+  all_nops 32766
+  printf 'last:\n{ .mib\nnop 0\nnop 0\nbr first ;;\n}\n'
+} > "$dir/text"
+"$program" build < "$dir/text" > "$dir/image" && "$program" show < "$dir/image" > "$dir/shown"
+note $? 'the farthest branches: not built or not shown'
+printf '  (p6) br.cond.sptk.few L32767 ;;\nL32767:\n' > "$dir/wanted"
+grep -x '.*L32767.*' "$dir/shown" | cmp -s - "$dir/wanted"
+note $? 'the farthest branches: other lines'
+try 'the farthest branches, built again' 0 "$dir/image" "$dir/shown" build
+try 'the farthest branches, checked' 0 "$dir/accepted" "$dir/image" check
 
 entry='\x01\0\0\0'
 

@@ -1,10 +1,10 @@
 -- The declared entries before a bundle, and that entries that rise are declared in turn.
-use Rattle.std.proofs.Common.{◌≡◌, ◌∙◌, ℕ, zero, suc, ◌+◌, ◌<◌, ◌≤◌, ◌⊎◌, false, ◌==◌, List, [], ◌∷◌, ◌++◌, length, map, Some, Ok, Greater, refl, sym, ap, inl, inr, arith, append_assoc, append-nil, length-append}
+use Rattle.std.proofs.Common.{◌≡◌, ◌∙◌, ℕ, zero, suc, ◌+◌, ◌<◌, ◌≤◌, false, List, [], ◌∷◌, ◌++◌, length, map, Some, Ok, Less, Equal, Greater, refl, sym, ap, inl, inr, arith, append_assoc, append-nil, length-append}
 use Rattle.std.specs.Prelude.{if◌then◌else◌, slice_index, nat_lt}
 use Rattle.std.specs.List.{AllByRecursion}
-use Rattle.std.specs.BTreeSet.{insert_key}
+use Rattle.std.specs.Cmp.{nat_cmp_is}
 use Rattle.std.specs.Ordering.{nat_cmp}
-use Rattle.std.proofs.lemmas.Bool.{ne_eqb, eq-eqb, lt-ltb, le-ltb}
+use Rattle.std.proofs.lemmas.Bool.{cases_order, cases_eq, ne_eqb, eq-eqb, le-ltb}
 use Rattle.ia_insn.specs.declared.limits.TheConstants.{ENTRY_LIMIT}
 use Rattle.ia_insn.specs.Programs.{IsEntryAt, AreEntries}
 use Rattle.asm_printing.specs.SlotTexts.{label_text}
@@ -13,6 +13,8 @@ use Rattle.asm_build.specs.declared.text_parts.EntryLine.{EntryLine}
 use Rattle.asm_build.specs.CanonicalText.{is_among}
 use Rattle.asm_build.specs.Names.{declared, declared_by, bundle_at, within_limit, all_declared, and_then}
 use Rattle.asm_build.specs.TextParts.{Labels, address_of}
+use Rattle.asm_build.proofs.KeysBelow.{below, with_key, KeysFrom, next_below}
+use Rattle.asm_build.proofs.SortedSets.{Ways, IsOrderedBy, at_end}
 
 -- each is at least the floor, and above the one before it
 abbrev pub Rise : ℕ → List ℕ → Type 0
@@ -43,56 +45,43 @@ entries_rise count xs h = rise_from 0 xs (λ n less. at n (h n less))
     at (suc n) e = e.rises
 
 -- the entries before the n-th bundle
-abbrev pub below : ℕ → List ℕ → List ℕ
-below n [] = []
-below n (x ∷ xs) = if nat_lt x n then x ∷ below n xs else below n xs
+abbrev pub entries_below : ℕ → List ℕ → List ℕ
+entries_below n xs = below (λ m. m) n xs
 
-none_below : (low n : ℕ) (xs : List ℕ) → n ≤ low → Rise low xs → below n xs ≡ []
-none_below low n [] h r = refl
-none_below low n (x ∷ xs) h r = rw (le-ltb x n (omega (arith, h, r.0))) (none_below (x + 1) n xs (omega (arith, h, r.0)) r.1)
+never_fall : (low from : ℕ) (xs : List ℕ) → low ≤ from → Rise from xs → KeysFrom (λ m. m) low xs
+never_fall low from [] h r = tt
+never_fall low from (x ∷ xs) h r = (omega (arith, h, r.0), never_fall x (x + 1) xs (omega arith) r.1)
 
-none_among : (low n : ℕ) (xs : List ℕ) → n < low → Rise low xs → is_among xs n ≡ false
-none_among low n [] h r = refl
-none_among low n (x ∷ xs) h r =
-    let other : (x == n) ≡ false = ne_eqb x n (λ e. omega (arith, h, r.0, e)) in
-    rw other (none_among (x + 1) n xs (omega (arith, h, r.0)) r.1)
+none_equal : (low n : ℕ) (xs : List ℕ) → n < low → Rise low xs → with_key (λ m. m) n xs ≡ []
+none_equal low n [] h r = refl
+none_equal low n (x ∷ xs) h r = rw (ne_eqb x n (λ e. omega (arith, h, r.0, e))) (none_equal (x + 1) n xs (omega (arith, h, r.0)) r.1)
 
-three_ways : (x n : ℕ) → (x < n) ⊎ ((x ≡ n) ⊎ (n < x))
-three_ways x n = grind arith
+equal_once : (low n : ℕ) (xs : List ℕ) → Rise low xs → with_key (λ m. m) n xs ≡ (if is_among xs n then n ∷ [] else [])
+equal_once low n [] r = refl
+equal_once low n (x ∷ xs) r = elim (cases_eq x n) [
+  | inl same ↦ rw (eq-eqb x n same, none_equal (x + 1) n xs (omega (arith, same)) r.1) (ap (λ m. m ∷ []) same)
+  | inr other ↦ rw (ne_eqb x n other) (equal_once (x + 1) n xs r.1)
+]
 
 -- one bundle more
-pub one_below : (low n : ℕ) (xs : List ℕ) → Rise low xs → below (n + 1) xs ≡ below n xs ++ (if is_among xs n then n ∷ [] else [])
-one_below low n [] r = refl
-one_below low n (x ∷ xs) r = by (three_ways x n) (one_below (x + 1) n xs r.1)
-  where
-    by : (x < n) ⊎ ((x ≡ n) ⊎ (n < x)) → below (n + 1) xs ≡ below n xs ++ (if is_among xs n then n ∷ [] else []) → below (n + 1) (x ∷ xs) ≡ below n (x ∷ xs) ++ (if is_among (x ∷ xs) n then n ∷ [] else [])
-    by (inl less) later =
-        let other : (x == n) ≡ false = ne_eqb x n (λ e. omega (arith, less, e)) in
-        rw (lt-ltb x n less, lt-ltb x (n + 1) (omega (arith, less)), other) (ap (λ ys. x ∷ ys) later)
-    by (inr (inl e)) later =
-        rw (eq-eqb x n e, le-ltb x n (omega (arith, e)), lt-ltb x (n + 1) (omega (arith, e)), none_below (x + 1) n xs (omega (arith, e)) r.1, none_below (x + 1) (n + 1) xs (omega (arith, e)) r.1) (ap (λ y. y ∷ []) e)
-    by (inr (inr more)) later =
-        let other : (x == n) ≡ false = ne_eqb x n (λ e. omega (arith, more, e)) in
-        rw (other, le-ltb x n (omega (arith, more)), le-ltb x (n + 1) (omega (arith, more)), none_below (x + 1) n xs (omega (arith, more)) r.1, none_below (x + 1) (n + 1) xs (omega (arith, more)) r.1, none_among (x + 1) n xs (omega (arith, more)) r.1) refl
+pub one_below : (low n : ℕ) (xs : List ℕ) → Rise low xs → entries_below (n + 1) xs ≡ entries_below n xs ++ (if is_among xs n then n ∷ [] else [])
+one_below low n xs r = next_below (λ m. m) n low xs (never_fall low low xs (omega arith) r) ∙ ap (λ ys. entries_below n xs ++ ys) (equal_once low n xs r)
 
--- none before the first
-pub none_first : (xs : List ℕ) → below 0 xs ≡ []
-none_first [] = refl
-none_first (x ∷ xs) = rw (le-ltb x 0 (omega arith)) (none_first xs)
+-- all of them, one by one
+pub each_below : (n : ℕ) (xs : List ℕ) → ((k : ℕ) → k < length xs → slice_index xs k < n) → AllByRecursion (λ m. m < n) xs
+each_below n [] h = tt
+each_below n (x ∷ xs) h = (h 0 (omega arith), each_below n xs (λ k less. h (suc k) (omega (arith, less))))
 
--- all of them
-pub all_below : (n : ℕ) (xs : List ℕ) → ((k : ℕ) → k < length xs → slice_index xs k < n) → below n xs ≡ xs
-all_below n [] h = refl
-all_below n (x ∷ xs) h =
-    let here : x < n = h 0 (omega arith) in
-    rw (lt-ltb x n here) (ap (λ ys. x ∷ ys) (all_below n xs (λ k less. h (suc k) (omega (arith, less)))))
+-- numbers are compared by their order
+three_ways : (k n : ℕ) → Ways nat_cmp (λ i j. i < j) k n
+three_ways k n = elim (cases_order k n) [
+  | inl same ↦ inr (inl (sym (nat_cmp_is k n Equal same), same))
+  | inr (inl less) ↦ inl (sym (nat_cmp_is k n Less less), less)
+  | inr (inr more) ↦ inr (inr (sym (nat_cmp_is k n Greater more), more))
+]
 
--- a number above all goes to the end
-at_end : (xs : List ℕ) (n : ℕ) → AllByRecursion (λ m. m < n) xs → insert_key nat_cmp xs n ≡ xs ++ n ∷ []
-at_end [] n h = refl
-at_end (x ∷ xs) n h =
-    let above : nat_cmp n x ≡ Greater = rw (le-ltb n x (omega (arith, h.0)), ne_eqb n x (λ e. omega (arith, h.0, e))) refl in
-    rw above (ap (λ ys. x ∷ ys) (at_end xs n h.1))
+numbers_ordered : IsOrderedBy nat_cmp (λ i j. i < j)
+numbers_ordered = record { way = three_ways; after = λ k n more. sym (nat_cmp_is k n Greater more) }
 
 lower_all : (m n : ℕ) (xs : List ℕ) → m ≤ n → AllByRecursion (λ k. k < m) xs → AllByRecursion (λ k. k < n) xs
 lower_all m n [] le h = tt
@@ -104,7 +93,7 @@ push_below (x ∷ xs) n h = (omega (arith, h.0), push_below xs n h.1)
 
 one_declared : (xs : List ℕ) (n line : ℕ) → AllByRecursion (λ m. m < n) xs → 1 ≤ n → length xs < ENTRY_LIMIT → within_limit line (declared xs n) ≡ Ok (xs ++ n ∷ [])
 one_declared xs n line h some few =
-    let e : declared xs n ≡ xs ++ n ∷ [] = rw (ne_eqb n 0 (λ z. omega (arith, z, some))) (at_end xs n h) in
+    let e : declared xs n ≡ xs ++ n ∷ [] = rw (ne_eqb n 0 (λ z. omega (arith, z, some))) (at_end nat_cmp (λ i j. i < j) numbers_ordered xs n h) in
     let room : nat_lt ENTRY_LIMIT (length (xs ++ n ∷ [])) ≡ false = le-ltb ENTRY_LIMIT _ (omega (arith, few, length-append xs (n ∷ []))) in
     rw (e, room) refl
 

@@ -20,6 +20,7 @@ mod PrintedNumbers
 mod Taking
 mod PutIn
 mod LabelsSoFar
+mod KeysBelow
 mod EntriesSoFar
 mod Membership
 mod SortedSets

@@ -29,11 +29,12 @@ use Rattle.asm_build.specs.TextParts.{TextParts, Labels, start, address_of, AreL
 use Rattle.asm_build.specs.TextReading.{text_lines, ComesTo, AllSay, Reads}
 use Rattle.asm_build.proofs.Choices.{true_or, or_true}
 use Rattle.asm_build.proofs.DataBack.{words_small, words_back}
-use Rattle.asm_build.proofs.EntriesSoFar.{none_first, all_below, entries_rise, declared_in_turn}
+use Rattle.asm_build.proofs.EntriesSoFar.{each_below, entries_rise, declared_in_turn}
+use Rattle.asm_build.proofs.KeysBelow.{none_below_zero, all_below}
 use Rattle.asm_build.proofs.LabelsSoFar.{no_labels}
 use Rattle.asm_build.proofs.NamesPutIn.{AreLabelled, bundles_back, all_names_mean}
 use Rattle.asm_build.proofs.RelationSets.{fit_of_relations}
-use Rattle.asm_build.proofs.RelationsSoFar.{relations_below, IsPrinted, AreRelationLines, none_before_first, all_relations, relations_rise, relations_fit, relations_inside, printed_at, related_in_turn}
+use Rattle.asm_build.proofs.RelationsSoFar.{bundle_of, relations_below, IsPrinted, AreRelationLines, relations_rise, relations_fit, relations_inside, printed_at, related_in_turn}
 use Rattle.asm_build.proofs.Taking.{Goes, stays, goes_on}
 use Rattle.asm_build.proofs.WrittenBundles.{SlotsSay, outside}
 use Rattle.asm_build.proofs.WrittenData.{data_goes}
@@ -95,12 +96,12 @@ given_back p h s bs es rs ls next so_far good goes =
     let bundles : bundles_named ls 0 bs ≡ p.bundles = bundles_back ls count 0 p.bundles bs good so_far.bundles labelled in
     let names : unnamed_bundle ls 0 bs ≡ None = all_names_mean ls count 0 p.bundles bs good so_far.bundles labelled in
     let inside : (k : ℕ) → k < length p.entries → slice_index p.entries k < count = λ k less. (h.entries k less).inside in
-    let lines : map (λ (e : EntryLine). e.name) es ≡ map label_text p.entries = so_far.entry_lines ∙ ap (map label_text) (all_below count p.entries inside) in
+    let lines : map (λ (e : EntryLine). e.name) es ≡ map label_text p.entries = so_far.entry_lines ∙ ap (map label_text) (all_below (λ m. m) count p.entries (each_below count p.entries inside)) in
     let found : (k : ℕ) → k < length p.entries → address_of ls (label_text (slice_index p.entries k)) ≡ Some (address.Bundle (slice_index p.entries k)) =
     λ k less. so_far.labels.named (slice_index p.entries k) (inside k less) (true_or (is_among p.entries (slice_index p.entries k)) (is_among (targets_from 0 p.bundles) (slice_index p.entries k)) (among_at p.entries k less)) in
     let entries : all_declared ls [] es ≡ Ok p.entries = declared_in_turn ls [] p.entries es lines found 1 (omega arith) tt (entries_rise count p.entries h.entries) (omega (arith, h.counts.entries)) in
     let no_fault : name_fault (finished s bs es rs ls p.bytes) ≡ None = ap (λ o. earlier o (all_declared ls [] es)) names ∙ ap (earlier None) entries in
-    let relation_lines : AreRelationLines p.relations rs = subst (λ ds. AreRelationLines ds rs) (all_relations count p.relations (relations_inside p.bundles p.entries p.relations h.relations)) so_far.relation_lines in
+    let relation_lines : AreRelationLines p.relations rs = subst (λ ds. AreRelationLines ds rs) (all_below bundle_of count p.relations (relations_inside p.bundles p.entries p.relations h.relations)) so_far.relation_lines in
     let related = related_in_turn p.bundles p.entries no_relation [] p.relations rs relation_lines (fit_of_relations p.bundles p.entries p.relations h.relations) (λ r after. tt) (omega (arith, h.counts.relations)) in
     let passed : ArePassed (relation_stages (bundles_named ls 0 bs) (or_none (all_declared ls [] es)) [] rs) =
     subst (λ cs. ArePassed (relation_stages cs (or_none (all_declared ls [] es)) [] rs)) (sym bundles) (subst (λ fs. ArePassed (relation_stages p.bundles fs [] rs)) (sym (ap or_none entries)) related.passed) in
@@ -118,8 +119,8 @@ read_back say p h =
     let count = length p.bundles in
     let targets = targets_from 0 p.bundles in
     let good = good_of p h in
-    let no_lines : AreRelationLines (relations_below 0 p.relations) [] = rw (none_before_first p.relations) tt in
-    let none : SoFar p.entries targets p.relations count 0 [] [] [] [] [] = record { written = refl; bundles = tt; entry_lines = sym (ap (map label_text) (none_first p.entries)); relation_lines = no_lines; labels = no_labels p.entries targets count } in
+    let no_lines : AreRelationLines (relations_below 0 p.relations) [] = rw (none_below_zero bundle_of p.relations) tt in
+    let none : SoFar p.entries targets p.relations count 0 [] [] [] [] [] = record { written = refl; bundles = tt; entry_lines = sym (ap (map label_text) (none_below_zero (λ m. m) p.entries)); relation_lines = no_lines; labels = no_labels p.entries targets count } in
     let printed : (m : ℕ) → AllByRecursion (IsPrinted m) (relations_at p.relations m) = λ m. printed_at p.bundles p.entries m p.relations (relations_fit p.bundles p.entries p.relations h.relations) in
     let order = relations_rise p.bundles p.entries p.relations h.relations in
     let all = all_go say p.entries targets p.relations count 1 0 [] p.bundles [] [] [] [] (entries_rise count p.entries h.entries) order printed (omega arith) h.counts.bundles good none in

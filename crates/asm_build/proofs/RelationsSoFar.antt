@@ -1,9 +1,8 @@
 -- The relations of the bundles before one, and what their printed lines come to.
 use Rattle.std.proofs.Common.{◌≡◌, ◌∙◌, refl, sym, ap, subst, inl, inr, ℕ, ◌+◌, ◌<◌, ◌≤◌, List, [], ◌∷◌, ◌++◌, length, codes, arith, append_assoc, append-nil, length-append, lit<}
-use Rattle.std.specs.Prelude.{nat_lt, filter}
 use Rattle.std.specs.List.{AllByRecursion}
 use Rattle.std.specs.Fmt.{decimal}
-use Rattle.std.proofs.lemmas.Bool.{cases_order, cases_lt, eq-eqb, ne_eqb, lt-ltb, le-ltb}
+use Rattle.std.proofs.lemmas.Bool.{cases_order, eq-eqb, ne_eqb, le-ltb, lt-ltb}
 use Rattle.std.proofs.lemmas.Fmt.{length-decimal-le}
 use Rattle.first_fault.specs.Stages.{ArePassed}
 use Rattle.ia_insn.specs.declared.limits.TheConstants.{RELATION_LIMIT}
@@ -19,54 +18,24 @@ use Rattle.asm_build.specs.CanonicalText.{line as text_line, relation_text, rela
 use Rattle.asm_build.specs.Relations.{relation_cmp, relations_among, related, all_related, relation_stages}
 use Rattle.asm_build.specs.TextParts.{Labels}
 use Rattle.asm_build.specs.TextReading.{Says}
+use Rattle.asm_build.proofs.KeysBelow.{below, KeysFrom}
 use Rattle.asm_build.proofs.Membership.{all_both}
 use Rattle.asm_build.proofs.RelationSets.{IsFit, AreFitFrom, fit_of_relations, relations_ordered}
 use Rattle.asm_build.proofs.SortedSets.{at_end}
 use Rattle.asm_build.proofs.Taking.{Goes, stays, goes_on, line_goes}
 use Rattle.asm_build.proofs.WrittenBundles.{outside}
 
+-- the bundle of a relation
+abbrev pub bundle_of : Relation → ℕ
+bundle_of r = r.bundle
+
 -- the relations of the bundles before the n-th
 abbrev pub relations_below : ℕ → List Relation → List Relation
-relations_below n rs = filter (λ (r : Relation). nat_lt r.bundle n) rs
+relations_below n rs = below bundle_of n rs
 
 -- the bundles of relations don't fall, from one on
 abbrev pub BundlesFrom : ℕ → List Relation → Type 0
-BundlesFrom low [] = Unit {0}
-BundlesFrom low (r ∷ rs) = (low ≤ r.bundle) × BundlesFrom r.bundle rs
-
-none_below : (n low : ℕ) (rs : List Relation) → n ≤ low → BundlesFrom low rs → relations_below n rs ≡ []
-none_below n low [] h from = refl
-none_below n low (r ∷ rs) h from = rw (le-ltb r.bundle n (omega (arith, h, from.0))) (none_below n r.bundle rs (omega (arith, h, from.0)) from.1)
-
--- those of the n-th bundle come first, where none is of a bundle before it
-first_ones : (n low : ℕ) (rs : List Relation) → n ≤ low → BundlesFrom low rs → relations_below (n + 1) rs ≡ relations_at rs n
-first_ones n low [] h from = refl
-first_ones n low (r ∷ rs) h from = elim (cases_order r.bundle n) [
-  | inl same ↦ rw (lt-ltb r.bundle (n + 1) (omega (arith, same)), eq-eqb r.bundle n same) (ap (λ (xs : List Relation). r ∷ xs) (first_ones n r.bundle rs (omega (arith, h, from.0)) from.1))
-  | inr (inl less) ↦ absurd (omega (arith, less, h, from.0))
-  | inr (inr more) ↦ rw (le-ltb r.bundle (n + 1) (omega (arith, more)), ne_eqb r.bundle n (λ e. omega (arith, more, e))) (first_ones n r.bundle rs (omega (arith, h, from.0)) from.1)
-]
-
--- one bundle more
-pub one_bundle_more : (n low : ℕ) (rs : List Relation) → BundlesFrom low rs → relations_below (n + 1) rs ≡ relations_below n rs ++ relations_at rs n
-one_bundle_more n low [] from = refl
-one_bundle_more n low (r ∷ rs) from = elim (cases_lt r.bundle n) [
-  | inl less ↦
-      rw (lt-ltb r.bundle n less, lt-ltb r.bundle (n + 1) (omega (arith, less)), ne_eqb r.bundle n (λ e. omega (arith, less, e)))
-      (ap (λ (xs : List Relation). r ∷ xs) (one_bundle_more n r.bundle rs from.1))
-  | inr most ↦
-      let none = none_below n n (r ∷ rs) (omega arith) (most, from.1) in
-      first_ones n n (r ∷ rs) (omega arith) (most, from.1) ∙ ap (λ (xs : List Relation). xs ++ relations_at (r ∷ rs) n) (sym none)
-]
-
-pub none_before_first : (rs : List Relation) → relations_below 0 rs ≡ []
-none_before_first [] = refl
-none_before_first (r ∷ rs) = rw (le-ltb r.bundle 0 (omega arith)) (none_before_first rs)
-
--- all of them
-pub all_relations : (n : ℕ) (rs : List Relation) → AllByRecursion (λ (r : Relation). r.bundle < n) rs → relations_below n rs ≡ rs
-all_relations n [] h = refl
-all_relations n (r ∷ rs) h = rw (lt-ltb r.bundle n h.0) (ap (λ (xs : List Relation). r ∷ xs) (all_relations n rs h.1))
+BundlesFrom low rs = KeysFrom bundle_of low rs
 
 -- what is known of the relations of a program
 rises_or_stays : (r s : Relation) → IsRelationBefore r s → r.bundle ≤ s.bundle

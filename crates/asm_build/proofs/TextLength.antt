@@ -26,7 +26,8 @@ use Rattle.asm_build.specs.RoundTrip.{CanonicalTextIsShort, CanonicalTextFits}
 use Rattle.asm_build.specs.TemplateNames.{units_named}
 use Rattle.asm_build.proofs.DataBack.{AreWords, words_small}
 use Rattle.asm_build.proofs.NamedTemplates.{has_name}
-use Rattle.asm_build.proofs.RelationsSoFar.{relations_below, BundlesFrom, one_bundle_more, relations_rise, relations_fit, IsPrinted, printed_at, relation_is_short}
+use Rattle.asm_build.proofs.KeysBelow.{next_below}
+use Rattle.asm_build.proofs.RelationsSoFar.{bundle_of, relations_below, BundlesFrom, relations_rise, relations_fit, IsPrinted, printed_at, relation_is_short}
 use Rattle.asm_build.proofs.WrittenTexts.{AreGood, good_of}
 
 -- the slot lines of listed instructions have at most so many bytes
@@ -61,9 +62,9 @@ head_short b fit =
     let name = has_name b.template b.slots fit in
     subst (λ (us : List ExecutionUnit). length (text_line (codes "{ ." ++ map unit_letter us)) ≤ 7) (sym name.1.units) (name_short name.0)
 
--- `L4095`
-label_short : (n : ℕ) → n < BUNDLE_LIMIT → length (label_text n) ≤ 5
-label_short n h = omega (arith, length-decimal-le 4 n (lit< tt) (omega arith) (omega (arith, h)))
+-- `L32767`
+label_short : (n : ℕ) → n < BUNDLE_LIMIT → length (label_text n) ≤ 6
+label_short n h = omega (arith, length-decimal-le 5 n (lit< tt) (omega arith) (omega (arith, h)))
 
 slots_short : (most : ℕ) → AreSlotLinesWithin most → (count n template : ℕ) (contents : Slots) → n < 2 ^ 32 → AreSound count n contents → length (slots_text n template contents) ≤ 3 * (most + 1)
 slots_short most within count n template (slots.Three a b c) low sound =
@@ -86,7 +87,7 @@ relations_short n (r ∷ rs) h =
 
 -- the bytes of a bundle without relations, with its entry and its label
 abbrev bundle_bytes : ℕ → ℕ
-bundle_bytes most = 3 * (most + 1) + 29
+bundle_bytes most = 3 * (most + 1) + 31
 
 bundle_short : (most : ℕ) → AreSlotLinesWithin most → (entries targets : List ℕ) (relations : List Relation) (count n : ℕ) (b : Bundle) → n < BUNDLE_LIMIT → IsBundle b → AreSound count n b.slots → AllByRecursion (IsPrinted n) (relations_at relations n)
     → length (bundle_text entries targets relations n b) ≤ bundle_bytes most + 26 * length (relations_at relations n)
@@ -94,18 +95,18 @@ bundle_short most within entries targets relations count n b low fit sound print
     let entry = is_among entries n in
     let labelled = is_among entries n || is_among targets n in
     let label = label_short n low in
-    let entry_line = line_short (codes ".entry " ++ label_text n) 12 (both_short (codes ".entry ") (label_text n) 7 5 (omega arith) label) in
-    let label_line = line_short (label_text n ++ codes ":") 6 (both_short (label_text n) (codes ":") 5 1 label (omega arith)) in
-    let first = if_short entry (text_line (codes ".entry " ++ label_text n)) 13 (omega (arith, entry_line)) in
-    let second = if_short labelled (text_line (label_text n ++ codes ":")) 7 (omega (arith, label_line)) in
+    let entry_line = line_short (codes ".entry " ++ label_text n) 13 (both_short (codes ".entry ") (label_text n) 7 6 (omega arith) label) in
+    let label_line = line_short (label_text n ++ codes ":") 7 (both_short (label_text n) (codes ":") 6 1 label (omega arith)) in
+    let first = if_short entry (text_line (codes ".entry " ++ label_text n)) 14 (omega (arith, entry_line)) in
+    let second = if_short labelled (text_line (label_text n ++ codes ":")) 8 (omega (arith, label_line)) in
     let body = slots_text n b.template b.slots ++ text_line (codes "}") in
     let contents = both_short (slots_text n b.template b.slots) (text_line (codes "}")) (3 * (most + 1)) 2 (slots_short most within count n b.template b.slots (omega (arith, low)) sound) (omega arith) in
     let headed = both_short (head_text b.template) body 7 (3 * (most + 1) + 2) (head_short b fit) contents in
     let lines = relations_text (relations_at relations n) in
     let many = 26 * length (relations_at relations n) in
     let related = both_short lines (head_text b.template ++ body) many (7 + (3 * (most + 1) + 2)) (relations_short n (relations_at relations n) printed) headed in
-    let named = both_short (if labelled then text_line (label_text n ++ codes ":") else []) (lines ++ (head_text b.template ++ body)) 7 (many + (7 + (3 * (most + 1) + 2))) second related in
-    omega (arith, both_short (if entry then text_line (codes ".entry " ++ label_text n) else []) ((if labelled then text_line (label_text n ++ codes ":") else []) ++ (lines ++ (head_text b.template ++ body))) 13 (7 + (many + (7 + (3 * (most + 1) + 2)))) first named)
+    let named = both_short (if labelled then text_line (label_text n ++ codes ":") else []) (lines ++ (head_text b.template ++ body)) 8 (many + (7 + (3 * (most + 1) + 2))) second related in
+    omega (arith, both_short (if entry then text_line (codes ".entry " ++ label_text n) else []) ((if labelled then text_line (label_text n ++ codes ":") else []) ++ (lines ++ (head_text b.template ++ body))) 14 (8 + (many + (7 + (3 * (most + 1) + 2)))) first named)
 
 few_below : (n : ℕ) (rs : List Relation) → length (relations_below n rs) ≤ length rs
 few_below n rs = omega (arith, length-filter (λ (r : Relation). nat_lt r.bundle n) rs, count_by-le-length (λ (r : Relation). nat_lt r.bundle n) rs)
@@ -117,7 +118,7 @@ bundles_short most within entries targets relations count n (b ∷ bs) order pri
     let here = bundle_short most within entries targets relations count n b (omega (arith, few)) good.0.0 good.0.1 (printed n) in
     let later = bundles_short most within entries targets relations count (n + 1) bs order printed (omega (arith, few)) good.1 in
     let more = length-append (relations_below n relations) (relations_at relations n) in
-    let next = ap length (one_bundle_more n 0 relations order) in
+    let next = ap length (next_below bundle_of n 0 relations order) in
     rw (mul-suc (bundle_bytes most) (length bs)) (omega (arith, here, later, more, next, length-append (bundle_text entries targets relations n b) (bundles_text entries targets relations (n + 1) bs)))
 
 -- The k-th word begins with `data8 ` where it is the first of its line, and ends the line where it is the last.

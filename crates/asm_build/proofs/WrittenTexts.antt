@@ -18,10 +18,11 @@ use Rattle.asm_build.specs.declared.text_parts.RelationLine.{RelationLine}
 use Rattle.asm_build.specs.CanonicalText.{line as text_line, is_among, relations_text, head_text, slots_text, bundle_text, bundles_text}
 use Rattle.asm_build.specs.Marks.{AreSound}
 use Rattle.asm_build.specs.TextParts.{Labels, address_of}
-use Rattle.asm_build.proofs.EntriesSoFar.{Rise, below, one_below}
+use Rattle.asm_build.proofs.EntriesSoFar.{Rise, entries_below, one_below}
+use Rattle.asm_build.proofs.KeysBelow.{next_below}
 use Rattle.asm_build.proofs.LabelsSoFar.{HasLabels, one_label, same_labels}
 use Rattle.asm_build.proofs.PrintedLines.{label_says, entry_says}
-use Rattle.asm_build.proofs.RelationsSoFar.{relations_below, BundlesFrom, one_bundle_more, IsPrinted, AreRelationLines, relations_go}
+use Rattle.asm_build.proofs.RelationsSoFar.{bundle_of, relations_below, BundlesFrom, IsPrinted, AreRelationLines, relations_go}
 use Rattle.asm_build.proofs.Soundness.{all_sound}
 use Rattle.asm_build.proofs.Taking.{Goes, stays, goes_on, line_goes}
 use Rattle.asm_build.proofs.WrittenBundles.{SlotsSay, outside, AreLinesOf, bundle_goes}
@@ -48,7 +49,7 @@ one_more n m (c ∷ bs) (k ∷ ls) b l e h one = (h.0, one_more (n + 1) m bs ls 
 pub record SoFar (entries targets : List ℕ) (relations : List Relation) (count n : ℕ) (done : List Bundle) (bs : List BundleLines) (es : List EntryLine) (rs : List RelationLine) (ls : Labels) : Type 0 where
   pub written : length done ≡ n
   pub bundles : AreAllLinesOf 0 done bs
-  pub entry_lines : map (λ e. e.name) es ≡ map label_text (below n entries)
+  pub entry_lines : map (λ e. e.name) es ≡ map label_text (entries_below n entries)
   pub relation_lines : AreRelationLines (relations_below n relations) rs
   pub labels : HasLabels entries targets count n ls
 
@@ -136,8 +137,8 @@ one_goes say entries targets relations count k n done bs es rs ls b rise order p
       so_far = record {
         written = length-append done (b ∷ []) ∙ ap (λ m. m + 1) h.written;
         bundles = one_more 0 n done bs b body.read (omega (arith, h.written)) h.bundles body.same;
-        entry_lines = entry_lines_next entry es (below n entries) (below (n + 1) entries) k n h.entry_lines (one_below 1 n entries rise);
-        relation_lines = subst (λ ds. AreRelationLines ds rs_next) (sym (one_bundle_more n 0 relations order)) related.are;
+        entry_lines = entry_lines_next entry es (entries_below n entries) (entries_below (n + 1) entries) k n h.entry_lines (one_below 1 n entries rise);
+        relation_lines = subst (λ ds. AreRelationLines ds rs_next) (sym (next_below bundle_of n 0 relations order)) related.are;
         labels = subst (λ at. HasLabels entries targets count (n + 1) (label_if labelled ls n at)) (sym there) (labels_next entries targets count n labelled ls refl less few h.labels);
       };
     }

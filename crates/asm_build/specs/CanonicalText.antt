@@ -64,13 +64,19 @@ abbrev pub relations_text : List Relation → List ℕ
 relations_text [] = []
 relations_text (r ∷ rs) = line (relation_text r.p r.q) ++ relations_text rs
 
--- A bundle: that it is a declared entry, its label where it is one or a target, its relations, and its slots.
+-- The text of a bundle, where it is known whether it is a declared entry and whether it is a target, and its relations:
+-- that it is an entry, its label where it is one or a target, its relations, and its slots.
+abbrev pub marked_text : Bool → Bool → List Relation → ℕ → Bundle → List ℕ
+marked_text entry target relations n b =
+    (if entry then line (codes ".entry " ++ label_text n) else [])
+    ++ ((if entry || target then line (label_text n ++ codes ":") else [])
+    ++ (relations_text relations
+    ++ (head_text b.template ++ (slots_text n b.template b.slots ++ line (codes "}")))))
+
+-- the text of the n-th bundle of a program with these entries, targets and relations
 abbrev pub bundle_text : List ℕ → List ℕ → List Relation → ℕ → Bundle → List ℕ
 bundle_text entries targets relations n b =
-    (if is_among entries n then line (codes ".entry " ++ label_text n) else [])
-    ++ ((if is_among entries n || is_among targets n then line (label_text n ++ codes ":") else [])
-    ++ (relations_text (relations_at relations n)
-    ++ (head_text b.template ++ (slots_text n b.template b.slots ++ line (codes "}")))))
+    marked_text (is_among entries n) (is_among targets n) (relations_at relations n) n b
 
 abbrev pub bundles_text : List ℕ → List ℕ → List Relation → ℕ → List Bundle → List ℕ
 bundles_text entries targets relations n [] = []

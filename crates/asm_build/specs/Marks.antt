@@ -1,5 +1,5 @@
 -- Marks: of each bundle, whether its number is one of a list.
-use Rattle.std.specs.Prelude.{◌≡◌, ℕ, ◌+◌, ◌<◌, Bool, false, ◌||◌, if◌then◌else◌, List, [], ◌∷◌, ◌++◌, length, get_or, codes, IfSome, slice_get}
+use Rattle.std.specs.Prelude.{◌≡◌, ℕ, ◌+◌, ◌<◌, Bool, false, ◌||◌, List, [], ◌∷◌, ◌++◌, length, get_or, IfSome, slice_get}
 use Rattle.ia_insn.specs.declared.insn.Insn.{Insn}
 use Rattle.ia_insn.specs.declared.bundle.Slots.{Slots}
 use Rattle.ia_insn.specs.declared.bundle.Slots.TheVariants.{Three, Long}
@@ -8,8 +8,7 @@ use Rattle.ia_insn.specs.Bundles.{Bundle}
 use Rattle.ia_insn.specs.Listed.{IsListed}
 use Rattle.ia_insn.specs.Programs.{relations_at}
 use Rattle.ia_insn.specs.Targets.{displacement, IsBundleAt}
-use Rattle.asm_printing.specs.SlotTexts.{label_text}
-use Rattle.asm_build.specs.CanonicalText.{is_among, line, relations_text, head_text, slots_text}
+use Rattle.asm_build.specs.CanonicalText.{is_among, marked_text}
 
 -- The marks of so many bundles: those of these numbers are marked.
 pub record AreMarks (bundle_count : ℕ) (numbers : List ℕ) (marks : List Bool) : Type 0 where
@@ -34,14 +33,6 @@ AreSound count n (Long first long) = IsSound count n first × IsSound count n lo
 -- and those of each bundle
 abbrev pub AreAllSound : ℕ → List Bundle → Type 0
 AreAllSound count bundles = (n : ℕ) → IfSome (slice_get bundles n) (λ b. AreSound count n b.slots)
-
--- the text of a bundle, where it is known whether it is an entry and whether it is a target, and its relations
-abbrev pub marked_text : Bool → Bool → List Relation → ℕ → Bundle → List ℕ
-marked_text entry target relations n b =
-    (if entry then line (codes ".entry " ++ label_text n) else [])
-    ++ ((if entry || target then line (label_text n ++ codes ":") else [])
-    ++ (relations_text relations
-    ++ (head_text b.template ++ (slots_text n b.template b.slots ++ line (codes "}")))))
 
 -- the text of bundles, the first of which is the n-th
 abbrev pub marked_texts : List Bool → List Bool → List Relation → ℕ → List Bundle → List ℕ

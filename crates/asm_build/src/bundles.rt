@@ -3,8 +3,8 @@
 ghost use Rattle.std.specs.Prelude.{◌≡◌, ◌++◌, [], ◌<◌, ◌≤◌, length, codes, if◌then◌else◌, OnOk};
 ghost use Rattle.ia_insn.specs.declared.limits.TheConstants.{BUNDLE_LIMIT};
 ghost use Rattle.asm_printing.specs.SlotTexts.{label_text, slot_text};
-ghost use Rattle.asm_build.specs.CanonicalText.{has_stop, line, unit_letter, relation_text, relations_text, head_text, slots_text};
-ghost use Rattle.asm_build.specs.Marks.{IsSound, AreSound, AreAllSound, marked_text, marked_texts};
+ghost use Rattle.asm_build.specs.CanonicalText.{has_stop, line, unit_letter, relation_text, relations_text, head_text, slots_text, marked_text};
+ghost use Rattle.asm_build.specs.Marks.{IsSound, AreSound, AreAllSound, marked_texts};
 
 use asm_text::{print_slot, push_bytes, push_decimal};
 use ia_insn::{BundleOf, Insn, Place, Program, Relation, Slots, Template, Unit};

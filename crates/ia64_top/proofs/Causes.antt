@@ -1,6 +1,6 @@
 -- Why an input is refused, what else is answered, and what is printed of violations.
-use Rattle.std.proofs.Common.{◌≡◌, inl, inr, ℕ, ◌<◌, List, length, length-take, take, drop, Option, Some, None, refl, sym, ◌∙◌, subst, arith}
-use Rattle.std.specs.Prelude.{◌↔◌, ◌⊎◌, IfSome, false, Contains}
+use Rattle.std.proofs.Common.{◌≡◌, inl, inr, ℕ, ◌<◌, List, length, Option, Some, None, refl, sym, subst}
+use Rattle.std.specs.Prelude.{◌↔◌, ◌⊎◌, IfSome, false}
 use Rattle.std.specs.Io.KnownBytes.{Appends}
 use Rattle.std.proofs.lemmas.Bool.{lt-ltb}
 use Rattle.ia_insn.specs.Programs.{Program}
@@ -9,10 +9,8 @@ use Rattle.image_form.specs.declared.version.Version.TheVariants.{Two}
 use Rattle.image_form.specs.Laws.{NoFaultWhereSpelled, NoFaultWhereRaw}
 use Rattle.asm_build.specs.Listing.{IsListing}
 use Rattle.asm_build.specs.Laws.{NoFaultWhereRead}
-use Rattle.group_checker.specs.declared.report.TheConstants.{SHOWN_LIMIT}
 use Rattle.group_checker.specs.declared.report.Verdict.{Verdict}
 use Rattle.group_checker.specs.declared.report.Verdict.TheVariants.{Accepted, Violations}
-use Rattle.group_checker.specs.declared.violation.Violation.{Violation}
 use Rattle.group_checker.specs.Reports.{IsVerdict}
 use Rattle.trial_maker.specs.Trials.{trial_program}
 use Rattle.ia_meaning.specs.Steps.{Run as WholeRun}

@@ -89,7 +89,7 @@ one_made r Makes single one input mine bytes status other m o =
 
 -- The image of a program is one, and so are its canonical text and its listing.
 one_image : OneImage → MakesOne Written
-one_image one p mine bytes m o = one (written_version p.relations) p bytes mine o m
+one_image one p mine bytes m o = one (written_version p) p bytes mine o m
 
 one_canonical : MakesOne IsCanonical
 one_canonical p mine bytes m o = o.canonical ∙ sym m.canonical

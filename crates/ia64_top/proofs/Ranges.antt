@@ -1,8 +1,7 @@
 -- The numbers of a command are in range.
 use Rattle.std.proofs.Common.{◌≡◌, ℕ, Bool, true, false, List, [], ◌∷◌, Option, Some, None, refl, subst, ◌^◌, ◌-◌}
 use Rattle.std.specs.Prelude.{if◌then◌else◌, codes, bytes_eq, option_map, IfSome}
-use Rattle.ia_insn.specs.declared.limits.TheConstants.{BUNDLE_LIMIT}
-use Rattle.ia64_top.specs.declared.limits.TheConstants.{GROUP_LIMIT}
+use Rattle.ia64_top.specs.declared.limits.TheConstants.{GROUP_LIMIT, TRIAL_LIMIT}
 use Rattle.ia64_top.specs.declared.words.Command.{Command}
 use Rattle.ia64_top.specs.declared.words.Command.TheVariants.{Build, Show, List as Listing, Wrap, Lift, Check, Run, Watch}
 use Rattle.ia64_top.specs.Numbers.{number_between}
@@ -44,14 +43,14 @@ run_if true watch groups = run_of groups (number_between 1 GROUP_LIMIT groups) (
 run_if false true groups = watch_of groups (number_between 1 GROUP_LIMIT groups) (found_is 1 GROUP_LIMIT groups _ refl)
 run_if false false groups = tt
 
-trial_of : (bundles : List ℕ) (seed found : Option ℕ) → IsFound 1 BUNDLE_LIMIT bundles found → InRange (trial_command seed found)
+trial_of : (bundles : List ℕ) (seed found : Option ℕ) → IsFound 1 TRIAL_LIMIT bundles found → InRange (trial_command seed found)
 trial_of bundles None found is = tt
 trial_of bundles (Some s) None is = tt
 trial_of bundles (Some s) (Some n) is = (is.0, is.1)
 
-trial_if : (named : Bool) (seed bundles : List ℕ) → InRange (if named then trial_command (number_between 0 (2 ^ 64 - 1) seed) (number_between 1 BUNDLE_LIMIT bundles) else None)
+trial_if : (named : Bool) (seed bundles : List ℕ) → InRange (if named then trial_command (number_between 0 (2 ^ 64 - 1) seed) (number_between 1 TRIAL_LIMIT bundles) else None)
 trial_if true seed bundles =
-    trial_of bundles (number_between 0 (2 ^ 64 - 1) seed) (number_between 1 BUNDLE_LIMIT bundles) (found_is 1 BUNDLE_LIMIT bundles _ refl)
+    trial_of bundles (number_between 0 (2 ^ 64 - 1) seed) (number_between 1 TRIAL_LIMIT bundles) (found_is 1 TRIAL_LIMIT bundles _ refl)
 trial_if false seed bundles = tt
 
 words_in_range : (words : List (List ℕ)) → InRange (command_of words)

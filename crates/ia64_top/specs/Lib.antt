@@ -10,3 +10,4 @@ pub mod Trials
 pub mod Output
 pub mod Watching
 pub mod NamedAddresses
+pub mod Limits

@@ -33,10 +33,11 @@ IsMadeOutput reading Makes input bytes Done = (program : Program) × reading.Giv
 IsMadeOutput reading Makes input bytes Refused = reading.Refuses input bytes
 IsMadeOutput reading Makes input bytes status = ⊥
 
--- The text is the canonical one of the program, and reads as the program.
+-- The text is the canonical one of the program, reads as the program, and isn't too long to be an input.
 pub record IsCanonical (program : Program) (text : List ℕ) : Type 0 where
   pub canonical : text ≡ canonical_text program
   pub back : as_text.Gives text program
+  pub short : length text ≤ INPUT_LIMIT
 
 -- What `check` writes and answers of an input that is read in a way.
 abbrev pub IsCheckedAs : Reading → List ℕ → List ℕ → Status → Type 0

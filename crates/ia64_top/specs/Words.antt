@@ -1,7 +1,6 @@
 -- The table of words: which list of words is which command.
 use Rattle.std.specs.Prelude.{ℕ, ◌-◌, ◌^◌, ◌≤◌, ⊤, List, [], ◌∷◌, Option, Some, None, option_map, if◌then◌else◌, codes, bytes_eq}
-use Rattle.ia_insn.specs.declared.limits.TheConstants.{BUNDLE_LIMIT}
-use Rattle.ia64_top.specs.declared.limits.TheConstants.{GROUP_LIMIT}
+use Rattle.ia64_top.specs.declared.limits.TheConstants.{GROUP_LIMIT, TRIAL_LIMIT}
 use Rattle.ia64_top.specs.declared.words.Command.{Command}
 use Rattle.ia64_top.specs.declared.words.Command.TheVariants.{Build, Show, List as Listing, Wrap, Lift, Check, Run, Watch, Trial}
 use Rattle.ia64_top.specs.Numbers.{number_between}
@@ -10,7 +9,7 @@ use Rattle.ia64_top.specs.Numbers.{number_between}
 abbrev pub HasNumbersInRange : Command → Type 0
 HasNumbersInRange (Run groups) = (1 ≤ groups) × (groups ≤ GROUP_LIMIT)
 HasNumbersInRange (Watch groups) = (1 ≤ groups) × (groups ≤ GROUP_LIMIT)
-HasNumbersInRange (Trial seed bundles) = (1 ≤ bundles) × (bundles ≤ BUNDLE_LIMIT)
+HasNumbersInRange (Trial seed bundles) = (1 ≤ bundles) × (bundles ≤ TRIAL_LIMIT)
 HasNumbersInRange command = ⊤
 
 -- `check`, `run` and `watch` judge the program that the input is read as, and run it only where it is accepted.
@@ -56,5 +55,5 @@ command_of (word ∷ groups ∷ []) =
     else if bytes_eq word (codes "watch") then option_map Watch (number_between 1 GROUP_LIMIT groups) else None
 command_of (word ∷ seed ∷ bundles ∷ []) =
     if bytes_eq word (codes "trial")
-    then trial_command (number_between 0 (2 ^ 64 - 1) seed) (number_between 1 BUNDLE_LIMIT bundles) else None
+    then trial_command (number_between 0 (2 ^ 64 - 1) seed) (number_between 1 TRIAL_LIMIT bundles) else None
 command_of words = None

@@ -4,7 +4,7 @@ ghost use Rattle.std.specs.Prelude.{◌≡◌, ◌≢◌, ◌≤◌, ℕ, length
 ghost use Rattle.image_form.specs.Images.{IsImage, Written};
 ghost use Rattle.image_form.specs.declared.version.Version.TheVariants.{Two};
 ghost use Rattle.asm_build.specs.Listing.{IsListing};
-ghost use Rattle.ia64_top.specs.declared.limits.TheConstants.{GROUP_LIMIT, INPUT_LIMIT};
+ghost use Rattle.ia64_top.specs.declared.limits.TheConstants.{GROUP_LIMIT, INPUT_LIMIT, TRIAL_LIMIT};
 ghost use Rattle.ia64_top.specs.Words.{HasNumbersInRange, IsWatch};
 ghost use Rattle.group_checker.specs.Reports.{IsFree};
 ghost use Rattle.ia64_top.specs.Judgements.{IsJudgement, verdict_status};
@@ -16,7 +16,6 @@ ghost use Rattle.watch_seam.specs.Watching.{HaveRoom};
 ghost use Rattle.ia64_top.specs.Watching.{RanNothing, HaveWatched, HaveWatchedPart};
 ghost use Rattle.trial_maker.specs.Trials.{trial_program};
 ghost use Rattle.ia64_top.specs.Trials.{IsTrialOf, IsTrialOutput, trial_text};
-ghost use Rattle.ia_insn.specs.declared.limits.TheConstants.{BUNDLE_LIMIT};
 ghost use Rattle.ia64_top.specs.Texts.{refusal_text, text_refusal_text, verdict_text};
 ghost use Rattle.ia64_top.specs.declared.status.Status.{Status};
 
@@ -24,7 +23,10 @@ use crate::status::Status;
 use crate::text::{refusal, text_refusal, trial_text, verdict_text};
 use crate::watching::watch_accepted;
 use crate::words::Command;
-use asm_build::{TextError, assemble, disassemble, list, no_fault_where_read, one_text_program};
+use asm_build::{
+    TextError, assemble, canonical_texts_are_read_back, disassemble, list, no_fault_where_read,
+    one_text_program,
+};
 use emulator::Machine;
 use group_checker::{Verdict, check, law_orders};
 use ia_insn::{End, Program};
@@ -89,6 +91,7 @@ fn build_input(alloc: Global, input: &[u8]) -> Result<Answer, AllocError>
 fn show_input(alloc: Global, input: &[u8]) -> Result<Answer, AllocError>
     ensures { IfOk result (λ answer. IsMadeOutput as_image IsCanonical input.now answer.bytes.items answer.status) }
 {
+    canonical_texts_are_read_back();
     match read_image(alloc, input) {
         Ok(program) => Ok(Answer {
             bytes: disassemble(alloc, &program)?,
@@ -307,7 +310,7 @@ fn try_accepted(
     program: &Program,
 ) -> Result<Answer, AllocError>
     requires some { 1 ≤ bundles }
-    requires few { bundles ≤ BUNDLE_LIMIT }
+    requires few { bundles ≤ TRIAL_LIMIT }
     requires made { program.now ≡ trial_program seed bundles }
     requires free { IsFree program.now }
     ensures { IfOk result (λ answer. IsTrialOf seed bundles answer.bytes.items × (answer.status ≡ Status.Done)) }
@@ -326,7 +329,7 @@ fn try_accepted(
 /// The answer of `trial`: its program is made and checked, and run where it is accepted.
 fn try_program(alloc: Global, seed: u64, bundles: u32) -> Result<Answer, AllocError>
     requires some { 1 ≤ bundles }
-    requires few { bundles ≤ BUNDLE_LIMIT }
+    requires few { bundles ≤ TRIAL_LIMIT }
     ensures { IfOk result (λ answer. IsTrialOutput seed bundles answer.bytes.items answer.status) }
 {
     let program = make(alloc, seed, bundles)?;

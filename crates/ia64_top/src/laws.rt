@@ -1,5 +1,6 @@
 //! The laws of the top call. They do nothing.
 
+ghost use Rattle.ia64_top.specs.Limits.{AreLimits};
 ghost use Rattle.ia64_top.specs.NamedAddresses.{BundlesAreWhereNamed, BytesAreWhereNamed};
 ghost use Rattle.ia64_top.specs.Output.{OneOutput};
 
@@ -39,3 +40,8 @@ pub fn law_names()
 {
     addresses();
 }
+
+/// The law that the limits of programs, states and calls are the numbers of `docs/FORMATS.md`, "Limits". It does nothing.
+pub fn law_limits()
+    ensures { AreLimits }
+{}

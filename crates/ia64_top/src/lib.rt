@@ -10,7 +10,7 @@ mod top;
 mod watching;
 mod words;
 
-pub use laws::{law_names, one_output};
+pub use laws::{law_limits, law_names, one_output};
 pub use status::Status;
 pub use top::ia64;
 pub use words::{Command, Words, one_numeral};

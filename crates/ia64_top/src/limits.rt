@@ -6,3 +6,6 @@ pub const INPUT_LIMIT: usize = 16_777_216;
 
 /// How many groups a run is asked for at most.
 pub const GROUP_LIMIT: u64 = 10_000_000;
+
+/// How many bundles a trial is asked for at most.
+pub const TRIAL_LIMIT: u64 = 4096;

@@ -1,12 +1,11 @@
 //! The words that a call is given, and the table of commands.
 
 ghost use Rattle.std.specs.Prelude.{◌≡◌, ◌↔◌, ◌-◌, ◌^◌, IsTrue, [], ◌∷◌, ◌++◌, List, ℕ, OnOk, OnErr};
-ghost use Rattle.ia_insn.specs.declared.limits.TheConstants.{BUNDLE_LIMIT};
+ghost use Rattle.ia64_top.specs.declared.limits.TheConstants.{TRIAL_LIMIT};
 ghost use Rattle.ia64_top.specs.Numbers.{BeginsAsNumeral, number_between, OneNumeral};
 ghost use Rattle.ia64_top.specs.Words.{trial_command, command_of};
 
-use crate::limits::GROUP_LIMIT;
-use ia_insn::limits::BUNDLE_LIMIT;
+use crate::limits::{GROUP_LIMIT, TRIAL_LIMIT};
 use std::alloc::{AllocError, Global};
 use std::marker::Model;
 
@@ -81,10 +80,10 @@ fn number_between(least: u64, most: u64, word: &[u8]) -> Option<u64>
 
 /// The trial of a seed and a number of bundles, where the words are such numbers.
 fn trial_command(seed: &[u8], bundles: &[u8]) -> Option<Command>
-    ensures { result ≡ trial_command (number_between 0 (2 ^ 64 - 1) seed.now) (number_between 1 BUNDLE_LIMIT bundles.now) }
+    ensures { result ≡ trial_command (number_between 0 (2 ^ 64 - 1) seed.now) (number_between 1 TRIAL_LIMIT bundles.now) }
 {
     let seed = number_between(0, u64::MAX, seed)?;
-    let bundles = number_between(1, BUNDLE_LIMIT as u64, bundles)?;
+    let bundles = number_between(1, TRIAL_LIMIT, bundles)?;
     Some(Command::Trial {
         seed,
         bundles: bundles as u32,

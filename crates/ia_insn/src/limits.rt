@@ -1,7 +1,7 @@
 //! The limits of programs.
 
 /// How many bundles a program has at most.
-pub const BUNDLE_LIMIT: usize = 4096;
+pub const BUNDLE_LIMIT: usize = 32_768;
 
 /// How many declared entries a program has at most.
 pub const ENTRY_LIMIT: usize = 1024;

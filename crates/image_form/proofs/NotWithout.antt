@@ -10,15 +10,14 @@ use Rattle.ia_insn.specs.Bundles.{Bundle}
 use Rattle.ia_insn.specs.Places.{place_number, place_at, IsPlaceOf, IsBefore, EachPlace, IsFirstBad}
 use Rattle.ia_insn.specs.Runs.{IsWithinRun}
 use Rattle.ia_insn.specs.Targets.{IsTargetInside}
-use Rattle.ia_insn.specs.Programs.{Program, IsEntryAt, IsProgram, AreBytes}
+use Rattle.ia_insn.specs.Programs.{Program, IsEntryAt, IsProgram, AreBytes, AreInRange}
 use Rattle.ia_insn.proofs.InOrder.{slot_small, bundle_small}
 use Rattle.insn_codec.specs.Laws as codec
 use Rattle.image_form.specs.declared.fault.ImageFault.{ImageFault}
 use Rattle.image_form.specs.declared.fault.ImageFault.TheVariants.{Short, Magic, Counts, Length, Target, LongRun}
 use Rattle.image_form.specs.declared.version.Version.{Version}
-use Rattle.image_form.specs.declared.version.Version.TheVariants.{Two}
 use Rattle.image_form.specs.Images.{Begins, BeginsAsImage, AreSpelled, Spells, RawSpells}
-use Rattle.image_form.specs.Parts.{bundle_count, relation_count, entries_of, relations_of, after_entries, relation_bytes, after_relations, bundle_bytes, data_of, image_length, HasHead, AreCounts, AreImageCounts}
+use Rattle.image_form.specs.Parts.{bundle_count, relation_count, entries_of, relations_of, after_entries, relation_bytes, after_relations, bundle_bytes, data_of, image_length, HasHead, AreCounts}
 use Rattle.image_form.specs.Faults.{chunk, IsBundleBytes, entry_stage, spelling_stage, place_stage, bundle_stages, IsRelationRight, AreRelationsRight, relation_stage, relation_stages, image_stages, raw_stages}
 use Rattle.image_form.specs.Laws.{FaultWhereNoneSpelled, FaultWhereNoneRaw}
 use Rattle.image_form.proofs.NumberBytes.{bytes_take, bytes_drop}
@@ -135,7 +134,7 @@ image_not_open some bytes are = (
 
 raw_not_open : codec.FaultWhereNoneSpelled → (bytes : List ℕ) → AreBytes bytes → AreNotOpen (raw_stages bytes)
 raw_not_open some bytes are = (
-  unless_not_open (AreImageCounts Two (length bytes / 16) 0 0 0) Counts,
+  unless_not_open (AreInRange (length bytes / 16) 0 0 0) Counts,
   λ counts. (unless_not_open (length bytes % 16 ≡ 0) Length, λ whole. bundles_not_open some bytes (length bytes / 16) [] (omega arith) are (λ bundles is. tt)),
 )
 

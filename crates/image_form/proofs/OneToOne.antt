@@ -5,9 +5,8 @@ use Rattle.first_fault.proofs.Laws.{no_fault}
 use Rattle.ia_insn.specs.Programs.{Program, AreInRange, AreEntries, AreRelations}
 use Rattle.insn_codec.specs.Laws as codec
 use Rattle.image_form.specs.declared.version.Version.{Version}
-use Rattle.image_form.specs.declared.version.Version.TheVariants.{Two}
 use Rattle.image_form.specs.Images.{number_bytes, written_relations, head_bytes, IsImage, RawSpells}
-use Rattle.image_form.specs.Parts.{bundle_count, relation_count, bundle_bytes, relation_bytes, entries_of, relations_of, AreImageCounts}
+use Rattle.image_form.specs.Parts.{bundle_count, relation_count, bundle_bytes, relation_bytes, entries_of, relations_of}
 use Rattle.image_form.specs.Faults.{AreRelationsRight, image_stages, raw_stages}
 use Rattle.image_form.specs.Laws.{OneProgram, OneImage, NoFaultWhereSpelled, OneRawProgram, NoFaultWhereRaw}
 use Rattle.image_form.proofs.Spelled.{spelled_length, same_bundles, same_bytes}
@@ -74,8 +73,7 @@ image_passed v p bytes s =
 raw_passed : (p : Program) (bytes : List ℕ) → RawSpells p bytes → ArePassed (raw_stages bytes)
 raw_passed p bytes s =
     let n = spelled_length p.bundles bytes s.spelled in
-    let range : AreInRange (length bytes / 16) 0 0 0 = record { some = omega (arith, s.program.counts.some); bundles = omega (arith, s.program.counts.bundles); entries = omega arith; bytes = omega arith; words = refl; relations = omega arith } in
-    let counts : AreImageCounts Two (length bytes / 16) 0 0 0 = record { range = range; bundles = range.bundles; relations = omega arith } in
+    let counts : AreInRange (length bytes / 16) 0 0 0 = record { some = omega (arith, s.program.counts.some); bundles = omega (arith, s.program.counts.bundles); entries = omega arith; bytes = omega arith; words = refl; relations = omega arith } in
     let whole : length bytes % 16 ≡ 0 = omega arith in (
       counts,
       (

@@ -11,7 +11,7 @@ use Rattle.ia_insn.specs.Bundles.{Bundle}
 use Rattle.ia_insn.specs.Places.{EachPlace, IsFirstBad}
 use Rattle.ia_insn.specs.Runs.{IsWithinRun}
 use Rattle.ia_insn.specs.Targets.{IsTargetInside}
-use Rattle.ia_insn.specs.Programs.{AreEntries}
+use Rattle.ia_insn.specs.Programs.{AreEntries, AreInRange}
 use Rattle.ia_insn.proofs.ProgramFaults.{one_first_bad, misplaced_sound}
 use Rattle.insn_codec.specs.Spelling.{IsSpelled}
 use Rattle.insn_codec.specs.SlotFaults.{HasSlotFault}
@@ -21,7 +21,7 @@ use Rattle.image_form.specs.declared.fault.ImageFault.TheVariants.{Short, Magic,
 use Rattle.image_form.specs.declared.version.Version.{Version}
 use Rattle.image_form.specs.declared.version.Version.TheVariants.{One, Two}
 use Rattle.image_form.specs.Images.{Begins, BeginsAsImage}
-use Rattle.image_form.specs.Parts.{bundle_count, image_length, entries_of, relations_of, relation_bytes, bundle_bytes, AreCounts, AreCountsOf, HasHead, AreImageCounts}
+use Rattle.image_form.specs.Parts.{bundle_count, image_length, entries_of, relations_of, relation_bytes, bundle_bytes, AreCounts, AreCountsOf, HasHead}
 use Rattle.image_form.specs.Faults.{chunk, IsBundleBytes, entry_stage, spelling_stage, place_stage, bundle_stages, IsRelationRight, AreRelationsRight, IsFirstWrong, relation_stage, relation_stages, image_stages, HasImageFault, raw_stages}
 use Rattle.image_form.proofs.Spelled.{spelled_length, same_bundles, spelled_chunk}
 
@@ -95,7 +95,7 @@ image_sound bundle one none bytes = (
 
 pub raw_sound : codec.OneBundle → codec.OneFault → codec.NoFaultWhereSpelled → (bytes : List ℕ) → AreSound (raw_stages bytes)
 raw_sound bundle one none bytes = (
-  unless_sound (AreImageCounts Two (length bytes / 16) 0 0 0) Counts,
+  unless_sound (AreInRange (length bytes / 16) 0 0 0) Counts,
   (unless_sound (length bytes % 16 ≡ 0) Length, bundles_sound bundle one none bytes [] tt),
 )
 

@@ -1,5 +1,5 @@
 -- Images and their parts: a program has the image exactly where its parts are those of the bytes.
-use Rattle.std.proofs.Common.{◌≡◌, ℕ, ◌+◌, ◌*◌, ◌/◌, ◌%◌, ◌^◌, ◌<◌, ◌≤◌, List, [], ◌∷◌, ◌++◌, length, length-append, take, drop, refl, sym, ap, ◌∙◌, subst, arith}
+use Rattle.std.proofs.Common.{◌≡◌, ℕ, ◌+◌, ◌*◌, ◌/◌, ◌%◌, ◌^◌, ◌<◌, ◌≤◌, List, [], ◌∷◌, ◌++◌, length, length-append, take, drop, refl, sym, ap, ◌∙◌, subst, arith, IsTrue}
 use Rattle.std.proofs.Math.Seq.{take-add}
 use Rattle.std.proofs.lemmas.Nat.{from_le_bytes-to_le_bytes_4}
 use Rattle.std.proofs.lemmas.List.{take-append-drop, take_at, drop_at, take_all, drop-drop, length-take, length-drop}
@@ -9,7 +9,7 @@ use Rattle.ia_insn.specs.Bundles.{Bundle}
 use Rattle.ia_insn.specs.Programs.{Program, IsProgram, AreInRange, AreEntries, AreRelations, AreBytes}
 use Rattle.image_form.specs.declared.version.Version.{Version}
 use Rattle.image_form.specs.declared.version.Version.TheVariants.{One, Two}
-use Rattle.image_form.specs.Images.{bundle_room, relation_room, Begins, number_bytes, written_relations, head_bytes, AreSpelled, IsImage}
+use Rattle.image_form.specs.Images.{has_room, Begins, number_bytes, written_relations, head_bytes, AreSpelled, IsImage}
 use Rattle.image_form.specs.Parts.{numbers, relations_in, IsPadded, ArePadded, bundle_count, entry_count, data_size, relation_count, image_length, entry_bytes, after_entries, relation_bytes, after_relations, bundle_bytes, data_of, entries_of, relations_of, AreImageCounts, HasHead}
 use Rattle.image_form.specs.Laws.{ImageSize}
 use Rattle.image_form.proofs.NumberBytes.{bytes_take, bytes_drop, length-numbers, length-number_bytes, number_bytes-numbers, numbers-number_bytes, FitFour}
@@ -148,8 +148,7 @@ image_of_parts v p bytes are program parts padded =
     let rest : data_of bytes ≡ p.bytes = sym parts.rest in
     record {
       program = program;
-      few = counts.bundles;
-      room = counts.relations;
+      room = counts.room;
       bundles = bundle_bytes bytes;
       spelled = parts.spelled;
       whole = in_parts bytes ∙ (λ i. head i ++ (entries i ++ (relations i ++ (bundle_bytes bytes ++ rest i))));
@@ -196,13 +195,13 @@ record IsInParts (v : Version) (p : Program) (bytes : List ℕ) : Type 0 where
   parts : ArePartsOf v p bytes
   padded : IsPaddedImage bytes
 
-in_its_parts : (v : Version) (p : Program) (bundles : List ℕ) → IsProgram p → length p.bundles ≤ bundle_room v → length p.relations ≤ relation_room v → AreSpelled p.bundles bundles → IsInParts v p (head_bytes v (length p.bundles) (length p.entries) (length p.bytes) (length p.relations) ++ (number_bytes p.entries ++ (written_relations p.relations ++ (bundles ++ p.bytes))))
-in_its_parts v p bundles program few room spelled = record {
+in_its_parts : (v : Version) (p : Program) (bundles : List ℕ) → IsProgram p → IsTrue (has_room v (length p.bundles) (length p.relations)) → AreSpelled p.bundles bundles → IsInParts v p (head_bytes v (length p.bundles) (length p.entries) (length p.bytes) (length p.relations) ++ (number_bytes p.entries ++ (written_relations p.relations ++ (bundles ++ p.bytes))))
+in_its_parts v p bundles program room spelled = record {
   parts = record {
     head = record {
       long = omega (arith, head.long);
       begins = head.begins;
-      counts = rw (head.bundles, head.entries, head.size, head.relations) (record { range = counts; bundles = few; relations = room });
+      counts = rw (head.bundles, head.entries, head.size, head.relations) (record { range = counts; room = room });
       size = size;
     };
     entries = sym (ap (λ k. numbers k (entry_bytes image)) head.entries ∙ ap (numbers (length p.entries)) entry_part ∙ numbers-number_bytes p.entries (entries_fit (length p.bundles) p.entries counts.bundles program.entries));
@@ -247,7 +246,7 @@ in_its_parts v p bundles program few room spelled = record {
     data_part = rw (head.bundles, after_relation_part) (drop_at bundles p.bytes (16 * length p.bundles) (spelled_length p.bundles bundles spelled))
 
 in_parts_of : (v : Version) (p : Program) (bytes : List ℕ) → IsImage v p bytes → IsInParts v p bytes
-in_parts_of v p bytes s = subst (IsInParts v p) (sym s.whole) (in_its_parts v p s.bundles s.program s.few s.room s.spelled)
+in_parts_of v p bytes s = subst (IsInParts v p) (sym s.whole) (in_its_parts v p s.bundles s.program s.room s.spelled)
 
 -- the parts of an image are the program's
 pub parts_of_image : (v : Version) (p : Program) (bytes : List ℕ) → IsImage v p bytes → ArePartsOf v p bytes
@@ -263,8 +262,8 @@ image_size p bytes (v, s) =
     omega (arith, parts.head.size, n.bundles, n.entries, n.size, n.relations)
 
 -- where there are neither entries nor data nor relations, the counts are right where that of the whole bundles is
-pub raw_counts : (p : Program) (bytes : List ℕ) → length bytes % 16 ≡ 0 → AreImageCounts Two (length bytes / 16) 0 0 0 → AreSpelled p.bundles bytes → p.entries ≡ [] → p.bytes ≡ [] → p.relations ≡ [] → AreInRange (length p.bundles) (length p.entries) (length p.bytes) (length p.relations)
+pub raw_counts : (p : Program) (bytes : List ℕ) → length bytes % 16 ≡ 0 → AreInRange (length bytes / 16) 0 0 0 → AreSpelled p.bundles bytes → p.entries ≡ [] → p.bytes ≡ [] → p.relations ≡ [] → AreInRange (length p.bundles) (length p.entries) (length p.bytes) (length p.relations)
 raw_counts p bytes whole counts spelled no_entries no_data no_relations =
     let n = spelled_length p.bundles bytes spelled in
     let same : length p.bundles ≡ length bytes / 16 = omega arith in
-    rw (no_entries, no_data, no_relations, same) counts.range
+    rw (no_entries, no_data, no_relations, same) counts

@@ -9,15 +9,14 @@ use Rattle.ia_insn.specs.declared.relations.Relation.{Relation}
 use Rattle.ia_insn.specs.Places.{EachPlace, IsFirstBad}
 use Rattle.ia_insn.specs.Runs.{IsWithinRun}
 use Rattle.ia_insn.specs.Targets.{IsTargetInside}
-use Rattle.ia_insn.specs.Programs.{AreEntries, IsFirstMisplaced, IsRelationAt}
+use Rattle.ia_insn.specs.Programs.{AreInRange, AreEntries, IsFirstMisplaced, IsRelationAt}
 use Rattle.insn_codec.specs.declared.bundle.SlotFault.{SlotFault}
 use Rattle.insn_codec.specs.Spelling.{IsSpelled}
 use Rattle.insn_codec.specs.SlotFaults.{HasSlotFault}
 use Rattle.image_form.specs.declared.fault.ImageFault.{ImageFault}
 use Rattle.image_form.specs.declared.fault.ImageFault.TheVariants.{Short, Magic, Counts, Length, Entry, Bundle as BundleFault, Target, LongRun, Relation as RelationFault}
 use Rattle.image_form.specs.Images.{BeginsAsImage, AreSpelled}
-use Rattle.image_form.specs.declared.version.Version.TheVariants.{Two}
-use Rattle.image_form.specs.Parts.{IsPadded, bundle_count, entries_of, relation_bytes, relations_of, bundle_bytes, image_length, AreImageCounts, AreCounts}
+use Rattle.image_form.specs.Parts.{IsPadded, bundle_count, entries_of, relation_bytes, relations_of, bundle_bytes, image_length, AreCounts}
 
 -- the stage whose fault comes at the first entry that doesn't rise or is no bundle from 1 on
 abbrev pub entry_stage : ℕ → List ℕ → Stage ImageFault
@@ -104,11 +103,11 @@ image_stages bytes =
 abbrev pub HasImageFault : List ℕ → ImageFault → Type 0
 HasImageFault bytes fault = IsFirstFault (image_stages bytes) fault
 
--- What is looked for in what are to be bare bundles, in this order: as many whole ones as an image may
+-- What is looked for in what are to be bare bundles, in this order: as many whole ones as a program may
 -- have, and no bytes are left over.
 abbrev pub raw_stages : List ℕ → List (Stage ImageFault)
 raw_stages bytes =
-    unless (AreImageCounts Two (length bytes / 16) 0 0 0) Counts
+    unless (AreInRange (length bytes / 16) 0 0 0) Counts
     ∷ unless (length bytes % 16 ≡ 0) Length
     ∷ bundle_stages bytes []
 

@@ -1,5 +1,5 @@
 -- The image form: the bytes of a program, and those of bare bundles.
-use Rattle.std.specs.Prelude.{◌≡◌, ℕ, ◌≤◌, List, [], ◌∷◌, ◌++◌, length, take, codes, refl}
+use Rattle.std.specs.Prelude.{◌≡◌, ℕ, Bool, List, [], ◌∷◌, ◌++◌, ◌&&◌, nat_le, if◌then◌else◌, IsTrue, length, take, codes, refl}
 use Rattle.std.specs.Int.{w32, to_le_bytes}
 use Rattle.std.specs.List.{flat_map}
 use Rattle.ia_insn.specs.declared.limits.TheConstants.{BUNDLE_LIMIT, RELATION_LIMIT}
@@ -7,7 +7,7 @@ use Rattle.ia_insn.specs.declared.relations.Relation.{Relation}
 use Rattle.ia_insn.specs.Bundles.{Bundle}
 use Rattle.ia_insn.specs.Programs.{Program, IsProgram}
 use Rattle.insn_codec.specs.Spelling.{IsSpelled}
-use Rattle.image_form.specs.declared.version.TheConstants.{IMAGE_BUNDLE_LIMIT, MAGIC_1, MAGIC_2}
+use Rattle.image_form.specs.declared.version.TheConstants.{VERSION_1_BUNDLE_LIMIT, MAGIC_1, MAGIC_2}
 use Rattle.image_form.specs.declared.version.Version.{Version}
 use Rattle.image_form.specs.declared.version.Version.TheVariants.{One, Two}
 
@@ -20,15 +20,19 @@ magic Two = codes "IA64IMG2"
 pub magic_constants : (MAGIC_1.now ≡ magic One) × (MAGIC_2.now ≡ magic Two)
 magic_constants = (refl, refl)
 
--- how many bundles an image of a version has room for
-abbrev pub bundle_room : Version → ℕ
-bundle_room One = IMAGE_BUNDLE_LIMIT
-bundle_room Two = BUNDLE_LIMIT
+-- how many bundles an image of a version has at most
+abbrev pub bundle_limit : Version → ℕ
+bundle_limit One = VERSION_1_BUNDLE_LIMIT
+bundle_limit Two = BUNDLE_LIMIT
 
 -- how many relations: an image of version 1 has none
-abbrev pub relation_room : Version → ℕ
-relation_room One = 0
-relation_room Two = RELATION_LIMIT
+abbrev pub relation_limit : Version → ℕ
+relation_limit One = 0
+relation_limit Two = RELATION_LIMIT
+
+-- an image of the version has room for so many bundles and relations
+abbrev pub has_room : Version → ℕ → ℕ → Bool
+has_room v bundle_count relation_count = nat_le bundle_count (bundle_limit v) && nat_le relation_count (relation_limit v)
 
 -- the bytes begin as an image of this version does
 abbrev pub Begins : Version → List ℕ → Type 0
@@ -66,8 +70,7 @@ AreSpelled (b ∷ bs) bytes =
 -- entries, its relations, its bundles and its data.
 pub record IsImage (v : Version) (p : Program) (bytes : List ℕ) : Type 0 where
   pub program : IsProgram p
-  pub few : length p.bundles ≤ bundle_room v
-  pub room : length p.relations ≤ relation_room v
+  pub room : IsTrue (has_room v (length p.bundles) (length p.relations))
   pub bundles : List ℕ
   pub spelled : AreSpelled p.bundles bundles
   pub whole : bytes
@@ -78,14 +81,13 @@ pub record IsImage (v : Version) (p : Program) (bytes : List ℕ) : Type 0 where
 abbrev pub Spells : Program → List ℕ → Type 0
 Spells p bytes = (v : Version) × IsImage v p bytes
 
--- the version in which a program with these relations is written: the first where there are none
-abbrev pub written_version : List Relation → Version
-written_version [] = One
-written_version (r ∷ rs) = Two
+-- the version in which a program is written: the first where that has room for it
+abbrev pub written_version : Program → Version
+written_version p = if has_room One (length p.bundles) (length p.relations) then One else Two
 
 -- the bytes are the image of the program in the version in which it is written
 abbrev pub Written : Program → List ℕ → Type 0
-Written p bytes = IsImage (written_version p.relations) p bytes
+Written p bytes = IsImage (written_version p) p bytes
 
 -- The bytes are the bare bundles of the program, which has no declared entries, no data and no relations.
 pub record RawSpells (p : Program) (bytes : List ℕ) : Type 0 where

@@ -1,11 +1,11 @@
 -- The parts of bytes that are to be an image.
-use Rattle.std.specs.Prelude.{◌≡◌, ℕ, zero, suc, ◌+◌, ◌*◌, ◌<◌, ◌≤◌, List, [], ◌∷◌, length, take, drop, slice_index}
+use Rattle.std.specs.Prelude.{◌≡◌, ℕ, zero, suc, ◌+◌, ◌*◌, ◌<◌, ◌≤◌, List, [], ◌∷◌, length, take, drop, slice_index, IsTrue}
 use Rattle.std.specs.Int.{w32, from_le_bytes}
 use Rattle.ia_insn.specs.declared.relations.Relation.{Relation}
 use Rattle.ia_insn.specs.Programs.{AreInRange}
 use Rattle.image_form.specs.declared.head.Head.{Head}
 use Rattle.image_form.specs.declared.version.Version.{Version}
-use Rattle.image_form.specs.Images.{bundle_room, relation_room, Begins}
+use Rattle.image_form.specs.Images.{has_room, Begins}
 
 -- the number in the four bytes from `at` on, the lowest first
 abbrev pub number_at : List ℕ → ℕ → ℕ
@@ -92,8 +92,7 @@ relations_of bytes = relations_in (relation_count bytes) (relation_bytes bytes)
 -- program, and no more than the version has room for.
 pub record AreImageCounts (v : Version) (bundle_count entry_count byte_count relation_count : ℕ) : Type 0 where
   pub range : AreInRange bundle_count entry_count byte_count relation_count
-  pub bundles : bundle_count ≤ bundle_room v
-  pub relations : relation_count ≤ relation_room v
+  pub room : IsTrue (has_room v bundle_count relation_count)
 
 -- the numbers of the head are in range for an image of this version
 abbrev pub AreCountsOf : Version → List ℕ → Type 0

@@ -1,13 +1,15 @@
 //! The heads of images.
 
-ghost use Rattle.std.specs.Prelude.{◌≡◌, ◌+◌, ◌*◌, ◌↔◌, IsTrue, IfOk, IfErr};
+ghost use Rattle.std.specs.Prelude.{◌≡◌, ◌+◌, ◌*◌, ◌++◌, ◌↔◌, length, IsTrue, IfOk, IfErr, OnOk};
+ghost use Rattle.image_form.specs.Images.{head_bytes};
 ghost use Rattle.image_form.specs.Parts.{entry_bytes, relation_bytes, bundle_bytes, data_of, AreImageCounts, IsHeadOf};
 ghost use Rattle.image_form.specs.Faults.{HasImageFault};
 
 use crate::fault::ImageFault;
-use crate::numbers::number_at;
+use crate::numbers::{number_at, push_numbers};
 use crate::version::Version;
-use ia_insn::are_in_range;
+use ia_insn::{Program, are_in_range};
+use std::alloc::AllocError;
 
 /// How many bytes an image's head has.
 const HEAD_LEN: usize = 24;
@@ -32,23 +34,37 @@ pub(crate) struct Parts<'a> {
     pub data: &'a [u8],
 }
 
-/// Whether there may be so many bundles, declared entries, bytes of data and relations in an image of
-/// a version.
-pub(crate) fn are_image_counts(
-    version: Version,
-    bundles: usize,
-    entries: usize,
-    bytes: usize,
-    relations: usize,
-) -> bool
-    ensures { IsTrue result ↔ AreImageCounts version bundles entries bytes relations }
-{
-    are_in_range(bundles, entries, bytes, relations)
-        && bundles <= version.bundle_limit()
-        && relations <= version.relation_limit()
-}
-
 impl Head {
+    /// The head of the image of a version of a program.
+    pub(crate) fn of(version: Version, program: &Program) -> Head
+        ensures { result ≡ record { version = version; bundle_count = length program.now.bundles; entry_count = length program.now.entries; data_size = length program.now.bytes; relation_count = length program.now.relations } }
+    {
+        program.is_program();
+        Head {
+            version,
+            bundle_count: program.bundle_count(),
+            entry_count: program.entries().len() as u32,
+            data_size: program.data().len() as u32,
+            relation_count: program.relations().len() as u32,
+        }
+    }
+
+    /// Appends the head.
+    pub(crate) fn push(&self, bytes: &mut Vec<u8>) -> Result<(), AllocError>
+        ensures { OnOk result (bytes.new.items ≡ bytes.old.items ++ head_bytes self.now.version self.now.bundle_count self.now.entry_count self.now.data_size self.now.relation_count) }
+    {
+        bytes.extend_from_slice(self.version.magic())?;
+        push_numbers(
+            bytes,
+            &[
+                self.bundle_count,
+                self.entry_count,
+                self.data_size,
+                self.relation_count,
+            ],
+        )
+    }
+
     /// How many bytes an image with this head has.
     pub(crate) fn image_len(&self) -> usize
         ensures { result ≡ 24 + 4 * self.now.entry_count + 8 * self.now.relation_count + 16 * self.now.bundle_count + self.now.data_size }
@@ -64,13 +80,13 @@ impl Head {
     fn is_in_range(&self) -> bool
         ensures { IsTrue result ↔ AreImageCounts self.now.version self.now.bundle_count self.now.entry_count self.now.data_size self.now.relation_count }
     {
-        are_image_counts(
-            self.version,
-            self.bundle_count as usize,
+        let (bundles, relations) = (self.bundle_count as usize, self.relation_count as usize);
+        are_in_range(
+            bundles,
             self.entry_count as usize,
             self.data_size as usize,
-            self.relation_count as usize,
-        )
+            relations,
+        ) && self.version.has_room(bundles, relations)
     }
 
     /// The head of an image, or the first fault of the bytes where that is one of the head or of the

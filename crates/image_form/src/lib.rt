@@ -4,8 +4,9 @@
 //! declared relations, in four bytes each, then the entries, the relations in eight bytes each, the
 //! bundles and the data. In version 1, that of `IA64IMG1`, the number of relations is zero.
 //! [`read_image`] takes both versions and answers the program or the first fault, [`wrap_raw`] does
-//! so for bare bundles, and [`write_image`] gives the one image of a program, of version 1 where
-//! it has no relations and else of version 2, and [`write_image_2`] that of version 2. All numbers have their lowest byte first.
+//! so for bare bundles, [`write_image`] gives the image of a program of version 1 where that has room
+//! for it and else of version 2, and [`write_image_2`] that of version 2. All numbers have their
+//! lowest byte first.
 #![tactic(auto)]
 
 mod bundles;
@@ -24,5 +25,5 @@ pub use laws::{
     no_fault_where_spelled, one_fault, one_image, one_program, one_raw_fault, one_raw_program,
 };
 pub use reading::{read_image, wrap_raw};
-pub use version::{IMAGE_BUNDLE_LIMIT, Version, is_image};
+pub use version::{VERSION_1_BUNDLE_LIMIT, Version, is_image};
 pub use writing::{write_image, write_image_2};

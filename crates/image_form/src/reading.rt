@@ -10,15 +10,14 @@ ghost use Rattle.image_form.specs.Faults.{entry_stage, bundle_stages, relation_s
 
 use crate::bundles::read_bundles;
 use crate::fault::ImageFault;
-use crate::head::{Head, are_image_counts};
+use crate::head::Head;
 use crate::laws::{
     no_fault_where_raw, no_fault_where_spelled, one_fault, one_program, one_raw_fault,
     one_raw_program,
 };
 use crate::numbers::read_numbers;
 use crate::relations::{read_relations, unpadded_relation};
-use crate::version::Version;
-use ia_insn::{BundleOf, Program, ProgramFault, Relation, misplaced_entry};
+use ia_insn::{BundleOf, Program, ProgramFault, Relation, are_in_range, misplaced_entry};
 use std::alloc::Global;
 
 /// The declared entries of an image of so many bundles, or the first that is misplaced.
@@ -109,7 +108,7 @@ fn wrap(alloc: Global, bytes: &[u8]) -> Result<Program, ImageFault>
     ensures found { IfOk result (λ p. RawSpells p bytes.now) }
     ensures fault { IfErr result (λ fault. fault ≢ ImageFault.Memory → HasRawFault bytes.now fault) }
 {
-    if !are_image_counts(Version::Two, bytes.len() / 16, 0, 0, 0) {
+    if !are_in_range(bytes.len() / 16, 0, 0, 0) {
         return Err(ImageFault::Counts);
     }
     if bytes.len() % 16 != 0 {
@@ -131,7 +130,7 @@ fn wrap(alloc: Global, bytes: &[u8]) -> Result<Program, ImageFault>
 /// # Errors
 ///
 /// The first fault of the bytes, in the order of [`ImageFault`]: `Counts` exactly where there are no
-/// whole bundles or more than an image has, `Length` where bytes are left over, then those of bundles,
+/// whole bundles or more than a program may have, `Length` where bytes are left over, then those of bundles,
 /// targets and runs; or `Memory`, which may come in place of any other answer.
 pub fn wrap_raw(alloc: Global, bytes: &[u8]) -> Result<Program, ImageFault>
     // What is answered has these bundles and nothing else.

@@ -53,9 +53,17 @@ fn headed(numbers: [u32; 4], count: usize, bundle: [u8; 16], end: &[u8]) -> Part
     }
 }
 
-/// The image of so many times a bundle.
+/// The image of version 1 of so many times a bundle.
 fn image(count: u32, bundle: [u8; 16]) -> Parts<'static> {
     headed([count, 0, 0, 0], count as usize, bundle, b"")
+}
+
+/// The image of version 2 of so many times a bundle.
+fn image_2(count: u32, bundle: [u8; 16]) -> Parts<'static> {
+    Parts {
+        version: b'2',
+        ..image(count, bundle)
+    }
 }
 
 /// A text alone.
@@ -157,7 +165,7 @@ fn answers(
     output: &Parts,
 ) -> Result<(), Fail> {
     let source = source_of(alloc, &bytes_of(alloc, input)?, 4096, None)?;
-    let sink = sink_of(alloc, 70_000, 4096, None)?;
+    let sink = sink_of(alloc, 530_000, 4096, None)?;
     let output = bytes_of(alloc, output)?;
     leaves(rt, alloc, command, source, sink, status, &output)
 }

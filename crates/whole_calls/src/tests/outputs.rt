@@ -2,7 +2,7 @@
 
 use super::{
     NOPS, Parts, RETURN_TEXT, TWO_WRITES, TWO_WRITES_TEXT, UNDERFLOW, answer, answers, bare,
-    headed, image, text,
+    headed, image, image_2, text,
 };
 use ia_insn::{Br, Gr, Pr};
 use std::test::Fail;
@@ -233,6 +233,8 @@ fn images_are_refused(rt: HostRuntime) -> Result<(), Fail> {
         (text("IA64IMG1 has 23 bytes.."), "image: short\n"),
         (headed([0, 0, 0, 0], 1, NOPS, b""), "image: counts\n"),
         (headed([1, 0, 0, 1], 1, NOPS, b""), "image: counts\n"),
+        (image(4097, NOPS), "image: counts\n"),
+        (image_2(32_769, NOPS), "image: counts\n"),
         (headed([1, 0, 0, 0], 0, NOPS, b"bundle"), "image: length\n"),
         (MISPLACED, "image: entry 0\n"),
         (image(1, RESERVED), "image: bundle 0: template\n"),
@@ -253,7 +255,9 @@ fn wrap_has_its_output(rt: HostRuntime) -> Result<(), Fail> {
         (bare(4096, NOPS, b""), 0, image(4096, NOPS)),
         (bare(1, BRANCH, &NOPS), 0, BRANCHING),
         (text(""), 3, text("image: counts\n")),
-        (bare(4097, NOPS, b""), 3, text("image: counts\n")),
+        (bare(4097, NOPS, b""), 0, image_2(4097, NOPS)),
+        (bare(32_768, NOPS, b""), 0, image_2(32_768, NOPS)),
+        (bare(32_769, NOPS, b""), 3, text("image: counts\n")),
         (bare(1, NOPS, b"!"), 3, text("image: length\n")),
         (
             bare(1, RESERVED, b""),
@@ -261,19 +265,19 @@ fn wrap_has_its_output(rt: HostRuntime) -> Result<(), Fail> {
             text("image: bundle 0: template\n"),
         ),
         (
-            bare(4095, NOPS, &RESERVED),
+            bare(32_767, NOPS, &RESERVED),
             3,
-            text("image: bundle 4095: template\n"),
+            text("image: bundle 32767: template\n"),
         ),
         (
-            bare(4095, NOPS, &UNLISTED),
+            bare(32_767, NOPS, &UNLISTED),
             3,
-            text("image: bundle 4095 slot 2: unlisted\n"),
+            text("image: bundle 32767 slot 2: unlisted\n"),
         ),
         (
-            bare(4095, NOPS, &BRANCH),
+            bare(32_767, NOPS, &BRANCH),
             3,
-            text("image: bundle 4095 slot 2: target\n"),
+            text("image: bundle 32767 slot 2: target\n"),
         ),
         (
             bare(65, OPEN, b""),
@@ -414,23 +418,13 @@ fn relations_are_refused(rt: HostRuntime) -> Result<(), Fail> {
     Ok(())
 }
 
-/// The image of version 2 of three `nop`.
-const NOPS_LIFTED: Parts<'static> = Parts {
-    version: b'2',
-    head: Some([1, 0, 0, 0]),
-    declared: b"",
-    count: 1,
-    bundle: NOPS,
-    end: b"",
-};
-
 #[test]
 fn lift_has_its_output(rt: HostRuntime) -> Result<(), Fail> {
     let alloc = rt.alloc();
     let related = promising(&[1, 0, 0, 0, 1, 0, 0, 0, 6, 7, 0, 0]);
     let rows = [
-        (image(1, NOPS), 0, NOPS_LIFTED),
-        (NOPS_LIFTED, 0, NOPS_LIFTED),
+        (image(1, NOPS), 0, image_2(1, NOPS)),
+        (image_2(1, NOPS), 0, image_2(1, NOPS)),
         (related, 0, related),
         (image(1, RESERVED), 3, text("image: bundle 0: template\n")),
         (text(CLASH_TEXT), 3, text("image: magic\n")),
