@@ -16,10 +16,10 @@ use Rattle.ia_meaning.specs.Steps.{how_falling}
 use Rattle.ia_meaning.specs.Progress.{slots_after, stepped}
 use Rattle.ia_meaning.proofs.FormRanges.{form_ranges}
 use Rattle.ia_meaning.proofs.StepHere.{step_here as step_at}
+use Rattle.slot_effects.specs.declared.slot_effect.SlotEffect.{SlotEffect}
 use Rattle.machine_state.specs.Changes.{outcome_with}
 use Rattle.slot_table.specs.declared.slot.Slot.{Slot}
 use Rattle.slot_table.specs.Slots.{slot_of, slot_at}
-use Rattle.emulator.specs.declared.slot_effect.SlotEffect.{SlotEffect}
 use Rattle.emulator.specs.declared.run.Run.{Run}
 use Rattle.emulator.specs.Outcomes.{outcome_of}
 use Rattle.emulator.specs.Progress.{state_of, progress_of, settled_step, arrived, IsHere}

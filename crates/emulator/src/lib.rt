@@ -9,15 +9,7 @@
 //! a slot on to another: where no call takes its address, it stays in registers.
 #![tactic(auto)]
 
-mod effect;
-mod frames;
-mod landings;
-mod loads;
-mod loops;
 mod machine;
-mod moves;
-mod operands;
 mod run;
-mod slot_effect;
 
 pub use machine::Machine;

@@ -15,11 +15,10 @@ ghost use Rattle.machine_state.specs.Changes.{outcome_with, MayChange};
 ghost use Rattle.emulator.specs.Outcomes.{outcome_of};
 ghost use Rattle.emulator.specs.Progress.{state_of, progress_of, settled_step, arrived, IsHere};
 
-use crate::effect::effect;
-use crate::slot_effect::SlotEffect;
 use ia_insn::{End, FaultKind, GroupEvent, How, Place};
 use ia_meaning::Next;
-use machine_state::{Change, MachineState};
+use machine_state::MachineState;
+use slot_effects::{Change, SlotEffect, effect};
 use slot_table::{Slot, SlotTable};
 use std::alloc::{AllocError, Global};
 

@@ -10,8 +10,9 @@ use Rattle.ia_meaning.specs.State.{Registers}
 use Rattle.ia_meaning.specs.Writes.{put, SetFrame, Renamed}
 use Rattle.ia_meaning.specs.Frames.{rotated, cleared, marked_frame, return_fault}
 use Rattle.reg_stack.specs.declared.StackFault.{StackFault}
-use Rattle.reg_stack.specs.Stacks.{kind_of, return_fault_within, returned_frame, ReturnFaultIsThat}
+use Rattle.reg_stack.specs.Stacks.{kind_of, alloc_fault_within, return_fault_within, returned_frame, ReturnFaultIsThat}
 use Rattle.reg_stack.proofs.Resizing.{resized-whole}
+use Rattle.slot_effects.specs.Changes.{alloc_fault}
 
 pub renamed : (r : Registers) (f : FrameShape) → length r.cells ≡ f.base + f.sof → put (SetFrame Renamed f) r ≡ record r { frame = f }
 renamed r f h = rw (resized-whole (f.base + f.sof) r.cells h) refl
@@ -46,6 +47,16 @@ returned_low base pfs = rw (marked_low base pfs) (marked_low _ pfs)
 
 pub return_fault_low : ReturnFaultIsThat → (limit base pfs : ℕ) → limit ≡ STACK_LIMIT → option_map kind_of (return_fault_within limit base (marked_frame base (pfs % 2 ^ 38))) ≡ return_fault base (marked_frame base pfs)
 return_fault_low same limit base pfs e = rw (e, marked_low base pfs) (same base (marked_frame base pfs))
+
+-- The faults of `alloc` are those of the register stack,
+pub alloc_fault_is : (limit : ℕ) (old new : FrameShape) → limit ≡ STACK_LIMIT → option_map kind_of (alloc_fault_within limit old new) ≡ alloc_fault old new
+unfolding alloc_fault_within alloc_fault
+alloc_fault_is limit old new e = rw e (grind arith)
+
+-- which has none where there are none.
+pub alloc_free : (limit : ℕ) (old new : FrameShape) → limit ≡ STACK_LIMIT → alloc_fault old new ≡ None → alloc_fault_within limit old new ≡ None
+unfolding alloc_fault_within alloc_fault
+alloc_free limit old new e h = rw e (grind arith)
 
 -- The answer of a return that has no fault is no error.
 pub not_refused : ReturnFaultIsThat → (limit base pfs : ℕ) (answer : Result (Unit {0}) StackFault) → limit ≡ STACK_LIMIT → return_fault base (marked_frame base pfs) ≡ None → result_err answer ≡ return_fault_within limit base (marked_frame base (pfs % 2 ^ 38)) → is_err answer ≡ false

@@ -1,4 +1,3 @@
-pub mod PredicateWords
 pub mod MaskedWrites
 pub mod Names
 pub mod Frames

@@ -11,7 +11,7 @@ use Rattle.ia_meaning.specs.State.{zero_cell, Registers}
 use Rattle.ia_meaning.specs.Writes.{apply}
 use Rattle.ia_meaning.specs.Names.{spot, look, cell_at, holds, predicate_place, predicate_spot, set_predicate}
 use Rattle.reg_stack.specs.Stacks.{cell_or_fault, with_cell}
-use Rattle.machine_state.specs.Changes.{set_at}
+use Rattle.slot_effects.specs.Changes.{set_at}
 
 pub spot_static : (f : FrameShape) (n : ℕ) → n < 32 → spot f n ≡ Some (Static n)
 unfolding spot

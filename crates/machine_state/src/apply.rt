@@ -8,15 +8,16 @@ ghost use Rattle.ia_meaning.specs.Moves.{is_masked, masked_writes, predicate_wri
 ghost use Rattle.ia_meaning.specs.Frames.{rotated, cleared, call_state, marked_frame, return_fault};
 ghost use Rattle.ia_meaning.specs.Loops.{written, turn_writes};
 ghost use Rattle.machine_state.specs.Contents.{left_by};
-ghost use Rattle.machine_state.specs.declared.change.Change.TheVariants.{Allocated, Called, Returned};
-ghost use Rattle.machine_state.specs.Changes.{application_write, set_at, outcome_with, FitsApplication, MayAllocate, MayChange};
+ghost use Rattle.slot_effects.specs.declared.change.Change.TheVariants.{Allocated, Called, Returned};
+ghost use Rattle.slot_effects.specs.Changes.{application_write, set_at, FitsApplication, MayAllocate};
+ghost use Rattle.machine_state.specs.Changes.{outcome_with, MayChange};
 
-use crate::change::Change;
 use crate::previous_state::{call_state, epilog_of, marker_of};
 use crate::state::MachineState;
 use ia_insn::{Ar, Br, Gr, Pr};
 use ia_meaning::{Cell, Turn};
 use integer_ops::bit;
+use slot_effects::Change;
 
 /// Whether a mask has a place: its own bit below 16, and bit 16 from there on.
 fn is_masked(mask: u64, n: usize) -> bool
@@ -94,6 +95,7 @@ impl MachineState {
     }
 
     /// Gives the frame other sizes, and writes the previous function state to a register of it.
+    #[tactic(auto, using(crate::proofs::Frames::alloc_free))]
     fn allocate(&mut self, r1: Gr, sof: u8, sol: u8, sor: u8)
         requires { MayAllocate self.old.registers.frame sof sol sor }
         ensures { self.new ≡ left_by (outcome_with self.old (Allocated r1 sof sol sor) Falls) self.old }

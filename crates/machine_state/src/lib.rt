@@ -2,17 +2,19 @@
 //! (Intel Itanium Architecture Software Developer's Manual, volume 1, chapter 3, application register
 //! state, and chapter 4).
 //!
-//! What a slot writes is a [`Change`], a small value that names registers as the instruction does. The
-//! contracts tie a change to the writes that `ia_meaning` speaks of: [`MachineState::apply`] makes exactly those.
+//! A slot sees the state as one that it [`Sees`], and what it writes is a [`Change`], a small value that names
+//! registers as the instruction does. The contracts tie a change to the writes that `ia_meaning` speaks of:
+//! [`MachineState::apply`] makes exactly those.
+//!
+//! [`Sees`]: slot_effects::Sees
+//! [`Change`]: slot_effects::Change
 #![tactic(auto)]
 
 mod apply;
-mod change;
 mod loads;
 mod loops;
 mod previous_state;
+mod sees;
 mod state;
 
-pub use change::Change;
-pub use previous_state::has_reserved_zeros;
 pub use state::MachineState;

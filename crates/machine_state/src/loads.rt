@@ -7,8 +7,9 @@ ghost use Rattle.ia_meaning.specs.Names.{spot};
 ghost use Rattle.ia_meaning.specs.Loads.{stored, untouched, unat_bit};
 ghost use Rattle.ia_meaning.specs.Steps.{spilled};
 ghost use Rattle.machine_state.specs.Contents.{left_by};
-ghost use Rattle.machine_state.specs.declared.change.Change.TheVariants.{Stored};
-ghost use Rattle.machine_state.specs.Changes.{set_at, held, update_at, load_update, forgotten_at, forgotten_where, entered_at, outcome_with, MayStore};
+ghost use Rattle.slot_effects.specs.declared.change.Change.TheVariants.{Stored};
+ghost use Rattle.slot_effects.specs.Changes.{set_at, held, update_at, load_update, forgotten_at, forgotten_where, entered_at, MayStore};
+ghost use Rattle.machine_state.specs.Changes.{outcome_with};
 
 use crate::state::MachineState;
 use ia_insn::{Gr, Update};

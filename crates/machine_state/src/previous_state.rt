@@ -2,7 +2,6 @@
 
 ghost use Rattle.std.specs.Prelude.{◌≡◌, ◌/◌, ◌%◌, ◌^◌, ◌<◌};
 ghost use Rattle.ia_meaning.specs.State.{HasReservedZeros, IsFrame};
-ghost use Rattle.ia_meaning.specs.Moves.{has_reserved_zeros};
 ghost use Rattle.ia_meaning.specs.Frames.{call_state};
 
 use reg_stack::{FrameShape, frame_marker};
@@ -21,14 +20,6 @@ pub(crate) fn epilog_of(pfs: u64) -> u64
     ensures within { result < 64 }
 {
     (pfs >> 52) % (1 << 6)
-}
-
-/// Whether the reserved bits, 51:38 and 61:58, are zero.
-#[tactic(auto, unfolding(ia_meaning::specs::Moves::has_reserved_zeros))]
-pub fn has_reserved_zeros(pfs: u64) -> bool
-    ensures { result ≡ has_reserved_zeros pfs }
-{
-    (pfs >> 38) % (1 << 14) == 0 && (pfs >> 58) % (1 << 4) == 0
 }
 
 /// The previous function state that a call writes: the frame, the epilog count, and 3 as the privilege

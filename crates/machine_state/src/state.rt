@@ -1,14 +1,14 @@
 //! The state.
 
-ghost use Rattle.std.specs.Prelude.{◌≡◌, ◌<◌, ◌≤◌, ◌%◌, ◌^◌, length, get_or, take, if◌then◌else◌, IfOk};
+ghost use Rattle.std.specs.Prelude.{◌≡◌, ◌<◌, ◌≤◌, ◌%◌, length, get_or, take, IfOk};
 ghost use Rattle.std.specs.Option.{option_map};
 ghost use Rattle.ia_insn.specs.declared.limits.TheConstants.{DATA_LIMIT};
 ghost use Rattle.ia_meaning.specs.Names.{spot, look, predicate_place, holds};
 ghost use Rattle.ia_meaning.specs.Moves.{predicate_word, application};
 ghost use Rattle.ia_meaning.specs.Frames.{marked_frame, return_fault};
 ghost use Rattle.reg_stack.specs.Stacks.{kind_of};
+ghost use Rattle.slot_effects.specs.Changes.{held};
 ghost use Rattle.machine_state.specs.Contents.{zero_contents, stack_of};
-ghost use Rattle.machine_state.specs.Changes.{held};
 
 use crate::previous_state::marker_of;
 use ia_insn::{Ar, Br, Gr, Pr};
@@ -16,6 +16,7 @@ use ia_meaning::limits::STACK_LIMIT;
 use ia_meaning::{AlatKey, Cell};
 use nat_alat::{Alat, DataMem};
 use reg_stack::{Stack, StackFault};
+use slot_effects::predicate_word;
 use std::alloc::{AllocError, Global};
 use std::marker::Model;
 
@@ -55,26 +56,6 @@ impl Model for MachineState {
     ghost view = { contents_of };
 
     ghost invariant = { IsKept };
-}
-
-/// 2 to the n-th power where the bit is set, and else 0.
-fn place_value(n: usize, is_set: bool) -> u64
-    requires { n < 64 }
-    ensures { result ≡ (if is_set then 2 ^ n else 0) }
-{
-    if is_set { 1 << n } else { 0 }
-}
-
-/// The predicates as a word: bit n is that of place n.
-#[tactic(auto, using(crate::proofs::PredicateWords::whole))]
-fn word_of(predicates: &[bool; 64]) -> u64
-    ensures { result ≡ predicate_word predicates.now }
-{
-    let mut word = 0;
-    for n in 0..64 {
-        word += place_value(n, predicates[n]);
-    }
-    word
 }
 
 impl MachineState {
@@ -207,7 +188,7 @@ impl MachineState {
     pub fn predicate_word(&self) -> u64
         ensures { result ≡ predicate_word self.now.registers.predicates }
     {
-        word_of(&self.predicates)
+        predicate_word(&self.predicates)
     }
 
     /// The static predicates, p0 to p15, which stand at their own places in every frame.

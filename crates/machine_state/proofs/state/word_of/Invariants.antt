@@ -1,9 +1,0 @@
-use Rattle.std.proofs.Common.{◌≡◌, ◌<◌, ◌^◌, take}
-use Rattle.ia_meaning.specs.Moves.{word_from}
-use Rattle.machine_state.proofs.state.word_of.Given as goal
-
-abbrev pub invariant-loop-n : goal.invariant-loop-n
-invariant-loop-n l = record {
-  told : l.word ≡ word_from 0 (take l.n l.predicates);
-  within : l.word < 2 ^ l.n;
-}

@@ -1,0 +1,91 @@
+//! The state as a slot sees it.
+
+ghost use Rattle.std.specs.Prelude.{◌≡◌};
+ghost use Rattle.reg_stack.specs.Stacks.{kind_of};
+
+use crate::state::MachineState;
+use ia_insn::{Ar, Br, FaultKind, Gr, Pr};
+use ia_meaning::{AlatKey, Cell};
+use nat_alat::{Alat, DataMem};
+use reg_stack::StackFault;
+use slot_effects::Sees;
+
+/// The fault of a slot for one of the register stack.
+fn kind_of(fault: StackFault) -> FaultKind
+    ensures { result ≡ kind_of fault }
+{
+    match fault {
+        StackFault::OutOfFrame => FaultKind::OutOfFrame,
+        StackFault::BadFrame => FaultKind::BadFrame,
+        StackFault::Underflow => FaultKind::Underflow,
+        StackFault::StackLimit => FaultKind::StackLimit,
+        StackFault::ReservedField => FaultKind::ReservedField,
+    }
+}
+
+impl Sees for MachineState {
+    ghost registers = { λ s. s.registers };
+
+    ghost memory = { λ s. s.memory };
+
+    ghost unat = { λ s. s.registers.unat };
+
+    #[inline(always)]
+    fn spot(&self, r: Gr) -> Option<AlatKey> {
+        MachineState::spot(self, r)
+    }
+
+    #[inline(always)]
+    fn general(&self, r: Gr) -> Option<Cell> {
+        MachineState::general(self, r)
+    }
+
+    #[inline(always)]
+    fn holds(&self, p: Pr) -> bool {
+        MachineState::holds(self, p)
+    }
+
+    #[inline(always)]
+    fn predicate_word(&self) -> u64 {
+        MachineState::predicate_word(self)
+    }
+
+    #[inline(always)]
+    fn static_predicates(&self) -> &[bool] {
+        MachineState::static_predicates(self)
+    }
+
+    #[inline(always)]
+    fn branch(&self, b: Br) -> u64 {
+        MachineState::branch(self, b)
+    }
+
+    #[inline(always)]
+    fn application(&self, ar: Ar) -> u64 {
+        MachineState::application(self, ar)
+    }
+
+    #[inline(always)]
+    fn fill_unat(&self) -> u64 {
+        self.unat
+    }
+
+    #[tactic(auto, using(crate::proofs::Frames::alloc_fault_is))]
+    fn alloc_fault(&self, sof: u8, sol: u8, sor: u8) -> Option<FaultKind> {
+        self.stack.may_alloc(sof, sol, sor).err().map(kind_of)
+    }
+
+    fn return_fault(&self) -> Option<FaultKind> {
+        MachineState::return_fault(self).map(kind_of)
+    }
+
+    #[inline(always)]
+    fn data(&self) -> &DataMem {
+        MachineState::data(self)
+    }
+
+    #[inline(always)]
+    fn alat(&self) -> &Alat {
+        MachineState::alat(self)
+    }
+}

@@ -1,0 +1,5 @@
+pub mod Named
+pub mod ReservedZeros
+pub mod EntryTests
+pub mod NewFrames
+pub mod PredicateWords

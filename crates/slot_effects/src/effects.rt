@@ -1,0 +1,103 @@
+//! What a slot does, by the form of its instruction. Nothing is written here.
+
+ghost use Rattle.std.specs.Prelude.{◌≡◌, ◌<◌, ◌^◌};
+ghost use Rattle.ia_meaning.specs.FormRanges.{HasFormRanges};
+ghost use Rattle.ia_meaning.specs.Effects.{site, act, skip, guarded};
+ghost use Rattle.slot_effects.specs.Changes.{MayMake};
+ghost use Rattle.slot_effects.specs.Outcomes.{outcome_from};
+
+use crate::change::Change;
+use crate::frames::{allocate, call, land, ret};
+use crate::loads::{check_alat, check_nat, forget, load, store};
+use crate::loops::turn;
+use crate::moves::{compute, fetch, skip_test, test, to_application, to_branch, to_predicates};
+use crate::sees::Sees;
+use crate::slot_effect::SlotEffect;
+use ia_insn::{Pr, Program};
+use ia_meaning::{Form, target_of};
+
+/// What an instruction does that is executed.
+#[inline(always)]
+fn act<S: Sees>(seen: &S, program: &Program, bundle: u32, form: &Form) -> SlotEffect
+    requires place { bundle < 2 ^ 31 }
+    requires ranges { HasFormRanges form.now }
+    ensures value { outcome_from (S.registers seen.now) (S.memory seen.now) result ≡ act (site program.now bundle) form.now (S.registers seen.now) (S.memory seen.now) (S.unat seen.now) }
+    ensures may { MayMake (S.registers seen.now) (S.memory seen.now) result.change }
+{
+    match *form {
+        Form::Compute {
+            r1,
+            r2,
+            r3,
+            function,
+        } => compute(seen, r1, r2, r3, &function),
+        Form::Fetch { r1, source } => fetch(seen, bundle, r1, source),
+        Form::Test {
+            kind,
+            p1,
+            p2,
+            r2,
+            r3,
+            condition,
+        } => test(seen, kind, (p1, p2), (r2, r3), &condition),
+        Form::ToPredicates { r2, mask, word } => to_predicates(seen, r2, mask, &word),
+        Form::ToBranch { b1, r2 } => to_branch(seen, b1, r2),
+        Form::ToApplication { ar, r2, word } => to_application(seen, ar, r2, &word),
+        Form::FromMemory {
+            size,
+            kind,
+            r1,
+            r3,
+            update,
+        } => load(seen, size, kind, r1, r3, update),
+        Form::ToMemory {
+            size,
+            kind,
+            r3,
+            r2,
+            update,
+        } => store(seen, size, kind, r3, r2, update),
+        Form::CheckNat { r2, disp } => check_nat(seen, bundle, r2, disp),
+        Form::CheckAlat { clear, r1, disp } => check_alat(seen, bundle, clear, r1, disp),
+        Form::ForgetAll => SlotEffect::falls(Change::AllForgotten),
+        Form::Forget { r1 } => forget(seen, r1),
+        Form::Allocate { r1, sof, sol, sor } => allocate(seen, r1, sof, sol, sor),
+        Form::Jump { disp } => SlotEffect::goes(Change::Nothing, target_of(bundle, disp)),
+        Form::JumpIndirect { b2 } => land(seen, program, b2, Change::Nothing),
+        Form::Loop { kind, disp } => turn(seen, kind, true, target_of(bundle, disp)),
+        Form::Call { b1, goal } => call(seen, program, bundle, b1, goal),
+        Form::Return { b2 } => ret(seen, program, b2),
+        Form::ClearBases { pred_only } => SlotEffect::falls(Change::Cleared { pred_only }),
+        Form::Stop { imm, .. } => SlotEffect::breaks(imm),
+        Form::Idle { .. } => SlotEffect::falls(Change::Nothing),
+    }
+}
+
+/// What an instruction does whose qualifying predicate is 0: nothing but for `unc` tests and loop branches.
+#[inline(always)]
+fn skip<S: Sees>(seen: &S, program: &Program, bundle: u32, form: &Form) -> SlotEffect
+    requires { bundle < 2 ^ 31 }
+    ensures value { outcome_from (S.registers seen.now) (S.memory seen.now) result ≡ skip (site program.now bundle) form.now (S.registers seen.now) (S.memory seen.now) }
+    ensures may { MayMake (S.registers seen.now) (S.memory seen.now) result.change }
+{
+    match *form {
+        Form::Test { kind, p1, p2, .. } => skip_test(kind, p1, p2),
+        Form::Loop { kind, disp } => turn(seen, kind, false, target_of(bundle, disp)),
+        _ => SlotEffect::falls(Change::Nothing),
+    }
+}
+
+/// What an instruction of this form does under a qualifying predicate (volume 3, chapter 2).
+#[inline(always)]
+pub fn effect<S: Sees>(seen: &S, program: &Program, bundle: u32, qp: Pr, form: &Form) -> SlotEffect
+    requires place { bundle < 2 ^ 31 }
+    requires ranges { HasFormRanges form.now }
+    ensures value { outcome_from (S.registers seen.now) (S.memory seen.now) result ≡ guarded (site program.now bundle) qp form.now (S.registers seen.now) (S.memory seen.now) (S.unat seen.now) }
+    ensures may { MayMake (S.registers seen.now) (S.memory seen.now) result.change }
+{
+    if seen.holds(qp) {
+        act(seen, program, bundle, form)
+    } else {
+        skip(seen, program, bundle, form)
+    }
+}
