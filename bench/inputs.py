@@ -335,6 +335,12 @@ def endless_stores():
     ]).encode()
 
 
+def endless_writes():
+    """The longest groups, and in them the most writes: 127 moves to all predicates, of 63 writes each."""
+    moves = bundle("mii", "nop", "mov pr=r9,-2", "mov pr=r9,-2") * (GROUP_BUNDLES - 1)
+    return (stopped("mlx", "nop", "movl r9=0x123456789abcdef") + "loop:\n" + moves + stopped("mib", "nop", "mov pr=r9,-2", "br loop")).encode()
+
+
 def largest_state():
     """The longest printed state: all data, and a `break` at once."""
     words = ("data8 " + ",".join(["-1"] * 32) + "\n") * (DATA_LIMIT // 256)

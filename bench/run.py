@@ -1,5 +1,5 @@
 #!/usr/bin/env python3
-"""Times build, show and list beside the GNU tools on the same work, trials, run and watch on loops, and
+"""Times build, show and list beside the GNU tools on the same work, trials, run, watch and groups on loops, and
 every command on the inputs that take it longest, and prints four tables. No part of the gate.
 
 The inputs of the first table are programs of so many bundles, each with a label, a load, an addition
@@ -8,7 +8,7 @@ five, with the start of the program; all outputs go to files. The GNU assembler 
 as `check` does that. `objdump -d` and `list` print bytes and instructions, `show` a text that builds
 again. A loop is run to its `break`; of its speed the slots of its turns are counted alone. `watch` shows
 each group to two watchers and should have at least 0.8 of the speed of `run` on a counted loop, where a
-group is one bundle.
+group is one bundle. `groups` should take at most three times the instructions of `run`.
 
 The last table has the worst inputs within the limits (`inputs.py`). Its seconds are those of the processor,
 the best of three, and its megabytes the greatest peak, at least that of this script, about 15. It ends with
@@ -131,17 +131,18 @@ def measure_trial(count, folder):
 
 
 def measure_loop(name, folder):
-    """Prints the line of a loop: how many million slots a second `run` makes, and `watch`."""
+    """Prints the line of a loop: how many million slots a second `run` makes, `watch`, and `groups`."""
     slots, text = LOOPS[name]
     source = folder / "loop.s"
     source.write_text(text % (TURNS - 1))
-    times = (seconds([PROGRAM, word, "10000000"], source, folder / "state") for word in ("run", "watch"))
-    run, watch = (slots * TURNS / taken / 1e6 for taken in times)
-    print(f"| {name} | {run:.1f} | {watch:.1f} | {watch / run:.2f} |", flush=True)
+    commands = (["run", "10000000"], ["watch", "10000000"], ["groups", "10000000", "0"])
+    times = (seconds([PROGRAM] + command, source, folder / "state") for command in commands)
+    run, watch, groups = (slots * TURNS / taken / 1e6 for taken in times)
+    print(f"| {name} | {run:.1f} | {watch:.1f} | {watch / run:.2f} | {groups:.1f} |", flush=True)
 
 
 # The worst inputs: the words of a command, what makes its input, and how many seconds it may take at most.
-# To `run` and `watch` time isn't limited.
+# To `run`, `watch` and `groups` time isn't limited.
 MEGABYTES = 640
 BUILDS = (
     inputs.empty_lines, inputs.stop_lines, inputs.section_lines, inputs.ignored_lines, inputs.skip_lines,
@@ -163,6 +164,11 @@ WORST += [
     ("run 10000000", inputs.endless_calls, None),
     ("watch 10000000", inputs.endless_calls, None),
     ("run 1000000", inputs.endless_stores, None),
+    ("groups 10000000 0", inputs.endless_calls, None),
+    ("groups 1000000 0", inputs.endless_stores, None),
+    ("groups 10000 0", inputs.endless_writes, None),
+    # The order with this number brings the farthest write forward, as often as there is a digit left.
+    ("groups 10000 18443771615816063999", inputs.endless_writes, None),
 ]
 
 
@@ -227,7 +233,7 @@ def print_tables():
         print("\n| Bundles | trial, milliseconds, best of 5 |\n|---|---|")
         for count in TRIALS:
             measure_trial(count, pathlib.Path(folder))
-        print("\n| Loop | run, million slots a second, best of 5 | watch | watch by run |\n|---|---|---|---|")
+        print("\n| Loop | run, million slots a second, best of 5 | watch | watch by run | groups |\n|---|---|---|---|---|")
         for name in LOOPS:
             measure_loop(name, pathlib.Path(folder))
 

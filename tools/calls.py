@@ -5,26 +5,43 @@ import os
 import re
 import resource
 import subprocess
+from typing import NamedTuple, Optional, Tuple
 
 import printed_forms
 from printed_forms import (MAGICS, Layout, bundles_of, has_form, head, lifted_image,
                            relation_lines_oddity, takes_image, without_relations, written_image)
 
-INPUT_LIMIT, GROUP_LIMIT, TRIAL_LIMIT = 16777216, 10**7, 4096
+INPUT_LIMIT = 16777216
 DONE, VIOLATED, REFUSED = 0, 1, 3
 
-# The commands, their words joined by zero bytes, and the highest numbers of those that take some.
-COMMANDS = re.compile(
-    rb"build|show|list|wrap|lift|check|(?:run|watch)\0[1-9][0-9]*|trial\0(?:0|[1-9][0-9]*)\0[1-9][0-9]*")
-HIGHEST = {b"run": (GROUP_LIMIT,), b"watch": (GROUP_LIMIT,), b"trial": (2**64 - 1, TRIAL_LIMIT)}
+# Numbers that commands take: of groups, of bundles, and of 64 bits, as an order and a seed.
+NUMBER = re.compile(rb"0|[1-9][0-9]*")
+GROUPS, BUNDLES, WIDE = range(1, 10**7 + 1), range(1, 4097), range(2**64)
 
-# How much processor time a call may take, in nanoseconds: START, so many for each byte of the input, and
-# of a run for each group, of a trial for each bundle. Much more than random programs need; a check that was
-# made to take long (`bench/inputs.py`) may take more.
+
+class Command(NamedTuple):
+    """The numbers that a command takes; which of them says how much is run, if one does; and how much processor time a
+    call may take beside START, in nanoseconds: for each byte of the input, and for each that this number counts. It is
+    much more than random programs need; a check that was made to take long (`bench/inputs.py`) may take more."""
+    numbers: Tuple[range, ...]
+    size: Optional[int]
+    for_a_byte: int
+    for_a_number: int
+
+
 START = 50_000_000
-FOR_A_BYTE = {"build": 4000, "show": 2000, "list": 2000, "wrap": 2000, "lift": 2000, "check": 200_000,
-              "run": 200_000, "watch": 200_000}
-FOR_A_NUMBER = {"run": 20_000, "watch": 20_000, "trial": 100_000}
+COMMANDS = {
+    "build": Command((), None, 4000, 0),
+    "show": Command((), None, 2000, 0),
+    "list": Command((), None, 2000, 0),
+    "wrap": Command((), None, 2000, 0),
+    "lift": Command((), None, 2000, 0),
+    "check": Command((), None, 200_000, 0),
+    "run": Command((GROUPS,), 0, 200_000, 20_000),
+    "watch": Command((GROUPS,), 0, 200_000, 20_000),
+    "groups": Command((GROUPS, WIDE), 0, 4000, 250_000),
+    "trial": Command((WIDE, BUNDLES), 1, 0, 100_000),
+}
 
 Answer = collections.namedtuple("Answer", "status output")
 
@@ -34,9 +51,17 @@ class GivenUp(Exception):
 
 
 def is_command(words):
-    if not COMMANDS.fullmatch(b"\0".join(words)):
+    command = COMMANDS.get(os.fsdecode(words[0])) if words else None
+    if command is None or len(command.numbers) != len(words) - 1:
         return False
-    return all(int(word) <= most for word, most in zip(words[1:], HIGHEST.get(words[0], ())))
+    return all(NUMBER.fullmatch(word) and int(word) in numbers for word, numbers in zip(words[1:], command.numbers))
+
+
+def time_for(words, data):
+    """How much processor time the call of a command may take, in nanoseconds."""
+    command = COMMANDS[words[0]]
+    number = 0 if command.size is None else int(words[1 + command.size])
+    return START + command.for_a_byte * len(data) + command.for_a_number * number
 
 
 def spent():
@@ -79,8 +104,8 @@ def difference(answer, wanted):
 class Calls:
     """Calls the program in one case, and notes what it finds. `kept` gets the inputs, if they are wanted."""
 
-    def __init__(self, options, groups, kept=None):
-        self.options, self.groups, self.kept = options, str(groups), kept
+    def __init__(self, options, groups, order, kept=None):
+        self.options, self.groups, self.order, self.kept = options, str(groups), str(order), kept
         self.answers, self.findings, self.seconds, self.slowest = {}, [], 0, (0, "")
 
     def note(self, words, text):
@@ -129,9 +154,7 @@ class Calls:
         oddity = self.oddity(shown, status, data, output)
         if oddity:
             self.note(shown, oddity)
-        number = int(shown[-1]) if word in FOR_A_NUMBER else 0
-        most = START + FOR_A_BYTE.get(word, 0) * len(data) + FOR_A_NUMBER.get(word, 0) * number
-        if seconds > most * 1e-9 * self.options.slack:
+        if seconds > time_for(shown, data) * 1e-9 * self.options.slack:
             self.note(shown, f"{seconds:.2f} seconds for {len(data)} bytes")
 
     def oddity(self, words, status, data, output):
@@ -143,10 +166,10 @@ class Calls:
             return printed_forms.text_refusal_oddity(data, output)
         if status == VIOLATED:
             return printed_forms.violations_oddity(output, int(words[2]) if word == "trial" else bundles_of(data))
-        if word not in ("run", "watch") or not output:
+        if word not in ("run", "watch", "groups") or not output:
             is_shown = is_image and word != "wrap" and output
             return printed_forms.head_fault(data) or printed_forms.relation_fault(data) if is_shown else None
-        at = output.index(b"end ", 0 if word == "run" else output.index(b"taken ", output.index(b"watch 1\n")))
+        at = output.index(b"end ", output.index(b"taken ", output.index(b"watch 1\n")) if word == "watch" else 0)
         return (printed_forms.state_oddity(output[at:], bundles_of(data), int(words[1]))
                 or at and printed_forms.reports_oddity(output[:at], output[at:]))
 
@@ -155,9 +178,10 @@ class Calls:
             self.note([word], f"{difference(answer, wanted)}, as {like}")
 
     def verdicts(self, data):
-        """The answers of `check`, `run N` and `watch N`, which are held to each other."""
+        """The answers of `check`, `run N`, `watch N` and `groups N K`, which are held to each other."""
         checked = self.call("check", data=data)
         ran, watched = (self.call(word, self.groups, data=data) for word in ("run", "watch"))
+        at_once = self.call("groups", self.groups, self.order, data=data)
         if checked.status != DONE:
             self.same("run", ran, checked, "check says")
             self.same("watch", watched, checked, "check says")
@@ -165,10 +189,12 @@ class Calls:
             self.note(["run", self.groups], f"status {ran.status} where check accepts")
         elif watched.status != ran.status or not watched.output.endswith(b"\n" + ran.output):
             self.note(["watch", self.groups], "another state or status than that of run")
-        return checked, ran, watched
+        if checked.status != VIOLATED:
+            self.same("groups", at_once, ran, "run says")
+        return checked, ran, watched, at_once
 
     def all_same(self, answers, wanted, like):
-        for word, answer, other in zip(("check", "run", "watch"), answers, wanted):
+        for word, answer, other in zip(("check", "run", "watch", "groups"), answers, wanted):
             self.same(word, answer, other, like)
 
     def text(self, data):
@@ -178,7 +204,7 @@ class Calls:
             self.image(built.output, None if data.startswith(MAGICS) else answers)
             return built.output
         if not data.startswith(MAGICS):
-            self.all_same(answers, [built] * 3, "build says")
+            self.all_same(answers, [built] * len(answers), "build says")
         return None
 
     def image(self, data, like=None):
@@ -193,7 +219,7 @@ class Calls:
         self.same("list", listed, shown, "show says")
         self.same("lift", lifted, shown, "show says")
         if data.startswith(MAGICS):
-            self.all_same(answers, [shown] * 3, "show says")
+            self.all_same(answers, [shown] * len(answers), "show says")
         if shown.output.startswith(b"image: relation"):
             if self.call("show", data=without_relations(data)).status != DONE:
                 self.note(["show"], "a relation is refused before another fault")
@@ -226,7 +252,7 @@ class Calls:
         if most:
             return
         self.same("check", answers[0], others[0], "without the relations")
-        for word, answer, other in zip(("run", "watch"), answers[1:], others[1:]):
+        for word, answer, other in zip(("run", "watch", "groups"), answers[1:], others[1:]):
             if b"end fault BadRelation " not in answer.output:
                 self.same(word, answer, other, "without the relations")
 

@@ -9,16 +9,17 @@ of which one may be changed; bare bundles; bytes that are nothing; words near th
 fault, whose reason and line are known.
 
 Of each call it looks at the status, the form of what is printed, that nothing is on standard error, that
-a refusal names a place of the input, and at the processor time (`FOR_A_BYTE` of calls.py); and over several calls:
+a refusal names a place of the input, and at the processor time (`COMMANDS` of calls.py); and over several calls:
 
 - `build` of what `show` prints is the image again, in version 1 where that has room for it; the lines of
   relations are those of the image; `list` has the bundles' bytes and the lines of the slots; `wrap` of the
   bundles is refused as the image of them is, or gives it;
-- `check`, `run N` and `watch N` answer the same of a text, its image and the image's text, and refuse
-  what `build`, or of an image `show`, refuses, in the same way. An image whose relation is refused is read
-  without its relations;
+- `check`, `run N`, `watch N` and `groups N K` answer the same of a text, its image and the image's text,
+  and refuse what `build`, or of an image `show`, refuses, in the same way. An image whose relation is refused
+  is read without its relations;
 - `run N` and `watch N` print what `check` does exactly where that isn't `accepted`; `watch N` ends with
-  what `run N` prints, and its reports and the state are of one run.
+  what `run N` prints, and its reports and the state are of one run; `groups N K` prints what `run N` does
+  where `check` says `accepted`, and a state where it doesn't.
 
 It doesn't know what a program means: neither the verdict, nor the state, nor (but for the last sort) the
 reason of a refusal is held to anything from outside. Faults of reading and writing aren't tried, and want
@@ -44,7 +45,7 @@ sys.dont_write_bytecode = True
 
 from damage import CODE_EDITS, IMAGE_EDITS, TEXT_EDITS, damaged, flip, random_bytes, relation_edit, relations_added
 from gnu_as import stop
-from calls import DONE, INPUT_LIMIT, REFUSED, Answer, GivenUp, Calls
+from calls import COMMANDS, DONE, INPUT_LIMIT, REFUSED, Answer, GivenUp, Calls
 from printed_forms import MAGICS, Layout, head
 from random_texts import FAULT_KINDS, Shape, random_lines
 
@@ -152,17 +153,23 @@ NUMBERS = [b"0", b"2", b"9", b"4097", b"10000001", b"18446744073709551615", b"18
            b"00", b"+5", b"-5", b"-0", b"5 ", b" 5", b"5x", b"0x5", b"1e3", b"1.0", b"", b"5\n", "\uff15".encode(), b"\xff",
            b"x" * 100000]
 GROUPS, SEEDS, BUNDLES = (1, 7, 8, 9, 100, 9999, 10**6, 10**7), (0, 1, 2**63, 2**64 - 1), (1, 2, 100, 4096)
-WORDS = [b"build", b"show", b"list", b"wrap", b"lift", b"check", b"run", b"watch", b"trial"]
+WORDS = [word.encode() for word in COMMANDS]
 NEAR = [b"help", b"--help", b"Check", b"check ", b"chec", b"checks", b"-", b"", b"run 5", b"trial 1 1"]
+
+
+def wide_number(random):
+    """A number of 64 bits: that of an order, or a seed."""
+    return random.choice((*SEEDS, random.getrandbits(64)))
 
 
 def words(calls, random):
     """Words near the commands, with a text of the repository, with nothing, or seldom with too much to read."""
     given = [random.choice(WORDS)]
-    if given[0] in (b"run", b"watch"):
+    if given[0] in (b"run", b"watch", b"groups"):
         given += [b"%d" % random.choice(GROUPS)]
+        given += [b"%d" % wide_number(random)] if given[0] == b"groups" else []
     elif given[0] == b"trial":
-        given += [b"%d" % random.choice((*SEEDS, random.getrandbits(64)))]
+        given += [b"%d" % wide_number(random)]
         given += [b"%d" % random.choice((*BUNDLES, random.randrange(1, 99)))]
     if random.randrange(3):
         at, more = random.randrange(len(given)), random.choice(NUMBERS + WORDS + NEAR)
@@ -180,7 +187,8 @@ def single_faults(calls, random):
     lines, number, reason = random.choice(FAULT_KINDS)(random, lines)
     data, wanted = encoded(random, lines), Answer(REFUSED, f"line {number}: {reason}\n".encode())
     calls.same("build", calls.call("build", data=data), wanted, "the fault that was put in")
-    calls.all_same(calls.verdicts(data), [wanted] * 3, "the fault that was put in")
+    answers = calls.verdicts(data)
+    calls.all_same(answers, [wanted] * len(answers), "the fault that was put in")
 
 
 SORTS = (programs, damaged_texts, damaged_images, related_images, bare_bundles, any_bytes, words, single_faults)
@@ -190,7 +198,7 @@ def run_case(options, number, kept=None):
     """A case by its number, and what came of it."""
     sort = SORTS[number % len(SORTS)]
     random = randoms.Random(f"{options.seed} {number}")
-    calls = Calls(options, random.choice((1, 2, 3, 8, 9, 100, 5000)), kept)
+    calls = Calls(options, random.choice((1, 2, 3, 8, 9, 100, 5000)), wide_number(random), kept)
     try:
         sort(calls, random)
     except GivenUp:

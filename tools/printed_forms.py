@@ -80,6 +80,7 @@ FORMS = {
     "check": {0: ACCEPTED, 1: VIOLATIONS},
     "run": {0: BROKEN + REST, 1: VIOLATIONS, 8: LIMITED + REST, 9: FAULTED + REST},
     "watch": {0: REPORTS + BROKEN + REST, 1: VIOLATIONS, 8: REPORTS + LIMITED + REST, 9: REPORTS + FAULTED + REST},
+    "groups": {0: BROKEN + REST, 8: LIMITED + REST, 9: FAULTED + REST},
     "trial": {0: TRIAL, 1: VIOLATIONS},
 }
 NOTHING = (2, 4, 5, 7)

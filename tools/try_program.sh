@@ -91,15 +91,24 @@ try_watch() {
   note $? "$name, watched: status $got in place of $status, or other bytes"
 }
 
+# NAME STATUS STATE INPUT N: `groups N K` ends with the status and prints the file STATE, whatever K: each program here is
+# accepted.
+try_groups() {
+  local number
+  for number in 0 1 7 18446744073709551615; do try "$1, order $number" "$2" "$3" "$4" groups "$5" "$number"; done
+}
+
 # What the comment of an example says that `run` prints.
 for name in count counted_loop pipelined_loop predicated behind_a_call call speculation; do
   sed -n 's|^//   ||p' "examples/$name.s" > "$dir/$name"
   try "$name, as it says" 0 "$dir/$name" "examples/$name.s" run 100
   try_watch "$name" 0 "$dir/$name" "examples/$name.s" 100
+  try_groups "$name" 0 "$dir/$name" "examples/$name.s" 100
 done
 sed -n 's|^//   ||p' examples/deep_recursion.s > "$dir/deep"
 try 'deep_recursion, as it says' 0 "$dir/deep" examples/deep_recursion.s run 1000
 try_watch deep_recursion 0 "$dir/deep" examples/deep_recursion.s 1000
+try_groups deep_recursion 0 "$dir/deep" examples/deep_recursion.s 1000
 
 # NAME GROUPS SLOTS TAKEN LINE..: `watch` prints these reports on an example, and then what `run` prints.
 watched() {
@@ -122,15 +131,18 @@ watched call 6 18 2 '0.0 0.2 falls' '1.0 1.2 taken' '3.0 3.2 falls' '4.0 4.2 fal
 watched speculation 14 41 3 '0.0 0.1 falls' '1.0 1.2 falls' '2.0 2.2 falls' '3.0 3.2 falls' '4.0 4.2 falls' '5.0 5.2 taken' \
   '1.0 1.2 falls' '2.0 2.2 falls'
 
-sed -n 's|^//   ||p' examples/loop_edge.s > "$dir/loop_edge"
-try 'loop_edge, as it says' 1 "$dir/loop_edge" examples/loop_edge.s check
-for command in run watch; do try "loop_edge, $command, as it says" 1 "$dir/loop_edge" examples/loop_edge.s "$command" 100; done
+for name in loop_edge swap override late_alloc; do
+  sed -n 's|^//   ||p' "examples/$name.s" > "$dir/$name"
+  try "$name, as it says" 1 "$dir/$name" "examples/$name.s" check
+  for command in run watch; do try "$name, $command, as it says" 1 "$dir/$name" "examples/$name.s" "$command" 100; done
+done
 
 # A text of tries/ says in its first line for how many groups it is run and with which status that ends. All are accepted.
 for text in tries/*.s; do
   read -r _ _ groups _ status _ < <(tr -d ',:' < "$text")
   try "$text" "$status" "${text%.s}.state" "$text" run "$groups"
   try_watch "$text" "$status" "${text%.s}.state" "$text" "$groups"
+  try_groups "$text" "$status" "${text%.s}.state" "$text" "$groups"
   try "$text, checked" 0 "$dir/accepted" "$text" check
 done
 
@@ -146,6 +158,7 @@ all_nops() { yes $'{ .mii\nnop 0\nnop 0\nnop 0 ;;\n}' | head -n "$((5 * $1))"; }
 printf 'end fault FellOff at 32767.2\ngroups 32768\nframe 0 sof 0 sol 0 sor 0 rrb 0 0 0\nrse 0 0 0 0\nr8 00000000001ffff8\nr9 0000000000000007\npr 0000000000000001\nm 00000000001ffff8 0000000000000007\n' > "$dir/largest_state"
 try 'the largest program' 9 "$dir/largest_state" "$dir/largest" run 100000
 try_watch 'the largest program' 9 "$dir/largest_state" "$dir/largest" 100000
+try_groups 'the largest program' 9 "$dir/largest_state" "$dir/largest" 100000
 
 # The longest state but for registers: 131,072 words of data.
 {
@@ -157,6 +170,7 @@ try_watch 'the largest program' 9 "$dir/largest_state" "$dir/largest" 100000
   awk 'BEGIN { for (n = 0; n < 131072; n++) printf "m %016x 0000000000000001\n", 1048576 + 8 * n }'
 } > "$dir/words_state"
 try 'the longest state' 0 "$dir/words_state" "$dir/words" run 1
+try_groups 'the longest state' 0 "$dir/words_state" "$dir/words" 1
 
 # What `run` prints of a state in which the machine has no register frame, after the end and the groups.
 state() { printf 'end %s\ngroups %s\nframe 0 sof 0 sol 0 sor 0 rrb 0 0 0\nrse 0 0 0 0\n' "$1" "$2"; }
@@ -185,6 +199,16 @@ printf '{ .mii\nnop 0\nnop 0\nnop 0\n}\n{ .mii\nnop 0\nadd r8=r32,r0\nnop 0 ;;\n
 { reports 1 5 0 '0.0 1.1 ends'; state 'fault OutOfFrame at 1.1' 1; echo 'pr 0000000000000001'; } > "$dir/watched"
 try 'a fault within a group, watched' 9 "$dir/watched" "$dir/faulty" watch 100
 
+# Two writes of one register leave what the number of their order says, as text and as image. No verdict is made.
+writes=tries/check/two_writes_of_a_register.s
+"$program" build < "$writes" > "$dir/image"
+for row in '0 2' '1 1' '2 2' '18446744073709551615 1'; do
+  read -r number value <<< "$row"
+  { state 'fault FellOff at 0.2' 1; printf 'r14 %016x\npr 0000000000000001\n' "$value"; } > "$dir/state"
+  try "two writes, order $number" 9 "$dir/state" "$writes" groups 5 "$number"
+  try "two writes, order $number, an image" 9 "$dir/state" "$dir/image" groups 5 "$number"
+done
+
 # What isn't run has no reports.
 printf 'line 1: empty\n' > "$dir/empty"
 for command in run watch; do
@@ -200,6 +224,15 @@ for command in run watch; do
   try "$command 5 6" 2 "$dir/nothing" examples/count.s "$command" 5 6
 done
 try 'Watch 5' 2 "$dir/nothing" examples/count.s Watch 5
+try 'groups of nothing' 3 "$dir/empty" /dev/null groups 1 0
+try 'groups of no text' 3 "$dir/char" "$dir/no_image" groups 1 0
+try 'groups of a cut image' 3 "$dir/length" "$dir/cut" groups 1 0
+try 'groups of a long input' 4 "$dir/nothing" "$dir/too_long" groups 1 0
+try 'groups of a folder' 5 "$dir/nothing" "$dir" groups 1 0
+for words in '' 5 '5 00' '5 01' '5 +1' '5 -1' '5 1x' '5 18446744073709551616' '0 0' '01 0' '10000001 0' '5 0 0'; do
+  # shellcheck disable=SC2086
+  try "groups $words" 2 "$dir/nothing" examples/count.s groups $words
+done
 
 # Trials, which read nothing, not even a folder. Every program of these seeds is accepted.
 trial() { printf 'trial %s\naccepted\nend break 0x0 at %s.2\ngroups %s\nsum %s\n' "$1" "$(($2 - 1))" "$2" "$3"; }

@@ -67,7 +67,7 @@ IMAGE = b"IA64IMG1" + struct.pack("<4I", 4096, 0, 0, 0) + BUNDLES
 
 # Each command that reads, and an input for which it gives an answer.
 READERS = ((("build",), TEXT), (("show",), IMAGE), (("list",), IMAGE), (("wrap",), BUNDLES), (("lift",), IMAGE),
-           (("check",), TEXT), (("run", "1"), TEXT), (("watch", "1"), TEXT))
+           (("check",), TEXT), (("run", "1"), TEXT), (("watch", "1"), TEXT), (("groups", "1", "0"), TEXT))
 
 # ---- Streams and calls -----------------------------------------------------------------------------------
 
@@ -300,6 +300,8 @@ class Inputs(Streams):
                 (["wrap"], BUNDLES + b"x", 3, len(BUNDLES) + 1),
                 (["run", "1"], LOOP, 8, len(LOOP)),
                 (["watch", "1"], TEXT, 9, len(TEXT)),
+                (["groups", "1", "7"], LOOP, 8, len(LOOP)),
+                (["groups", "1"], LOOP, 2, 0),
                 (["trial", "1", "1"], TEXT, 0, 0),
                 (["trial", "1", "0"], TEXT, 2, 0),
                 (["run"], TEXT, 2, 0),
@@ -689,7 +691,7 @@ class Surroundings(Streams):
         """256 kibibytes are enough."""
         for words, content, status in (
                 (["check"], 4096 * TEXT, 0), (["build"], 4096 * TEXT, 0), (["show"], IMAGE, 0), (["list"], IMAGE, 0), (["wrap"], BUNDLES, 0),
-                (["run", "9"], LOOP, 8), (["watch", "9"], LOOP, 8), (["trial", "1", "4096"], b"", 0)):
+                (["run", "9"], LOOP, 8), (["watch", "9"], LOOP, 8), (["groups", "9", "1"], LOOP, 8), (["trial", "1", "4096"], b"", 0)):
             with self.subTest(words):
                 got, _, said = self.outcome(*words, stdin=self.file(content), limits=[(resource.RLIMIT_STACK, 1 << 18)], environment={})
                 self.assertEqual((got, said), (status, b""))
@@ -788,6 +790,7 @@ cat "$OUTLINE/output" 2> /dev/null
         for before in self.built_or_not():
             for words, status in (
                     ([], 2), (["run"], 2), (["watch", "0"], 2), (["run", "10000001"], 2), (["check", "x"], 2), (["Check"], 2), (["--help"], 0),
+                    (["groups", "5"], 2), (["groups", "10000001", "0"], 2), (["groups", "5", "00"], 2), (["groups", "5", "18446744073709551616"], 2),
                     (["trial", "1", "4097"], 2), (["trial", "18446744073709551616", "1"], 2), (["trial", "18446744073709551615", "1"], 0)):
                 with self.subTest(words, built=not before):
                     stream, out = self.file(TEXT), self.file()

@@ -43,6 +43,7 @@ try 'an image' 0 "$dir/accepted" '' examples/three_nops.image ./ia64 check
 try 'a run' 0 "$dir/count" '' examples/count.s ./ia64 run 100
 try 'a run that is watched' 0 "$dir/watched" '' examples/count.s ./ia64 watch 100
 try 'a hazard that is watched' 1 "$dir/raw" '' examples/read_after_write.s ./ia64 watch 100
+try 'a run all at once' 0 "$dir/count" '' examples/count.s ./ia64 groups 100 1
 try 'two predicates' 0 "$dir/accepted" '' examples/predicated.s ./ia64 check
 try 'two predicates behind a call' 0 "$dir/accepted" '' examples/behind_a_call.s ./ia64 check
 try 'a run of a pipelined loop' 0 "$dir/pipelined_loop" '' examples/pipelined_loop.s ./ia64 run 100
@@ -81,12 +82,21 @@ try 'watch of a file' 2 "$dir/nothing" 'ia64 watch 7 < examples/count.s' /dev/nu
 try 'watch of too many groups' 2 "$dir/nothing" 'ia64 watch 10000000 < INPUT' /dev/null ./ia64 watch 10000001
 try 'watch of an object file' 2 "$dir/nothing" 'tools/check_object examples/functions.o' /dev/null ./ia64 watch 100 examples/functions.o
 try 'a trial without bundles' 2 "$dir/nothing" 'ia64 trial 1 100' /dev/null ./ia64 trial 7 0
+try 'groups without an order' 2 "$dir/nothing" "'groups' takes two numbers.*: ia64 groups 7 0 < INPUT" /dev/null ./ia64 groups 7
+try 'groups of a file' 2 "$dir/nothing" 'ia64 groups 7 0 < examples/count.s' /dev/null ./ia64 groups 7 examples/count.s
+try 'groups of a file, with an order' 2 "$dir/nothing" 'standard input: ia64 groups 100 7 < examples/swap.s' /dev/null ./ia64 groups 100 7 examples/swap.s
+try 'groups with too large an order' 2 "$dir/nothing" 'standard input: ia64 groups 100 0 < INPUT' /dev/null ./ia64 groups 100 18446744073709551616
+try 'too many groups, with the last order' 2 "$dir/nothing" 'ia64 groups 10000000 18446744073709551615 < INPUT' /dev/null ./ia64 groups 10000001 18446744073709551615
+try 'no groups, with an order' 2 "$dir/nothing" 'ia64 groups 100 7 < INPUT' /dev/null ./ia64 groups 0 7
+try 'a third number' 2 "$dir/nothing" 'ia64 groups 5 6 < INPUT' /dev/null ./ia64 groups 5 6 7
 try 'upper case' 2 "$dir/nothing" 'perhaps: ia64 check < examples/count.s' /dev/null ./ia64 Check examples/count.s
 try 'upper case before a number' 2 "$dir/nothing" 'perhaps: ia64 watch 7 < examples/count.s' /dev/null ./ia64 --Watch 7 examples/count.s
+try 'upper case before two numbers' 2 "$dir/nothing" 'perhaps: ia64 groups 100 3 < examples/swap.s' /dev/null ./ia64 Groups 100 3 examples/swap.s
+try 'upper case before a seed' 2 "$dir/nothing" 'perhaps: ia64 trial 1 100$' /dev/null ./ia64 Trial 7 100
 try 'an unknown word' 2 "$dir/nothing" "no command 'assemble'" /dev/null ./ia64 assemble
 ./ia64 --help > "$dir/help"
 try 'help' 0 "$dir/help" '' /dev/null ./ia64 --help
-for command in check 'run N' 'watch N' build show list wrap lift 'trial SEED'; do grep -q "^  $command " "$dir/help"; note $? "--help has no $command"; done
+for command in check 'run N' 'watch N' 'groups N' build show list wrap lift 'trial SEED'; do grep -q "^  $command " "$dir/help"; note $? "--help has no $command"; done
 try 'a refusal' 3 "$dir/magic" "'list' refused its input; the reason went to standard output" examples/call.s ./ia64 list
 head -c 16777217 /dev/zero > "$dir/too_long"
 try 'a long input' 4 "$dir/nothing" 'longer than 16,777,216 bytes' "$dir/too_long" ./ia64 check
@@ -122,6 +132,7 @@ export PATH=$dir/bin:$PATH
 try 'a first answer' 1 "$dir/raw" 'not built from .*: nothing is proved of this answer. ./build' examples/read_after_write.s "$outline/ia64" check
 try 'a first answer with a number' 0 "$dir/count" 'not built from' examples/count.s "$outline/ia64" run 100
 try 'a first answer that is watched' 0 "$dir/watched" 'not built from' examples/count.s "$outline/ia64" watch 100
+try 'a first answer all at once' 0 "$dir/count" 'not built from' examples/count.s "$outline/ia64" groups 100 18446744073709551615
 try 'no unproved answer' 125 "$dir/nothing" 'wants a proved one: call ./build' examples/count.s env IA64_PROVED=1 "$outline/ia64" check
 try 'no answer in time' 125 "$dir/accepted" 'gave no answer.*: call ./build' examples/count.s env ANSWERS=no-answer "$outline/ia64" check
 try 'no words and no program' 2 "$dir/nothing" 'a command is missing' /dev/null "$outline/ia64"

@@ -20,38 +20,25 @@ use Rattle.slot_effects.specs.declared.slot_effect.SlotEffect.{SlotEffect}
 use Rattle.machine_state.specs.Changes.{outcome_with}
 use Rattle.slot_table.specs.declared.slot.Slot.{Slot}
 use Rattle.slot_table.specs.Slots.{slot_of, slot_at}
+use Rattle.slot_table.proofs.SlotLaws.{slot_is, in_range}
 use Rattle.emulator.specs.declared.run.Run.{Run}
 use Rattle.emulator.specs.Outcomes.{outcome_of}
 use Rattle.emulator.specs.Progress.{state_of, progress_of, settled_step, arrived, IsHere}
 
--- a place of the bundles has a slot
-pub has_slot : (bundles : List Bundle) (place : Place) → IsPlaceOf bundles place → slot_at bundles place ≡ None → ⊥
-unfolding slot_at
-has_slot bundles place is e = of (insn_at bundles place) is e
-  where
-    of : (o : Option Insn) → IsSome o → option_map (slot_of bundles place) o ≡ None → ⊥
-    of None is e = absurd (cc)
-    of (Some insn) is e = cc
-
 here_of : (p : Program) (s : State) (insn : Insn) → IsProgram p → insn_at p.bundles s.place ≡ Some insn → IsHere p s (slot_of p.bundles s.place insn)
 here_of p s insn program at =
-    let inside = bundle_small p.bundles s.place (subst IsSome (sym at) refl) in
-    let most = program.counts.bundles in
+    let i = in_range p s.place insn program at in
     record {
-      bundle = omega (arith, inside, most);
-      ranges = form_ranges insn.op (ranges_of_listed insn (listed_at p s.place insn program at));
+      bundle = i.bundle;
+      ranges = i.ranges;
       next = refl;
       stop = refl;
       step = step_at p s insn at;
     }
 
 pub slot_here : (p : Program) (s : State) (slot : Slot) → IsProgram p → slot_at p.bundles s.place ≡ Some slot → IsHere p s slot
-unfolding slot_at
-slot_here p s slot program e = of (insn_at p.bundles s.place) refl e
-  where
-    of : (o : Option Insn) → insn_at p.bundles s.place ≡ o → option_map (slot_of p.bundles s.place) o ≡ Some slot → IsHere p s slot
-    of None at e = absurd (cc)
-    of (Some insn) at e = let same : slot_of p.bundles s.place insn ≡ slot = cc in subst (IsHere p s) same (here_of p s insn program at)
+slot_here p s slot program e =
+    let i = slot_is p.bundles s.place slot e in subst (IsHere p s) i.is (here_of p s i.insn program i.here)
 
 -- A run goes on to the next place, or to a bundle, with a change.
 pub falls_on : (r : Run) (p : Program) (o : SlotEffect) (next : Place) → r.end ≡ None → o.next ≡ Falls → Some next ≡ next_of p.bundles r.place

@@ -6,13 +6,14 @@ ghost use Rattle.ia_meaning.specs.Names.{look};
 ghost use Rattle.ia_meaning.specs.Moves.{predicate_word, application};
 ghost use Rattle.ia_meaning.specs.Progress.{begun, advanced, group_further, groups_further, end_of};
 ghost use Rattle.ia_meaning.specs.Runs.{event_further};
-ghost use Rattle.reg_stack.specs.declared.StackFault.TheVariants as fault;
+ghost use Rattle.frame_shapes.specs.declared.fault.StackFault.TheVariants as fault;
 ghost use Rattle.machine_state.specs.Contents.{stack_of};
 ghost use Rattle.emulator.specs.Execution.{Execution, contents};
 
 use crate::run::Run;
 use ia_insn::{Ar, Br, End, Gr, GroupEvent, Place, Program};
 use ia_meaning::Cell;
+use machine_state::MachineState;
 use nat_alat::{Alat, DataMem};
 use reg_stack::{Stack, StackFault};
 use slot_table::SlotTable;
@@ -74,6 +75,13 @@ impl<'a> Machine<'a> {
         ensures { result ≡ self.now.progress.state.place }
     {
         self.run.place
+    }
+
+    /// What the machine holds: the registers, with the register stack, and the memory.
+    pub fn state(&self) -> &MachineState
+        ensures { result.now ≡ contents self.now.progress }
+    {
+        &self.run.state
     }
 
     /// What a general register holds.

@@ -16,7 +16,7 @@ ghost use Rattle.emulator.specs.Outcomes.{outcome_of};
 ghost use Rattle.emulator.specs.Progress.{state_of, progress_of, settled_step, arrived, IsHere};
 
 use ia_insn::{End, FaultKind, GroupEvent, How, Place};
-use ia_meaning::Next;
+use ia_meaning::{Next, end_or};
 use machine_state::MachineState;
 use slot_effects::{Change, SlotEffect, effect};
 use slot_table::{Slot, SlotTable};
@@ -155,7 +155,7 @@ impl Run {
 
     /// The slot at the place of a run.
     #[inline(always)]
-    #[tactic(auto, using(crate::proofs::SlotSteps::has_slot))]
+    #[tactic(auto, using(slot_table::proofs::SlotLaws::not_place))]
     fn slot<'t>(&self, table: &'t SlotTable) -> &'t Slot
         requires program { IsProgram table.now }
         requires place { IsPlaceOf table.now.bundles self.now.place }
@@ -266,9 +266,6 @@ impl Run {
     pub fn ending(&self) -> End
         ensures { result ≡ end_of (progress_of self.now) }
     {
-        match self.end {
-            Some(end) => end,
-            None => End::Limit { place: self.place },
-        }
+        end_or(self.end, self.place)
     }
 }

@@ -10,7 +10,9 @@ use Rattle.ia_insn.specs.Places.{insn_at, IsBefore}
 use Rattle.ia_insn.specs.Programs.{Program}
 use Rattle.ia_meaning.specs.declared.state.FrameShape.{FrameShape}
 use Rattle.ia_meaning.specs.State.{Registers, IsFrame}
-use Rattle.ia_meaning.specs.Writes.{Write as RegisterWrite, SetStatic, SetCell, SetPredicate, SetUnat, put, apply}
+use Rattle.ia_meaning.specs.declared.write.Write.{Write as RegisterWrite}
+use Rattle.ia_meaning.specs.declared.write.Write.TheVariants.{SetStatic, SetCell, SetPredicate, SetUnat}
+use Rattle.ia_meaning.specs.Writes.{put, apply}
 use Rattle.ia_meaning.specs.Names.{is_rotating, holds, predicate_place}
 use Rattle.ia_meaning.specs.Outcomes.{Outcome}
 use Rattle.ia_meaning.specs.Steps.{with_bit, spilled, registers_after}
@@ -31,7 +33,8 @@ use Rattle.group_checker.specs.Excuses.{accesses_in, accesses_at}
 use Rattle.group_checker.proofs.Falling.{before_trans, not_before_itself}
 use Rattle.group_checker.specs.OrderLaws.{Fits, FitTogether, IsInside}
 use Rattle.ia_meaning.specs.ParallelGroups.{unat_after}
-use Rattle.group_checker.proofs.Untouched.{SameAt, Mem, each_mem, each_map, each_append, apply_append, TouchedBy, same_apply}
+use Rattle.ia_meaning.proofs.WriteLists.{apply_append}
+use Rattle.group_checker.proofs.Untouched.{SameAt, Mem, each_mem, each_map, each_append, TouchedBy, same_apply}
 use Rattle.resource_sets.proofs.Locations.{resource_once}
 use Rattle.group_checker.proofs.Gathering.{joined, access_to, IsStillOne, MayBeWrittenSince, EarlierAccess, IsPlain, change_of, EarlierWrite, Spilled, IsGathering, ClashesWithNone, no_clash, no_touch, frame_same, fill_same}
 

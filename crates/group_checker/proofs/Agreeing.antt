@@ -8,7 +8,8 @@ use Rattle.ia_insn.specs.Programs.{Program, IsProgram}
 use Rattle.ia_meaning.specs.declared.next.Next.{Next as NextWay}
 use Rattle.ia_meaning.specs.declared.next.Next.TheVariants as next
 use Rattle.ia_meaning.specs.State.{State}
-use Rattle.ia_meaning.specs.Writes.{Write, apply}
+use Rattle.ia_meaning.specs.declared.write.Write.{Write}
+use Rattle.ia_meaning.specs.Writes.{apply}
 use Rattle.ia_meaning.specs.Outcomes.{Outcome}
 use Rattle.ia_meaning.specs.Sequence.{next_of, is_stopped}
 use Rattle.ia_meaning.specs.Steps.{place_after, outcome_of, Step, step_by, seq_step}

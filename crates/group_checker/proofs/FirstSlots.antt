@@ -15,7 +15,10 @@ use Rattle.ia_meaning.specs.declared.state.AlatKey.TheVariants.{Static, Stacked}
 use Rattle.ia_meaning.specs.declared.form.Form.{Form}
 use Rattle.ia_meaning.specs.declared.form.Form.TheVariants as form
 use Rattle.ia_meaning.specs.State.{Registers, Memory, State, IsFrame}
-use Rattle.ia_meaning.specs.Writes.{Write as RegisterWrite, SetStatic, SetCell, SetFrame, Resized, put, apply, frame_changes}
+use Rattle.ia_meaning.specs.declared.write.Write.{Write as RegisterWrite}
+use Rattle.ia_meaning.specs.declared.write.Write.TheVariants.{SetStatic, SetCell, SetFrame}
+use Rattle.ia_meaning.specs.declared.write.FrameCause.TheVariants.{Resized}
+use Rattle.ia_meaning.specs.Writes.{put, apply, frame_changes}
 use Rattle.ia_meaning.specs.Names.{set_spot, holds, predicate_place}
 use Rattle.ia_meaning.specs.Actions.{is_branch, is_alloc, insn_form}
 use Rattle.ia_meaning.specs.Outcomes.{Outcome}
@@ -41,7 +44,7 @@ use Rattle.group_checker.specs.OrderLaws.{FitTogether, IsInside}
 use Rattle.ia_meaning.specs.ParallelGroups.{gathered_from, slot_outcome, frame_ahead, after_frame, unat_after, gathers, gathered_by, gathered_within}
 use Rattle.group_checker.proofs.Untouched.{Mem, each_of}
 use Rattle.group_checker.proofs.Gathering.{joined, IsStillOne, IsPlain, EarlierWrite, IsGathering}
-use Rattle.group_checker.proofs.Seeing.{view_plain}
+use Rattle.ia_meaning.proofs.Views.{view_plain}
 use Rattle.group_checker.proofs.Advancing.{has_here, rotating_fits}
 use Rattle.group_checker.proofs.GroupOrders.{added, IsGroupOnWalk, Joins, From, slot_is, plain_step, plain_joins, rest_is, ordered, frames_append}
 

@@ -10,7 +10,8 @@ use Rattle.ia_meaning.specs.declared.state.FrameShape.{FrameShape}
 use Rattle.ia_meaning.specs.declared.state.AlatKey.{AlatKey as Spot}
 use Rattle.ia_meaning.specs.declared.state.AlatKey.TheVariants.{Static, Stacked}
 use Rattle.ia_meaning.specs.State.{Registers, IsFrame}
-use Rattle.ia_meaning.specs.Writes.{Write as RegisterWrite, apply}
+use Rattle.ia_meaning.specs.declared.write.Write.{Write as RegisterWrite}
+use Rattle.ia_meaning.specs.Writes.{apply}
 use Rattle.ia_meaning.specs.Names.{is_stacked, is_rotating, frame_place, spot, cell_at, look, holds, predicate_place}
 use Rattle.resource_sets.specs.declared.access.Resource.{Resource}
 use Rattle.resource_sets.specs.declared.access.Resource.TheVariants.{Gr, Pr, Br, Unat, Pfs, Lc, Ec, Cfm}

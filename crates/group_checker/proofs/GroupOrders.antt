@@ -13,7 +13,10 @@ use Rattle.ia_insn.specs.Programs.{Program, IsProgram}
 use Rattle.ia_meaning.specs.declared.next.Next.{Next as NextWay}
 use Rattle.ia_meaning.specs.declared.next.Next.TheVariants as next
 use Rattle.ia_meaning.specs.State.{Registers, Memory, State, IsFrame}
-use Rattle.ia_meaning.specs.Writes.{Write, SetFrame, Resized, Renamed, frame_changes}
+use Rattle.ia_meaning.specs.declared.write.Write.{Write}
+use Rattle.ia_meaning.specs.declared.write.Write.TheVariants.{SetFrame}
+use Rattle.ia_meaning.specs.declared.write.FrameCause.TheVariants.{Resized, Renamed}
+use Rattle.ia_meaning.specs.Writes.{frame_changes}
 use Rattle.ia_meaning.specs.Outcomes.{Outcome}
 use Rattle.ia_meaning.specs.Effects.{site, effect}
 use Rattle.ia_meaning.specs.Sequence.{first_of, next_of, is_stopped}

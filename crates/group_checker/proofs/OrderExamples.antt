@@ -3,7 +3,7 @@ use Rattle.std.proofs.Common.{◌≡◌, true, refl, ap, inl, ◌∷◌, [], ari
 use Rattle.ia_insn.specs.Places.{insn_at}
 use Rattle.ia_meaning.specs.declared.state.Cell.{Cell}
 use Rattle.ia_meaning.specs.State.{IsStart, zero_registers}
-use Rattle.ia_meaning.specs.Writes.{SetPredicate}
+use Rattle.ia_meaning.specs.declared.write.Write.TheVariants.{SetPredicate}
 use Rattle.ia_meaning.specs.Names.{look, spot, holds, frame_place, predicate_place, predicate_spot}
 use Rattle.ia_meaning.specs.Sequence.{next_of, is_stopped}
 use Rattle.ia_meaning.specs.Landings.{is_entry, landing}

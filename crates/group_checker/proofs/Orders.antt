@@ -4,7 +4,10 @@ use Rattle.std.specs.List.{AllByRecursion as Each}
 use Rattle.std.proofs.lemmas.List.{length-set}
 use Rattle.ia_meaning.specs.declared.state.Cell.{Cell}
 use Rattle.ia_meaning.specs.State.{Registers}
-use Rattle.ia_meaning.specs.Writes.{Write, SetStatic, SetCell, SetPredicate, SetBranch, SetUnat, SetPfs, SetLc, SetEc, SetFrame, Resized, Renamed, put, apply, resized, frame_changes}
+use Rattle.ia_meaning.specs.declared.write.Write.{Write}
+use Rattle.ia_meaning.specs.declared.write.Write.TheVariants.{SetStatic, SetCell, SetPredicate, SetBranch, SetUnat, SetPfs, SetLc, SetEc, SetFrame}
+use Rattle.ia_meaning.specs.declared.write.FrameCause.TheVariants.{Resized, Renamed}
+use Rattle.ia_meaning.specs.Writes.{put, apply, resized, frame_changes}
 use Rattle.resource_sets.specs.AccessLaws.{StaticAt, CellAt, PredicateAt, BranchAt, TheFrame, location}
 use Rattle.ia_meaning.specs.WriteOrders.{item_at, others, head_of, tail_of, arranged_within, arranged}
 use Rattle.group_checker.proofs.Untouched.{each_map}

@@ -13,7 +13,9 @@ use Rattle.ia_meaning.specs.declared.form.Form.{Form}
 use Rattle.ia_meaning.specs.declared.form.Form.TheVariants as form
 use Rattle.ia_meaning.specs.declared.form.Goal.TheVariants.{Direct, Indirect}
 use Rattle.ia_meaning.specs.State.{Registers, Memory}
-use Rattle.ia_meaning.specs.Writes.{Write as RegisterWrite, SetStatic, SetUnat, put, apply}
+use Rattle.ia_meaning.specs.declared.write.Write.{Write as RegisterWrite}
+use Rattle.ia_meaning.specs.declared.write.Write.TheVariants.{SetStatic, SetUnat}
+use Rattle.ia_meaning.specs.Writes.{put, apply}
 use Rattle.ia_meaning.specs.Names.{is_rotating, holds, predicate_place}
 use Rattle.ia_meaning.specs.Effects.{Site, effect}
 use Rattle.resource_sets.specs.declared.access.Resource.{Resource}
@@ -25,6 +27,7 @@ use Rattle.resource_sets.specs.AccessLaws.{PredicateAt, location, location_of, S
 use Rattle.ia_meaning.specs.Actions.{is_branch, is_indirect, is_alloc, insn_form}
 use Rattle.resource_sets.specs.Regularity.{HasNamedAccess, IsPredicate, IsCountOrFrame, GoesBy, IsRegular, IsInRange}
 use Rattle.ia_meaning.proofs.PredicatePlaces.{holds_zero, place_some}
+use Rattle.ia_meaning.proofs.Views.{seen_at, length_seen, view_plain}
 use Rattle.resource_sets.proofs.Dependence.{place_same, depends}
 use Rattle.resource_sets.proofs.Regularity.{regular, guards, named_accesses, in_range, agree_by}
 use Rattle.ia_meaning.specs.Views.{sees_guard, sees_static, sees_predicate, sees_branch, sees_pfs, seen_in, view}
@@ -40,26 +43,6 @@ apply_unat (SetUnat v ∷ ws) r u = apply_unat ws (record r { unat = v }) v
 apply_unat (SetStatic n c ∷ ws) r u = apply_unat ws (put (SetStatic n c) r) u
 apply_unat (w ∷ ws) r u = apply_unat ws (put w r) u
 
--- where nothing is seen the list is the start's
-seen_none : {X : Type 0} (sees : ℕ → Bool) → ((n : ℕ) → sees n ≡ false) → (n : ℕ) (base now : List X) → seen_in sees n base now ≡ base
-seen_none sees h n [] now = refl
-seen_none sees h n (x ∷ base) [] = refl
-seen_none sees h n (x ∷ base) (y ∷ now) = rw (h n, seen_none sees h (suc n) base now) refl
-
-same_choice : {X : Type 0} (b : Bool) (d : X) → d ≡ (if b then d else d)
-same_choice true d = refl
-same_choice false d = refl
-
--- an item of the list is that of one of the two
-seen_at : {X : Type 0} (sees : ℕ → Bool) (n k : ℕ) (base now : List X) (d : X) → length now ≡ length base → get_or (seen_in sees n base now) k d ≡ (if sees (n + k) then get_or now k d else get_or base k d)
-seen_at sees n k [] [] d e = same_choice (sees (n + k)) d
-seen_at sees n k [] (y ∷ now) d e = absurd (omega arith)
-seen_at sees n k (x ∷ base) [] d e = absurd (omega arith)
-seen_at sees n zero (x ∷ base) (y ∷ now) d e = let same : n + 0 ≡ n = omega arith in rw same refl
-seen_at sees n (suc k) (x ∷ base) (y ∷ now) d e =
-    let same : n + suc k ≡ suc n + k = omega arith in
-    seen_at sees (suc n) k base now d (omega arith) ∙ ap (λ i. if sees i then get_or now k d else get_or base k d) (sym same)
-
 -- what is seen is as earlier slots left it
 seen_here : {X : Type 0} (sees : ℕ → Bool) (k : ℕ) (base now : List X) (d : X) → length now ≡ length base → sees k ≡ true → get_or (seen_in sees 0 base now) k d ≡ get_or now k d
 seen_here sees k base now d e h =
@@ -71,11 +54,6 @@ same_choices : {X : Type 0} (b : Bool) (x y z : X) → x ≡ z → y ≡ z → (
 same_choices true x y z e f = e
 same_choices false x y z e f = f
 
-length_seen : {X : Type 0} (sees : ℕ → Bool) (n : ℕ) (base now : List X) → length (seen_in sees n base now) ≡ length base
-length_seen sees n [] now = refl
-length_seen sees n (x ∷ base) [] = refl
-length_seen sees n (x ∷ base) (y ∷ now) = ap suc (length_seen sees (suc n) base now)
-
 -- lists with the same first items
 take_same : {X : Type 0} (d : X) (n : ℕ) (xs ys : List X) → length xs ≡ length ys → ((k : ℕ) → k < n → get_or xs k d ≡ get_or ys k d) → take n xs ≡ take n ys
 take_same d n xs ys e same = ext_get_or d (take n xs) (take n ys) (length-take n xs ∙ ap (min n) e ∙ sym (length-take n ys))
@@ -85,35 +63,6 @@ take_same d n xs ys e same = ext_get_or d (take n xs) (take n ys) (length-take n
 
 sees_itself : (n : ℕ) → (n == n) ≡ true
 sees_itself n = grind (arith, nat_tests)
-
--- what is no branch sees nothing of earlier slots
-sees_no_branch : (f : Form) (b : ℕ) → is_branch f ≡ false → sees_branch f b ≡ false
-sees_no_branch (form.JumpIndirect b2) b e = absurd (true≢false e)
-sees_no_branch (form.Call b1 goal) b e = absurd (true≢false e)
-sees_no_branch (form.Return b2) b e = absurd (true≢false e)
-sees_no_branch f b e = refl
-
-sees_no_pfs : (f : Form) → is_branch f ≡ false → sees_pfs f ≡ false
-sees_no_pfs (form.Return b2) e = absurd (true≢false e)
-sees_no_pfs f e = refl
-
-sees_no_static : (f : Form) (n : ℕ) → is_branch f ≡ false → sees_static f n ≡ false
-sees_no_static (form.JumpIndirect b2) n e = absurd (true≢false e)
-sees_no_static (form.Call b1 goal) n e = absurd (true≢false e)
-sees_no_static (form.Return b2) n e = absurd (true≢false e)
-sees_no_static f n e = refl
-
-sees_no_predicate : (insn : Insn) (f : FrameShape) (n : ℕ) → is_branch (insn_form insn) ≡ false → sees_predicate insn f n ≡ false
-sees_no_predicate insn f n e = ap (λ b. (b && (n == predicate_place f insn.qp)) || sees_static (insn_form insn) n) e ∙ sees_no_static (insn_form insn) n e
-
-pub view_plain : (insn : Insn) (now base : Registers) → is_branch (insn_form insn) ≡ false → view insn now base ≡ base
-view_plain insn now base e =
-    let predicates = seen_none (sees_predicate insn base.frame) (λ n. sees_no_predicate insn base.frame n e) 0 base.predicates now.predicates in
-    let branches = seen_none (sees_branch (insn_form insn)) (λ n. sees_no_branch (insn_form insn) n e) 0 base.branches now.branches in
-    let pfs = ap (λ b. if b then now.pfs else base.pfs) (sees_no_pfs (insn_form insn) e) in
-    ap (λ l. record base { predicates = l; branches = seen_in (sees_branch (insn_form insn)) 0 base.branches now.branches; pfs = if sees_pfs (insn_form insn) then now.pfs else base.pfs }) predicates
-    ∙ ap (λ l. record base { branches = l; pfs = if sees_pfs (insn_form insn) then now.pfs else base.pfs }) branches
-    ∙ ap (λ x. record base { pfs = x }) pfs
 
 -- an item that isn't seen is the start's
 seen_other : {X : Type 0} (sees : ℕ → Bool) (n k : ℕ) (base now : List X) (d : X) → sees (n + k) ≡ false → get_or (seen_in sees n base now) k d ≡ get_or base k d

@@ -5,7 +5,9 @@ use Rattle.std.specs.List.{AllByRecursion as Each}
 use Rattle.std.proofs.lemmas.Bool.{cases_eq}
 use Rattle.std.proofs.lemmas.List.{length-set}
 use Rattle.ia_meaning.specs.State.{zero_cell, Registers}
-use Rattle.ia_meaning.specs.Writes.{Write, SetStatic, SetCell, SetPredicate, SetBranch, SetUnat, SetPfs, SetLc, SetEc, SetFrame, put, apply}
+use Rattle.ia_meaning.specs.declared.write.Write.{Write}
+use Rattle.ia_meaning.specs.declared.write.Write.TheVariants.{SetStatic, SetCell, SetPredicate, SetBranch, SetUnat, SetPfs, SetLc, SetEc, SetFrame}
+use Rattle.ia_meaning.specs.Writes.{put, apply}
 use Rattle.resource_sets.specs.AccessLaws.{Location, StaticAt, CellAt, PredicateAt, BranchAt, TheUnat, ThePfs, TheLc, TheEc, TheFrame, location}
 use Rattle.group_checker.specs.OrderLaws.{Fits, FitTogether}
 
@@ -37,10 +39,6 @@ each_append P (x ∷ xs) ys h k = (h.0, each_append P xs ys h.1 k)
 pub each_map : {X : Type 0} (P Q : X → Type 0) → ((x : X) → P x → Q x) → (xs : List X) → Each P xs → Each Q xs
 each_map P Q f [] h = tt
 each_map P Q f (x ∷ xs) h = (f x h.0, each_map P Q f xs h.1)
-
-pub apply_append : (ws vs : List Write) (r : Registers) → apply (ws ++ vs) r ≡ apply vs (apply ws r)
-apply_append [] vs r = refl
-apply_append (w ∷ ws) vs r = apply_append ws vs (put w r)
 
 -- a write that changes what stands at a target: the target's own, and for a cell that of the frame
 abbrev pub Touches : Location → Write → Type 0

@@ -22,7 +22,8 @@ use Rattle.ia_insn.specs.Programs.{Program}
 use Rattle.ia_meaning.specs.declared.next.Next.TheVariants as next
 use Rattle.ia_meaning.specs.declared.state.Cell.{Cell}
 use Rattle.ia_meaning.specs.State.{zero_cell, zero_registers, Registers, State, zero_state}
-use Rattle.ia_meaning.specs.Writes.{SetStatic, SetEc, SetFrame, Resized}
+use Rattle.ia_meaning.specs.declared.write.Write.TheVariants.{SetStatic, SetEc, SetFrame}
+use Rattle.ia_meaning.specs.declared.write.FrameCause.TheVariants.{Resized}
 use Rattle.ia_meaning.specs.Frames.{marked_frame}
 use Rattle.ia_meaning.specs.Outcomes.{Outcome}
 use Rattle.ia_meaning.specs.Steps.{seq_group, seq_run}

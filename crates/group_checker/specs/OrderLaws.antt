@@ -4,7 +4,9 @@ use Rattle.std.specs.Prelude.{◌≡◌, ◌≢◌, ◌⊎◌, ℕ, ◌<◌, Lis
 use Rattle.std.specs.List.{AllByRecursion as Each}
 use Rattle.ia_insn.specs.Programs.{Program, IsProgram}
 use Rattle.ia_meaning.specs.State.{Registers, State, IsStart}
-use Rattle.ia_meaning.specs.Writes.{Write, SetCell, apply, frame_changes}
+use Rattle.ia_meaning.specs.declared.write.Write.{Write}
+use Rattle.ia_meaning.specs.declared.write.Write.TheVariants.{SetCell}
+use Rattle.ia_meaning.specs.Writes.{apply, frame_changes}
 use Rattle.ia_meaning.specs.Steps.{seq_group, seq_run}
 use Rattle.ia_meaning.specs.WriteOrders.{arranged}
 use Rattle.ia_meaning.specs.ParallelGroups.{par_group}

@@ -8,7 +8,7 @@ use Rattle.ia64_top.specs.declared.limits.TheConstants.{INPUT_LIMIT}
 use Rattle.io_seam.specs.Bytes.{LosesFirst}
 use Rattle.ia64_top.specs.declared.words.Command.{Command}
 use Rattle.ia64_top.specs.declared.words.Command.TheVariants as command
-use Rattle.ia64_top.specs.declared.words.Command.TheVariants.{Check, Run, Watch, Trial}
+use Rattle.ia64_top.specs.declared.words.Command.TheVariants.{Check, Run, Watch, Groups, Trial}
 use Rattle.ia64_top.specs.declared.status.Status.{Status}
 use Rattle.ia64_top.specs.declared.status.Status.TheVariants.{Words, Done, Violated, Refused, TooLong, Limit, Faulted}
 use Rattle.ia64_top.specs.Words.{command_of, Judges, groups_of, IsTrial, IsWatch}
@@ -46,7 +46,7 @@ output_within (Trial seed bundles) ws all read bytes status is within o = o
 output_within command ws all read bytes status is within o =
     subst (λ i. MatchBool (is_too_long command i) (IsSilent TooLong bytes status) (IsCommandOutput command ws i bytes status)) is (rw (le-ltb INPUT_LIMIT (length read) within) o)
 
-output_of : (words : List (List ℕ)) (command : Command) (ws : List WatchState) (all read bytes : List ℕ) (status : Status) → command_of words ≡ Some command → IsReadOf command read all → length read ≤ INPUT_LIMIT → IsCommandOutput command ws read bytes status → IsOutput words ws all bytes status
+pub output_of : (words : List (List ℕ)) (command : Command) (ws : List WatchState) (all read bytes : List ℕ) (status : Status) → command_of words ≡ Some command → IsReadOf command read all → length read ≤ INPUT_LIMIT → IsCommandOutput command ws read bytes status → IsOutput words ws all bytes status
 output_of words command ws all read bytes status e is within o = rw e (output_within command ws all read bytes status is within o)
 
 -- A longer input is too long, where it is read.
@@ -185,6 +185,24 @@ cut_within words command (Some l) old now input e whole h =
     let read : input ≡ l = subst (λ k. IsReadOf k input l) is whole in
     subst (λ i. HaveWatchedPart groups i old now) read (h groups is)
 
+-- What is told of the program that `groups` reads.
+abbrev pub TellsOfGroups : List (List ℕ) → (ℕ → ℕ → Program → Type 0) → List ℕ → Type 0
+TellsOfGroups words Tells input =
+    (groups number : ℕ) → command_of words ≡ Some (Groups groups number) → OfProgram (Tells groups number) input
+
+pub groups_beyond : ImageSize → (words : List (List ℕ)) (Tells : List ℕ → ℕ → ℕ → Program → Type 0) (left : Option (List ℕ)) → IfSome left (λ l. INPUT_LIMIT < length l) → IfSome left (λ l. TellsOfGroups words (Tells l) l)
+groups_beyond size words Tells None h = tt
+groups_beyond size words Tells (Some l) h = λ groups number e. none_beyond size (Tells l groups number) l h
+
+pub groups_within : (words : List (List ℕ)) (command : Command) (Tells : List ℕ → ℕ → ℕ → Program → Type 0) (left : Option (List ℕ)) (input : List ℕ) → command_of words ≡ Some command → IfSome left (IsReadOf command input)
+    → ((groups number : ℕ) → command ≡ Groups groups number → (p : Program) → as_either.Gives input p → Tells input groups number p) → IfSome left (λ l. TellsOfGroups words (Tells l) l)
+groups_within words command Tells None input e whole h = tt
+groups_within words command Tells (Some l) input e whole h =
+    λ groups number f.
+    let is = same_command words command (Groups groups number) e f in
+    let read : input ≡ l = subst (λ k. IsReadOf k input l) is whole in
+    of_whole (Tells l groups number) l input read (subst (λ i. (p : Program) → as_either.Gives input p → Tells i groups number p) read (h groups number is))
+
 -- Where no accepted program was read nothing was run.
 ran_nothing : (text : WholeRun → List ℕ) (groups : ℕ) (input bytes : List ℕ) (status : Status) → IsRunAs text groups as_either input bytes status → IsNotRun input → RanNothing status
 ran_nothing text groups input bytes Done o none = absurd (none o.0 o.1 (o.2).free)
@@ -222,6 +240,7 @@ not_too_long command.Lift ws input bytes o = o
 not_too_long Check ws input bytes o = o
 not_too_long (Run groups) ws input bytes o = o
 not_too_long (Watch groups) ws input bytes o = o
+not_too_long (Groups groups number) ws input bytes o = o
 not_too_long (Trial seed bundles) ws input bytes o = o
 
 pub read_whole : (P : Type 0) (command : Command) (ws : List WatchState) (left new : Option (List ℕ)) (input bytes : List ℕ) (status : Status) → ¬ P → IfSome left (λ l. P ↔ LosesFirst (INPUT_LIMIT + 1) l new) → IsCommandOutput command ws input bytes status → IfSome left (λ l. (status ≡ TooLong) ↔ LosesFirst (INPUT_LIMIT + 1) l new)

@@ -18,7 +18,7 @@ use Rattle.ia_meaning.specs.Runs.{run_text}
 use Rattle.watch_seam.specs.Watchers.{WatchState}
 use Rattle.ia64_top.specs.declared.limits.TheConstants.{INPUT_LIMIT}
 use Rattle.ia64_top.specs.declared.words.Command.{Command}
-use Rattle.ia64_top.specs.declared.words.Command.TheVariants.{Build, Show, List as Listing, Wrap, Lift, Check, Run, Watch, Trial}
+use Rattle.ia64_top.specs.declared.words.Command.TheVariants.{Build, Show, List as Listing, Wrap, Lift, Check, Run, Watch, Groups, Trial}
 use Rattle.ia64_top.specs.declared.status.Status.{Status}
 use Rattle.ia64_top.specs.declared.status.Status.TheVariants.{Done, Violated, Refused, NoMemory, Limit, Faulted}
 use Rattle.ia64_top.specs.Words.{command_of, IsTrial}
@@ -29,7 +29,7 @@ use Rattle.ia64_top.specs.Judgements.{verdict_status, IsJudgement, PrintsClashes
 use Rattle.ia64_top.specs.Runs.{watch_text}
 use Rattle.ia64_top.specs.Trials.{IsTrialOutput}
 use Rattle.ia64_top.specs.Readings.{Reading, as_image, as_bundles, as_text, as_either}
-use Rattle.ia64_top.specs.Output.{IsCanonical, IsMadeOutput, IsCheckedAs, IsRunAs, IsCommandOutput, IsProgramOf, IsUnreadable, is_too_long, GivesClashes}
+use Rattle.ia64_top.specs.Output.{IsCanonical, IsMadeOutput, IsCheckedAs, IsRunAs, IsNumberedRunAs, IsCommandOutput, IsProgramOf, IsUnreadable, is_too_long, GivesClashes}
 use Rattle.ia64_top.proofs.Outputs.{GivesOne, RefusesNone, image_refuses_none, bundles_refuse_none, text_refuses_none, either_refuses_none}
 use Rattle.ia64_top.proofs.Answering.{same_command}
 
@@ -57,6 +57,13 @@ run_so text groups r input bytes Faulted o = inl (o.0, o.1, tt)
 run_so text groups r input bytes Refused o = inr (bytes, o, refl)
 run_so text groups r input bytes status o = absurd o
 
+numbered_run_so : (groups number : ℕ) (r : Reading) (input bytes : List ℕ) (status : Status) → IsNumberedRunAs groups number r input bytes status → IsAnsweredAs r input status
+numbered_run_so groups number r input bytes Done o = inl (o.0, o.1, tt)
+numbered_run_so groups number r input bytes Limit o = inl (o.0, o.1, tt)
+numbered_run_so groups number r input bytes Faulted o = inl (o.0, o.1, tt)
+numbered_run_so groups number r input bytes Refused o = inr (bytes, o, refl)
+numbered_run_so groups number r input bytes status o = absurd o
+
 -- What is refused is read as no program, and nothing else is; of a program that is read something is told.
 pub record HasCause (Gives : Program → Type 0) (status : Status) : Type 0 where
   pub refused : (status ≡ Refused) ↔ ((p : Program) → ¬ Gives p)
@@ -81,6 +88,7 @@ cause spelled raw read Lift ws input bytes status o = cause_of as_image (image_r
 cause spelled raw read Check ws input bytes status o = cause_of as_either (either_refuses_none spelled read) input status (checked_so as_either input bytes status o)
 cause spelled raw read (Run groups) ws input bytes status o = cause_of as_either (either_refuses_none spelled read) input status (run_so run_text groups as_either input bytes status o)
 cause spelled raw read (Watch groups) ws input bytes status o = cause_of as_either (either_refuses_none spelled read) input status (run_so (watch_text ws) groups as_either input bytes status o)
+cause spelled raw read (Groups groups number) ws input bytes status o = cause_of as_either (either_refuses_none spelled read) input status (numbered_run_so groups number as_either input bytes status o)
 cause spelled raw read (Trial seed bundles) ws input bytes status o =
     let of = of_trial seed bundles bytes status o in
     record { refused = (λ e. absurd (subst TellsOfProgram e of), λ n. absurd (n (trial_program seed bundles) refl)); served = λ p g. of }

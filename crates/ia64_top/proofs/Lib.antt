@@ -4,8 +4,9 @@ mod Printing
 mod Outputs
 mod Judging
 mod Running
-mod OneOutput
 mod Answering
+mod NumberedRuns
+mod OneOutput
 mod Causes
 mod Trying
 mod Sums

@@ -30,6 +30,7 @@ use Rattle.ia64_top.specs.Output.{IsCanonical, IsMadeOutput, IsSilent, IsCommand
 use Rattle.ia64_top.proofs.Outputs.{GivesOne, RefusesNone, IsTold, either_gives_one, either_refuses_none, image_refuses_none, bundles_refuse_none, text_refuses_none}
 use Rattle.ia64_top.proofs.Judging.{violated_of_judgement, told_of_check}
 use Rattle.ia64_top.proofs.Running.{IsRunAnswer, told_of_run}
+use Rattle.ia64_top.proofs.NumberedRuns.{IsNumberedRunAnswer, told_of_numbered_run}
 
 -- An input is refused in one way.
 abbrev pub RefusesOne : Reading → Type 0
@@ -120,6 +121,10 @@ one_run one text groups p mine bytes status other (inl m) (inr o) = absurd ((vio
 one_run one text groups p mine bytes status other (inr m) (inl o) = absurd ((violated_of_judgement p mine status m.0).0 m.1 o.free)
 one_run one text groups p mine bytes status other (inr m) (inr o) = one_judgement one p mine bytes status other m.0 o.0
 
+-- So is the run of a program in the order with a number.
+one_numbered_run : (groups number : ℕ) → TellsOne (IsNumberedRunAnswer groups number)
+one_numbered_run groups number p mine bytes status other m o = (o.printed ∙ sym m.printed, o.ends ∙ sym m.ends)
+
 -- And so is what `trial` writes.
 one_trial : OneVerdict → (seed bundles : ℕ) (mine bytes : List ℕ) (status other : Status) → IsTrialOutput seed bundles mine status → IsTrialOutput seed bundles bytes other → (bytes ≡ mine) × (other ≡ status)
 one_trial one seed bundles mine bytes Done other m o = after_done other o
@@ -171,6 +176,9 @@ one_command_output one (command.Run groups) ws input mine bytes status other m o
 one_command_output one (command.Watch groups) ws input mine bytes status other m o =
     one_told as_either (IsRunAnswer (watch_text ws) groups) (one_run one.judged (watch_text ws) groups) one.either input mine bytes status other
     (told_of_run (watch_text ws) groups as_either input mine status m) (told_of_run (watch_text ws) groups as_either input bytes other o)
+one_command_output one (command.Groups groups number) ws input mine bytes status other m o =
+    one_told as_either (IsNumberedRunAnswer groups number) (one_numbered_run groups number) one.either input mine bytes status other
+    (told_of_numbered_run groups number as_either input mine status m) (told_of_numbered_run groups number as_either input bytes other o)
 one_command_output one (command.Trial seed bundles) ws input mine bytes status other m o = one_trial one.judged seed bundles mine bytes status other m o
 
 one_silent : (s : Status) (mine bytes : List ℕ) (status other : Status) → IsSilent s mine status → IsSilent s bytes other → (bytes ≡ mine) × (other ≡ status)

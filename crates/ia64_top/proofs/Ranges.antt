@@ -5,7 +5,7 @@ use Rattle.ia64_top.specs.declared.limits.TheConstants.{GROUP_LIMIT, TRIAL_LIMIT
 use Rattle.ia64_top.specs.declared.words.Command.{Command}
 use Rattle.ia64_top.specs.declared.words.Command.TheVariants.{Build, Show, List as Listing, Wrap, Lift, Check, Run, Watch}
 use Rattle.ia64_top.specs.Numbers.{number_between}
-use Rattle.ia64_top.specs.Words.{trial_command, command_of, HasNumbersInRange}
+use Rattle.ia64_top.specs.Words.{groups_command, trial_command, command_of, HasNumbersInRange}
 use Rattle.ia64_top.proofs.Numerals.{IsNumeralOf, numeral_of_number}
 
 -- what a number that was found in a range is
@@ -43,22 +43,30 @@ run_if true watch groups = run_of groups (number_between 1 GROUP_LIMIT groups) (
 run_if false true groups = watch_of groups (number_between 1 GROUP_LIMIT groups) (found_is 1 GROUP_LIMIT groups _ refl)
 run_if false false groups = tt
 
+groups_of : (groups : List ℕ) (found number : Option ℕ) → IsFound 1 GROUP_LIMIT groups found → InRange (groups_command found number)
+groups_of groups None number is = tt
+groups_of groups (Some n) None is = tt
+groups_of groups (Some n) (Some k) is = (is.0, is.1)
+
 trial_of : (bundles : List ℕ) (seed found : Option ℕ) → IsFound 1 TRIAL_LIMIT bundles found → InRange (trial_command seed found)
 trial_of bundles None found is = tt
 trial_of bundles (Some s) None is = tt
 trial_of bundles (Some s) (Some n) is = (is.0, is.1)
 
-trial_if : (named : Bool) (seed bundles : List ℕ) → InRange (if named then trial_command (number_between 0 (2 ^ 64 - 1) seed) (number_between 1 TRIAL_LIMIT bundles) else None)
-trial_if true seed bundles =
-    trial_of bundles (number_between 0 (2 ^ 64 - 1) seed) (number_between 1 TRIAL_LIMIT bundles) (found_is 1 TRIAL_LIMIT bundles _ refl)
-trial_if false seed bundles = tt
+groups_if : (groups trial : Bool) (first second : List ℕ)
+    → InRange (if groups then groups_command (number_between 1 GROUP_LIMIT first) (number_between 0 (2 ^ 64 - 1) second) else if trial then trial_command (number_between 0 (2 ^ 64 - 1) first) (number_between 1 TRIAL_LIMIT second) else None)
+groups_if true trial first second =
+    groups_of first (number_between 1 GROUP_LIMIT first) (number_between 0 (2 ^ 64 - 1) second) (found_is 1 GROUP_LIMIT first _ refl)
+groups_if false true first second =
+    trial_of second (number_between 0 (2 ^ 64 - 1) first) (number_between 1 TRIAL_LIMIT second) (found_is 1 TRIAL_LIMIT second _ refl)
+groups_if false false first second = tt
 
 words_in_range : (words : List (List ℕ)) → InRange (command_of words)
 words_in_range [] = tt
 words_in_range (word ∷ []) = word_alone (bytes_eq word (codes "build")) (bytes_eq word (codes "show")) (bytes_eq word (codes "list")) (bytes_eq word (codes "wrap")) (bytes_eq word (codes "lift")) (bytes_eq word (codes "check"))
 words_in_range (word ∷ groups ∷ []) = run_if (bytes_eq word (codes "run")) (bytes_eq word (codes "watch")) groups
-words_in_range (word ∷ seed ∷ bundles ∷ []) = trial_if (bytes_eq word (codes "trial")) seed bundles
-words_in_range (word ∷ seed ∷ bundles ∷ other ∷ words) = tt
+words_in_range (word ∷ first ∷ second ∷ []) = groups_if (bytes_eq word (codes "groups")) (bytes_eq word (codes "trial")) first second
+words_in_range (word ∷ first ∷ second ∷ other ∷ words) = tt
 
 pub in_range : (words : List (List ℕ)) (command : Command) → command_of words ≡ Some command → HasNumbersInRange command
 in_range words command is = subst InRange is (words_in_range words)

@@ -17,7 +17,7 @@ use Rattle.trial_maker.specs.Trials.{trial_program}
 use Rattle.ia_meaning.specs.Steps.{Run}
 use Rattle.ia_meaning.specs.Runs.{run_text}
 use Rattle.watch_seam.specs.Watchers.{WatchState}
-use Rattle.ia64_top.specs.Runs.{watch_text, IsRunOf, IsRunOfEveryOrder}
+use Rattle.ia64_top.specs.Runs.{watch_text, IsRunOf, IsNumberedRunOf, IsRunOfEveryOrder}
 use Rattle.ia64_top.specs.Trials.{IsTrialOutput}
 use Rattle.group_checker.specs.Reports.{IsFree}
 use Rattle.ia64_top.specs.Readings.{Reading, IsRefusal, as_image, as_bundles, as_text, as_either}
@@ -72,6 +72,18 @@ IsRunAs text groups reading input bytes Faulted =
 IsRunAs text groups reading input bytes Refused = reading.Refuses input bytes
 IsRunAs text groups reading input bytes status = ⊥
 
+-- What is written and answered of an input that is read in a way, where so many groups of its program are run all at once, in
+-- the order with a number. No verdict is made, so a program with violations is run as any other.
+abbrev pub IsNumberedRunAs : (groups number : ℕ) → Reading → List ℕ → List ℕ → Status → Type 0
+IsNumberedRunAs groups number reading input bytes Done =
+    (program : Program) × reading.Gives input program × IsNumberedRunOf program groups number bytes Done
+IsNumberedRunAs groups number reading input bytes Limit =
+    (program : Program) × reading.Gives input program × IsNumberedRunOf program groups number bytes Limit
+IsNumberedRunAs groups number reading input bytes Faulted =
+    (program : Program) × reading.Gives input program × IsNumberedRunOf program groups number bytes Faulted
+IsNumberedRunAs groups number reading input bytes Refused = reading.Refuses input bytes
+IsNumberedRunAs groups number reading input bytes status = ⊥
+
 -- The program that a command works on: the one that its input is read as in the way of the command, and the stated one of
 -- `trial`.
 abbrev pub IsProgramOf : Command → List ℕ → Program → Type 0
@@ -97,7 +109,7 @@ printed_run (command.Watch groups) watchers run = watch_text watchers run
 printed_run command watchers run = run_text run
 
 -- `build` and `wrap` make the image of a program, `show` its canonical text, `list` its listing, and `lift` its image of
--- version 2. `check`, `run` and `watch` take an image or a text, and `trial` takes no input.
+-- version 2. `check`, `run`, `watch` and `groups` take an image or a text, and `trial` takes no input.
 abbrev pub IsCommandOutput : Command → List WatchState → List ℕ → List ℕ → Status → Type 0
 IsCommandOutput command.Build watchers input bytes status =
     IsMadeOutput as_text Written input bytes status
@@ -114,6 +126,8 @@ IsCommandOutput (command.Run groups) watchers input bytes status =
     IsRunAs run_text groups as_either input bytes status
 IsCommandOutput (command.Watch groups) watchers input bytes status =
     IsRunAs (watch_text watchers) groups as_either input bytes status
+IsCommandOutput (command.Groups groups number) watchers input bytes status =
+    IsNumberedRunAs groups number as_either input bytes status
 IsCommandOutput (command.Trial seed bundles) watchers input bytes status =
     IsTrialOutput seed bundles bytes status
 

@@ -1,4 +1,4 @@
--- What `run` and `watch` print and answer of a program that they run.
+-- What `run`, `watch` and `groups` print and answer of a program that they run.
 use Rattle.std.specs.Prelude.{◌≡◌, ℕ, List, ◌++◌}
 use Rattle.ia_insn.specs.declared.ending.End.{End}
 use Rattle.ia_insn.specs.declared.ending.End.TheVariants as end
@@ -6,6 +6,7 @@ use Rattle.ia_insn.specs.Programs.{Program, IsProgram}
 use Rattle.ia_meaning.specs.State.{zero_state}
 use Rattle.ia_meaning.specs.Steps.{Run, seq_run}
 use Rattle.ia_meaning.specs.ParallelGroups.{par_run}
+use Rattle.ia_meaning.specs.NumberedRuns.{numbered_run}
 use Rattle.ia_meaning.specs.OrderIndependence.{IsRobust}
 use Rattle.ia_meaning.specs.Runs.{run_text}
 use Rattle.group_checker.specs.Reports.{IsFree}
@@ -17,6 +18,11 @@ use Rattle.ia64_top.specs.declared.status.Status.TheVariants.{Done, Limit, Fault
 -- the run of a program from the zero state, of at most so many groups
 abbrev pub run_of : Program → ℕ → Run
 run_of p groups = seq_run p groups (zero_state p)
+
+-- The run of a program from the zero state, of at most so many groups, each all at once and its writes in the order with a
+-- number.
+abbrev pub numbered_run_of : Program → ℕ → ℕ → Run
+numbered_run_of p groups number = numbered_run p groups number (zero_state p)
 
 -- a `break` ends a run that is done
 abbrev pub end_status : End → Status
@@ -36,6 +42,13 @@ pub record IsRunOf (text : Run → List ℕ) (p : Program) (groups : ℕ) (bytes
   pub robust : IsRobust p
   pub printed : bytes ≡ text (run_of p groups)
   pub ends : status ≡ end_status (run_of p groups).end
+
+-- The bytes and the status of the run of a program all at once, in the order with a number. Every program is run, whether it
+-- has violations or not.
+pub record IsNumberedRunOf (p : Program) (groups number : ℕ) (bytes : List ℕ) (status : Status) : Type 0 where
+  pub program : IsProgram p
+  pub printed : bytes ≡ run_text (numbered_run_of p groups number)
+  pub ends : status ≡ end_status (numbered_run_of p groups number).end
 
 -- the run of a program from the zero state, of at most so many groups, each all at once and its writes in the order of a code
 abbrev pub ordered_run_of : Program → ℕ → List (List ℕ) → Run

@@ -1,14 +1,15 @@
 -- The table of words: which list of words is which command.
-use Rattle.std.specs.Prelude.{ℕ, ◌-◌, ◌^◌, ◌≤◌, ⊤, List, [], ◌∷◌, Option, Some, None, option_map, if◌then◌else◌, codes, bytes_eq}
+use Rattle.std.specs.Prelude.{ℕ, ◌-◌, ◌^◌, ◌≤◌, ⊤, List, [], ◌∷◌, Option, Some, None, option_map, if◌then◌else◌, codes, bytes_eq, decimal}
 use Rattle.ia64_top.specs.declared.limits.TheConstants.{GROUP_LIMIT, TRIAL_LIMIT}
 use Rattle.ia64_top.specs.declared.words.Command.{Command}
-use Rattle.ia64_top.specs.declared.words.Command.TheVariants.{Build, Show, List as Listing, Wrap, Lift, Check, Run, Watch, Trial}
+use Rattle.ia64_top.specs.declared.words.Command.TheVariants.{Build, Show, List as Listing, Wrap, Lift, Check, Run, Watch, Groups, Trial}
 use Rattle.ia64_top.specs.Numbers.{number_between}
 
 -- A run has at least one group, and at most the limit, and a trial so many bundles.
 abbrev pub HasNumbersInRange : Command → Type 0
 HasNumbersInRange (Run groups) = (1 ≤ groups) × (groups ≤ GROUP_LIMIT)
 HasNumbersInRange (Watch groups) = (1 ≤ groups) × (groups ≤ GROUP_LIMIT)
+HasNumbersInRange (Groups groups number) = (1 ≤ groups) × (groups ≤ GROUP_LIMIT)
 HasNumbersInRange (Trial seed bundles) = (1 ≤ bundles) × (bundles ≤ TRIAL_LIMIT)
 HasNumbersInRange command = ⊤
 
@@ -35,13 +36,19 @@ abbrev pub IsTrial : Option Command → Type 0
 IsTrial (Some (Trial seed bundles)) = ⊤
 IsTrial command = ⊥
 
+-- so many groups at once in the order with a number, where both are numbers
+abbrev pub groups_command : Option ℕ → Option ℕ → Option Command
+groups_command (Some groups) (Some number) = Some (Groups groups number)
+groups_command groups number = None
+
 -- a trial of a seed and so many bundles, where both are numbers
 abbrev pub trial_command : Option ℕ → Option ℕ → Option Command
 trial_command (Some seed) (Some bundles) = Some (Trial seed bundles)
 trial_command seed bundles = None
 
 -- The command that the words are, where they are one: `build`, `show`, `list`, `wrap`, `lift` or `check` alone, `run` or
--- `watch` and a number of groups, or `trial`, a seed of 64 bits and a number of bundles. Upper and lower case differ.
+-- `watch` and a number of groups, `groups`, a number of groups and the number of an order, of 64 bits, or `trial`, a seed of
+-- 64 bits and a number of bundles. Upper and lower case differ.
 abbrev pub command_of : List (List ℕ) → Option Command
 command_of (word ∷ []) =
     if bytes_eq word (codes "build") then Some Build
@@ -53,7 +60,13 @@ command_of (word ∷ []) =
 command_of (word ∷ groups ∷ []) =
     if bytes_eq word (codes "run") then option_map Run (number_between 1 GROUP_LIMIT groups)
     else if bytes_eq word (codes "watch") then option_map Watch (number_between 1 GROUP_LIMIT groups) else None
-command_of (word ∷ seed ∷ bundles ∷ []) =
-    if bytes_eq word (codes "trial")
-    then trial_command (number_between 0 (2 ^ 64 - 1) seed) (number_between 1 TRIAL_LIMIT bundles) else None
+command_of (word ∷ first ∷ second ∷ []) =
+    if bytes_eq word (codes "groups")
+    then groups_command (number_between 1 GROUP_LIMIT first) (number_between 0 (2 ^ 64 - 1) second)
+    else if bytes_eq word (codes "trial")
+    then trial_command (number_between 0 (2 ^ 64 - 1) first) (number_between 1 TRIAL_LIMIT second) else None
 command_of words = None
+
+-- the words of a run of so many groups
+abbrev pub run_words : ℕ → List (List ℕ)
+run_words groups = codes "run" ∷ decimal groups ∷ []

@@ -8,9 +8,9 @@ ghost use Rattle.ia64_top.specs.declared.limits.TheConstants.{GROUP_LIMIT, INPUT
 ghost use Rattle.ia64_top.specs.Words.{HasNumbersInRange, IsWatch};
 ghost use Rattle.group_checker.specs.Reports.{IsFree};
 ghost use Rattle.ia64_top.specs.Judgements.{IsJudgement, verdict_status};
-ghost use Rattle.ia64_top.specs.Output.{IsCanonical, IsMadeOutput, IsCheckedAs, IsAcceptedAs, IsUnrunAs, IsRunAs, IsCommandOutput};
+ghost use Rattle.ia64_top.specs.Output.{IsCanonical, IsMadeOutput, IsCheckedAs, IsAcceptedAs, IsUnrunAs, IsRunAs, IsNumberedRunAs, IsCommandOutput};
 ghost use Rattle.ia64_top.specs.Readings.{as_image, as_bundles, as_text, as_either, IsRefusal};
-ghost use Rattle.ia64_top.specs.Runs.{end_status, watch_text, IsRunOf};
+ghost use Rattle.ia64_top.specs.Runs.{end_status, watch_text, IsRunOf, IsNumberedRunOf};
 ghost use Rattle.ia_meaning.specs.Runs.{run_text};
 ghost use Rattle.watch_seam.specs.Watching.{HaveRoom};
 ghost use Rattle.ia64_top.specs.Watching.{RanNothing, HaveWatched, HaveWatchedPart};
@@ -29,6 +29,7 @@ use asm_build::{
 };
 use emulator::Machine;
 use group_checker::{Verdict, check, law_orders};
+use group_engine::{GroupMachine, group_text};
 use ia_insn::{End, Program};
 use ia_meaning::progress_is_run;
 use image_form::{
@@ -302,6 +303,39 @@ fn watch_input(
     }
 }
 
+/// The answer of `groups` to a program, accepted or not.
+fn groups_program(
+    alloc: Global,
+    groups: u64,
+    number: u64,
+    program: &Program,
+) -> Result<Answer, AllocError>
+    requires some { 1 ≤ groups }
+    requires few { groups ≤ GROUP_LIMIT }
+    ensures { IfOk result (λ answer. IsNumberedRunOf program.now groups number answer.bytes.items answer.status) }
+{
+    program.is_program();
+    let mut machine = GroupMachine::open(alloc, program)?;
+    let end = machine.run(groups, number);
+    Ok(Answer {
+        bytes: group_text(alloc, &machine, &end)?,
+        status: end_status(&end),
+    })
+}
+
+/// The answer of `groups` to an input within the limit. No verdict is made on its program.
+fn groups_input(alloc: Global, groups: u64, number: u64, input: &[u8]) -> Result<Answer, AllocError>
+    requires some { 1 ≤ groups }
+    requires few { groups ≤ GROUP_LIMIT }
+    requires within { length input.now ≤ INPUT_LIMIT }
+    ensures { IfOk result (λ answer. IsNumberedRunAs groups number as_either input.now answer.bytes.items answer.status) }
+{
+    match take(alloc, input)? {
+        Ok(program) => groups_program(alloc, groups, number, &program),
+        Err(answer) => Ok(answer),
+    }
+}
+
 /// The answer of `trial` to its program, where it is accepted: however the run ends, the trial is done.
 fn try_accepted(
     alloc: Global,
@@ -367,6 +401,7 @@ pub(crate) fn respond(
         Command::Check => check_input(alloc, input),
         Command::Run { groups } => run_input(alloc, groups, input),
         Command::Watch { groups } => watch_input(alloc, groups, input, watchers),
+        Command::Groups { groups, number } => groups_input(alloc, groups, number, input),
         Command::Trial { seed, bundles } => try_program(alloc, seed, bundles),
     }
 }

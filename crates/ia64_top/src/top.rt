@@ -7,13 +7,13 @@ ghost use Rattle.io_seam.specs.declared.whole.ReadError.{ReadError};
 ghost use Rattle.io_seam.specs.Faults.{Rose};
 ghost use Rattle.io_seam.specs.Bytes.{LosesFirst, LosesAtMost};
 ghost use Rattle.ia64_top.specs.declared.limits.TheConstants.{INPUT_LIMIT};
-ghost use Rattle.ia64_top.specs.Words.{command_of, Judges, groups_of, IsTrial, IsWatch};
+ghost use Rattle.ia64_top.specs.Words.{command_of, run_words, Judges, groups_of, IsTrial, IsWatch};
 ghost use Rattle.ia64_top.specs.Statuses.{IsAnswer, TellsOfProgram, TellsAccepted, EndsTrial};
 ghost use Rattle.ia64_top.specs.Inputs.{IsReadOf};
 ghost use Rattle.ia_insn.specs.Programs.{Program};
 ghost use Rattle.ia_meaning.specs.OrderIndependence.{IsRobust};
 ghost use Rattle.group_checker.specs.Reports.{IsFree};
-ghost use Rattle.ia64_top.specs.Runs.{run_of, end_status};
+ghost use Rattle.ia64_top.specs.Runs.{run_of, numbered_run_of, end_status};
 ghost use Rattle.ia64_top.specs.Readings.{as_either};
 ghost use Rattle.trial_maker.specs.Trials.{trial_program};
 ghost use Rattle.watch_seam.specs.Watching.{HaveRoom};
@@ -27,7 +27,7 @@ use crate::status::Status;
 use crate::words::{Command, Words};
 use asm_build::{no_fault_where_read, one_text_program};
 use group_checker::law_orders;
-use ia_meaning::zero_is_start;
+use ia_meaning::{numbered_run_is_parallel, zero_is_start};
 use image_form::{image_size, no_fault_where_raw, no_fault_where_spelled, one_program};
 use io_seam::{ReadError, Sink, Source, read_all, write_all};
 use std::alloc::Global;
@@ -109,6 +109,12 @@ pub fn ia64<S: Source, K: Sink>(
         command_of words.now ≡ Some command → groups_of command ≡ Some groups → TellsAccepted result command → (program : Program) → as_either.Gives input program →
         GivesRunOfEveryOrder (printed_run command (map (λ b. state b) watchers.old.items)) program groups (K.given sink.old) (K.given sink.new) result) }
 
+    // Of a program without violations `groups` gives what `run` gives for as many groups, the bytes and the status, whatever
+    // the number of the order.
+    ensures same_as_run { IsAnswer result → IfSome (S.left source.old) (λ input. (groups number : ℕ) →
+        command_of words.now ≡ Some (Command.Groups groups number) → IsWithinLimit input → (program : Program) → as_either.Gives input program → IsFree program →
+        GivesOutput (run_words groups) (map (λ b. state b) watchers.old.items) input (K.given sink.old) (K.given sink.new) result) }
+
     // `check`, `run` and `watch` answer with violations exactly where on some walk two slots of a group break a rule.
     ensures judged { IsAnswer result → IfSome (S.left source.old) (λ input. (command : Command) →
         command_of words.now ≡ Some command → Judges command → IsWithinLimit input → (program : Program) → as_either.Gives input program →
@@ -125,6 +131,11 @@ pub fn ia64<S: Source, K: Sink>(
     ensures ended { IsAnswer result → IfSome (S.left source.old) (λ input. (command : Command) (groups : ℕ) →
         command_of words.now ≡ Some command → groups_of command ≡ Some groups → IsWithinLimit input → (program : Program) → as_either.Gives input program → IsFree program →
         result ≡ end_status (run_of program groups).end) }
+
+    // `groups` runs every program, whether it has violations or not, and the end of its run tells the status.
+    ensures ended_at_once { IsAnswer result → IfSome (S.left source.old) (λ input. (groups number : ℕ) →
+        command_of words.now ≡ Some (Command.Groups groups number) → IsWithinLimit input → (program : Program) → as_either.Gives input program →
+        result ≡ end_status (numbered_run_of program groups number).end) }
 
     // `trial` is done exactly where its program has no violations, and answers with them exactly where it has some.
     ensures tried { IsAnswer result → (seed bundles : ℕ) → command_of words.now ≡ Some (Command.Trial seed bundles) →
@@ -201,6 +212,7 @@ pub fn ia64<S: Source, K: Sink>(
     no_fault_where_read();
     law_orders();
     zero_is_start();
+    numbered_run_is_parallel();
     one_output();
     let Some(command) = words.command() else {
         return Status::Words;

@@ -12,7 +12,7 @@ use crate::answer::{Answer, end_status};
 use emulator::Machine;
 use group_checker::law_orders;
 use ia_insn::{End, Program};
-use ia_meaning::progress_is_run;
+use ia_meaning::{end_or, progress_is_run};
 use state_text::state_text;
 use std::alloc::{AllocError, Global};
 use watch_seam::{Reports, Watch};
@@ -46,12 +46,7 @@ fn watch_groups(
 fn ending(machine: &Machine<'_>) -> End
     ensures { result ≡ end_of machine.now.progress }
 {
-    match machine.end() {
-        Some(end) => end,
-        None => End::Limit {
-            place: machine.place(),
-        },
-    }
+    end_or(machine.end(), machine.place())
 }
 
 /// The answer of `watch` to an accepted program.

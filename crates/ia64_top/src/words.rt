@@ -1,9 +1,9 @@
 //! The words that a call is given, and the table of commands.
 
 ghost use Rattle.std.specs.Prelude.{◌≡◌, ◌↔◌, ◌-◌, ◌^◌, IsTrue, [], ◌∷◌, ◌++◌, List, ℕ, OnOk, OnErr};
-ghost use Rattle.ia64_top.specs.declared.limits.TheConstants.{TRIAL_LIMIT};
+ghost use Rattle.ia64_top.specs.declared.limits.TheConstants.{GROUP_LIMIT, TRIAL_LIMIT};
 ghost use Rattle.ia64_top.specs.Numbers.{BeginsAsNumeral, number_between, OneNumeral};
-ghost use Rattle.ia64_top.specs.Words.{trial_command, command_of};
+ghost use Rattle.ia64_top.specs.Words.{groups_command, trial_command, command_of};
 
 use crate::limits::{GROUP_LIMIT, TRIAL_LIMIT};
 use std::alloc::{AllocError, Global};
@@ -33,6 +33,13 @@ pub enum Command {
     Watch {
         /// How many groups it may have, 1 to 10,000,000.
         groups: u64,
+    },
+    /// Runs a program, accepted or not, each of its groups all at once.
+    Groups {
+        /// How many groups it may have, 1 to 10,000,000.
+        groups: u64,
+        /// The number of the order in which the writes of each group are made: any of 64 bits, and 0 is program order.
+        number: u64,
     },
     /// Checks the stated program of a seed, and runs it where it is accepted. No input is read.
     Trial {
@@ -76,6 +83,15 @@ fn number_between(least: u64, most: u64, word: &[u8]) -> Option<u64>
         return None;
     }
     Some(number)
+}
+
+/// A number of groups in the order with a number, where the words are such numbers.
+fn groups_command(groups: &[u8], number: &[u8]) -> Option<Command>
+    ensures { result ≡ groups_command (number_between 1 GROUP_LIMIT groups.now) (number_between 0 (2 ^ 64 - 1) number.now) }
+{
+    let groups = number_between(1, GROUP_LIMIT, groups)?;
+    let number = number_between(0, u64::MAX, number)?;
+    Some(Command::Groups { groups, number })
 }
 
 /// The trial of a seed and a number of bundles, where the words are such numbers.
@@ -125,7 +141,8 @@ impl Words {
     }
 
     /// The command that the words are, by the table: `build`, `show`, `list`, `wrap`, `lift` or `check` alone,
-    /// `run` or `watch` and a number of groups, or `trial`, a seed and a number of bundles, in lower case.
+    /// `run` or `watch` and a number of groups, `groups`, a number of groups and that of an order, or `trial`, a seed and a
+    /// number of bundles, in lower case.
     pub fn command(&self) -> Option<Command>
         ensures { result ≡ command_of self.now }
     {
@@ -143,6 +160,9 @@ impl Words {
             [word, groups] if word.as_slice() == b"watch".as_slice() => {
                 let groups = number_between(1, GROUP_LIMIT, groups)?;
                 Some(Command::Watch { groups })
+            }
+            [word, groups, number] if word.as_slice() == b"groups".as_slice() => {
+                groups_command(groups, number)
             }
             [word, seed, bundles] if word.as_slice() == b"trial".as_slice() => {
                 trial_command(seed, bundles)

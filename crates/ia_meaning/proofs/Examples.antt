@@ -32,7 +32,10 @@ use Rattle.ia_meaning.specs.declared.state.AlatKey.TheVariants.{Static, Stacked}
 use Rattle.ia_meaning.specs.declared.state.AlatEntry.{AlatEntry}
 use Rattle.ia_meaning.specs.declared.next.Next.TheVariants.{Falls, Goes}
 use Rattle.ia_meaning.specs.State.{State, Registers, Memory, zero_cell, zero_bases, zero_frame, zero_registers}
-use Rattle.ia_meaning.specs.Writes.{Write, SetStatic, SetCell, SetPredicate, SetBranch, SetPfs, SetLc, SetEc, SetFrame, Resized, Renamed, frame_changes}
+use Rattle.ia_meaning.specs.declared.write.Write.{Write}
+use Rattle.ia_meaning.specs.declared.write.Write.TheVariants.{SetStatic, SetCell, SetPredicate, SetBranch, SetPfs, SetLc, SetEc, SetFrame}
+use Rattle.ia_meaning.specs.declared.write.FrameCause.TheVariants.{Resized, Renamed}
+use Rattle.ia_meaning.specs.Writes.{frame_changes}
 use Rattle.ia_meaning.specs.Names.{frame_place, spot, look, predicate_place, holds, predicate_spot}
 use Rattle.ia_meaning.specs.Moves.{predicate_word, predicate_writes, has_reserved_zeros}
 use Rattle.ia_meaning.specs.Loads.{access_fault, loaded, stored, forgotten, entered, untouched, has_hit, has_entry}

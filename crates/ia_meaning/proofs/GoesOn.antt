@@ -14,7 +14,7 @@ use Rattle.ia_meaning.specs.declared.next.Next.TheVariants.{Falls, Goes}
 use Rattle.ia_meaning.specs.declared.state.FrameShape.{FrameShape}
 use Rattle.ia_meaning.specs.declared.form.Goal.TheVariants.{Direct, Indirect}
 use Rattle.ia_meaning.specs.State.{Registers, Memory}
-use Rattle.ia_meaning.specs.Writes.{Write}
+use Rattle.ia_meaning.specs.declared.write.Write.{Write}
 use Rattle.ia_meaning.specs.Outcomes.{Outcome}
 use Rattle.ia_meaning.specs.Frames.{lands, return_tried}
 use Rattle.ia_meaning.specs.Landings.{target_of}

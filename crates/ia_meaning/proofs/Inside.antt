@@ -1,5 +1,5 @@
 -- The place that a step leaves a state at, and the one to which a slot falls through.
-use Rattle.std.proofs.Common.{◌≡◌, ℕ, ◌<◌, Bool, true, false, List, length, Option, Some, None, take, refl, inl, inr, arith}
+use Rattle.std.proofs.Common.{◌≡◌, ℕ, ◌<◌, Bool, true, false, List, length, Option, Some, None, take, refl, subst, inl, inr, arith}
 use Rattle.std.specs.Prelude.{ℤ, IfSome, IsSome}
 use Rattle.ia_insn.specs.declared.insn.Insn.{Insn}
 use Rattle.ia_insn.specs.declared.place.Place.{Place}
@@ -34,13 +34,22 @@ target_good p place insn inside e =
     of (Some disp) h = target_small (length p.bundles) place.bundle disp h
 
 -- an instruction of a program goes to its bundles alone
-pub outcome_good : (p : Program) (s : State) (insn : Insn) → IsTargetInside p.bundles s.place → insn_at p.bundles s.place ≡ Some insn → IsGoodWay (IsBundleOf p) (outcome_of p s insn)
+effect_good : (p : Program) (place : Place) (insn : Insn) (r : Registers) (m : Memory) (unat : ℕ) → IsTargetInside p.bundles place → insn_at p.bundles place ≡ Some insn → IsGoodWay (IsBundleOf p) (effect (site p place.bundle) insn r m unat)
+effect_good p place insn r m unat inside e =
+    effect_on (IsBundleOf p) (site p place.bundle) insn r m unat (arrival_small p (take 16 r.predicates)) (target_good p place insn inside e)
+
+outcome_good : (p : Program) (s : State) (insn : Insn) → IsTargetInside p.bundles s.place → insn_at p.bundles s.place ≡ Some insn → IsGoodWay (IsBundleOf p) (outcome_of p s insn)
 outcome_good p s insn inside e =
     settled_on (IsBundleOf p) (next_of p.bundles s.place) s.memory (effect (site p s.place.bundle) insn s.registers s.memory s.registers.unat)
-    (effect_on (IsBundleOf p) (site p s.place.bundle) insn s.registers s.memory s.registers.unat (arrival_small p (take 16 s.registers.predicates)) (target_good p s.place insn inside e))
+    (effect_good p s.place insn s.registers s.memory s.registers.unat inside e)
 
 pub first_is_place : (bundles : List Bundle) (n : ℕ) → n < length bundles → IsPlaceOf bundles (first_of n)
 first_is_place bundles n h = let s = get_some bundles n h in is_place bundles (first_of n) s.0 s.1 (omega arith)
+
+-- so the place that a branch goes to is one of the program, whatever the instruction reads
+pub goes_inside : (p : Program) (place : Place) (insn : Insn) (r : Registers) (m : Memory) (unat bundle : ℕ) → IsProgram p → IsPlaceOf p.bundles place → insn_at p.bundles place ≡ Some insn → (effect (site p place.bundle) insn r m unat).next ≡ Goes bundle → IsPlaceOf p.bundles (first_of bundle)
+goes_inside p place insn r m unat bundle program is e goes =
+    first_is_place p.bundles bundle (subst (IsGoodNext (IsBundleOf p)) goes (effect_good p place insn r m unat (program.targets place is) e))
 
 after_is_place : (bundles : List Bundle) (place : Place) (next : Option Place) → next_of bundles place ≡ next → IsPlaceOf bundles place → IsPlaceOf bundles (place_after place next)
 after_is_place bundles place None e is = is

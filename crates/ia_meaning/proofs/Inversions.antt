@@ -19,7 +19,9 @@ use Rattle.ia_meaning.specs.declared.state.AlatKey.{AlatKey as Spot}
 use Rattle.ia_meaning.specs.declared.state.AlatEntry.{AlatEntry}
 use Rattle.ia_meaning.specs.declared.form.Goal.TheVariants.{Direct, Indirect}
 use Rattle.ia_meaning.specs.State.{zero_cell, Registers, Memory}
-use Rattle.ia_meaning.specs.Writes.{Write, SetBranch, SetUnat, SetPfs, SetLc, SetEc, SetFrame, Resized, Renamed}
+use Rattle.ia_meaning.specs.declared.write.Write.{Write}
+use Rattle.ia_meaning.specs.declared.write.Write.TheVariants.{SetBranch, SetUnat, SetPfs, SetLc, SetEc, SetFrame}
+use Rattle.ia_meaning.specs.declared.write.FrameCause.TheVariants.{Resized, Renamed}
 use Rattle.ia_meaning.specs.Names.{spot, look, holds, predicate_spot, set_spot, set_predicate}
 use Rattle.ia_meaning.specs.Outcomes.{Outcome, falls, goes, breaks, faults}
 use Rattle.ia_meaning.specs.declared.form.Form.{Form}

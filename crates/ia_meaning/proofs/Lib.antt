@@ -14,12 +14,15 @@ pub mod GroupRests
 pub mod RunEvents
 pub mod Starts
 pub mod Codes
+pub mod NumberedRuns
 pub mod AtAddresses
 pub mod Resizing
 pub mod ReturnFrames
 pub mod AlatLists
 pub mod DataAccesses
 pub mod WriteLists
+pub mod Views
+pub mod Spots
 pub mod PredicatePlaces
 pub mod StepHere
 pub mod ListedNames

@@ -1,4 +1,4 @@
--- The tests and functions of places say what the relations of programs say.
+-- The tests and functions of places say what the definitions of programs say.
 use Rattle.std.proofs.Common.{◌≡◌, ℕ, zero, suc, ◌+◌, ◌-◌, ◌<◌, ◌⊎◌, Bool, true, false, ◌&&◌, ◌||◌, ◌==◌, nat_lt, nat_le, List, [], ◌∷◌, length, Option, Some, None, refl, sym, ap, arith, if◌then◌else◌}
 use Rattle.std.proofs.lemmas.Bool.Decides.{nat_tests, same_from_decides, Decides-eqb, Decides-ltb, Decides-and, Decides-or}
 use Rattle.std.specs.Prelude.{Decides, IsTrue, ◌↔◌, slice_get, Contains, IsSomeAnd, MatchOption}

@@ -20,7 +20,7 @@ use Rattle.ia_meaning.specs.Runs.{IsUnderWay, HasRun, run_text, progress_text}
 use Rattle.ia_meaning.proofs.GroupEnds.{begun_under_way, group_under_way, group_comes_to_end, groups_ended}
 
 -- the range after frame changes and more of them
-range_appended : (r : Rse) (changes more : List (ℕ × ℕ)) → range_of (range_of r changes) more ≡ range_of r (changes ++ more)
+pub range_appended : (r : Rse) (changes more : List (ℕ × ℕ)) → range_of (range_of r changes) more ≡ range_of r (changes ++ more)
 range_appended r [] more = refl
 range_appended r (change ∷ changes) more = range_appended (range_after r change) changes more
 

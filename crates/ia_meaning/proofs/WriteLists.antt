@@ -1,8 +1,15 @@
--- What holds of each write of a list with writes that may be there.
-use Rattle.std.proofs.Common.{◌≡◌, Bool, true, false, if◌then◌else◌, List, ◌∷◌, Option, Some, None, refl}
+-- Lists of writes, one after another, and what holds of each write of a list with writes that may be there.
+use Rattle.std.proofs.Common.{◌≡◌, Bool, true, false, if◌then◌else◌, List, [], ◌∷◌, ◌++◌, Option, Some, None, refl}
 use Rattle.std.specs.List.{AllByRecursion as Each}
-use Rattle.ia_meaning.specs.Writes.{Write}
+use Rattle.ia_meaning.specs.declared.write.Write.{Write}
+use Rattle.ia_meaning.specs.State.{Registers}
+use Rattle.ia_meaning.specs.Writes.{put, apply}
 use Rattle.ia_meaning.specs.Loops.{written}
+
+-- some writes, and then others
+pub apply_append : (ws vs : List Write) (r : Registers) → apply (ws ++ vs) r ≡ apply vs (apply ws r)
+apply_append [] vs r = refl
+apply_append (w ∷ ws) vs r = apply_append ws vs (put w r)
 
 -- a write that is there by a test
 pub may_write : (P : Write → Type 0) (t : Bool) (w : Write) (ws : List Write) → (t ≡ true → P w) → Each P ws → Each P (if t then w ∷ ws else ws)

@@ -8,7 +8,9 @@ use Rattle.ia_meaning.specs.declared.form.Goal.TheVariants.{Direct, Indirect}
 use Rattle.ia_meaning.specs.declared.form.Form.{Form}
 use Rattle.ia_meaning.specs.declared.form.Form.TheVariants.{Compute, Fetch, Test, ToPredicates, ToBranch, ToApplication, FromMemory, ToMemory, CheckNat, CheckAlat, ForgetAll, Forget, Allocate, Jump, JumpIndirect, Loop, Call, Return, ClearBases, Stop, Idle}
 use Rattle.ia_meaning.specs.State.{Registers, Memory}
-use Rattle.ia_meaning.specs.Writes.{Write, SetFrame, Renamed}
+use Rattle.ia_meaning.specs.declared.write.Write.{Write}
+use Rattle.ia_meaning.specs.declared.write.Write.TheVariants.{SetFrame}
+use Rattle.ia_meaning.specs.declared.write.FrameCause.TheVariants.{Renamed}
 use Rattle.ia_meaning.specs.Names.{spot, look, holds, predicate_spot}
 use Rattle.ia_meaning.specs.Actions.{insn_form, value_of, result_of, moved}
 use Rattle.ia_meaning.specs.Outcomes.{Outcome, falls, goes, breaks}

@@ -8,7 +8,9 @@ use Rattle.ia_insn.specs.Addresses.{bundle_address}
 use Rattle.ia_meaning.specs.declared.state.FrameShape.{FrameShape}
 use Rattle.ia_meaning.specs.declared.state.AlatKey.{AlatKey as Spot}
 use Rattle.ia_meaning.specs.State.{zero_bases, Memory, IsFrame}
-use Rattle.ia_meaning.specs.Writes.{Write, SetBranch, SetPfs, SetEc, SetFrame, Resized}
+use Rattle.ia_meaning.specs.declared.write.Write.{Write}
+use Rattle.ia_meaning.specs.declared.write.Write.TheVariants.{SetBranch, SetPfs, SetEc, SetFrame}
+use Rattle.ia_meaning.specs.declared.write.FrameCause.TheVariants.{Resized}
 use Rattle.ia_meaning.specs.Names.{set_spot}
 use Rattle.ia_meaning.specs.Outcomes.{Outcome, falls, goes, faults}
 

@@ -1,5 +1,5 @@
 -- Where branches go (volume 3, chapter 2, `br`): the target of a direct one, and the entries on which an indirect one
--- lands, where what they declare of predicates holds. The tests are those of the relations of programs (`entry_test`).
+-- lands, where what they declare of predicates holds. The tests are those of the definitions of programs (`entry_test`).
 use Rattle.std.specs.Prelude.{◌≡◌, ℕ, ℤ, pos, ◌+ℤ◌, nat_abs, ◌-◌, ◌/◌, ◌<◌, Bool, true, false, ◌&&◌, ◌||◌, ◌==◌, if◌then◌else◌, List, [], ◌∷◌, length, slice_get, get_or, Option, Some, None, Result, Ok, Err, nat_lt, nat_le, IsTrue, ◌↔◌}
 use Rattle.std.specs.List.{list_any}
 use Rattle.ia_insn.specs.declared.ending.FaultKind.{FaultKind}

@@ -16,6 +16,7 @@ pub mod Steps
 pub mod WriteOrders
 pub mod Views
 pub mod ParallelGroups
+pub mod NumberedRuns
 pub mod OrderIndependence
 pub mod ResidentRange
 pub mod Progress

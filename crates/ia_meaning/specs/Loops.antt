@@ -5,7 +5,9 @@ use Rattle.ia_insn.specs.declared.choices.BranchKind.TheVariants.{Wexit, Wtop, C
 use Rattle.ia_meaning.specs.declared.turn.Turn.{Turn}
 use Rattle.ia_meaning.specs.declared.state.FrameShape.{FrameShape}
 use Rattle.ia_meaning.specs.State.{Memory}
-use Rattle.ia_meaning.specs.Writes.{Write, SetPredicate, SetLc, SetEc, SetFrame, Renamed}
+use Rattle.ia_meaning.specs.declared.write.Write.{Write}
+use Rattle.ia_meaning.specs.declared.write.Write.TheVariants.{SetPredicate, SetLc, SetEc, SetFrame}
+use Rattle.ia_meaning.specs.declared.write.FrameCause.TheVariants.{Renamed}
 use Rattle.ia_meaning.specs.Names.{predicate_place}
 use Rattle.ia_meaning.specs.Frames.{rotated}
 use Rattle.ia_meaning.specs.Outcomes.{Outcome, falls, goes}

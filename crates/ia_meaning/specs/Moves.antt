@@ -11,7 +11,8 @@ use Rattle.ia_meaning.specs.declared.state.AlatKey.{AlatKey as Spot}
 use Rattle.ia_meaning.specs.declared.form.Source.{Source}
 use Rattle.ia_meaning.specs.declared.form.Source.TheVariants as source
 use Rattle.ia_meaning.specs.State.{Registers, Memory}
-use Rattle.ia_meaning.specs.Writes.{Write, SetPredicate, SetBranch, SetUnat, SetPfs, SetLc, SetEc}
+use Rattle.ia_meaning.specs.declared.write.Write.{Write}
+use Rattle.ia_meaning.specs.declared.write.Write.TheVariants.{SetPredicate, SetBranch, SetUnat, SetPfs, SetLc, SetEc}
 use Rattle.ia_meaning.specs.Names.{set_spot, set_predicate}
 use Rattle.ia_meaning.specs.Arithmetic.{bit}
 use Rattle.ia_meaning.specs.Outcomes.{Outcome, falls, faults}

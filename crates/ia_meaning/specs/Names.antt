@@ -6,7 +6,8 @@ use Rattle.ia_meaning.specs.declared.state.FrameShape.{FrameShape}
 use Rattle.ia_meaning.specs.declared.state.AlatKey.{AlatKey as Spot}
 use Rattle.ia_meaning.specs.declared.state.AlatKey.TheVariants.{Static, Stacked}
 use Rattle.ia_meaning.specs.State.{zero_cell, Registers}
-use Rattle.ia_meaning.specs.Writes.{Write, SetStatic, SetCell, SetPredicate}
+use Rattle.ia_meaning.specs.declared.write.Write.{Write}
+use Rattle.ia_meaning.specs.declared.write.Write.TheVariants.{SetStatic, SetCell, SetPredicate}
 
 abbrev pub is_stacked : ℕ → Bool
 is_stacked r = nat_le 32 r

@@ -4,7 +4,7 @@ use Rattle.ia_insn.specs.declared.ending.FaultKind.{FaultKind}
 use Rattle.ia_meaning.specs.declared.next.Next.{Next}
 use Rattle.ia_meaning.specs.declared.next.Next.TheVariants.{Falls, Goes, Breaks, Faults}
 use Rattle.ia_meaning.specs.State.{Memory}
-use Rattle.ia_meaning.specs.Writes.{Write}
+use Rattle.ia_meaning.specs.declared.write.Write.{Write}
 
 -- The writes of a slot, the memory that it leaves, the bit of UNAT that a spill writes and its new value, and how the
 -- run goes on.

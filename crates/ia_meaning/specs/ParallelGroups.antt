@@ -14,7 +14,9 @@ use Rattle.ia_insn.specs.Programs.{Program}
 use Rattle.ia_meaning.specs.declared.next.Next.{Next}
 use Rattle.ia_meaning.specs.declared.next.Next.TheVariants.{Falls, Goes, Breaks, Faults}
 use Rattle.ia_meaning.specs.State.{Registers, Memory, State}
-use Rattle.ia_meaning.specs.Writes.{Write, SetFrame, apply, frame_changes}
+use Rattle.ia_meaning.specs.declared.write.Write.{Write}
+use Rattle.ia_meaning.specs.declared.write.Write.TheVariants.{SetFrame}
+use Rattle.ia_meaning.specs.Writes.{apply, frame_changes}
 use Rattle.ia_meaning.specs.Actions.{allocates}
 use Rattle.ia_meaning.specs.Outcomes.{Outcome, falls}
 use Rattle.ia_meaning.specs.Effects.{site, effect}

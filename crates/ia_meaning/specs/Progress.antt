@@ -68,9 +68,11 @@ abbrev pub groups_further : ℕ → Program → Progress → Progress
 groups_further zero p m = m
 groups_further (suc n) p m = groups_further n p (group_further p m)
 
+-- how a run ends that has come to this end, or that stands at this place without one
+abbrev pub end_or : Option End → Place → End
+end_or None place = Limit place
+end_or (Some e) place = e
+
 -- how a run that stands so ends
 abbrev pub end_of : Progress → End
-end_of m = end_or m.end m.state.place where
-  end_or : Option End → Place → End
-  end_or None place = Limit place
-  end_or (Some e) place = e
+end_of m = end_or m.end m.state.place

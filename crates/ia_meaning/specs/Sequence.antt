@@ -1,4 +1,4 @@
--- Places in order, as functions (volume 1, chapter 3, instruction sequencing). They are those of the relations of programs
+-- Places in order, as functions (volume 1, chapter 3, instruction sequencing). They are those of the definitions of programs
 -- (`next_place`, `stop_test`).
 use Rattle.std.specs.Prelude.{ℕ, ◌+◌, Bool, false, ◌&&◌, ◌==◌, if◌then◌else◌, List, length, slice_get, Option, Some, None, MatchOption, nat_lt, IsTrue, ◌↔◌}
 use Rattle.ia_insn.specs.declared.place.Place.{Place}

@@ -11,7 +11,7 @@ use Rattle.ia_meaning.specs.declared.state.Rse.{Rse}
 use Rattle.ia_meaning.specs.declared.state.AlatKey.{AlatKey}
 use Rattle.ia_meaning.specs.declared.state.AlatKey.TheVariants.{Static, Stacked}
 use Rattle.ia_meaning.specs.declared.state.AlatEntry.{AlatEntry}
-use Rattle.ia_meaning.specs.State.{Registers, State}
+use Rattle.ia_meaning.specs.State.{Registers, Memory, State}
 use Rattle.ia_meaning.specs.Names.{look}
 use Rattle.ia_meaning.specs.Moves.{predicate_word}
 use Rattle.ia_meaning.specs.Loads.{loaded}
@@ -91,9 +91,13 @@ entry_lines es = flat_map entry_line es
 
 -- How the run ended, how many groups there were, the frame, the resident range, the registers by name, the predicates by
 -- place, the branch and application registers, the data, and the ALAT, oldest first.
+abbrev pub parts_text : End → ℕ → Rse → Registers → Memory → List ℕ
+parts_text end groups range r m =
+    line (end_text end) ++ line (codes "groups " ++ decimal groups) ++ line (frame_text r.frame) ++ line (range_text range)
+    ++ gr_lines r ++ line (codes "pr " ++ word_text (predicate_word r.predicates))
+    ++ br_lines r ++ application_lines r
+    ++ data_lines m.bytes ++ entry_lines m.alat
+
+-- that of a state, whose place isn't printed
 abbrev pub state_text : End → ℕ → Rse → State → List ℕ
-state_text end groups range s =
-    line (end_text end) ++ line (codes "groups " ++ decimal groups) ++ line (frame_text s.registers.frame) ++ line (range_text range)
-    ++ gr_lines s.registers ++ line (codes "pr " ++ word_text (predicate_word s.registers.predicates))
-    ++ br_lines s.registers ++ application_lines s.registers
-    ++ data_lines s.memory.bytes ++ entry_lines s.memory.alat
+state_text end groups range s = parts_text end groups range s.registers s.memory

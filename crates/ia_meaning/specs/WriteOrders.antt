@@ -1,7 +1,7 @@
 -- The orders of a list. An order is named by a code: which item comes first, which of the others comes next, and so on.
 use Rattle.std.specs.Prelude.{◌≡◌, ℕ, zero, suc, ◌%◌, List, [], ◌∷◌, length}
 use Rattle.std.specs.List.Sorted.{IsPermutation}
-use Rattle.ia_meaning.specs.Writes.{Write}
+use Rattle.ia_meaning.specs.declared.write.Write.{Write}
 
 -- the item at n of x and the items after it, the last one where there are fewer
 abbrev pub item_at : {X : Type 0} → X → List X → ℕ → X

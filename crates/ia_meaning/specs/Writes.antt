@@ -1,24 +1,10 @@
--- Writes of registers, and what they leave (volume 1, chapter 3, instruction sequencing).
-use Rattle.std.specs.Prelude.{ℕ, zero, suc, ◌+◌, Bool, List, [], ◌∷◌, set}
+-- What writes of registers leave (volume 1, chapter 3, instruction sequencing).
+use Rattle.std.specs.Prelude.{ℕ, zero, suc, ◌+◌, List, [], ◌∷◌, set}
 use Rattle.ia_meaning.specs.declared.state.Cell.{Cell}
-use Rattle.ia_meaning.specs.declared.state.FrameShape.{FrameShape}
+use Rattle.ia_meaning.specs.declared.write.Write.{Write}
+use Rattle.ia_meaning.specs.declared.write.Write.TheVariants.{SetStatic, SetCell, SetPredicate, SetBranch, SetUnat, SetPfs, SetLc, SetEc, SetFrame}
+use Rattle.ia_meaning.specs.declared.write.FrameCause.TheVariants.{Resized}
 use Rattle.ia_meaning.specs.State.{zero_cell, Registers}
-
--- Why a frame is written: `alloc`, a call and a return resize it; rotation and `clrrrb` rename alone.
-pub data FrameCause : Type 0 where
-  Resized : FrameCause
-  Renamed : FrameCause
-
-pub data Write : Type 0 where
-  SetStatic : ℕ → Cell → Write
-  SetCell : ℕ → Cell → Write
-  SetPredicate : ℕ → Bool → Write
-  SetBranch : ℕ → ℕ → Write
-  SetUnat : ℕ → Write
-  SetPfs : ℕ → Write
-  SetLc : ℕ → Write
-  SetEc : ℕ → Write
-  SetFrame : FrameCause → FrameShape → Write
 
 -- so many cells: those of the list, cut, or filled up with zeros
 abbrev pub resized : ℕ → List Cell → List Cell

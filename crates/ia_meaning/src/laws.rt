@@ -1,4 +1,4 @@
-//! Laws that tie the tests and functions of the meaning to the relations of programs and states, the law
+//! Laws that tie the tests and functions of the meaning to the definitions of programs and states, the law
 //! that a run may start from the zero state, and the laws of the orders of writes and of addresses. They do
 //! nothing.
 
@@ -8,6 +8,7 @@ ghost use Rattle.ia_meaning.specs.Loads.{ByteIsAtItsAddress};
 ghost use Rattle.ia_meaning.specs.State.{ZeroIsStart};
 ghost use Rattle.ia_meaning.specs.Sequence.{NextPlace, StopTest};
 ghost use Rattle.ia_meaning.specs.WriteOrders.{PermutationsHaveCodes, CodesArePermutations};
+ghost use Rattle.ia_meaning.specs.NumberedRuns.{NumberedRunIsParallel};
 
 /// The test of entries says of each bundle whether it is one.
 pub fn entry_test()
@@ -44,6 +45,11 @@ pub fn stop_test()
 pub fn law_codes()
     ensures codes { PermutationsHaveCodes }
     ensures permutations { CodesArePermutations }
+{}
+
+/// A run whose groups are in the order with a number is a run all at once, with the codes of that number.
+pub fn numbered_run_is_parallel()
+    ensures { NumberedRunIsParallel }
 {}
 
 /// From the address of an entry an indirect branch lands on it, where it breaks none of its relations, and a

@@ -4,10 +4,11 @@
 //! The meaning stands in `specs/`, in whole numbers and lists; it speaks of no machine. Each operation
 //! is one row of a table that gives it a form, one of twenty-one, and each form has its effect once (Intel
 //! Itanium Architecture Software Developer's Manual, volume 1, chapters 3 and 4, and volume 3, chapter 2).
-//! The code here is what the layers above share: the parts of a state, the form of an instruction, how a
-//! slot goes on, the turn of a loop, and laws, which are functions that do nothing.
+//! The code here is what the layers above share: the parts of a state, the form of an instruction, writes of
+//! registers, how a slot goes on, the turn of a loop, and laws, which are functions that do nothing.
 #![tactic(auto)]
 
+mod ending;
 mod form;
 mod landings;
 mod laws;
@@ -16,14 +17,17 @@ mod next;
 mod runs;
 mod state;
 mod turn;
+mod write;
 
+pub use ending::end_or;
 pub use form::{Condition, Form, Function, Goal, MovedWord, Source, form_of, update_register};
 pub use landings::target_of;
 pub use laws::{
-    addresses, entry_test, frame_test, law_codes, next_place, relation_test, stop_test,
-    zero_is_start,
+    addresses, entry_test, frame_test, law_codes, next_place, numbered_run_is_parallel,
+    relation_test, stop_test, zero_is_start,
 };
 pub use next::Next;
 pub use runs::{groups_end, progress_is_run, progress_text_is_run_text};
 pub use state::{AlatEntry, AlatKey, Cell, FrameShape, Rrbs, Rse};
 pub use turn::Turn;
+pub use write::{FrameCause, Write};

@@ -10,6 +10,8 @@ mod bundle_bits_tests;
 #[cfg(test)]
 mod flow_facts_tests;
 #[cfg(test)]
+mod group_engine_tests;
+#[cfg(test)]
 mod image_form_tests;
 #[cfg(test)]
 mod io_seam_tests;

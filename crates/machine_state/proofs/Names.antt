@@ -10,12 +10,10 @@ use Rattle.ia_meaning.specs.declared.state.AlatKey.TheVariants.{Static}
 use Rattle.ia_meaning.specs.State.{zero_cell, Registers}
 use Rattle.ia_meaning.specs.Writes.{apply}
 use Rattle.ia_meaning.specs.Names.{spot, look, cell_at, holds, predicate_place, predicate_spot, set_predicate}
+use Rattle.ia_meaning.proofs.Spots.{spot_static}
+use Rattle.ia_meaning.proofs.PredicatePlaces.{place_some}
 use Rattle.reg_stack.specs.Stacks.{cell_or_fault, with_cell}
 use Rattle.slot_effects.specs.Changes.{set_at}
-
-pub spot_static : (f : FrameShape) (n : ℕ) → n < 32 → spot f n ≡ Some (Static n)
-unfolding spot
-spot_static f n h = grind (arith, nat_tests)
 
 look_some : (r : Registers) (n : ℕ) → 0 < n → look r n ≡ cell_at r (spot r.frame n)
 unfolding look
@@ -46,10 +44,6 @@ pub holds_is : (r : Registers) (p : ℕ) → get_or r.predicates 0 false ≡ tru
 unfolding holds predicate_place
 holds_is r zero e = e
 holds_is r (suc p) e = refl
-
-place_some : (f : FrameShape) (p : ℕ) → (p ≢ 0) → predicate_place f p ≢ 0
-unfolding predicate_place
-place_some f p h = grind (arith, nat_tests)
 
 -- p0 stays 1 where another predicate is written
 pub one_kept : (f : FrameShape) (predicates : List Bool) (p : ℕ) (b : Bool) → (p ≢ 0) → get_or predicates 0 false ≡ true → get_or (set predicates (predicate_place f p) b) 0 false ≡ true

@@ -2,7 +2,9 @@
 use Rattle.std.proofs.Common.{ℕ, ◌≡◌, Bool, true, false, Option, [], arith}
 use Rattle.ia_meaning.specs.declared.turn.Turn.{Turn}
 use Rattle.ia_meaning.specs.State.{Registers}
-use Rattle.ia_meaning.specs.Writes.{apply, put, SetPredicate, SetLc, SetEc, SetFrame, Renamed}
+use Rattle.ia_meaning.specs.declared.write.Write.TheVariants.{SetPredicate, SetLc, SetEc, SetFrame}
+use Rattle.ia_meaning.specs.declared.write.FrameCause.TheVariants.{Renamed}
+use Rattle.ia_meaning.specs.Writes.{apply, put}
 use Rattle.ia_meaning.specs.Names.{predicate_place}
 use Rattle.ia_meaning.specs.Frames.{rotated}
 use Rattle.ia_meaning.specs.Loops.{written, turn_writes}

@@ -2,7 +2,9 @@
 
 ghost use Rattle.std.specs.Prelude.{◌≡◌, ◌<◌, ◌≤◌, ◌+◌, ◌-◌, [], None, IfSome};
 ghost use Rattle.ia_meaning.specs.declared.next.Next.TheVariants.{Falls};
-ghost use Rattle.ia_meaning.specs.Writes.{apply, put, SetPredicate, SetBranch, SetLc, SetEc, SetFrame, Renamed};
+ghost use Rattle.ia_meaning.specs.declared.write.Write.TheVariants.{SetPredicate, SetBranch, SetLc, SetEc, SetFrame};
+ghost use Rattle.ia_meaning.specs.declared.write.FrameCause.TheVariants.{Renamed};
+ghost use Rattle.ia_meaning.specs.Writes.{apply, put};
 ghost use Rattle.ia_meaning.specs.Names.{spot, predicate_place, predicate_spot, set_predicate};
 ghost use Rattle.ia_meaning.specs.Moves.{is_masked, masked_writes, predicate_writes};
 ghost use Rattle.ia_meaning.specs.Frames.{rotated, cleared, call_state, marked_frame, return_fault};
@@ -12,8 +14,8 @@ ghost use Rattle.slot_effects.specs.declared.change.Change.TheVariants.{Allocate
 ghost use Rattle.slot_effects.specs.Changes.{application_write, set_at, FitsApplication, MayAllocate};
 ghost use Rattle.machine_state.specs.Changes.{outcome_with, MayChange};
 
-use crate::previous_state::{call_state, epilog_of, marker_of};
 use crate::state::MachineState;
+use frame_shapes::{call_state, epilog_of, marker_of};
 use ia_insn::{Ar, Br, Gr, Pr};
 use ia_meaning::{Cell, Turn};
 use integer_ops::bit;
@@ -95,7 +97,7 @@ impl MachineState {
     }
 
     /// Gives the frame other sizes, and writes the previous function state to a register of it.
-    #[tactic(auto, using(crate::proofs::Frames::alloc_free))]
+    #[tactic(auto, using(frame_shapes::proofs::FrameEnds::alloc_free))]
     fn allocate(&mut self, r1: Gr, sof: u8, sol: u8, sor: u8)
         requires { MayAllocate self.old.registers.frame sof sol sor }
         ensures { self.new ≡ left_by (outcome_with self.old (Allocated r1 sof sol sor) Falls) self.old }
@@ -111,7 +113,7 @@ impl MachineState {
     }
 
     /// Rotates the registers.
-    #[tactic(auto, using(crate::proofs::Frames::renamed, crate::proofs::Frames::rotated_end))]
+    #[tactic(auto, using(crate::proofs::Frames::renamed, frame_shapes::proofs::FrameEnds::rotated_end))]
     fn rotate(&mut self)
         ensures { self.new ≡ record self.old { registers = put (SetFrame Renamed (rotated self.old.registers.frame)) self.old.registers } }
     {
@@ -178,7 +180,7 @@ impl MachineState {
         requires { return_fault self.old.registers.frame.base (marked_frame self.old.registers.frame.base self.old.registers.pfs) ≡ None }
         ensures { self.new ≡ left_by (outcome_with self.old Returned Falls) self.old }
     {
-        reg_stack::return_fault_is_that();
+        frame_shapes::return_fault_is_that();
         if self.stack.ret(marker_of(self.pfs)).is_err() {
             unreachable!();
         }
@@ -186,7 +188,7 @@ impl MachineState {
     }
 
     /// Makes rename bases 0.
-    #[tactic(auto, using(crate::proofs::Frames::renamed, crate::proofs::Frames::cleared_end))]
+    #[tactic(auto, using(crate::proofs::Frames::renamed, frame_shapes::proofs::FrameEnds::cleared_end))]
     fn clear(&mut self, pred_only: bool)
         ensures { self.new ≡ record self.old { registers = put (SetFrame Renamed (cleared pred_only self.old.registers.frame)) self.old.registers } }
     {

@@ -13,7 +13,6 @@
 mod apply;
 mod loads;
 mod loops;
-mod previous_state;
 mod sees;
 mod state;
 

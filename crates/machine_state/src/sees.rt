@@ -1,27 +1,11 @@
 //! The state as a slot sees it.
 
-ghost use Rattle.std.specs.Prelude.{◌≡◌};
-ghost use Rattle.reg_stack.specs.Stacks.{kind_of};
-
 use crate::state::MachineState;
+use frame_shapes::StackFault;
 use ia_insn::{Ar, Br, FaultKind, Gr, Pr};
 use ia_meaning::{AlatKey, Cell};
 use nat_alat::{Alat, DataMem};
-use reg_stack::StackFault;
 use slot_effects::Sees;
-
-/// The fault of a slot for one of the register stack.
-fn kind_of(fault: StackFault) -> FaultKind
-    ensures { result ≡ kind_of fault }
-{
-    match fault {
-        StackFault::OutOfFrame => FaultKind::OutOfFrame,
-        StackFault::BadFrame => FaultKind::BadFrame,
-        StackFault::Underflow => FaultKind::Underflow,
-        StackFault::StackLimit => FaultKind::StackLimit,
-        StackFault::ReservedField => FaultKind::ReservedField,
-    }
-}
 
 impl Sees for MachineState {
     ghost registers = { λ s. s.registers };
@@ -70,13 +54,15 @@ impl Sees for MachineState {
         self.unat
     }
 
-    #[tactic(auto, using(crate::proofs::Frames::alloc_fault_is))]
     fn alloc_fault(&self, sof: u8, sol: u8, sor: u8) -> Option<FaultKind> {
-        self.stack.may_alloc(sof, sol, sor).err().map(kind_of)
+        self.stack
+            .may_alloc(sof, sol, sor)
+            .err()
+            .map(StackFault::kind)
     }
 
     fn return_fault(&self) -> Option<FaultKind> {
-        MachineState::return_fault(self).map(kind_of)
+        MachineState::return_fault(self).map(StackFault::kind)
     }
 
     #[inline(always)]

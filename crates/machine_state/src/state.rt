@@ -6,16 +6,16 @@ ghost use Rattle.ia_insn.specs.declared.limits.TheConstants.{DATA_LIMIT};
 ghost use Rattle.ia_meaning.specs.Names.{spot, look, predicate_place, holds};
 ghost use Rattle.ia_meaning.specs.Moves.{predicate_word, application};
 ghost use Rattle.ia_meaning.specs.Frames.{marked_frame, return_fault};
-ghost use Rattle.reg_stack.specs.Stacks.{kind_of};
+ghost use Rattle.frame_shapes.specs.Faults.{kind_of};
 ghost use Rattle.slot_effects.specs.Changes.{held};
 ghost use Rattle.machine_state.specs.Contents.{zero_contents, stack_of};
 
-use crate::previous_state::marker_of;
+use frame_shapes::{StackFault, marker_of};
 use ia_insn::{Ar, Br, Gr, Pr};
 use ia_meaning::limits::STACK_LIMIT;
 use ia_meaning::{AlatKey, Cell};
 use nat_alat::{Alat, DataMem};
-use reg_stack::{Stack, StackFault};
+use reg_stack::Stack;
 use slot_effects::predicate_word;
 use std::alloc::{AllocError, Global};
 use std::marker::Model;
@@ -125,7 +125,7 @@ impl MachineState {
 
     /// The place of a general register; None outside the frame.
     #[inline(always)]
-    #[tactic(auto, using(crate::proofs::Names::spot_static))]
+    #[tactic(auto, using(ia_meaning::proofs::Spots::spot_static))]
     pub fn spot(&self, r: Gr) -> Option<AlatKey>
         ensures { result ≡ spot self.now.registers.frame r }
     {
@@ -224,7 +224,7 @@ impl MachineState {
     pub fn return_fault(&self) -> Option<StackFault>
         ensures { option_map kind_of result ≡ return_fault self.now.registers.frame.base (marked_frame self.now.registers.frame.base self.now.registers.pfs) }
     {
-        reg_stack::return_fault_is_that();
+        frame_shapes::return_fault_is_that();
         self.stack.may_ret(marker_of(self.pfs)).err()
     }
 }

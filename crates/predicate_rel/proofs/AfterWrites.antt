@@ -6,7 +6,10 @@ use Rattle.std.proofs.lemmas.Bool.Decides.{nat_tests}
 use Rattle.ia_meaning.specs.declared.state.FrameShape.{FrameShape}
 use Rattle.ia_meaning.specs.declared.turn.Turn.{Turn}
 use Rattle.ia_meaning.specs.State.{Registers, IsFrame}
-use Rattle.ia_meaning.specs.Writes.{Write, SetPredicate, SetLc, SetEc, SetFrame, Renamed, put, apply}
+use Rattle.ia_meaning.specs.declared.write.Write.{Write}
+use Rattle.ia_meaning.specs.declared.write.Write.TheVariants.{SetPredicate, SetLc, SetEc, SetFrame}
+use Rattle.ia_meaning.specs.declared.write.FrameCause.TheVariants.{Renamed}
+use Rattle.ia_meaning.specs.Writes.{put, apply}
 use Rattle.ia_meaning.specs.Arithmetic.{bit}
 use Rattle.ia_meaning.specs.Names.{predicate_place, holds, predicate_spot, set_predicate}
 use Rattle.ia_meaning.specs.Moves.{is_masked, masked_writes, predicate_writes}

@@ -26,7 +26,10 @@ use Rattle.ia_meaning.specs.declared.state.AlatKey.TheVariants.{Static, Stacked}
 use Rattle.ia_meaning.specs.declared.turn.Turn.{Turn}
 use Rattle.ia_meaning.specs.declared.form.Goal.TheVariants.{Direct, Indirect}
 use Rattle.ia_meaning.specs.State.{zero_cell, Registers, Memory, State, IsFrame, IsState}
-use Rattle.ia_meaning.specs.Writes.{Write, SetPredicate, SetBranch, SetUnat, SetPfs, SetLc, SetEc, SetFrame, Resized, Renamed, apply}
+use Rattle.ia_meaning.specs.declared.write.Write.{Write}
+use Rattle.ia_meaning.specs.declared.write.Write.TheVariants.{SetPredicate, SetBranch, SetUnat, SetPfs, SetLc, SetEc, SetFrame}
+use Rattle.ia_meaning.specs.declared.write.FrameCause.TheVariants.{Resized, Renamed}
+use Rattle.ia_meaning.specs.Writes.{apply}
 use Rattle.ia_meaning.specs.Names.{predicate_place, holds, predicate_spot, set_spot, set_predicate}
 use Rattle.ia_meaning.specs.Outcomes.{Outcome}
 use Rattle.ia_meaning.specs.declared.form.MovedWord.{MovedWord}

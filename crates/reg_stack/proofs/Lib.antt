@@ -1,9 +1,7 @@
-pub mod Allocs
 pub mod Held
 pub mod Places
 pub mod Resizing
 pub mod Returning
-pub mod Returns
 pub mod Stays
 pub mod Steps
 pub mod Whole

@@ -5,8 +5,9 @@ use Rattle.ia_meaning.specs.declared.state.Cell.{Cell}
 use Rattle.ia_meaning.specs.State.{zero_cell}
 use Rattle.ia_meaning.specs.Names.{spot}
 use Rattle.ia_meaning.specs.Frames.{with_sizes, rotated, cleared, call_frame, frame_marker, marked_frame}
-use Rattle.reg_stack.specs.declared.StackFault.{StackFault}
-use Rattle.reg_stack.specs.Stacks.{StackState, IsStack, with_cell, entered, alloc_fault_within, return_fault_within, returned_frame}
+use Rattle.frame_shapes.specs.declared.fault.StackFault.{StackFault}
+use Rattle.frame_shapes.specs.Faults.{alloc_fault_within, return_fault_within, returned_frame}
+use Rattle.reg_stack.specs.Stacks.{StackState, IsStack, with_cell, entered}
 
 -- the calls that change a register stack, with what they are given
 pub data StackCall : Type 0 where

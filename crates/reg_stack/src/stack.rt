@@ -7,13 +7,14 @@ ghost use Rattle.ia_meaning.specs.declared.limits.TheConstants.{STACK_LIMIT};
 ghost use Rattle.ia_meaning.specs.State.{IsFrame};
 ghost use Rattle.ia_meaning.specs.Names.{spot};
 ghost use Rattle.ia_meaning.specs.Frames.{with_sizes, rotated, cleared, call_frame, marked_frame};
-ghost use Rattle.reg_stack.specs.Stacks.{empty_stack, IsStack, cell_or_fault, place_fault, with_cell, entered, alloc_fault_within, return_fault_within, returned_frame};
+ghost use Rattle.frame_shapes.specs.Faults.{alloc_fault_within, return_fault_within, returned_frame};
+ghost use Rattle.reg_stack.specs.Stacks.{empty_stack, IsStack, cell_or_fault, place_fault, with_cell, entered};
 
-use crate::StackFault;
-use crate::frames::{allocated, called, cell_of, cleared, rotated, zero_frame};
-use crate::marker::returned;
 use crate::moves::{move_cells, zero_ring};
-use crate::range::{range_after, zero_range};
+use frame_shapes::{
+    StackFault, allocated, called, cell_of, cleared, range_after, returned, rotated, zero_frame,
+    zero_range,
+};
 use ia_insn::Gr;
 use ia_meaning::{Cell, FrameShape, Rse};
 use std::alloc::{AllocError, Global};

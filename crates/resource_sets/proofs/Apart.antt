@@ -18,7 +18,9 @@ use Rattle.ia_meaning.specs.declared.turn.Turn.{Turn}
 use Rattle.ia_meaning.specs.declared.form.Form.{Form}
 use Rattle.ia_meaning.specs.declared.form.Goal.TheVariants.{Direct, Indirect}
 use Rattle.ia_meaning.specs.State.{zero_cell, Registers, Memory, IsFrame}
-use Rattle.ia_meaning.specs.Writes.{Write, SetPredicate, SetLc, SetEc, SetFrame, Resized, Renamed}
+use Rattle.ia_meaning.specs.declared.write.Write.{Write}
+use Rattle.ia_meaning.specs.declared.write.Write.TheVariants.{SetPredicate, SetLc, SetEc, SetFrame}
+use Rattle.ia_meaning.specs.declared.write.FrameCause.TheVariants.{Resized, Renamed}
 use Rattle.ia_meaning.specs.Names.{spot, predicate_spot, predicate_place, set_spot, set_predicate}
 use Rattle.ia_meaning.specs.Arithmetic.{bit}
 use Rattle.ia_meaning.specs.Outcomes.{Outcome}

@@ -5,11 +5,13 @@ use Rattle.ia_insn.specs.declared.ending.FaultKind.{FaultKind}
 use Rattle.ia_meaning.specs.declared.state.AlatKey.{AlatKey}
 use Rattle.ia_meaning.specs.declared.state.FrameShape.{FrameShape}
 use Rattle.ia_meaning.specs.State.{Memory}
-use Rattle.ia_meaning.specs.Writes.{SetFrame, Resized}
+use Rattle.ia_meaning.specs.declared.write.Write.TheVariants.{SetFrame}
+use Rattle.ia_meaning.specs.declared.write.FrameCause.TheVariants.{Resized}
 use Rattle.ia_meaning.specs.Names.{spot}
 use Rattle.ia_meaning.specs.Outcomes.{falls, faults}
 use Rattle.ia_meaning.specs.Frames.{with_sizes, allocated}
-use Rattle.slot_effects.specs.Changes.{set_at, alloc_fault}
+use Rattle.frame_shapes.specs.Faults.{alloc_fault_within, alloc_fault}
+use Rattle.slot_effects.specs.Changes.{set_at}
 
 -- a register is in the new frame exactly where its number is small enough
 pub outside_new : (f : FrameShape) (sof sol sor r : ℕ) → 32 + sof ≤ r → spot (with_sizes f sof sol sor) r ≡ None
@@ -21,11 +23,11 @@ unfolding spot
 inside_new f sof sol sor r h e = grind arith
 
 at_place : (old new : FrameShape) (d : AlatKey) (pfs : ℕ) (m : Memory) → alloc_fault old new ≡ None → allocated old new (Some d) pfs m ≡ falls (SetFrame Resized new ∷ set_at (Some d) (record { value = pfs; nat = false }) []) m
-unfolding alloc_fault
+unfolding alloc_fault_within
 at_place old new d pfs m fault = grind arith
 
 not_at_place : (old new : FrameShape) (d : AlatKey) (pfs : ℕ) (m : Memory) (k : FaultKind) → alloc_fault old new ≡ Some k → allocated old new (Some d) pfs m ≡ faults k m
-unfolding alloc_fault
+unfolding alloc_fault_within
 not_at_place old new d pfs m k fault = grind arith
 
 -- an `alloc` whose target is in the new frame

@@ -1,11 +1,8 @@
 -- What a slot writes, as one change.
-use Rattle.std.specs.Prelude.{◌≡◌, ℕ, ◌+◌, ◌-◌, ◌*◌, ◌/◌, ◌%◌, ◌^◌, ◌<◌, ◌≤◌, Bool, false, not, ◌&&◌, ◌==◌, if◌then◌else◌, List, [], ◌∷◌, Option, Some, None, nat_lt, IsTrue}
-use Rattle.ia_meaning.specs.declared.limits.TheConstants.{STACK_LIMIT}
+use Rattle.std.specs.Prelude.{◌≡◌, ℕ, ◌-◌, ◌*◌, ◌/◌, ◌%◌, ◌^◌, ◌<◌, ◌≤◌, Bool, false, if◌then◌else◌, List, [], ◌∷◌, Option, Some, None, IsTrue}
 use Rattle.ia_insn.specs.declared.registers.Ar.{Ar}
 use Rattle.ia_insn.specs.declared.registers.Ar.TheVariants.{Unat, Pfs, Lc, Ec}
 use Rattle.ia_insn.specs.declared.choices.Update.{Update}
-use Rattle.ia_insn.specs.declared.ending.FaultKind.{FaultKind}
-use Rattle.ia_insn.specs.declared.ending.FaultKind.TheVariants.{ReservedField, StackLimit}
 use Rattle.ia_insn.specs.Ranges.{IsAccessSize}
 use Rattle.ia_meaning.specs.declared.state.Cell.{Cell}
 use Rattle.ia_meaning.specs.declared.state.FrameShape.{FrameShape}
@@ -13,16 +10,20 @@ use Rattle.ia_meaning.specs.declared.state.AlatKey.{AlatKey as Spot}
 use Rattle.ia_meaning.specs.declared.state.AlatEntry.{AlatEntry}
 use Rattle.ia_meaning.specs.declared.next.Next.{Next}
 use Rattle.ia_meaning.specs.State.{zero_cell, Registers, Memory, HasReservedZeros}
-use Rattle.ia_meaning.specs.Writes.{Write, SetBranch, SetUnat, SetPfs, SetLc, SetEc, SetFrame, Resized, Renamed}
+use Rattle.ia_meaning.specs.declared.write.Write.{Write}
+use Rattle.ia_meaning.specs.declared.write.Write.TheVariants.{SetBranch, SetUnat, SetPfs, SetLc, SetEc, SetFrame}
+use Rattle.ia_meaning.specs.declared.write.FrameCause.TheVariants.{Resized, Renamed}
 use Rattle.ia_meaning.specs.Names.{spot, look, set_spot, predicate_spot, set_predicate}
 use Rattle.ia_meaning.specs.Outcomes.{Outcome}
 use Rattle.ia_meaning.specs.Moves.{predicate_writes}
 use Rattle.ia_meaning.specs.Loads.{access_fault, stored, forgotten, entered, untouched, update_register, base_writes, unat_bit}
-use Rattle.ia_meaning.specs.Frames.{has_zero_bases, with_sizes, cleared, call_state, call_frame, marked_frame, return_fault}
+use Rattle.ia_meaning.specs.Frames.{with_sizes, cleared, call_state, call_frame, marked_frame, return_fault}
 use Rattle.ia_meaning.specs.Loops.{turn_of, turn_writes}
+use Rattle.frame_shapes.specs.Faults.{alloc_fault}
 use Rattle.slot_effects.specs.declared.change.Change.{Change}
 use Rattle.slot_effects.specs.declared.change.Change.TheVariants.{Nothing, General, Predicates, PredicateWord, Branch, Application, Loaded, Entered, Hit, Stored, Forgotten, AllForgotten, Allocated, Turned, Called, Returned, Cleared}
 
+-- the write of an application register
 abbrev pub application_write : Ar → ℕ → Write
 application_write Unat v = SetUnat v
 application_write Pfs v = SetPfs v
@@ -34,11 +35,12 @@ abbrev pub set_at : Option Spot → Cell → List Write → List Write
 set_at None cell ws = ws
 set_at (Some d) cell ws = set_spot d cell ws
 
--- what a register holds, 0 outside the frame
+-- what a register's cell holds, 0 where it has none
 abbrev pub held_or_zero : Option Cell → Cell
 held_or_zero None = zero_cell
 held_or_zero (Some cell) = cell
 
+-- what a register holds, 0 outside the frame
 abbrev pub held : Registers → ℕ → Cell
 held r n = held_or_zero (look r n)
 
@@ -47,11 +49,11 @@ abbrev pub update_at : Option Spot → Update → Cell → Cell → List Write
 update_at None u base more = []
 update_at (Some d) u base more = base_writes u d base more
 
--- the write of a base to which more may be added
+-- the write of a base, where it is updated: by a number, or by a register that holds this cell
 abbrev pub base_update : Registers → ℕ → Update → Cell → List Write
 base_update r r3 u more = update_at (spot r.frame r3) u (held r r3) more
 
--- that of a load's
+-- the write of the base of a load, where it is updated: by a number, or by the register that the update names
 abbrev pub load_update : Registers → ℕ → Update → List Write
 load_update r r3 u = base_update r r3 u (held r (update_register u))
 
@@ -86,11 +88,11 @@ abbrev pub forgotten_at : Option Spot → List AlatEntry → List AlatEntry
 forgotten_at None es = es
 forgotten_at (Some d) es = forgotten es d
 
--- where it is forgotten
+-- the entries without that of the register at a place, where a load forgets it
 abbrev pub forgotten_where : Bool → Option Spot → List AlatEntry → List AlatEntry
 forgotten_where forgets d es = if forgets then forgotten_at d es else es
 
--- and with a new one
+-- the entries with a new one of the register at a place, where there is one
 abbrev pub entered_at : Option Spot → ℕ → ℕ → List AlatEntry → List AlatEntry
 entered_at None address size es = es
 entered_at (Some d) address size es = entered es (record { key = d; address = address; size = size })
@@ -123,6 +125,7 @@ outcome_making r m change next = record {
   next = next;
 }
 
+-- a value fits an application register
 abbrev pub FitsApplication : Ar → ℕ → Type 0
 FitsApplication Pfs value = HasReservedZeros value
 FitsApplication Ec value = value < 64
@@ -133,12 +136,6 @@ pub record MayStore (m : Memory) (address width : ℕ) (spills : Bool) : Type 0 
   pub size : IsAccessSize width
   pub fault : access_fault m.bytes address width ≡ None
   pub whole : IsTrue spills → width ≡ 8
-
--- why `alloc` gives no new frame in place of the old one, where it gives none
-unfoldable pub alloc_fault : FrameShape → FrameShape → Option FaultKind
-alloc_fault old new =
-    if not (old.sor == new.sor) && not (has_zero_bases old) then Some ReservedField
-    else if nat_lt STACK_LIMIT (new.base + new.sof) then Some StackLimit else None
 
 -- an `alloc` has no fault
 pub record MayAllocate (f : FrameShape) (sof sol sor : ℕ) : Type 0 where

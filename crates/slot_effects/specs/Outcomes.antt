@@ -11,8 +11,8 @@ use Rattle.slot_effects.specs.declared.loads.FoundLoad.{FoundLoad}
 use Rattle.slot_effects.specs.Changes.{held, memory_after, spills_of, outcome_making}
 
 -- the outcome of a slot of this effect from these registers and this memory
-abbrev pub outcome_from : Registers → Memory → SlotEffect → Outcome
-outcome_from r m e = outcome_making r m e.change e.next
+abbrev pub outcome_of_effect : Registers → Memory → SlotEffect → Outcome
+outcome_of_effect r m e = outcome_making r m e.change e.next
 
 -- A change of registers alone.
 pub record IsPlain (change : Change) : Type 0 where

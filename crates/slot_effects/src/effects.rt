@@ -4,7 +4,7 @@ ghost use Rattle.std.specs.Prelude.{◌≡◌, ◌<◌, ◌^◌};
 ghost use Rattle.ia_meaning.specs.FormRanges.{HasFormRanges};
 ghost use Rattle.ia_meaning.specs.Effects.{site, act, skip, guarded};
 ghost use Rattle.slot_effects.specs.Changes.{MayMake};
-ghost use Rattle.slot_effects.specs.Outcomes.{outcome_from};
+ghost use Rattle.slot_effects.specs.Outcomes.{outcome_of_effect};
 
 use crate::change::Change;
 use crate::frames::{allocate, call, land, ret};
@@ -21,7 +21,7 @@ use ia_meaning::{Form, target_of};
 fn act<S: Sees>(seen: &S, program: &Program, bundle: u32, form: &Form) -> SlotEffect
     requires place { bundle < 2 ^ 31 }
     requires ranges { HasFormRanges form.now }
-    ensures value { outcome_from (S.registers seen.now) (S.memory seen.now) result ≡ act (site program.now bundle) form.now (S.registers seen.now) (S.memory seen.now) (S.unat seen.now) }
+    ensures value { outcome_of_effect (S.registers seen.now) (S.memory seen.now) result ≡ act (site program.now bundle) form.now (S.registers seen.now) (S.memory seen.now) (S.unat seen.now) }
     ensures may { MayMake (S.registers seen.now) (S.memory seen.now) result.change }
 {
     match *form {
@@ -77,7 +77,7 @@ fn act<S: Sees>(seen: &S, program: &Program, bundle: u32, form: &Form) -> SlotEf
 #[inline(always)]
 fn skip<S: Sees>(seen: &S, program: &Program, bundle: u32, form: &Form) -> SlotEffect
     requires { bundle < 2 ^ 31 }
-    ensures value { outcome_from (S.registers seen.now) (S.memory seen.now) result ≡ skip (site program.now bundle) form.now (S.registers seen.now) (S.memory seen.now) }
+    ensures value { outcome_of_effect (S.registers seen.now) (S.memory seen.now) result ≡ skip (site program.now bundle) form.now (S.registers seen.now) (S.memory seen.now) }
     ensures may { MayMake (S.registers seen.now) (S.memory seen.now) result.change }
 {
     match *form {
@@ -92,7 +92,7 @@ fn skip<S: Sees>(seen: &S, program: &Program, bundle: u32, form: &Form) -> SlotE
 pub fn effect<S: Sees>(seen: &S, program: &Program, bundle: u32, qp: Pr, form: &Form) -> SlotEffect
     requires place { bundle < 2 ^ 31 }
     requires ranges { HasFormRanges form.now }
-    ensures value { outcome_from (S.registers seen.now) (S.memory seen.now) result ≡ guarded (site program.now bundle) qp form.now (S.registers seen.now) (S.memory seen.now) (S.unat seen.now) }
+    ensures value { outcome_of_effect (S.registers seen.now) (S.memory seen.now) result ≡ guarded (site program.now bundle) qp form.now (S.registers seen.now) (S.memory seen.now) (S.unat seen.now) }
     ensures may { MayMake (S.registers seen.now) (S.memory seen.now) result.change }
 {
     if seen.holds(qp) {

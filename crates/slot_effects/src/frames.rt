@@ -7,7 +7,7 @@ ghost use Rattle.ia_meaning.specs.Frames.{with_sizes, allocated, lands, returned
 ghost use Rattle.ia_meaning.specs.Landings.{arrival};
 ghost use Rattle.ia_meaning.specs.Effects.{site, called};
 ghost use Rattle.slot_effects.specs.Changes.{writes_of, MayMake};
-ghost use Rattle.slot_effects.specs.Outcomes.{outcome_from, IsPlain};
+ghost use Rattle.slot_effects.specs.Outcomes.{outcome_of_effect, IsPlain};
 
 use crate::change::Change;
 use crate::landings::arrival;
@@ -22,7 +22,7 @@ pub(crate) fn allocate<S: Sees>(seen: &S, r1: Gr, sof: u8, sol: u8, sor: u8) -> 
     requires size { sof ≤ 96 }
     requires locals { sol ≤ sof }
     requires rotating { 8 * sor ≤ sof }
-    ensures value { outcome_from (S.registers seen.now) (S.memory seen.now) result ≡ allocated (S.registers seen.now).frame (with_sizes (S.registers seen.now).frame sof sol sor) (spot (with_sizes (S.registers seen.now).frame sof sol sor) r1) (S.registers seen.now).pfs (S.memory seen.now) }
+    ensures value { outcome_of_effect (S.registers seen.now) (S.memory seen.now) result ≡ allocated (S.registers seen.now).frame (with_sizes (S.registers seen.now).frame sof sol sor) (spot (with_sizes (S.registers seen.now).frame sof sol sor) r1) (S.registers seen.now).pfs (S.memory seen.now) }
     ensures may { MayMake (S.registers seen.now) (S.memory seen.now) result.change }
 {
     if r1.number() >= 32 + sof {
@@ -39,7 +39,7 @@ pub(crate) fn allocate<S: Sees>(seen: &S, r1: Gr, sof: u8, sol: u8, sor: u8) -> 
 pub(crate) fn land<S: Sees>(seen: &S, program: &Program, b2: Br, change: Change) -> SlotEffect
     requires plain { IsPlain change }
     requires may { MayMake (S.registers seen.now) (S.memory seen.now) change }
-    ensures value { outcome_from (S.registers seen.now) (S.memory seen.now) result ≡ lands (writes_of (S.registers seen.now) change) (S.memory seen.now) (arrival program.now (take 16 (S.registers seen.now).predicates) (get_or (S.registers seen.now).branches b2 0)) }
+    ensures value { outcome_of_effect (S.registers seen.now) (S.memory seen.now) result ≡ lands (writes_of (S.registers seen.now) change) (S.memory seen.now) (arrival program.now (take 16 (S.registers seen.now).predicates) (get_or (S.registers seen.now).branches b2 0)) }
     ensures may { MayMake (S.registers seen.now) (S.memory seen.now) result.change }
 {
     match arrival(program, seen.static_predicates(), seen.branch(b2)) {
@@ -57,7 +57,7 @@ pub(crate) fn call<S: Sees>(
     goal: Goal,
 ) -> SlotEffect
     requires { bundle < 2 ^ 31 }
-    ensures value { outcome_from (S.registers seen.now) (S.memory seen.now) result ≡ called goal (site program.now bundle) (call_writes bundle b1 (S.registers seen.now).frame (S.registers seen.now).ec) (S.registers seen.now) (S.memory seen.now) }
+    ensures value { outcome_of_effect (S.registers seen.now) (S.memory seen.now) result ≡ called goal (site program.now bundle) (call_writes bundle b1 (S.registers seen.now).frame (S.registers seen.now).ec) (S.registers seen.now) (S.memory seen.now) }
     ensures may { MayMake (S.registers seen.now) (S.memory seen.now) result.change }
 {
     let change = Change::Called {
@@ -72,7 +72,7 @@ pub(crate) fn call<S: Sees>(
 
 /// A return. The frame is looked at before the landing.
 pub(crate) fn ret<S: Sees>(seen: &S, program: &Program, b2: Br) -> SlotEffect
-    ensures value { outcome_from (S.registers seen.now) (S.memory seen.now) result ≡ returned (S.registers seen.now).frame.base (S.registers seen.now).pfs (arrival program.now (take 16 (S.registers seen.now).predicates) (get_or (S.registers seen.now).branches b2 0)) (S.memory seen.now) }
+    ensures value { outcome_of_effect (S.registers seen.now) (S.memory seen.now) result ≡ returned (S.registers seen.now).frame.base (S.registers seen.now).pfs (arrival program.now (take 16 (S.registers seen.now).predicates) (get_or (S.registers seen.now).branches b2 0)) (S.memory seen.now) }
     ensures may { MayMake (S.registers seen.now) (S.memory seen.now) result.change }
 {
     match seen.return_fault() {

@@ -25,7 +25,6 @@ mod slot_effect;
 pub use change::Change;
 pub use effects::effect;
 pub use loops::turn_of;
-pub use moves::has_reserved_zeros;
 pub use predicates::predicate_word;
 pub use sees::Sees;
 pub use slot_effect::SlotEffect;

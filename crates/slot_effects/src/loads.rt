@@ -9,7 +9,7 @@ ghost use Rattle.ia_meaning.specs.Landings.{target_of};
 ghost use Rattle.ia_meaning.specs.Loads.{access_fault, loaded, update_register, is_speculative, is_check, takes_nat, load_nat, load_made, load_hit, load_failed, load_tried, load_checked, from_memory, to_memory, check_nat, check_alat, forget};
 ghost use Rattle.nat_alat.specs.Faults.{fault_of};
 ghost use Rattle.slot_effects.specs.Changes.{load_update, MayMake};
-ghost use Rattle.slot_effects.specs.Outcomes.{outcome_from, IsLoadOf};
+ghost use Rattle.slot_effects.specs.Outcomes.{outcome_of_effect, IsLoadOf};
 
 use crate::change::Change;
 use crate::operands::operands;
@@ -61,7 +61,7 @@ fn is_check(kind: LoadKind) -> bool
 /// A load that fails: where it is speculative the fault is deferred.
 fn load_failed<S: Sees>(seen: &S, fault: FaultKind, load: &FoundLoad) -> SlotEffect
     requires { IsLoadOf (S.registers seen.now) load.now }
-    ensures value { outcome_from (S.registers seen.now) (S.memory seen.now) result ≡ load_failed fault load.now.kind load.now.entry.key (S.memory seen.now) (load_update (S.registers seen.now) load.now.r3 load.now.update) }
+    ensures value { outcome_of_effect (S.registers seen.now) (S.memory seen.now) result ≡ load_failed fault load.now.kind load.now.entry.key (S.memory seen.now) (load_update (S.registers seen.now) load.now.r3 load.now.update) }
     ensures may { MayMake (S.registers seen.now) (S.memory seen.now) result.change }
 {
     if !is_speculative(load.kind) {
@@ -82,7 +82,7 @@ fn load_failed<S: Sees>(seen: &S, fault: FaultKind, load: &FoundLoad) -> SlotEff
 /// A check that hits: the target isn't written.
 fn load_hit<S: Sees>(seen: &S, load: &FoundLoad) -> SlotEffect
     requires { IsLoadOf (S.registers seen.now) load.now }
-    ensures value { outcome_from (S.registers seen.now) (S.memory seen.now) result ≡ load_hit load.now.kind load.now.entry.key (S.memory seen.now) (load_update (S.registers seen.now) load.now.r3 load.now.update) }
+    ensures value { outcome_of_effect (S.registers seen.now) (S.memory seen.now) result ≡ load_hit load.now.kind load.now.entry.key (S.memory seen.now) (load_update (S.registers seen.now) load.now.r3 load.now.update) }
     ensures may { MayMake (S.registers seen.now) (S.memory seen.now) result.change }
 {
     SlotEffect::falls(Change::Hit {
@@ -97,7 +97,7 @@ fn load_hit<S: Sees>(seen: &S, load: &FoundLoad) -> SlotEffect
 fn load_made<S: Sees>(seen: &S, load: &FoundLoad, cell: Cell) -> SlotEffect
     requires made { IsLoadOf (S.registers seen.now) load.now }
     requires cell { cell ≡ record { value = loaded (S.memory seen.now).bytes load.now.entry.address load.now.entry.size; nat = load_nat load.now.kind load.now.entry.address (S.unat seen.now) } }
-    ensures value { outcome_from (S.registers seen.now) (S.memory seen.now) result ≡ load_made load.now.kind load.now.entry (S.memory seen.now) (S.unat seen.now) (load_update (S.registers seen.now) load.now.r3 load.now.update) }
+    ensures value { outcome_of_effect (S.registers seen.now) (S.memory seen.now) result ≡ load_made load.now.kind load.now.entry (S.memory seen.now) (S.unat seen.now) (load_update (S.registers seen.now) load.now.r3 load.now.update) }
     ensures may { MayMake (S.registers seen.now) (S.memory seen.now) result.change }
 {
     SlotEffect::falls(match load.kind {
@@ -137,7 +137,7 @@ fn read<S: Sees>(seen: &S, kind: LoadKind, address: u64, size: u8) -> Result<Cel
 fn load_tried<S: Sees>(seen: &S, load: &FoundLoad) -> SlotEffect
     requires size { IsLoadSize load.now.kind load.now.entry.size }
     requires made { IsLoadOf (S.registers seen.now) load.now }
-    ensures value { outcome_from (S.registers seen.now) (S.memory seen.now) result ≡ load_tried (access_fault (S.memory seen.now).bytes load.now.entry.address load.now.entry.size) load.now.kind load.now.entry (S.memory seen.now) (S.unat seen.now) (load_update (S.registers seen.now) load.now.r3 load.now.update) }
+    ensures value { outcome_of_effect (S.registers seen.now) (S.memory seen.now) result ≡ load_tried (access_fault (S.memory seen.now).bytes load.now.entry.address load.now.entry.size) load.now.kind load.now.entry (S.memory seen.now) (S.unat seen.now) (load_update (S.registers seen.now) load.now.r3 load.now.update) }
     ensures may { MayMake (S.registers seen.now) (S.memory seen.now) result.change }
 {
     match read(seen, load.kind, load.entry.address, load.entry.size) {
@@ -150,7 +150,7 @@ fn load_tried<S: Sees>(seen: &S, load: &FoundLoad) -> SlotEffect
 fn load_checked<S: Sees>(seen: &S, load: &FoundLoad) -> SlotEffect
     requires size { IsLoadSize load.now.kind load.now.entry.size }
     requires made { IsLoadOf (S.registers seen.now) load.now }
-    ensures value { outcome_from (S.registers seen.now) (S.memory seen.now) result ≡ load_checked load.now.kind load.now.entry (S.memory seen.now) (S.unat seen.now) (load_update (S.registers seen.now) load.now.r3 load.now.update) }
+    ensures value { outcome_of_effect (S.registers seen.now) (S.memory seen.now) result ≡ load_checked load.now.kind load.now.entry (S.memory seen.now) (S.unat seen.now) (load_update (S.registers seen.now) load.now.r3 load.now.update) }
     ensures may { MayMake (S.registers seen.now) (S.memory seen.now) result.change }
 {
     if is_check(load.kind) && seen.alat().hit(load.entry) {
@@ -171,7 +171,7 @@ pub(crate) fn load<S: Sees>(
     update: Update,
 ) -> SlotEffect
     requires { IsLoadSize kind size }
-    ensures value { outcome_from (S.registers seen.now) (S.memory seen.now) result ≡ from_memory size kind update (spot (S.registers seen.now).frame r1) (spot (S.registers seen.now).frame r3) (look (S.registers seen.now) r3) (look (S.registers seen.now) (update_register update)) (S.memory seen.now) (S.unat seen.now) }
+    ensures value { outcome_of_effect (S.registers seen.now) (S.memory seen.now) result ≡ from_memory size kind update (spot (S.registers seen.now).frame r1) (spot (S.registers seen.now).frame r3) (look (S.registers seen.now) r3) (look (S.registers seen.now) (update_register update)) (S.memory seen.now) (S.unat seen.now) }
     ensures may { MayMake (S.registers seen.now) (S.memory seen.now) result.change }
 {
     let Some(found) = operands(seen, r1, r3, update_register(&update)) else {
@@ -221,7 +221,7 @@ pub(crate) fn store<S: Sees>(
     update: Update,
 ) -> SlotEffect
     requires { IsStoreSize kind size }
-    ensures value { outcome_from (S.registers seen.now) (S.memory seen.now) result ≡ to_memory size kind update (spot (S.registers seen.now).frame r3) (look (S.registers seen.now) r3) (look (S.registers seen.now) r2) (S.memory seen.now) }
+    ensures value { outcome_of_effect (S.registers seen.now) (S.memory seen.now) result ≡ to_memory size kind update (spot (S.registers seen.now).frame r3) (look (S.registers seen.now) r3) (look (S.registers seen.now) r2) (S.memory seen.now) }
     ensures may { MayMake (S.registers seen.now) (S.memory seen.now) result.change }
 {
     let Some(found) = operands(seen, r3, r3, r2) else {
@@ -245,7 +245,7 @@ pub(crate) fn store<S: Sees>(
 /// `chk.s`: a branch where the register has NaT.
 pub(crate) fn check_nat<S: Sees>(seen: &S, bundle: u32, r2: Gr, disp: i32) -> SlotEffect
     requires { bundle < 2 ^ 31 }
-    ensures value { outcome_from (S.registers seen.now) (S.memory seen.now) result ≡ check_nat (target_of bundle disp) (look (S.registers seen.now) r2) (S.memory seen.now) }
+    ensures value { outcome_of_effect (S.registers seen.now) (S.memory seen.now) result ≡ check_nat (target_of bundle disp) (look (S.registers seen.now) r2) (S.memory seen.now) }
     ensures may { MayMake (S.registers seen.now) (S.memory seen.now) result.change }
 {
     match seen.general(r2) {
@@ -264,7 +264,7 @@ pub(crate) fn check_alat<S: Sees>(
     disp: i32,
 ) -> SlotEffect
     requires { bundle < 2 ^ 31 }
-    ensures value { outcome_from (S.registers seen.now) (S.memory seen.now) result ≡ check_alat clear (target_of bundle disp) (spot (S.registers seen.now).frame r1) (S.memory seen.now) }
+    ensures value { outcome_of_effect (S.registers seen.now) (S.memory seen.now) result ≡ check_alat clear (target_of bundle disp) (spot (S.registers seen.now).frame r1) (S.memory seen.now) }
     ensures may { MayMake (S.registers seen.now) (S.memory seen.now) result.change }
 {
     let Some(key) = seen.spot(r1) else {
@@ -282,7 +282,7 @@ pub(crate) fn check_alat<S: Sees>(
 
 /// `invala.e`: the entry of the register leaves the ALAT.
 pub(crate) fn forget<S: Sees>(seen: &S, r1: Gr) -> SlotEffect
-    ensures value { outcome_from (S.registers seen.now) (S.memory seen.now) result ≡ forget (spot (S.registers seen.now).frame r1) (S.memory seen.now) }
+    ensures value { outcome_of_effect (S.registers seen.now) (S.memory seen.now) result ≡ forget (spot (S.registers seen.now).frame r1) (S.memory seen.now) }
     ensures may { MayMake (S.registers seen.now) (S.memory seen.now) result.change }
 {
     match seen.spot(r1) {

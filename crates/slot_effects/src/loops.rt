@@ -4,7 +4,7 @@
 ghost use Rattle.std.specs.Prelude.{◌≡◌, ◌<◌, IfSome};
 ghost use Rattle.ia_meaning.specs.Loops.{counted_turn, while_turn, simple_turn, turn_of, turned};
 ghost use Rattle.slot_effects.specs.Changes.{MayMake};
-ghost use Rattle.slot_effects.specs.Outcomes.{outcome_from};
+ghost use Rattle.slot_effects.specs.Outcomes.{outcome_of_effect};
 
 use crate::change::Change;
 use crate::sees::Sees;
@@ -96,7 +96,7 @@ pub fn turn_of(kind: BranchKind, qp: bool, lc: u64, ec: u64) -> Turn
 
 /// A loop branch to a bundle.
 pub(crate) fn turn<S: Sees>(seen: &S, kind: BranchKind, qp: bool, bundle: u32) -> SlotEffect
-    ensures value { outcome_from (S.registers seen.now) (S.memory seen.now) result ≡ turned (turn_of kind qp (S.registers seen.now).lc (S.registers seen.now).ec) (S.registers seen.now).frame bundle (S.memory seen.now) }
+    ensures value { outcome_of_effect (S.registers seen.now) (S.memory seen.now) result ≡ turned (turn_of kind qp (S.registers seen.now).lc (S.registers seen.now).ec) (S.registers seen.now).frame bundle (S.memory seen.now) }
     ensures may { MayMake (S.registers seen.now) (S.memory seen.now) result.change }
 {
     let change = Change::Turned { kind, qp };

@@ -7,7 +7,7 @@ ghost use Rattle.ia_meaning.specs.Actions.{value_of, result_of, moved};
 ghost use Rattle.ia_meaning.specs.FormRanges.{IsFunction, IsCondition};
 ghost use Rattle.ia_meaning.specs.Moves.{has_reserved_zeros, computed, fetched, source_value, test_made, test_writes, test_skipped, to_predicates, to_branch, application_written, to_application};
 ghost use Rattle.slot_effects.specs.Changes.{writes_of, MayMake};
-ghost use Rattle.slot_effects.specs.Outcomes.{outcome_from, IsPlain};
+ghost use Rattle.slot_effects.specs.Outcomes.{outcome_of_effect, IsPlain};
 
 use crate::change::Change;
 use crate::operands::operands;
@@ -21,7 +21,7 @@ use integer_ops::{computed, moved, tested};
 #[tactic(auto, using(crate::proofs::Named::computed_missing))]
 pub(crate) fn compute<S: Sees>(seen: &S, r1: Gr, r2: Gr, r3: Gr, function: &Function) -> SlotEffect
     requires { IsFunction function.now }
-    ensures value { outcome_from (S.registers seen.now) (S.memory seen.now) result ≡ computed (value_of function.now) (spot (S.registers seen.now).frame r1) (look (S.registers seen.now) r2) (look (S.registers seen.now) r3) (S.memory seen.now) }
+    ensures value { outcome_of_effect (S.registers seen.now) (S.memory seen.now) result ≡ computed (value_of function.now) (spot (S.registers seen.now).frame r1) (look (S.registers seen.now) r2) (look (S.registers seen.now) r3) (S.memory seen.now) }
     ensures may { MayMake (S.registers seen.now) (S.memory seen.now) result.change }
 {
     let Some(found) = operands(seen, r1, r2, r3) else {
@@ -50,7 +50,7 @@ fn source_value<S: Sees>(seen: &S, bundle: u32, source: Source) -> u64
 /// A copy into a general register.
 pub(crate) fn fetch<S: Sees>(seen: &S, bundle: u32, r1: Gr, source: Source) -> SlotEffect
     requires { bundle < 2 ^ 31 }
-    ensures value { outcome_from (S.registers seen.now) (S.memory seen.now) result ≡ fetched (spot (S.registers seen.now).frame r1) (source_value bundle (S.registers seen.now) source) (S.memory seen.now) }
+    ensures value { outcome_of_effect (S.registers seen.now) (S.memory seen.now) result ≡ fetched (spot (S.registers seen.now).frame r1) (source_value bundle (S.registers seen.now) source) (S.memory seen.now) }
     ensures may { MayMake (S.registers seen.now) (S.memory seen.now) result.change }
 {
     match seen.spot(r1) {
@@ -96,7 +96,7 @@ pub(crate) fn test<S: Sees>(
     condition: &Condition,
 ) -> SlotEffect
     requires { IsCondition condition.now }
-    ensures value { outcome_from (S.registers seen.now) (S.memory seen.now) result ≡ test_made kind (predicate_spot (S.registers seen.now).frame targets.0) (predicate_spot (S.registers seen.now).frame targets.1) (result_of condition.now) (look (S.registers seen.now) sources.0) (look (S.registers seen.now) sources.1) (S.memory seen.now) }
+    ensures value { outcome_of_effect (S.registers seen.now) (S.memory seen.now) result ≡ test_made kind (predicate_spot (S.registers seen.now).frame targets.0) (predicate_spot (S.registers seen.now).frame targets.1) (result_of condition.now) (look (S.registers seen.now) sources.0) (look (S.registers seen.now) sources.1) (S.memory seen.now) }
     ensures may { MayMake (S.registers seen.now) (S.memory seen.now) result.change }
 {
     let (Some(a), Some(b)) = (seen.general(sources.0), seen.general(sources.1)) else {
@@ -107,7 +107,7 @@ pub(crate) fn test<S: Sees>(
 
 /// A test whose qualifying predicate is 0: `unc` clears both targets.
 pub(crate) fn skip_test(kind: CmpKind, p1: Pr, p2: Pr) -> SlotEffect
-    ensures value { (r : Registers) (m : Memory) → outcome_from r m result ≡ test_skipped kind (predicate_spot r.frame p1) (predicate_spot r.frame p2) m }
+    ensures value { (r : Registers) (m : Memory) → outcome_of_effect r m result ≡ test_skipped kind (predicate_spot r.frame p1) (predicate_spot r.frame p2) m }
     ensures may { (r : Registers) (m : Memory) → MayMake r m result.change }
 {
     if kind == CmpKind::Unc {
@@ -119,7 +119,7 @@ pub(crate) fn skip_test(kind: CmpKind, p1: Pr, p2: Pr) -> SlotEffect
 
 /// A move to the predicates.
 pub(crate) fn to_predicates<S: Sees>(seen: &S, r2: Gr, mask: u32, word: &MovedWord) -> SlotEffect
-    ensures value { outcome_from (S.registers seen.now) (S.memory seen.now) result ≡ to_predicates (moved word.now) mask (look (S.registers seen.now) r2) (S.memory seen.now) }
+    ensures value { outcome_of_effect (S.registers seen.now) (S.memory seen.now) result ≡ to_predicates (moved word.now) mask (look (S.registers seen.now) r2) (S.memory seen.now) }
     ensures may { MayMake (S.registers seen.now) (S.memory seen.now) result.change }
 {
     match seen.general(r2) {
@@ -134,7 +134,7 @@ pub(crate) fn to_predicates<S: Sees>(seen: &S, r2: Gr, mask: u32, word: &MovedWo
 
 /// A move to a branch register.
 pub(crate) fn to_branch<S: Sees>(seen: &S, b1: Br, r2: Gr) -> SlotEffect
-    ensures value { outcome_from (S.registers seen.now) (S.memory seen.now) result ≡ to_branch b1 (look (S.registers seen.now) r2) (S.memory seen.now) }
+    ensures value { outcome_of_effect (S.registers seen.now) (S.memory seen.now) result ≡ to_branch b1 (look (S.registers seen.now) r2) (S.memory seen.now) }
     ensures may { MayMake (S.registers seen.now) (S.memory seen.now) result.change }
 {
     match seen.general(r2) {
@@ -147,7 +147,7 @@ pub(crate) fn to_branch<S: Sees>(seen: &S, b1: Br, r2: Gr) -> SlotEffect
 /// Whether the reserved bits of a previous function state, 51:38 and 61:58, are zero (volume 1, chapter 3,
 /// previous function state).
 #[tactic(auto, unfolding(ia_meaning::specs::Moves::has_reserved_zeros))]
-pub fn has_reserved_zeros(pfs: u64) -> bool
+fn has_reserved_zeros(pfs: u64) -> bool
     ensures { result ≡ has_reserved_zeros pfs }
 {
     (pfs >> 38) % (1 << 14) == 0 && (pfs >> 58) % (1 << 4) == 0
@@ -156,7 +156,7 @@ pub fn has_reserved_zeros(pfs: u64) -> bool
 /// What a move to an application register does with a word.
 #[tactic(auto, using(crate::proofs::ReservedZeros::zeros))]
 fn application_written(ar: Ar, value: u64) -> SlotEffect
-    ensures value { (r : Registers) (m : Memory) → outcome_from r m result ≡ application_written ar value m }
+    ensures value { (r : Registers) (m : Memory) → outcome_of_effect r m result ≡ application_written ar value m }
     ensures may { (r : Registers) (m : Memory) → MayMake r m result.change }
 {
     if ar == Ar::Pfs && !has_reserved_zeros(value) {
@@ -168,7 +168,7 @@ fn application_written(ar: Ar, value: u64) -> SlotEffect
 
 /// A move to an application register.
 pub(crate) fn to_application<S: Sees>(seen: &S, ar: Ar, r2: Gr, word: &MovedWord) -> SlotEffect
-    ensures value { outcome_from (S.registers seen.now) (S.memory seen.now) result ≡ to_application ar (moved word.now) (look (S.registers seen.now) r2) (S.memory seen.now) }
+    ensures value { outcome_of_effect (S.registers seen.now) (S.memory seen.now) result ≡ to_application ar (moved word.now) (look (S.registers seen.now) r2) (S.memory seen.now) }
     ensures may { MayMake (S.registers seen.now) (S.memory seen.now) result.change }
 {
     match seen.general(r2) {

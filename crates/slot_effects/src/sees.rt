@@ -5,7 +5,7 @@ ghost use Rattle.ia_meaning.specs.State.{Registers, Memory};
 ghost use Rattle.ia_meaning.specs.Names.{spot, look, holds};
 ghost use Rattle.ia_meaning.specs.Moves.{predicate_word, application};
 ghost use Rattle.ia_meaning.specs.Frames.{with_sizes, marked_frame, return_fault};
-ghost use Rattle.slot_effects.specs.Changes.{alloc_fault};
+ghost use Rattle.frame_shapes.specs.Faults.{alloc_fault};
 
 use ia_insn::{Ar, Br, FaultKind, Gr, Pr};
 use ia_meaning::{AlatKey, Cell};

@@ -1,6 +1,6 @@
 -- What the slot of a place says of the place.
-use Rattle.std.proofs.Common.{◌≡◌, ℕ, ◌*◌, ◌<◌, ◌≤◌, ◌⊎◌, Option, None, Some, option_map, List, length, get_or, refl, sym, ap, ◌∙◌, arith, inl, inr}
-use Rattle.std.specs.Prelude.{MatchOption}
+use Rattle.std.proofs.Common.{◌≡◌, ℕ, ◌*◌, ◌<◌, ◌≤◌, ◌^◌, ◌⊎◌, Option, None, Some, option_map, List, length, get_or, refl, sym, subst, ap, ◌∙◌, arith, inl, inr}
+use Rattle.std.specs.Prelude.{MatchOption, IsSome}
 use Rattle.std.proofs.lemmas.Bool.{cases_lt}
 use Rattle.std.proofs.lemmas.Option.{same_Some}
 use Rattle.std.proofs.lemmas.List.{get_or_past}
@@ -10,6 +10,11 @@ use Rattle.ia_insn.specs.Bundles.{Bundle}
 use Rattle.ia_insn.specs.Places.{place_at, insn_at, IsPlaceOf}
 use Rattle.ia_insn.specs.Programs.{Program, IsProgram}
 use Rattle.ia_insn.proofs.InOrder.{bundle_small, slot_small}
+use Rattle.ia_insn.proofs.OperandRanges.{ranges_of_listed}
+use Rattle.ia_insn.proofs.ListedSlots.{listed_at}
+use Rattle.ia_meaning.specs.Actions.{insn_form}
+use Rattle.ia_meaning.specs.FormRanges.{HasFormRanges}
+use Rattle.ia_meaning.proofs.FormRanges.{form_ranges}
 use Rattle.predicate_rel.specs.declared.edge.Edge.{Edge}
 use Rattle.predicate_rel.specs.declared.edge.Edge.TheVariants.{Falls, Taken}
 use Rattle.predicate_rel.specs.Pairs.{Pairs}
@@ -24,6 +29,17 @@ pub record IsSlotOf (bundles : List Bundle) (place : Place) (slot : Slot) : Type
   pub insn : Insn
   pub here : insn_at bundles place ≡ Some insn
   pub is : slot_of bundles place insn ≡ slot
+
+-- Its numbers are in their ranges.
+pub record IsInRange (place : Place) (insn : Insn) : Type 0 where
+  pub bundle : place.bundle < 2 ^ 31
+  pub ranges : HasFormRanges (insn_form insn)
+
+pub in_range : (p : Program) (place : Place) (insn : Insn) → IsProgram p → insn_at p.bundles place ≡ Some insn → IsInRange place insn
+in_range p place insn program here =
+    let inside = bundle_small p.bundles place (subst IsSome (sym here) refl) in
+    let most = program.counts.bundles in
+    record { bundle = omega (arith, inside, most); ranges = form_ranges insn.op (ranges_of_listed insn (listed_at p place insn program here)) }
 
 -- a slot at a place is that of the instruction there
 pub slot_is : (bundles : List Bundle) (place : Place) (slot : Slot) → slot_at bundles place ≡ Some slot → IsSlotOf bundles place slot

@@ -9,7 +9,9 @@ use Rattle.ia_meaning.specs.declared.state.FrameShape.{FrameShape}
 use Rattle.ia_meaning.specs.declared.state.AlatKey.{AlatKey as Spot}
 use Rattle.ia_meaning.specs.declared.state.AlatKey.TheVariants.{Static, Stacked}
 use Rattle.ia_meaning.specs.State.{zero_cell, Registers, IsWord, AreWords, AreCells, HasReservedZeros, AreRegisters}
-use Rattle.ia_meaning.specs.Writes.{Write, SetStatic, SetCell, SetPredicate, SetBranch, SetUnat, SetPfs, SetLc, SetEc, SetFrame, resized, put, apply}
+use Rattle.ia_meaning.specs.declared.write.Write.{Write}
+use Rattle.ia_meaning.specs.declared.write.Write.TheVariants.{SetStatic, SetCell, SetPredicate, SetBranch, SetUnat, SetPfs, SetLc, SetEc, SetFrame}
+use Rattle.ia_meaning.specs.Writes.{resized, put, apply}
 use Rattle.ia_meaning.specs.Names.{set_spot, set_predicate, predicate_spot}
 use Rattle.ia_meaning.specs.Steps.{spilled, with_bit}
 use Rattle.ia_meaning.proofs.Resizing.{length-resized, words-resized}

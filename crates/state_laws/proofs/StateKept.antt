@@ -34,7 +34,9 @@ use Rattle.ia_meaning.specs.declared.state.AlatEntry.{AlatEntry}
 use Rattle.ia_meaning.specs.declared.turn.Turn.{Turn}
 use Rattle.ia_meaning.specs.declared.form.Goal.TheVariants.{Direct, Indirect}
 use Rattle.ia_meaning.specs.State.{zero_cell, Registers, Memory, State, IsWord, HasReservedZeros, AreRegisters, IsKey, IsAlatEntry, IsMemory, IsState}
-use Rattle.ia_meaning.specs.Writes.{Write, SetPredicate, SetFrame, Renamed}
+use Rattle.ia_meaning.specs.declared.write.Write.{Write}
+use Rattle.ia_meaning.specs.declared.write.Write.TheVariants.{SetPredicate, SetFrame}
+use Rattle.ia_meaning.specs.declared.write.FrameCause.TheVariants.{Renamed}
 use Rattle.ia_meaning.specs.Names.{spot, predicate_spot}
 use Rattle.ia_meaning.specs.Arithmetic.{immediate, bit}
 use Rattle.ia_meaning.specs.Outcomes.{Outcome, falls, goes, faults}

@@ -176,7 +176,7 @@ fn answer(alloc: Global, command: &str, input: &[u8]) -> Result<(u8, Vec<u8>), F
     run(alloc, command, source, sink_of(alloc, 1000, 4096, None)?)
 }
 
-/// Two writes of one register, of which no run shows a state.
+/// Two writes of one register, of which `run` shows no state.
 const TWO_WRITES_TEXT: &str = "{ .mii
 adds r14=1,r0
 adds r14=2,r0
@@ -208,4 +208,64 @@ rse 0 0 0 0
 r9 0000000000000081
 pr 0000000000000001
 ar.pfs 0000000000000081
+";
+
+/// A call that adds the words of a table, as a compiler writes it.
+const SUM_TEXT: &str = ".global main#
+.proc main#
+main:
+{ .mlx
+  alloc r32 = ar.pfs, 0, 1, 2, 0
+  movl r33 = table ;;
+}
+{ .mib
+  mov r34 = 4
+  nop.i 0
+  br.call.sptk.many b0 = sum# ;;
+}
+{ .mib
+  nop.m 0
+  nop.i 0
+  break.b 0 ;;
+}
+sum:
+{ .mii
+  alloc r34 = ar.pfs, 2, 3, 0, 0
+  mov r35 = b0
+  mov r8 = 0 ;;
+}
+{ .mii
+  adds r36 = -1, r33
+  nop.i 0
+  nop.i 0 ;;
+}
+{ .mii
+  nop.m 0
+  mov ar.lc = r36
+  nop.i 0 ;;
+}
+loop:
+{ .mii
+  ld8 r14 = [r32], 8
+  nop.i 0
+  nop.i 0 ;;
+}
+{ .mib
+  add r8 = r8, r14
+  nop.i 0
+  br.cloop.sptk.few loop ;;
+}
+{ .mii
+  nop.m 0
+  mov ar.pfs = r34
+  mov b0 = r35 ;;
+}
+{ .mib
+  nop.m 0
+  nop.i 0
+  br.ret.sptk.many b0 ;;
+}
+.data
+table:
+  data8 10, 20, 30, 40
 ";

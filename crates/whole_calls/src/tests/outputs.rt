@@ -1,8 +1,8 @@
 //! Outputs of each command, byte for byte, with their statuses.
 
 use super::{
-    NOPS, Parts, RETURN_TEXT, TWO_WRITES, TWO_WRITES_TEXT, UNDERFLOW, answer, answers, bare,
-    headed, image, image_2, text,
+    NOPS, Parts, RETURN_TEXT, SUM_TEXT, TWO_WRITES, TWO_WRITES_TEXT, UNDERFLOW, answer, answers,
+    bare, headed, image, image_2, text,
 };
 use ia_insn::{Br, Gr, Pr};
 use std::test::Fail;
@@ -307,6 +307,105 @@ fn runs_have_their_output(rt: HostRuntime) -> Result<(), Fail> {
             text(""),
             0,
             text("trial 0 3\naccepted\nend break 0x0 at 2.2\ngroups 3\nsum 0000000000000000\n"),
+        ),
+    ];
+    for (command, input, status, output) in rows {
+        answers(&rt, alloc, command, &input, status, &output)?;
+    }
+    Ok(())
+}
+
+/// The state that the two writes leave in program order.
+const SECOND_WRITE: &str = "end fault FellOff at 0.2
+groups 1
+frame 0 sof 0 sol 0 sor 0 rrb 0 0 0
+rse 0 0 0 0
+r14 0000000000000002
+pr 0000000000000001
+";
+
+/// The state that they leave in the other order.
+const FIRST_WRITE: &str = "end fault FellOff at 0.2
+groups 1
+frame 0 sof 0 sol 0 sor 0 rrb 0 0 0
+rse 0 0 0 0
+r14 0000000000000001
+pr 0000000000000001
+";
+
+/// A software-pipelined loop of two stages and four turns.
+const PIPELINED_TEXT: &str = "{ .mii
+alloc r8=ar.pfs,0,8,0,8
+mov.i ar.lc=3
+mov.i ar.ec=2 ;;
+}
+{ .mii
+nop.m 0
+mov pr.rot=65536
+nop.i 0 ;;
+}
+loop:
+{ .mib
+(p16) adds r32=1,r33
+(p17) adds r10=1,r10
+br.ctop loop ;;
+}
+{ .mib
+nop.m 0
+nop.i 0
+break.b 0 ;;
+}
+";
+
+/// The state that it ends in.
+const PIPELINED: &str = "end break 0x0 at 3.2
+groups 8
+frame 0 sof 8 sol 8 sor 1 rrb 3 91 43
+rse 0 8 0 0
+r10 0000000000000004
+r34 0000000000000004
+r35 0000000000000003
+r36 0000000000000002
+r37 0000000000000001
+pr e000000000010001
+";
+
+/// The state after the sum of a table.
+const SUM: &str = "end break 0x0 at 2.2
+groups 16
+frame 0 sof 3 sol 1 sor 0 rrb 0 0 0
+rse 0 3 0 0
+r8 0000000000000064
+r14 0000000000000028
+r33 0000000000100020
+r34 0000000000000004
+pr 0000000000000001
+b0 0000000000010020
+ar.pfs c000000000000083
+m 0000000000100000 000000000000000a
+m 0000000000100008 0000000000000014
+m 0000000000100010 000000000000001e
+m 0000000000100018 0000000000000028
+";
+
+#[test]
+fn groups_have_their_output(rt: HostRuntime) -> Result<(), Fail> {
+    let alloc = rt.alloc();
+    let rows = [
+        // No verdict is made, and the number tells the order.
+        ("groups 5 0", text(TWO_WRITES_TEXT), 9, text(SECOND_WRITE)),
+        ("groups 5 1", text(TWO_WRITES_TEXT), 9, text(FIRST_WRITE)),
+        ("groups 1 0", image(2, NOPS), 8, text(AT_LIMIT)),
+        ("groups 1 0", text(""), 3, text("line 1: empty\n")),
+        // What is accepted has one state in every order.
+        ("run 100", text(PIPELINED_TEXT), 0, text(PIPELINED)),
+        ("groups 100 7", text(PIPELINED_TEXT), 0, text(PIPELINED)),
+        ("run 1000", text(SUM_TEXT), 0, text(SUM)),
+        (
+            "groups 1000 18446744073709551615",
+            text(SUM_TEXT),
+            0,
+            text(SUM),
         ),
     ];
     for (command, input, status, output) in rows {

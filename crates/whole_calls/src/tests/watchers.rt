@@ -1,6 +1,6 @@
 //! The watchers that are left.
 
-use super::{RETURN_TEXT, UNDERFLOW, sink_of, source_of, words};
+use super::{RETURN_TEXT, SUM_TEXT, UNDERFLOW, sink_of, source_of, words};
 use ia_insn::GroupEvent;
 use ia64_top::{Status, ia64};
 use std::alloc::{AllocError, Global};
@@ -59,66 +59,6 @@ impl Watch for CounterOfOne {
     }
 }
 
-/// A call that adds the words of a table, as a compiler writes it.
-const SUM_TEXT: &[u8] = b".global main#
-.proc main#
-main:
-{ .mlx
-  alloc r32 = ar.pfs, 0, 1, 2, 0
-  movl r33 = table ;;
-}
-{ .mib
-  mov r34 = 4
-  nop.i 0
-  br.call.sptk.many b0 = sum# ;;
-}
-{ .mib
-  nop.m 0
-  nop.i 0
-  break.b 0 ;;
-}
-sum:
-{ .mii
-  alloc r34 = ar.pfs, 2, 3, 0, 0
-  mov r35 = b0
-  mov r8 = 0 ;;
-}
-{ .mii
-  adds r36 = -1, r33
-  nop.i 0
-  nop.i 0 ;;
-}
-{ .mii
-  nop.m 0
-  mov ar.lc = r36
-  nop.i 0 ;;
-}
-loop:
-{ .mii
-  ld8 r14 = [r32], 8
-  nop.i 0
-  nop.i 0 ;;
-}
-{ .mib
-  add r8 = r8, r14
-  nop.i 0
-  br.cloop.sptk.few loop ;;
-}
-{ .mii
-  nop.m 0
-  mov ar.pfs = r34
-  mov b0 = r35 ;;
-}
-{ .mib
-  nop.m 0
-  nop.i 0
-  br.ret.sptk.many b0 ;;
-}
-.data
-table:
-  data8 10, 20, 30, 40
-";
-
 #[test]
 fn a_watcher_without_memory_ends_the_run(rt: HostRuntime) -> Result<(), Fail> {
     let alloc = rt.alloc();
@@ -129,7 +69,7 @@ fn a_watcher_without_memory_ends_the_run(rt: HostRuntime) -> Result<(), Fail> {
     watchers.push(Box::new(alloc, CounterOfOne { counts, is_used })?)?;
     watchers.push(Box::new(alloc, Counter::new(1000))?)?;
     let words = words(alloc, "watch 100")?;
-    let mut source = source_of(alloc, SUM_TEXT, 4096, None)?;
+    let mut source = source_of(alloc, SUM_TEXT.as_bytes(), 4096, None)?;
     let mut sink = sink_of(alloc, 1000, 4096, None)?;
     let status = ia64(alloc, &words, &mut watchers, &mut source, &mut sink);
     assert_eq!(rt; status, Status::NoMemory);

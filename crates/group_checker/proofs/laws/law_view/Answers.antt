@@ -1,4 +1,5 @@
-use Rattle.group_checker.proofs.Seeing.{view_plain, all_see_the_start}
+use Rattle.ia_meaning.proofs.Views.{view_plain}
+use Rattle.group_checker.proofs.Seeing.{all_see_the_start}
 use Rattle.group_checker.proofs.Agreeing.{views_agree}
 use Rattle.group_checker.proofs.laws.law_view.Goals as goal
 

@@ -5,6 +5,7 @@ use Rattle.ia64_top.specs.declared.limits.TheConstants.{INPUT_LIMIT}
 use Rattle.ia64_top.proofs.Outputs.{either_gives_one, either_refuses_none}
 use Rattle.ia64_top.proofs.Ordering.{promised, run_in_each_order, promised_beyond, runs_beyond}
 use Rattle.ia64_top.proofs.Answering.{no_command, too_long, answered, given_in_part, accepted_beyond, accepted_within, judged_beyond, judged_within, ended_beyond, ended_within, watched_beyond, watched_within, cut_within, not_run_within, beyond, untouched, read_whole, same_read}
+use Rattle.ia64_top.proofs.NumberedRuns.{ended_at_once_beyond, ended_at_once_within, same_as_run_beyond, same_as_run_within}
 use Rattle.ia64_top.proofs.OneOutput.{only_output}
 use Rattle.ia64_top.proofs.Running.{accepted_of, judged_of, ended_of}
 use Rattle.ia64_top.proofs.Trying.{tried, untried, gives_trial, gives_trial_part, ends_trial}
@@ -112,6 +113,30 @@ returns-in-Ok-write_all-clause-ordered g c u =
     let whole = same_read c.in-Some.command (g.S.Source.left c.args.source.now) c.deref.result.now c.in-Ok.input.items c.deref.ensures.value c.in-Ok.ensures.whole in
     let written = rw c.deref-2.ensures.value at c.in-Ok-write_all.ensures in
     run_in_each_order c.law_orders.ensures.run c.zero_is_start.ensures one c.args.words.now c.in-Some.command _ (g.S.Source.left c.args.source.now) (g.K.Sink.given c.args.sink.now) (g.K.Sink.given c.write_all.new.sink) c.deref.result.now c.in-Ok-respond.answer.bytes.items c.in-Ok-respond.answer.status (sym c.in-Some.ensures) whole c.in-Ok-respond.ensures.output written.ok
+
+pub returns-in-Err-TooLong-clause-ended_at_once : goal.returns-in-Err-TooLong-clause-ended_at_once
+returns-in-Err-TooLong-clause-ended_at_once g c u =
+    ended_at_once_beyond c.image_size.ensures c.args.words.now (g.S.Source.left c.args.source.now) (beyond _ (g.S.Source.left c.args.source.now) (g.S.Source.left c.read_input.new.source) (ap Err c.in-Err-TooLong.field-0-is) c.in-Err-TooLong.ensures.too_long)
+
+pub returns-in-Err-TooLong-clause-same_as_run : goal.returns-in-Err-TooLong-clause-same_as_run
+returns-in-Err-TooLong-clause-same_as_run g c u =
+    same_as_run_beyond c.image_size.ensures c.args.words.now _ (g.S.Source.left c.args.source.now) _ _ (beyond _ (g.S.Source.left c.args.source.now) (g.S.Source.left c.read_input.new.source) (ap Err c.in-Err-TooLong.field-0-is) c.in-Err-TooLong.ensures.too_long)
+
+pub returns-in-Ok-write_all-clause-ended_at_once : goal.returns-in-Ok-write_all-clause-ended_at_once
+returns-in-Ok-write_all-clause-ended_at_once g c u =
+    let one = either_gives_one c.one_program.ensures c.one_text_program.ensures in
+    let none = either_refuses_none c.no_fault_where_spelled.ensures c.no_fault_where_read.ensures in
+    let whole = same_read c.in-Some.command (g.S.Source.left c.args.source.now) c.deref.result.now c.in-Ok.input.items c.deref.ensures.value c.in-Ok.ensures.whole in
+    ended_at_once_within one none c.args.words.now c.in-Some.command _ (g.S.Source.left c.args.source.now) c.deref.result.now c.in-Ok-respond.answer.bytes.items c.in-Ok-respond.answer.status (sym c.in-Some.ensures) whole c.in-Ok-respond.ensures.output
+
+pub returns-in-Ok-write_all-clause-same_as_run : goal.returns-in-Ok-write_all-clause-same_as_run
+returns-in-Ok-write_all-clause-same_as_run g c u =
+    let one = either_gives_one c.one_program.ensures c.one_text_program.ensures in
+    let none = either_refuses_none c.no_fault_where_spelled.ensures c.no_fault_where_read.ensures in
+    let whole = same_read c.in-Some.command (g.S.Source.left c.args.source.now) c.deref.result.now c.in-Ok.input.items c.deref.ensures.value c.in-Ok.ensures.whole in
+    let written = rw c.deref-2.ensures.value at c.in-Ok-write_all.ensures in
+    let within : length c.deref.result.now ≤ INPUT_LIMIT = omega (arith, c.in-Ok.ensures.within, c.deref.ensures.len, ap length c.deref.ensures.value) in
+    same_as_run_within c.law_orders.ensures.run c.zero_is_start.ensures c.numbered_run_is_parallel.ensures one none c.args.words.now c.in-Some.command _ (g.S.Source.left c.args.source.now) (g.K.Sink.given c.args.sink.now) (g.K.Sink.given c.write_all.new.sink) c.deref.result.now c.in-Ok-respond.answer.bytes.items c.in-Ok-respond.answer.status (sym c.in-Some.ensures) whole within c.in-Ok-respond.ensures.output written.ok
 
 pub returns-in-Err-TooLong-clause-tried : goal.returns-in-Err-TooLong-clause-tried
 returns-in-Err-TooLong-clause-tried g c u = λ seed bundles f. absurd (untried c.args.words.now c.in-Some.command (sym c.in-Some.ensures) c.in-Err-TooLong.ensures.reads seed bundles f)

@@ -2,7 +2,7 @@ use Rattle.std.proofs.Common.{rules, ◌≡◌, Some, sym}
 use Rattle.std.specs.Prelude.{◌≢◌, None}
 use Rattle.ia_meaning.specs.Names.{spot}
 use Rattle.ia_meaning.specs.Frames.{with_sizes}
-use Rattle.slot_effects.specs.Changes.{alloc_fault}
+use Rattle.frame_shapes.specs.Faults.{alloc_fault}
 use Rattle.slot_effects.proofs.NewFrames.{inside_new, allocated_fails}
 use Rattle.slot_effects.proofs.frames.allocate.Goals as goal
 

@@ -1,0 +1,3 @@
+pub mod Returns
+mod Examples
+pub mod FrameEnds

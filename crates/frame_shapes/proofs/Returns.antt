@@ -1,0 +1,32 @@
+-- The fault of a return.
+use Rattle.std.proofs.Common.{◌≡◌, ℕ, ◌+◌, ◌-◌, ◌≤◌, Bool, true, false, not, if◌then◌else◌, nat_lt, Some, None, refl, arith}
+use Rattle.std.specs.Option.{option_map}
+use Rattle.ia_meaning.specs.declared.limits.TheConstants.{STACK_LIMIT}
+use Rattle.ia_insn.specs.declared.ending.FaultKind.TheVariants as kind
+use Rattle.ia_meaning.specs.declared.state.FrameShape.{FrameShape}
+use Rattle.ia_meaning.specs.Frames.{is_frame, marked_frame, return_fault}
+use Rattle.ia_meaning.proofs.ReturnFrames.{MayReturn, unrefused}
+use Rattle.frame_shapes.specs.declared.fault.StackFault.TheVariants.{BadFrame, Underflow, StackLimit}
+use Rattle.frame_shapes.specs.Faults.{kind_of, return_fault_within, returned_frame, ReturnFaultIsThat}
+
+by_tests : (bad under over : Bool) → option_map kind_of (if bad then Some BadFrame else if under then Some Underflow else if over then Some StackLimit else None) ≡ (if bad then Some kind.BadFrame else if under then Some kind.Underflow else if over then Some kind.StackLimit else None)
+by_tests true under over = refl
+by_tests false true over = refl
+by_tests false false true = refl
+by_tests false false false = refl
+
+pub return_fault_is : ReturnFaultIsThat
+unfolding return_fault_within return_fault
+return_fault_is base f = by_tests (not (is_frame f)) (nat_lt base f.sol) (nat_lt STACK_LIMIT (base - f.sol + f.sof))
+
+pub may_return : (limit base : ℕ) (f : FrameShape) → return_fault_within limit base f ≡ None → MayReturn limit base f
+unfolding return_fault_within
+may_return limit base f e = unrefused BadFrame Underflow StackLimit limit base f e
+
+pub end_of : (base pfs : ℕ) → (returned_frame base pfs).base + (returned_frame base pfs).sof ≡ base - (marked_frame base pfs).sol + (marked_frame base pfs).sof
+unfolding marked_frame
+end_of base pfs = refl
+
+pub base_falls : (base pfs : ℕ) → (returned_frame base pfs).base ≤ base
+unfolding marked_frame
+base_falls base pfs = omega arith

@@ -1,0 +1,188 @@
+//! Frames (volume 1, chapter 4, register stack frames).
+
+ghost use Rattle.std.specs.Prelude.{◌≡◌, ◌+◌, ◌*◌, ◌<◌, ◌≤◌, ◌⊎◌, ◌==◌, ◌&&◌, not, false, IfOk, Some, None, MatchOption};
+ghost use Rattle.ia_meaning.specs.declared.state.AlatKey.TheVariants.{Stacked};
+ghost use Rattle.std.specs.Result.{result_err};
+ghost use Rattle.ia_meaning.specs.declared.limits.TheConstants.{STACK_LIMIT};
+ghost use Rattle.ia_meaning.specs.State.{zero_bases, zero_frame, IsFrame};
+ghost use Rattle.ia_meaning.specs.Names.{spot};
+ghost use Rattle.ia_meaning.specs.Frames.{has_zero_bases, with_sizes, rotated, cleared, call_frame};
+ghost use Rattle.frame_shapes.specs.Faults.{alloc_fault, alloc_fault_within};
+
+use crate::fault::StackFault;
+use ia_insn::{FaultKind, Gr};
+use ia_meaning::limits::STACK_LIMIT;
+use ia_meaning::{FrameShape, Rrbs};
+
+/// The number of the cell of a stacked register, r32 to r127, in a frame whose cells end at 65,536 or before;
+/// None exactly outside the frame.
+#[tactic(auto, unfolding(ia_meaning::specs::Names::spot))]
+pub fn cell_of(frame: &FrameShape, r: Gr) -> Option<u32>
+    requires frame { IsFrame frame.now }
+    requires within { frame.now.base + frame.now.sof ≤ STACK_LIMIT }
+    requires stacked { 32 ≤ r }
+    ensures { MatchOption result (spot frame.now r ≡ None) (λ n. (spot frame.now r ≡ Some (Stacked n)) × (frame.now.base ≤ n) × (n < frame.now.base + frame.now.sof)) }
+{
+    let k = r.number() - 32;
+    if k < frame.sof {
+        rotation::places_within();
+        let place = rotation::gr_place(k, frame.sor, frame.rrbs.gr);
+        Some(frame.base + u32::from(place))
+    } else {
+        None
+    }
+}
+
+/// Rename bases that are all 0.
+fn zero_bases() -> Rrbs
+    ensures { result ≡ zero_bases }
+{
+    Rrbs {
+        gr: 0,
+        fr: 0,
+        pr: 0,
+    }
+}
+
+/// The frame at the start: it is empty.
+pub fn zero_frame() -> FrameShape
+    ensures { result ≡ zero_frame }
+{
+    FrameShape {
+        base: 0,
+        sof: 0,
+        sol: 0,
+        sor: 0,
+        rrbs: zero_bases(),
+    }
+}
+
+/// Whether all rename bases are 0.
+#[tactic(auto, unfolding(ia_meaning::specs::Frames::has_zero_bases))]
+fn has_zero_bases(frame: &FrameShape) -> bool
+    ensures { result ≡ has_zero_bases frame.now }
+{
+    frame.rrbs.gr == 0 && frame.rrbs.fr == 0 && frame.rrbs.pr == 0
+}
+
+/// Whether `sor` changes while the rename bases aren't all 0.
+#[tactic(auto, unfolding(ia_meaning::specs::Frames::has_zero_bases))]
+fn is_reserved(frame: &FrameShape, sor: u8) -> bool
+    ensures value { result ≡ (not (frame.now.sor == sor) && not (has_zero_bases frame.now)) }
+    ensures free { result ≡ false → (frame.now.sor ≡ sor) ⊎ (frame.now.rrbs.gr ≡ 0) }
+{
+    frame.sor != sor && !has_zero_bases(frame)
+}
+
+/// The frame that `alloc` gives in place of another, in a stack of at most `limit` cells: it has `sof` registers, at
+/// most 96, of which the first `sol` are local and the first 8 times `sor` rotate, and the base and the rename
+/// bases of the other (volume 3, chapter 2, `alloc`).
+///
+/// # Errors
+///
+/// The first of these that holds: `ReservedField` where `sor` changes and the rename bases aren't all 0;
+/// `StackLimit` where there are too many cells.
+#[tactic(auto, unfolding(crate::specs::Faults::alloc_fault_within))]
+pub fn allocated(
+    limit: u32,
+    frame: &FrameShape,
+    sof: u8,
+    sol: u8,
+    sor: u8,
+) -> Result<FrameShape, StackFault>
+    requires frame { IsFrame frame.now }
+    requires within { frame.now.base + frame.now.sof ≤ STACK_LIMIT }
+    requires size { sof ≤ 96 }
+    requires locals { sol ≤ sof }
+    requires rotating { 8 * sor ≤ sof }
+    ensures fault { result_err result ≡ alloc_fault_within limit frame.now (with_sizes frame.now sof sol sor) }
+    ensures frame { IfOk result (λ f. (f ≡ with_sizes frame.now sof sol sor) × IsFrame f × (f.base + f.sof ≤ limit)) }
+{
+    if is_reserved(frame, sor) {
+        Err(StackFault::ReservedField)
+    } else if limit < frame.base + u32::from(sof) {
+        Err(StackFault::StackLimit)
+    } else {
+        Ok(FrameShape {
+            base: frame.base,
+            sof,
+            sol,
+            sor,
+            rrbs: frame.rrbs,
+        })
+    }
+}
+
+/// Why `alloc` gives no frame of these sizes in place of another, in a stack of 65,536 cells, where it gives none:
+/// that it would change the rotating part while a rename base isn't 0, or that there would be too many cells.
+pub fn alloc_fault(frame: &FrameShape, sof: u8, sol: u8, sor: u8) -> Option<FaultKind>
+    requires frame { IsFrame frame.now }
+    requires within { frame.now.base + frame.now.sof ≤ STACK_LIMIT }
+    requires size { sof ≤ 96 }
+    requires locals { sol ≤ sof }
+    requires rotating { 8 * sor ≤ sof }
+    ensures { result ≡ alloc_fault frame.now (with_sizes frame.now sof sol sor) }
+{
+    allocated(STACK_LIMIT, frame, sof, sol, sor)
+        .err()
+        .map(StackFault::kind)
+}
+
+/// The frame of a call: the caller's without its locals, with no rotating part, and all rename bases are 0
+/// (volume 3, chapter 2, `br.call`).
+pub fn called(frame: &FrameShape) -> FrameShape
+    requires frame { IsFrame frame.now }
+    requires within { frame.now.base + frame.now.sof ≤ STACK_LIMIT }
+    ensures value { result ≡ call_frame frame.now }
+    ensures frame { IsFrame result }
+{
+    FrameShape {
+        base: frame.base + u32::from(frame.sol),
+        sof: frame.sof - frame.sol,
+        sol: 0,
+        sor: 0,
+        rrbs: zero_bases(),
+    }
+}
+
+/// The frame after a rotation: its rename bases change alone, as [`rotation::rotate`] has them (volume 1, chapter 4,
+/// register rotation).
+#[tactic(auto, unfolding(ia_meaning::specs::Frames::rotated))]
+pub fn rotated(frame: &FrameShape) -> FrameShape
+    requires { IsFrame frame.now }
+    ensures value { result ≡ rotated frame.now }
+    ensures frame { IsFrame result }
+{
+    FrameShape {
+        base: frame.base,
+        sof: frame.sof,
+        sol: frame.sol,
+        sor: frame.sor,
+        rrbs: rotation::rotate(frame.rrbs, frame.sor),
+    }
+}
+
+/// The frame with all rename bases 0, or that of the predicates alone (volume 3, chapter 2, `clrrrb`).
+pub fn cleared(frame: &FrameShape, pred_only: bool) -> FrameShape
+    requires { IsFrame frame.now }
+    ensures value { result ≡ cleared pred_only frame.now }
+    ensures frame { IsFrame result }
+{
+    let old = frame.rrbs;
+    let rrbs = if pred_only {
+        Rrbs {
+            gr: old.gr,
+            fr: old.fr,
+            pr: 0,
+        }
+    } else {
+        zero_bases()
+    };
+    FrameShape {
+        base: frame.base,
+        sof: frame.sof,
+        sol: frame.sol,
+        sor: frame.sor,
+        rrbs,
+    }
+}

@@ -1,0 +1,13 @@
+pub mod Arranging
+pub mod Collecting
+pub mod TakingIn
+pub mod Groups
+pub mod Keeping
+pub mod Names
+pub mod Resized
+pub mod Runs
+pub mod Seen
+pub mod Sights
+pub mod SlotSteps
+pub mod Slots
+pub mod Views

@@ -1,0 +1,92 @@
+-- One slot of a group, by its entry in the table of slots.
+use Rattle.std.proofs.Common.{◌≡◌, ℕ, suc, Bool, true, false, ◌&&◌, Some, None, sym, ap, ◌∙◌, subst}
+use Rattle.ia_insn.specs.declared.ending.End.TheVariants.{Break, Fault}
+use Rattle.ia_insn.specs.declared.ending.FaultKind.{FaultKind}
+use Rattle.ia_insn.specs.declared.ending.FaultKind.TheVariants.{FellOff}
+use Rattle.ia_insn.specs.declared.insn.Insn.{Insn}
+use Rattle.ia_insn.specs.declared.place.Place.{Place}
+use Rattle.ia_insn.specs.Places.{insn_at, IsPlaceOf}
+use Rattle.ia_insn.specs.Programs.{Program, IsProgram}
+use Rattle.ia_meaning.specs.declared.next.Next.TheVariants.{Falls, Goes, Breaks, Faults}
+use Rattle.ia_meaning.specs.Actions.{insn_form, is_alloc}
+use Rattle.ia_meaning.specs.Outcomes.{Outcome}
+use Rattle.ia_meaning.specs.Sequence.{first_of}
+use Rattle.ia_meaning.specs.Views.{view}
+use Rattle.ia_meaning.specs.ParallelGroups.{Gathered, now_of, gathers}
+use Rattle.ia_meaning.proofs.Follows.{next_is}
+use Rattle.ia_meaning.proofs.Inside.{goes_inside}
+use Rattle.slot_effects.specs.declared.slot_effect.SlotEffect.{SlotEffect}
+use Rattle.slot_effects.specs.Changes.{outcome_making, MayMake}
+use Rattle.slot_effects.specs.Outcomes.{outcome_of_effect}
+use Rattle.slot_table.specs.declared.slot.Slot.{Slot}
+use Rattle.slot_table.specs.Slots.{slot_at}
+use Rattle.slot_table.proofs.SlotLaws.{IsSlotOf, slot_is}
+use Rattle.group_engine.specs.Groups.{IsEffectOf, rest_of, IsOver, ComesTo}
+use Rattle.group_engine.proofs.TakingIn.{gathers_with, may_with}
+use Rattle.group_engine.proofs.Slots.{fell, stops, goes_on, goes, breaks_off, faulted}
+
+-- This slot comes next in a group, it does this, and sees this previous function state.
+pub record ComesNext (p : Program) (g : Gathered) (slot : Slot) (e : SlotEffect) (pfs : ℕ) : Type 0 where
+  pub of : IsSlotOf p.bundles g.place slot
+  pub does : IsEffectOf p g of.insn e pfs
+
+pub comes_next : (p : Program) (g : Gathered) (slot : Slot) (e : SlotEffect) (pfs : ℕ) → slot_at p.bundles g.place ≡ Some slot → ((insn : Insn) → insn_at p.bundles g.place ≡ Some insn → IsEffectOf p g insn e pfs) → ComesNext p g slot e pfs
+comes_next p g slot e pfs at does =
+    let i = slot_is p.bundles g.place slot at in record { of = i; does = does i.insn i.here }
+
+-- the change may be made
+pub may_take : (p : Program) (g : Gathered) (slot : Slot) (e : SlotEffect) (pfs : ℕ) → ComesNext p g slot e pfs → MayMake (record g.base { pfs = pfs }) g.memory e.change
+may_take p g slot e pfs h = may_with p g h.of.insn e pfs h.does
+
+-- the places to which it goes on are the program's
+pub falls_inside : (p : Program) (g : Gathered) (slot : Slot) (e : SlotEffect) (pfs : ℕ) (next : Place) → ComesNext p g slot e pfs → slot.next ≡ Some next → IsPlaceOf p.bundles next
+falls_inside p g slot e pfs next h to =
+    let n = next_is p.bundles g.place next (ap (λ (s : Slot). s.next) h.of.is ∙ to) in n.is
+
+pub branches_inside : (p : Program) (g : Gathered) (slot : Slot) (e : SlotEffect) (pfs bundle : ℕ) → ComesNext p g slot e pfs → IsProgram p → IsPlaceOf p.bundles g.place → e.next ≡ Goes bundle → IsPlaceOf p.bundles (first_of bundle)
+branches_inside p g slot e pfs bundle h program is taken =
+    goes_inside p g.place h.of.insn (view h.of.insn (now_of g) g.base) g.memory g.unat bundle program is h.of.here (ap (λ (o : Outcome). o.next) (sym h.does.value) ∙ taken)
+
+module _ (p : Program) (begins first : Bool) (g next : Gathered) (slot : Slot) (e : SlotEffect) (pfs : ℕ) (h : ComesNext p g slot e pfs) (flag : first ≡ (begins && is_alloc slot.form)) where
+  abbrev does : Outcome
+  does = outcome_of_effect (view h.of.insn (now_of g) g.base) g.memory e
+
+  abbrev Takes : Place → Type 0
+  Takes place = next ≡ gathers first g (outcome_making (record g.base { pfs = pfs }) g.memory e.change Falls) place
+
+  same_flag : first ≡ (begins && is_alloc (insn_form h.of.insn))
+  same_flag = flag ∙ ap (λ (s : Slot). begins && is_alloc s.form) (sym h.of.is)
+
+  takes_in : (place : Place) → Takes place → gathers (begins && is_alloc (insn_form h.of.insn)) g does place ≡ next
+  takes_in place took =
+      gathers_with p g h.of.insn e pfs h.does (begins && is_alloc (insn_form h.of.insn)) place ∙ rw (← same_flag) (sym took)
+
+  -- It falls where there is no place.
+  pub fell_off : e.next ≡ Falls → slot.next ≡ None → (most : ℕ) → IsOver (rest_of (suc most) p begins g) g (Some (Fault FellOff g.place))
+  fell_off falls none most =
+      fell p begins g h.of.insn does h.of.here (sym h.does.value) most falls (ap (λ (s : Slot). s.next) h.of.is ∙ none)
+
+  -- It falls through to a stop,
+  pub ends_group : (place : Place) → Takes place → e.next ≡ Falls → slot.next ≡ Some place → slot.stop ≡ true → (most : ℕ) → IsOver (rest_of (suc most) p begins g) next None
+  ends_group place took falls to stop most =
+      subst (λ all. IsOver (rest_of (suc most) p begins g) all None) (takes_in place took)
+      (stops p begins g h.of.insn does h.of.here (sym h.does.value) most place falls (ap (λ (s : Slot). s.next) h.of.is ∙ to) (ap (λ (s : Slot). s.stop) h.of.is ∙ stop))
+
+  -- or within its group.
+  pub stays : (place : Place) → Takes place → e.next ≡ Falls → slot.next ≡ Some place → slot.stop ≡ false → (most : ℕ) → ComesTo (rest_of (suc most) p begins g) (rest_of most p false next)
+  stays place took falls to stop most =
+      subst (λ all. ComesTo (rest_of (suc most) p begins g) (rest_of most p false all)) (takes_in place took)
+      (goes_on p begins g h.of.insn does h.of.here (sym h.does.value) most place falls (ap (λ (s : Slot). s.next) h.of.is ∙ to) (ap (λ (s : Slot). s.stop) h.of.is ∙ stop))
+
+  -- It branches.
+  pub branches : (bundle : ℕ) → Takes (first_of bundle) → e.next ≡ Goes bundle → (most : ℕ) → IsOver (rest_of (suc most) p begins g) next None
+  branches bundle took taken most =
+      subst (λ all. IsOver (rest_of (suc most) p begins g) all None) (takes_in (first_of bundle) took)
+      (goes p begins g h.of.insn does h.of.here (sym h.does.value) most bundle taken)
+
+  -- It ends the run.
+  pub ends_run : (imm : ℕ) → e.next ≡ Breaks imm → (most : ℕ) → IsOver (rest_of (suc most) p begins g) g (Some (Break imm g.place))
+  ends_run imm stop most = breaks_off p begins g h.of.insn does h.of.here (sym h.does.value) most imm stop
+
+  pub has_fault : (kind : FaultKind) → e.next ≡ Faults kind → (most : ℕ) → IsOver (rest_of (suc most) p begins g) g (Some (Fault kind g.place))
+  has_fault kind fault most = faulted p begins g h.of.insn does h.of.here (sym h.does.value) most kind fault

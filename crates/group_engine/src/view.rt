@@ -1,0 +1,206 @@
+//! What a slot sees where its group runs all at once.
+
+ghost use Rattle.std.specs.Prelude.{true, ◌≡◌, ◌<◌, ◌==◌, ◌&&◌, if◌then◌else◌, nat_le, nat_lt, length};
+ghost use Rattle.ia_insn.specs.declared.insn.Insn.{Insn};
+ghost use Rattle.ia_meaning.specs.State.{Registers};
+ghost use Rattle.ia_meaning.specs.Actions.{insn_form, is_branch};
+ghost use Rattle.ia_meaning.specs.Views.{sees_static, sees_branch, sees_pfs, seen_in, view};
+ghost use Rattle.group_engine.specs.Groups.{memory_of};
+ghost use Rattle.group_engine.specs.Kept.{steering_of};
+ghost use Rattle.group_engine.specs.Views.{seen_by, target_register};
+
+use crate::registers::GroupRegisters;
+use crate::steering::Steering;
+use crate::thread::Thread;
+use ia_insn::{Ar, Br, FaultKind, Gr, Pr};
+use ia_meaning::{AlatKey, Cell, Form, Goal};
+use nat_alat::{Alat, DataMem};
+use slot_effects::{Sees, predicate_word};
+
+/// The registers of the group's start, but for those that steer branches, which are as the slot may see them,
+/// and what goes from slot to slot.
+#[derive(Clone, Copy, Debug)]
+pub(crate) struct View<'a> {
+    /// The registers of the group's start.
+    pub registers: &'a GroupRegisters,
+    /// Those that steer branches, as the slot sees them.
+    pub steering: &'a Steering,
+    /// What goes from slot to slot.
+    pub thread: &'a Thread,
+}
+
+impl<'a> View<'a> {
+    /// What is seen between two groups.
+    pub fn between_groups(registers: &'a GroupRegisters, thread: &'a Thread) -> View<'a>
+        ensures registers { seen_by result.registers.now result.steering.now ≡ registers.now }
+        ensures frame { result.registers.now ≡ registers.now }
+        ensures thread { result.thread.now ≡ thread.now }
+    {
+        View {
+            registers,
+            steering: registers.steering(),
+            thread,
+        }
+    }
+}
+
+impl<'a> Sees for View<'a> {
+    ghost registers = { λ v. seen_by v.registers.now v.steering.now };
+
+    ghost memory = { λ v. memory_of v.thread.now };
+
+    ghost unat = { λ v. v.thread.now.unat };
+
+    #[inline(always)]
+    fn spot(&self, r: Gr) -> Option<AlatKey> {
+        self.registers.spot(r)
+    }
+
+    #[inline(always)]
+    #[tactic(auto, using(crate::proofs::Views::look_seen))]
+    fn general(&self, r: Gr) -> Option<Cell> {
+        self.registers.general(r)
+    }
+
+    #[inline(always)]
+    #[tactic(auto, using(crate::proofs::Views::holds_zero_seen, crate::proofs::Views::holds_seen))]
+    fn holds(&self, p: Pr) -> bool {
+        p.is_zero() || self.steering.predicates[self.registers.predicate_place(p)]
+    }
+
+    #[inline(always)]
+    fn predicate_word(&self) -> u64 {
+        predicate_word(&self.steering.predicates)
+    }
+
+    #[inline(always)]
+    fn static_predicates(&self) -> &[bool] {
+        &self.steering.predicates[..16]
+    }
+
+    #[inline(always)]
+    fn branch(&self, b: Br) -> u64 {
+        b.has_three_bits();
+        self.steering.branches[b.number() as usize]
+    }
+
+    #[inline(always)]
+    fn application(&self, ar: Ar) -> u64 {
+        let registers = self.registers;
+        match ar {
+            Ar::Unat => registers.unat,
+            Ar::Pfs => self.steering.pfs,
+            Ar::Lc => registers.lc,
+            Ar::Ec => registers.ec,
+        }
+    }
+
+    #[inline(always)]
+    fn fill_unat(&self) -> u64 {
+        self.thread.unat
+    }
+
+    fn alloc_fault(&self, sof: u8, sol: u8, sor: u8) -> Option<FaultKind> {
+        let registers = self.registers;
+        frame_shapes::alloc_fault(&registers.frame, sof, sol, sor)
+    }
+
+    fn return_fault(&self) -> Option<FaultKind> {
+        let registers = self.registers;
+        frame_shapes::return_fault(registers.frame.base, self.steering.pfs)
+    }
+
+    #[inline(always)]
+    fn data(&self) -> &DataMem {
+        &self.thread.data
+    }
+
+    #[inline(always)]
+    fn alat(&self) -> &Alat {
+        &self.thread.alat
+    }
+}
+
+/// Whether it is a branch.
+#[inline(always)]
+pub(crate) fn is_branch(form: &Form) -> bool
+    ensures { result ≡ is_branch form.now }
+{
+    matches!(
+        form,
+        Form::Jump { .. }
+            | Form::JumpIndirect { .. }
+            | Form::Loop { .. }
+            | Form::Call { .. }
+            | Form::Return { .. }
+    )
+}
+
+/// The branch register that holds the target of an indirect branch, a call or a return; None of another form.
+fn target(form: &Form) -> Option<Br>
+    ensures { result ≡ target_register form.now }
+{
+    match *form {
+        Form::JumpIndirect { b2 }
+        | Form::Call {
+            goal: Goal::Indirect(b2),
+            ..
+        }
+        | Form::Return { b2 } => Some(b2),
+        _ => None,
+    }
+}
+
+/// Has the item at place `n` seen as `latest` has it.
+fn see<T: Copy>(seen: &mut [T], latest: &[T], n: usize)
+    requires count { length latest.now ≡ length seen.old }
+    requires place { n < length seen.old }
+    ensures { seen.new ≡ seen_in (λ k. k == n) 0 seen.old latest.now }
+{
+    seen[n] = latest[n];
+}
+
+/// Has p1 to p15 seen as `latest` has them.
+fn see_static(seen: &mut [bool; 64], latest: &[bool; 64])
+    ensures { seen.new ≡ seen_in (λ k. nat_le 1 k && nat_lt k 16) 0 seen.old latest.now }
+{
+    seen[1..16].copy_from_slice(&latest[1..16]);
+}
+
+/// Has p1 to p15, and the branch register that holds the target, of an indirect branch seen as `latest` has
+/// them.
+#[tactic(auto, using(crate::proofs::Sights::target_sights))]
+fn see_target(seen: &mut Steering, latest: &Steering, form: &Form)
+    ensures { seen.new ≡ record seen.old { predicates = seen_in (sees_static form.now) 0 seen.old.predicates latest.now.predicates; branches = seen_in (sees_branch form.now) 0 seen.old.branches latest.now.branches } }
+{
+    if let Some(b) = target(form) {
+        b.has_three_bits();
+        see_static(&mut seen.predicates, &latest.predicates);
+        see(&mut seen.branches, &latest.branches, b.number() as usize);
+    }
+}
+
+/// Has the previous function state of a return seen as `latest` has it.
+fn see_pfs(seen: &mut Steering, latest: &Steering, form: &Form)
+    ensures { seen.new ≡ record seen.old { pfs = if sees_pfs form.now then latest.now.pfs else seen.old.pfs } }
+{
+    if let Form::Return { .. } = form {
+        seen.pfs = latest.pfs;
+    }
+}
+
+/// What a branch of this form and qualifying predicate sees of the registers that steer it, where its group began
+/// with these registers and earlier slots left `latest`: its qualifying predicate as in `latest`, an indirect branch
+/// p1 to p15 and the branch register of its target too, and a return the previous function state. All others stand
+/// as at the start.
+pub(crate) fn sight(registers: &GroupRegisters, latest: &Steering, qp: Pr, form: &Form) -> Steering
+    requires { is_branch form.now ≡ true }
+    ensures { (insn : Insn) (now : Registers) → insn_form insn ≡ form.now → insn.qp ≡ qp → steering_of now ≡ latest.now → result ≡ steering_of (view insn now registers.now) }
+{
+    let mut seen = *registers.steering();
+    see_target(&mut seen, latest, form);
+    let place = registers.predicate_place(qp);
+    see(&mut seen.predicates, &latest.predicates, place);
+    see_pfs(&mut seen, latest, form);
+    seen
+}

@@ -1,7 +1,0 @@
-use Rattle.std.proofs.Common.{◌≡◌, ◌++◌}
-use Rattle.std.specs.Prelude.{string_bytes, flat_map}
-use Rattle.ia_meaning.specs.StateText.{count_up, br_line}
-use Rattle.state_text.proofs.other_registers.push_branches.Given as goal
-
-abbrev pub invariant-loop-n : goal.invariant-loop-n
-invariant-loop-n l = string_bytes l.out ≡ string_bytes l.fn.out ++ flat_map (br_line l.machine.progress.state.registers) (count_up 0 l.n)
