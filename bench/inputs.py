@@ -189,6 +189,41 @@ def relation_pairs():
     return "".join(f".entry L{n}\nL{n}:\n{every * count}{NOPS}" for n in range(entries)).encode()
 
 
+# Loose texts, for `stops`
+
+
+def loose(text):
+    """The instructions of a text of this file, without bundles, stops and the `nop`s that fill them."""
+    lines = [line.removesuffix(";;") for line in text.decode().splitlines()]
+    return "".join(line + "\n" for line in lines if line not in ("}", "nop", "") and line[0] != "{").encode()
+
+
+def long_stretches():
+    """The most instructions, three in each bundle, none of which wants a stop: each is held against 190 others."""
+    return b"cmp.eq.or p6,p0=r8,r9\n" * (3 * BUNDLE_LIMIT)
+
+
+def most_pairs():
+    """The most stops of pairs, two in each bundle: each instruction reads what the one before it writes."""
+    return b"adds r8=1,r8\n" * (2 * BUNDLE_LIMIT)
+
+
+def loose_excuses():
+    """The most clashes that are excused."""
+    return loose(most_excuses())
+
+
+def loose_losses():
+    """Facts that are lost one by one, as in `losses_past_compares`, through fewer bundles, since stops part the others."""
+    compares = ["cmp.eq.or.andcm p0,p1=r0,r0"] * 3
+    return loose(losses_through(lambda count: in_groups(count - 2000, "mii", *compares)).encode())
+
+
+def late_limit():
+    """The most instructions of which the last doesn't fit: three in each bundle if no stop were wanted."""
+    return b"clrrrb\n" * (3 * BUNDLE_LIMIT)
+
+
 # Programs with a large image, for `show`, `list` and `wrap`
 
 

@@ -1,6 +1,7 @@
 #!/usr/bin/env python3
-"""Times build, show and list beside the GNU tools on the same work, trials, run, watch and groups on loops, and
-every command on the inputs that take it longest, and prints four tables. No part of the gate.
+"""Times build, show and list beside the GNU tools on the same work, trials, run, watch and groups on loops, stops
+beside build and check of what it prints, and every command on the inputs that take it longest, and prints five tables.
+No part of the gate.
 
 The inputs of the first table are programs of so many bundles, each with a label, a load, an addition
 and a branch to another bundle. A trial makes its own program, checks it and runs it. A time is the best of
@@ -8,7 +9,8 @@ five, with the start of the program; all outputs go to files. The GNU assembler 
 as `check` does that. `objdump -d` and `list` print bytes and instructions, `show` a text that builds
 again. A loop is run to its `break`; of its speed the slots of its turns are counted alone. `watch` shows
 each group to two watchers and should have at least 0.8 of the speed of `run` on a counted loop, where a
-group is one bundle. `groups` should take at most three times the instructions of `run`.
+group is one bundle. `groups` should take at most three times the instructions of `run`. The loose text is that of the
+first table without bundles and stops; it is packed into another program, as each label begins a bundle.
 
 The last table has the worst inputs within the limits (`inputs.py`). Its seconds are those of the processor,
 the best of three, and its megabytes the greatest peak, at least that of this script, about 15. It ends with
@@ -141,6 +143,17 @@ def measure_loop(name, folder):
     print(f"| {name} | {run:.1f} | {watch:.1f} | {watch / run:.2f} | {groups:.1f} |", flush=True)
 
 
+INSTRUCTIONS = 60000
+
+
+def measure_loose(folder):
+    """Prints the lines of a loose text: what `stops` takes, and `build` and `check` of what it prints."""
+    loose, packed = folder / "loose.s", folder / "packed.s"
+    loose.write_bytes(inputs.loose(text_of(INSTRUCTIONS // 3).replace(" ;;", ";;").encode()))
+    for name, source, output in (("stops", loose, packed), ("build", packed, folder / "image"), ("check", packed, folder / "verdict")):
+        print(f"| {name} | {1000 * seconds([PROGRAM, name], source, output):.1f} | {output.stat().st_size} |", flush=True)
+
+
 # The worst inputs: the words of a command, what makes its input, and how many seconds it may take at most.
 # To `run`, `watch` and `groups` time isn't limited.
 MEGABYTES = 640
@@ -154,10 +167,12 @@ CHECKS = (
     inputs.largest_program, inputs.most_violations, inputs.most_excuses, inputs.losses_past_nops,
     inputs.losses_past_compares, inputs.losses_past_branches, inputs.losses_in_zigzag, inputs.losses_past_violations,
 )
+LOOSE = (inputs.long_stretches, inputs.most_pairs, inputs.loose_excuses, inputs.loose_losses, inputs.late_limit)
 WORST = [("build", make, 12) for make in BUILDS]
 WORST += [(words, inputs.largest_program, 1) for words in ("show", "list")]
 WORST += [("wrap", inputs.most_bundles, 1)]
 WORST += [("check", make, 60) for make in CHECKS]
+WORST += [("stops", make, 120) for make in LOOSE]
 WORST += [
     ("trial 1 4096", inputs.nothing, 10),
     ("run 1", inputs.largest_state, None),
@@ -221,7 +236,7 @@ def worst_within(folder, counts):
 
 
 def print_tables():
-    """Prints the tables beside the GNU tools, of trials and of loops."""
+    """Prints the tables beside the GNU tools, of trials, of loops and of a loose text."""
     if not has_gnu():
         print("Without the GNU tools for ia64, which are not installed.")
     one, five, fifteen = os.getloadavg()
@@ -236,6 +251,8 @@ def print_tables():
         print("\n| Loop | run, million slots a second, best of 5 | watch | watch by run | groups |\n|---|---|---|---|---|")
         for name in LOOPS:
             measure_loop(name, pathlib.Path(folder))
+        print(f"\n| {INSTRUCTIONS} loose instructions | Milliseconds, best of 5 | Bytes made |\n|---|---|---|")
+        measure_loose(pathlib.Path(folder))
 
 
 def main():

@@ -8,8 +8,8 @@ import subprocess
 from typing import NamedTuple, Optional, Tuple
 
 import printed_forms
-from printed_forms import (MAGICS, Layout, bundles_of, has_form, head, lifted_image,
-                           relation_lines_oddity, takes_image, without_relations, written_image)
+from printed_forms import (MAGICS, Layout, bundles_of, has_form, head, lifted_image, packed_oddity,
+                           relation_lines_oddity, split_packed, takes_image, without_relations, written_image)
 
 INPUT_LIMIT = 16777216
 DONE, VIOLATED, REFUSED = 0, 1, 3
@@ -32,6 +32,7 @@ class Command(NamedTuple):
 START = 50_000_000
 COMMANDS = {
     "build": Command((), None, 4000, 0),
+    "stops": Command((), None, 200_000, 0),
     "show": Command((), None, 2000, 0),
     "list": Command((), None, 2000, 0),
     "wrap": Command((), None, 2000, 0),
@@ -166,6 +167,8 @@ class Calls:
             return printed_forms.text_refusal_oddity(data, output)
         if status == VIOLATED:
             return printed_forms.violations_oddity(output, int(words[2]) if word == "trial" else bundles_of(data))
+        if word == "stops" and status == DONE:
+            return packed_oddity(output)
         if word not in ("run", "watch", "groups") or not output:
             is_shown = is_image and word != "wrap" and output
             return printed_forms.head_fault(data) or printed_forms.relation_fault(data) if is_shown else None
@@ -206,6 +209,20 @@ class Calls:
         if not data.startswith(MAGICS):
             self.all_same(answers, [built] * len(answers), "build says")
         return None
+
+    def loose(self, data):
+        """Holds the answers on what `stops` prints of a loose text to it. Whether it is packed."""
+        packed = self.call("stops", data=data)
+        if packed.status != DONE:
+            return False
+        built, checked = (self.call(word, data=packed.output) for word in ("build", "check"))
+        if built.status != DONE:
+            self.note(["build"], f"what stops printed is refused: {built.output!r}")
+            return True
+        self.same("check", checked, Answer(DONE, b"accepted\n"), "stops promises")
+        text = Answer(DONE, split_packed(packed.output)[0])
+        self.same("show", self.call("show", data=built.output), text, "stops printed")
+        return True
 
     def image(self, data, like=None):
         """Holds the answers on an image, or on what may be one, to each other and to those on its text."""

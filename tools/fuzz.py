@@ -3,10 +3,11 @@
 
 Call it when the program is built: tools/fuzz.py [--program FILE] [--seed S] [--cases N] [--processes P].
 Case n of a seed is the same on every machine, as far as the program builds the same images of the texts
-of tries/ and examples/. The cases are of eight sorts by turns: random programs as texts, which have to be
+of tries/ and examples/. The cases are of ten sorts by turns: random programs as texts, which have to be
 right; such texts and those of the repository, damaged; images of both, damaged; such images with relations,
-of which one may be changed; bare bundles; bytes that are nothing; words near the commands; and texts with one
-fault, whose reason and line are known.
+of which one may be changed; bare bundles; bytes that are nothing; words near the commands; texts with one
+fault, whose reason and line are known; loose texts, made of such texts by tools/loosen, some of them damaged;
+and loose texts with one fault.
 
 Of each call it looks at the status, the form of what is printed, that nothing is on standard error, that
 a refusal names a place of the input, and at the processor time (`COMMANDS` of calls.py); and over several calls:
@@ -19,9 +20,11 @@ a refusal names a place of the input, and at the processor time (`COMMANDS` of c
   is read without its relations;
 - `run N` and `watch N` print what `check` does exactly where that isn't `accepted`; `watch N` ends with
   what `run N` prints, and its reports and the state are of one run; `groups N K` prints what `run N` does
-  where `check` says `accepted`, and a state where it doesn't.
+  where `check` says `accepted`, and a state where it doesn't;
+- what `stops` prints has a line for each of its stops, each with a violation round it; `check` accepts it, and
+  `build` of it and then `show` gives its canonical text. A right loose text is packed, unless it is too long.
 
-It doesn't know what a program means: neither the verdict, nor the state, nor (but for the last sort) the
+It doesn't know what a program means: neither the verdict, nor the state, nor (but for the sorts with one fault) the
 reason of a refusal is held to anything from outside. Faults of reading and writing aren't tried, and want
 of memory isn't either: status 7 within the memory limit is a finding.
 
@@ -33,6 +36,8 @@ many cases of each sort ran, how long, and the slowest. The status is 1 where so
 import argparse
 import collections
 import functools
+import importlib.machinery
+import importlib.util
 import multiprocessing
 import random as randoms
 import shutil
@@ -47,10 +52,14 @@ from damage import CODE_EDITS, IMAGE_EDITS, TEXT_EDITS, damaged, flip, random_by
 from gnu_as import stop
 from calls import COMMANDS, DONE, INPUT_LIMIT, REFUSED, Answer, GivenUp, Calls
 from printed_forms import MAGICS, Layout, head
-from random_texts import FAULT_KINDS, Shape, random_lines
+from random_texts import FAULT_KINDS, LOOSE_FAULT_KINDS, Shape, random_lines
 
 ROOT = Path(__file__).resolve().parent.parent
 PROGRAM = ROOT / "crates" / "ia64_cli" / "out" / "ia64_cli"
+
+loader = importlib.machinery.SourceFileLoader("loosen", str(ROOT / "tools" / "loosen"))
+loosen = importlib.util.module_from_spec(importlib.util.spec_from_loader("loosen", loader))
+loader.exec_module(loosen)
 
 Result = collections.namedtuple("Result", "number sort findings calls seconds slowest")
 
@@ -154,7 +163,7 @@ NUMBERS = [b"0", b"2", b"9", b"4097", b"10000001", b"18446744073709551615", b"18
            b"x" * 100000]
 GROUPS, SEEDS, BUNDLES = (1, 7, 8, 9, 100, 9999, 10**6, 10**7), (0, 1, 2**63, 2**64 - 1), (1, 2, 100, 4096)
 WORDS = [word.encode() for word in COMMANDS]
-NEAR = [b"help", b"--help", b"Check", b"check ", b"chec", b"checks", b"-", b"", b"run 5", b"trial 1 1"]
+NEAR = [b"help", b"--help", b"Check", b"check ", b"chec", b"checks", b"stop", b"stops ", b"-", b"", b"run 5", b"trial 1 1"]
 
 
 def wide_number(random):
@@ -191,7 +200,33 @@ def single_faults(calls, random):
     calls.all_same(answers, [wanted] * len(answers), "the fault that was put in")
 
 
-SORTS = (programs, damaged_texts, damaged_images, related_images, bare_bundles, any_bytes, words, single_faults)
+def loosened(random, data):
+    return loosen.loosened(data.decode("latin-1").replace("\r\n", "\n"), random.randrange(2))
+
+
+def loose_texts(calls, random):
+    """Loose texts, or damaged ones. One of a text that `build` takes is right, but that it may have too many bundles, or a
+    relation of a bundle behind a call that isn't its bundle's last instruction: packed anew, the call ends its bundle."""
+    text = some_text(random)
+    data = loosened(random, text).encode("latin-1")
+    if random.randrange(3) == 0:
+        calls.loose(damaged(random, data, TEXT_EDITS))
+    elif not calls.loose(data) and calls.call("build", data=text).status == DONE:
+        refusal = calls.call("stops", data=data).output
+        if not refusal.endswith((b": limit\n", b": relation\n")):
+            calls.note(["stops"], f"a right loose text is refused: {refusal!r}")
+
+
+def loose_faults(calls, random):
+    """Loose texts with one fault, which have to be refused with its reason and line."""
+    text = loosened(random, random_text(random, bundles=random.randrange(1, 12)))
+    lines, number, reason = random.choice(LOOSE_FAULT_KINDS)(random, text.split("\n")[:-1])
+    wanted = Answer(REFUSED, f"line {number}: {reason}\n".encode())
+    calls.same("stops", calls.call("stops", data=encoded(random, lines)), wanted, "the fault that was put in")
+
+
+SORTS = (programs, damaged_texts, damaged_images, related_images, bare_bundles, any_bytes, words, single_faults, loose_texts,
+         loose_faults)
 
 
 def run_case(options, number, kept=None):

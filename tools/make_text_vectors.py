@@ -161,8 +161,9 @@ def image(lines):
 
 
 def kept():
-    """The lines of the programs of `examples` and `tries` that the assembler takes and gives no stop more."""
-    paths = [path for folder in PROGRAMS for path in sorted((ROOT / folder).glob("*.s"))]
+    """The lines of the programs of `examples` and `tries` that have bundles, and that the assembler takes and gives no
+    stop more."""
+    paths = [path for folder in PROGRAMS for path in sorted((ROOT / folder).glob("*.s")) if "\n{" in path.read_text()]
     texts = [path.read_text().splitlines() for path in paths if is_taken(path)]
     return [lines for lines in texts if not gets_stops(lines)]
 

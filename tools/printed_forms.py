@@ -34,6 +34,8 @@ VIOLATIONS = rf"violations [1-9][0-9]*\n(?:{VIOLATION}){{1,100}}"
 REASONS = ("limit", "char", "name", "register", "number", "range", "form", "misplaced", "twice", "template",
            "slot kind", "empty", "no label", "relation", "long run")
 TEXT_REFUSED = rf"line [1-9][0-9]*: (?:{'|'.join(REASONS)})\n"
+LOOSE_REASONS = [reason for reason in REASONS if reason not in ("template", "slot kind", "long run")]
+LOOSE_REFUSED = rf"line [1-9][0-9]*: (?:{'|'.join(LOOSE_REASONS)})\n"
 SLOT_FAULT = "slot [012]: (?:unlisted|target|long run)"
 IMAGE_REFUSED = (rf"image: (?:short|magic|counts|length|entry {N}|bundle {N}(?:: template| {SLOT_FAULT})"
                  rf"|relation {N})\n")
@@ -63,6 +65,8 @@ RELATED = "(?:1[0-5]|[1-9])"
 RELATION_LINE = rf'\.pred\.rel "mutex",p{RELATED},p{RELATED}\n'
 CANONICAL = (rf"(?:(?:\.entry L{N}\n)?(?:L{N}:\n)?(?:{RELATION_LINE})*{{ \.{BUNDLE}}}\n)+"
              rf"(?:\.data\n(?:data8 {HEX}(?:,{HEX}){{7}}\n)*data8 {HEX}(?:,{HEX}){{0,7}}\n)?")
+STOP_LINE = rf"// {PLACE} (?:written\n|long\n|{VIOLATION})"
+PACKED = rf"{CANONICAL}(?:{STOP_LINE})*"
 LISTING = rf"(?:{N} [0-9a-f]{{32}} {BUNDLE})+"
 
 TRIAL = rf"trial {N} [1-9][0-9]*\naccepted\n(?:{BROKEN}|{LIMITED}|{FAULTED}){GROUPS}sum {WORD}\n"
@@ -73,6 +77,7 @@ WRITTEN = f"{FIRST}|{SECOND}"
 # it takes, and with the statuses 2, 4, 5 and 7 there is nothing.
 FORMS = {
     "build": {0: WRITTEN},
+    "stops": {0: PACKED},
     "show": {0: CANONICAL},
     "list": {0: LISTING},
     "wrap": {0: WRITTEN},
@@ -88,7 +93,8 @@ NOTHING = (2, 4, 5, 7)
 
 def has_form(word, status, is_image, output):
     """Whether an output is one of a command with this status, on an image or on something else."""
-    form = "" if status in NOTHING else FORMS[word].get(status, IMAGE_REFUSED if is_image else TEXT_REFUSED)
+    refused = IMAGE_REFUSED if is_image else LOOSE_REFUSED if word == "stops" else TEXT_REFUSED
+    form = "" if status in NOTHING else FORMS[word].get(status, refused)
     return re.fullmatch(form.encode("latin-1"), output) is not None
 
 
@@ -212,8 +218,39 @@ def relation_lines_oddity(image, text):
     return None if len(found) == len(wanted) else f"{len(found)} lines of {len(wanted)} relations"
 
 
+def split_packed(output):
+    """The canonical text that `stops` prints, and the lines of its stops behind it."""
+    at = next((found.start() for found in re.finditer(rb"^// ", output, re.M)), len(output))
+    return output[:at], output[at:].decode().splitlines()
+
+
+def stopped_places(text):
+    """The places of a canonical text that a stop follows."""
+    bundle, slot, found = -1, 0, []
+    for line in text.decode().splitlines():
+        if line.startswith("{"):
+            bundle, slot = bundle + 1, 0
+        elif line.startswith("  "):
+            found += [(bundle, slot)] * line.endswith(" ;;")
+            slot += 1
+    return found
+
+
+def packed_oddity(output):
+    """What is wrong with what `stops` prints: other stops are named than those of the text, or a violation that isn't
+    round its stop."""
+    text, lines = split_packed(output)
+    stops = [(place(line.split()[1]), line.split()[2:]) for line in lines]
+    if [at for at, _ in stops] != stopped_places(text):
+        return "other stops than those of the text"
+    for at, why in stops:
+        if len(why) == 4 and not place(why[2]) <= at < place(why[3]):
+            return f"a violation that the stop behind {at} doesn't part"
+    return None
+
+
 def takes_image(word, data):
-    return word in ("show", "list", "wrap", "lift") or (word != "build" and data.startswith(MAGICS))
+    return word in ("show", "list", "wrap", "lift") or (word not in ("build", "stops") and data.startswith(MAGICS))
 
 
 def bundles_of(data):

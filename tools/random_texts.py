@@ -348,6 +348,55 @@ def long_run(random, lines):
     return put(lines, at, *NOPS * (RUN_LIMIT // 3 + 1)), at + len(NOPS) * (RUN_LIMIT // 3) + 2, "long run"
 
 
+# Loose texts with one fault: each function takes the lines of a right loose text, which has an instruction.
+
+
+def wide_bare_number(random, lines):
+    at = random.randrange(len(lines) + 1)
+    return put(lines, at, f"{random.choice(('nop', 'break'))} {random.choice((1 << 21, (1 << 62) - 1))}"), at + 1, "range"
+
+
+LOOSE_MISPLACED = {"code": ("}", "{ .mii", "{ .bbb", "data1 0", ".skip 0"),
+                   "data": ("}", "{ .mlx", ";;", "nop.i 0", "(p6) movl r8=1", '.pred.rel "mutex",p1,p2,p3')}
+
+
+def loose_misplaced(random, lines):
+    place = random.choice(list(LOOSE_MISPLACED))
+    at = random.choice(gaps(lines, place))
+    return put(lines, at, random.choice(LOOSE_MISPLACED[place])), at + 1, "misplaced"
+
+
+def stop_before_all(random, lines):
+    return [";;", *lines], 1, "misplaced"
+
+
+def loose_target(random, lines):
+    name = random.choice(("nowhere", "there"))
+    more = random.choice((f".entry {name}", f"br.few {name} ;;", f"(p6) chk.s.m r8,{name}", f"br.call b0={name}"))
+    at = random.choice(gaps(lines, "code"))
+    return [*put(lines, at, more), ".data", "there:"], at + 1, "no label"
+
+
+def no_instruction_behind(random, lines):
+    """A relation behind the last instruction, which may be a call."""
+    more = [*random.choice(([], ["br.call b0=fresh ;;"])), relation_line(random, (6, 7))]
+    return ["fresh:", *lines, *more], len(lines) + len(more) + 1, "relation"
+
+
+def past_loose_bundles(random, lines):
+    empty = ["// nothing"] * random.randrange(3)
+    return [*["nop.x 0"] * BUNDLE_LIMIT, *empty, "br nowhere"], BUNDLE_LIMIT + len(empty) + 1, "limit"
+
+
+def past_packed_bundles(random, lines):
+    """Three a bundle as if no stop were wanted, and each wants one."""
+    return ["clrrrb"] * (BUNDLE_LIMIT + random.randrange(1, 100)), BUNDLE_LIMIT + 1, "limit"
+
+
+LOOSE_FAULT_KINDS = [line_by_itself] * 20 + [
+    long_line, wide_bare_number, loose_misplaced, stop_before_all, same_label, past_data, label_at_the_end, no_bundle,
+    loose_target, no_instruction_behind] * 4 + [past_loose_bundles, past_packed_bundles]
+
 FAULT_KINDS = [line_by_itself] * 20 + [
     long_line, misplaced, early_stop, same_label, one_slot_more, one_slot_less, wrong_stop, wrong_kind, past_data,
     open_bundle, label_at_the_end, no_bundle, no_target, no_entry, long_run] * 4 + [

@@ -4,8 +4,8 @@ headings, and compares what they print with what the pages say.
 
 Commands are blocks ```sh of a page; what they print is the block without a language that stands directly behind one. The
 blocks of a page run in its order, in a folder that stands for the root of the repository: it has the examples and the
-tries, `./ia64` there is the built program by itself (by default that of this repository, which has to be built), and
-`tools/compare_orders` asks it. A page says what comes on standard output; nothing may come on standard error.
+tries, `./ia64` there is the built program by itself (by default that of this repository, which has to be built),
+`tools/compare_orders` asks it, and `tools/loosen` is there. A page says what comes on standard output; nothing may come on standard error.
 
 It prints each block that prints something else, and a count; the status is 1 where there is one, and where there is no
 block at all.
@@ -42,6 +42,7 @@ def outline(folder, program):
         (folder / name).symlink_to(ROOT / name)
     (folder / "tools").mkdir()
     script(folder / "ia64", program)
+    (folder / "tools" / "loosen").symlink_to(ROOT / "tools" / "loosen")
     script(folder / "tools" / "compare_orders", ROOT / "tools" / "compare_orders", "--program", program)
 
 

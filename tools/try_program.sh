@@ -609,10 +609,151 @@ try 'one relation more' 3 "$dir/wanted" "$dir/text" build
 refused 'counts' check "$(front 40 39 4097)$entries$all$first$second$code"
 refused 'relation 4095' check "$(front 40 39 4096)$entries$all$(relation 38 1 2)$code"
 
+# NAME TEXT WANTED: `stops` packs the loose text, given as printf takes it, into just these bytes, given so too; and what it
+# prints keeps what docs/FORMATS.md says: `check` accepts it, `build` takes it, and `show` of that is the text without the
+# lines of stops.
+try_stops() {
+  printf "$2" > "$dir/loose"
+  printf "$3" > "$dir/wanted"
+  try "$1" 0 "$dir/wanted" "$dir/loose" stops
+  kept_by_stops "$1"
+}
+
+# NAME: the file `out` has what `stops` printed. Where a stop of a pair is taken out, `check` prints its violation first.
+kept_by_stops() {
+  local number=0 why
+  cp "$dir/out" "$dir/packed"
+  grep -v '^//' "$dir/packed" > "$dir/text"
+  try "$1, packed and checked" 0 "$dir/accepted" "$dir/packed" check
+  "$program" build < "$dir/packed" > "$dir/image"
+  note $? "$1, packed: not built"
+  try "$1, packed, built and shown" 0 "$dir/text" "$dir/image" show
+  while read -r _ _ why; do
+    number=$((number + 1))
+    case $why in written | long) continue ;; esac
+    awk -v n="$number" '/ ;;$/ && ++count == n { sub(/ ;;$/, "") } { print }' "$dir/packed" > "$dir/text"
+    [ "$("$program" check < "$dir/text" | sed -n 2p)" = "$why" ]
+    note $? "$1, without stop $number"
+  done < <(grep '^//' "$dir/packed")
+}
+
+# REASON LINE TEXT: `stops` refuses this text, given as printf takes it, at this line.
+refused_stops() {
+  printf 'line %s: %s\n' "$2" "$1" > "$dir/wanted"
+  printf "$3" > "$dir/loose"
+  try "$1 by stops, line $2" 3 "$dir/wanted" "$dir/loose" stops
+}
+
+# The example, whose comment has the lines of its stops.
+try 'a loose text' 0 tries/loose/example.packed examples/loose.s stops
+kept_by_stops 'a loose text'
+sed -n 's|^//   ||p' examples/loose.s > "$dir/wanted"
+grep '^//' "$dir/packed" | cmp -s - "$dir/wanted"
+note $? 'a loose text: other stops than it says'
+{ state 'break 0x0 at 3.1' 5; printf 'r8 %016x\nr9 %016x\nr10 %016x\nr14 0000000000100000\n' 5 7 7
+  printf 'pr 0000000000000041\nm 0000000000100000 0000000000000007\n'; } > "$dir/state"
+try 'a loose text, packed and run' 0 "$dir/state" "$dir/packed" run 100
+
+# A pair; two moves of which one predicate is 0; and no text.
+try_stops 'a pair of additions' 'add r8=r9,r10\nadd r11=r8,r9\nbreak.i 0\n' \
+  '{ .mmi\n  add r8=r9,r10 ;;\n  add r11=r8,r9\n  break.i 0x0\n}\n// 0.0 RAW r8 0.0 0.1\n'
+compare='{ .mmi\n  cmp.eq p6,p7=r0,r0 ;;\n  (p6) addl r8=1,r0\n  (p7) addl r8=2,r0\n}\n'
+nop_mi='  nop.m 0x0\n  nop.i 0x0\n' mii_nops='{ .mii\n  nop.m 0x0\n  nop.i 0x0\n  nop.i 0x0\n}\n'
+try_stops 'two predicates' 'cmp.eq p6,p7=r0,r0\n(p6) mov r8=1\n(p7) mov r8=2\nbr.ret b0\n' \
+  "$compare{ .mib\n$nop_mi  br.ret.sptk.few b0\n}\n// 0.0 RAW p6 0.0 0.1\n"
+refused_stops empty 1 ''
+refused_stops misplaced 1 '{ .mii'
+
+# The second place of a violation that a stop prevents may be that of a nop.
+try_stops 'a violation of a nop' 'clrrrb\nshl r8=r9,r10\n' \
+  "{ .mib\n$nop_mi  clrrrb ;;\n}\n{ .mii\n  nop.m 0x0\n  shl r8=r9,r10\n  nop.i 0x0\n}\n// 0.2 CLEAR cfm 0.2 1.0\n"
+# A stop may follow a nop.
+try_stops 'a stop behind a nop' 'adds r8=1,r9\nadds r10=1,r8\n' \
+  '{ .mii\n  adds r8=1,r9\n  nop.i 0x0 ;;\n  adds r10=1,r8\n}\n// 0.1 RAW r8 0.0 0.2\n'
+try_stops 'a stop before an alloc' 'shl r8=r9,r10\n;;\nshl r8=r9,r10\nalloc r32=ar.pfs,0,1,0,0\n' \
+  '{ .mii\n  nop.m 0x0\n  shl r8=r9,r10 ;;\n  shl r8=r9,r10 ;;\n}\n{ .mii\n  alloc r32=ar.pfs,0,1,0,0\n  nop.i 0x0\n  nop.i 0x0\n}\n// 0.1 written\n// 0.2 ALLOC cfm 0.2 1.0\n'
+# An .entry line begins no bundle, and the label that it names does.
+try_stops 'an entry' 'add r8=r9,r10\n.entry b\nadd r11=r9,r10\nb:\nnop\n' \
+  "{ .mii\n  add r8=r9,r10\n  add r11=r9,r10\n  nop.i 0x0\n}\n.entry L1\nL1:\n$mii_nops"
+try_stops 'a stop at the end' 'add r8=r9,r10\n;;\n;;\n' '{ .mii\n  add r8=r9,r10\n  nop.i 0x0\n  nop.i 0x0 ;;\n}\n// 0.2 written\n'
+try_stops 'a call under a predicate' 'x:\n(p6) br.call b0=x\nadd r8=r9,r10\n' \
+  "L0:\n{ .mib\n$nop_mi  (p6) br.call.sptk.few b0=L0\n}\n{ .mii\n  add r8=r9,r10\n  nop.i 0x0\n  nop.i 0x0\n}\n"
+# A written stop is named as one, though the pair would want it too.
+try_stops 'a stop that both want' 'add r8=r9,r10 ;;\nadd r11=r8,r9\n' \
+  '{ .mii\n  add r8=r9,r10\n  nop.i 0x0 ;;\n  add r11=r8,r9\n}\n// 0.1 written\n'
+# An instruction that brings a stop with it on the way back to its loop.
+try_stops 'a loop' 'x:\nadds r8=1,r8\n(p6) br x\n' \
+  'L0:\n{ .mib\n  adds r8=1,r8\n  nop.i 0x0\n  (p6) br.cond.sptk.few L0\n}\n'
+try_stops 'bare letters' 'x:\nchk.s r8,x\nhint\nbreak 1\n' \
+  'L0:\n{ .mii\n  chk.s.m r8,L0\n  hint.i 0x0\n  break.i 0x1\n}\n'
+try_stops 'a relation' '.pred.rel "mutex",p6,p7\n(p6) mov r8=1\n(p7) mov r8=2\n' \
+  '.pred.rel "mutex",p6,p7\n{ .mii\n  (p6) addl r8=1,r0\n  (p7) addl r8=2,r0\n  nop.i 0x0\n}\n'
+try_stops 'data and a number' '.data\nx:\ndata8 1\n.text\nmovl r8=x\nmovl r9=7\n' \
+  '{ .mlx\n  nop.m 0x0\n  movl r8=0x100000\n}\n{ .mlx\n  nop.m 0x0\n  movl r9=0x7\n}\n.data\ndata8 0x1\n'
+
+# Sixty-four bundles want a stop, behind the sixty-third: there are no more than 63 without one.
+{ for _ in {1..64}; do echo 'nop.x'; done; } > "$dir/loose"
+{
+  for n in {1..64}; do printf '{ .mlx\n  nop.m 0x0\n  nop.x 0x0%s\n}\n' "$([ "$n" = 63 ] && echo ' ;;')"; done
+  echo '// 62.1 long'
+} > "$dir/wanted"
+try 'a long stretch' 0 "$dir/wanted" "$dir/loose" stops
+kept_by_stops 'a long stretch'
+
+# Faults, in their order.
+for text in '}' '{ .mii' ';;' 'x:\n;;' '.data\n;;' 'nop\n.data\n;;' '.data\nnop 0x1fffff' '.data\n.pred.rel "mutex",p6,p7' 'data1 0' \
+  'nop\nx:' 'x:\n.data' '.skip 0'; do
+  line=$(printf "$text\n" | wc -l)
+  case $text in 'nop\nx:' | 'x:\n.data') line=$((line + 1)) ;; esac
+  refused_stops misplaced "$line" "$text\n"
+done
+for text in '{' '{ 5' '{ .xyz' 'ADD r8=r9,r10'; do refused_stops name 1 "$text\n"; done
+for text in 'nop 0x200000' 'break 0x200000' '(p6) nop 0x3fffffffffffffff' '.data\nnop 0x200000' 'hint 0x200000'; do
+  refused_stops range "$(printf "$text\n" | wc -l)" "$text\n"
+done
+try_stops 'a number of unit X' 'nop.x 0x200000\n' '{ .mlx\n  nop.m 0x0\n  nop.x 0x200000\n}\n'
+refused_stops twice 3 'x:\nnop\nx:\n'
+refused_stops empty 3 '.data\ndata1 0\n'
+refused_stops 'no label' 1 'br x\n.data\nx:\n'
+refused_stops 'no label' 2 'nop\n.entry x\n'
+refused_stops 'no label' 3 '.pred.rel "mutex",p6,p7\nnop\nbr x\n.pred.rel "mutex",p6,p7\n'
+refused_stops relation 2 'nop\n.pred.rel "mutex",p6,p7\n'
+refused_stops relation 2 'nop\n.pred.rel "mutex",p6,p7\nnop\n'
+refused_stops limit 3 '.data\n.skip 1048576\ndata1 0\n'
+refused_stops char 1 'nop // d\303\251j\303\240 vu\n'
+printf 'line 1: char\n' > "$dir/wanted"
+try 'stops of an image' 3 "$dir/wanted" examples/three_nops.image stops
+try 'stops of a text with bundles' 3 <(printf 'line 10: misplaced\n') examples/three_nops.s stops
+
+# The most bundles: as if no stop were wanted, in the order of lines; and of the packing, behind all other faults.
+yes 'nop.x' | head -n 32769 > "$dir/loose"
+printf 'line 32769: limit\n' > "$dir/limit"
+try '32769 long instructions' 3 "$dir/limit" "$dir/loose" stops
+head -n 32768 "$dir/loose" > "$dir/most"
+"$program" stops < "$dir/most" > "$dir/out"
+note $? '32768 long instructions: not packed'
+[ "$(grep -c '^{' "$dir/out")" = 32768 ] && [ "$(grep -c '^// .* long$' "$dir/out")" = 520 ]
+note $? '32768 long instructions: other bundles or stops'
+kept_by_stops '32768 long instructions'
+yes clrrrb | head -n 40000 > "$dir/loose"
+try '40000 times clrrrb' 3 "$dir/limit" "$dir/loose" stops
+echo 'br x' >> "$dir/loose"
+printf 'line 40001: no label\n' > "$dir/wanted"
+try '40000 times clrrrb and a missing label' 3 "$dir/wanted" "$dir/loose" stops
+
+try 'stops of a long input' 4 "$dir/nothing" "$dir/too_long" stops
+try 'stops of a folder' 5 "$dir/nothing" "$dir" stops
+for words in 'stops now' 'stops 5' Stops stop; do
+  # shellcheck disable=SC2086
+  try "$words" 2 "$dir/nothing" examples/loose.s $words
+done
+
 "$program" check < examples/three_nops.image > /dev/full 2> /dev/null
 note $(($? != 6)) "write_fault: another status than 6"
 "$program" watch 100 < examples/count.s > /dev/full 2> /dev/null
 note $(($? != 6)) "write_fault, watched: another status than 6"
+"$program" stops < examples/loose.s > /dev/full 2> /dev/null
+note $(($? != 6)) "write_fault, stops: another status than 6"
 
 echo "try_program: $passed passed, $failed failed"
 [ "$failed" = 0 ]

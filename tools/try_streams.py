@@ -38,6 +38,7 @@ TEXT = b"{ .mii\n  nop.m 0\n  nop.i 0\n  nop.i 0 ;;\n}\n"
 HAZARD = b"{ .mii\n  nop.m 0\n  adds r8=1,r0\n  adds r9=1,r8 ;;\n}\n"
 BREAK = b"{ .mib\n  nop.m 0\n  nop.i 0\n  break.b 0 ;;\n}\n"
 LOOP = b"loop:\n{ .mib\n  adds r8=1,r8\n  nop.i 0\n  br.cond.sptk.few loop ;;\n}\n"
+LOOSE = b"add r8=r9,r10\nadd r11=r8,r9\n"
 ACCEPTED = b"accepted\n"
 VIOLATED = b"violations 1\nRAW r8 0.1 0.2\n"
 EMPTY = b"line 1: empty\n"
@@ -66,7 +67,7 @@ BUNDLES = b"".join(nops(number) for number in range(4096))
 IMAGE = b"IA64IMG1" + struct.pack("<4I", 4096, 0, 0, 0) + BUNDLES
 
 # Each command that reads, and an input for which it gives an answer.
-READERS = ((("build",), TEXT), (("show",), IMAGE), (("list",), IMAGE), (("wrap",), BUNDLES), (("lift",), IMAGE),
+READERS = ((("build",), TEXT), (("stops",), LOOSE), (("show",), IMAGE), (("list",), IMAGE), (("wrap",), BUNDLES), (("lift",), IMAGE),
            (("check",), TEXT), (("run", "1"), TEXT), (("watch", "1"), TEXT), (("groups", "1", "0"), TEXT))
 
 # ---- Streams and calls -----------------------------------------------------------------------------------
@@ -296,6 +297,8 @@ class Inputs(Streams):
                 (["wrap"], bytes(LIMIT + 1), 4, LIMIT + 1),
                 (["wrap"], bytes(2 * LIMIT), 4, LIMIT + 1),
                 (["build"], b"wrong\n" + TEXT * 10000, 3, 6 + 10000 * len(TEXT)),
+                (["stops"], LOOSE, 0, len(LOOSE)),
+                (["stops"], TEXT, 3, len(TEXT)),
                 (["show"], TEXT * 10000, 3, 10000 * len(TEXT)),
                 (["wrap"], BUNDLES + b"x", 3, len(BUNDLES) + 1),
                 (["run", "1"], LOOP, 8, len(LOOP)),

@@ -51,6 +51,7 @@ try 'a violation on the way back' 1 "$dir/loop_edge" '' examples/loop_edge.s ./i
 try 'a run with register frames' 0 "$dir/call" '' examples/call.s ./ia64 run 100
 try 'build' 0 examples/read_after_write.image '' examples/read_after_write.s ./ia64 build
 try 'wrap' 0 examples/three_nops.image '' examples/three_nops.bundles ./ia64 wrap
+try 'stops' 0 tries/loose/example.packed '' examples/loose.s ./ia64 stops
 (printf IA64IMG2; tail -c +9 examples/three_nops.image) > "$dir/lifted"
 try 'lift' 0 "$dir/lifted" '' examples/three_nops.image ./ia64 lift
 [ "$(./ia64 build < examples/call.s | ./ia64 list | grep -c '^[0-9]')" = 6 ]
@@ -90,13 +91,15 @@ try 'too many groups, with the last order' 2 "$dir/nothing" 'ia64 groups 1000000
 try 'no groups, with an order' 2 "$dir/nothing" 'ia64 groups 100 7 < INPUT' /dev/null ./ia64 groups 0 7
 try 'a third number' 2 "$dir/nothing" 'ia64 groups 5 6 < INPUT' /dev/null ./ia64 groups 5 6 7
 try 'upper case' 2 "$dir/nothing" 'perhaps: ia64 check < examples/count.s' /dev/null ./ia64 Check examples/count.s
+try 'stops of a file' 2 "$dir/nothing" "'stops' takes no further word.*: ia64 stops < examples/loose.s" /dev/null ./ia64 stops examples/loose.s
+try 'stops in upper case' 2 "$dir/nothing" 'perhaps: ia64 stops < INPUT' /dev/null ./ia64 Stops
 try 'upper case before a number' 2 "$dir/nothing" 'perhaps: ia64 watch 7 < examples/count.s' /dev/null ./ia64 --Watch 7 examples/count.s
 try 'upper case before two numbers' 2 "$dir/nothing" 'perhaps: ia64 groups 100 3 < examples/swap.s' /dev/null ./ia64 Groups 100 3 examples/swap.s
 try 'upper case before a seed' 2 "$dir/nothing" 'perhaps: ia64 trial 1 100$' /dev/null ./ia64 Trial 7 100
 try 'an unknown word' 2 "$dir/nothing" "no command 'assemble'" /dev/null ./ia64 assemble
 ./ia64 --help > "$dir/help"
 try 'help' 0 "$dir/help" '' /dev/null ./ia64 --help
-for command in check 'run N' 'watch N' 'groups N' build show list wrap lift 'trial SEED'; do grep -q "^  $command " "$dir/help"; note $? "--help has no $command"; done
+for command in check 'run N' 'watch N' 'groups N' build stops show list wrap lift 'trial SEED'; do grep -q "^  $command " "$dir/help"; note $? "--help has no $command"; done
 try 'a refusal' 3 "$dir/magic" "'list' refused its input; the reason went to standard output" examples/call.s ./ia64 list
 head -c 16777217 /dev/zero > "$dir/too_long"
 try 'a long input' 4 "$dir/nothing" 'longer than 16,777,216 bytes' "$dir/too_long" ./ia64 check

@@ -27,14 +27,14 @@ same_section section.Text section.Data = no (λ e. cc)
 same_section section.Data section.Text = no (λ e. cc)
 same_section section.Data section.Data = yes refl
 
-is_in : (part : Section) (s : TextParts) → Dec (IsIn part s)
+pub is_in : (part : Section) (s : TextParts) → Dec (IsIn part s)
 is_in part s = alike (both (is_none s.current) (same_section s.section part)) (λ h. record { closed = h.0; same = h.1 }) (λ h. (h.closed, h.same))
 
 has_some : (lines : SlotLines) → Dec (HasSome lines)
 has_some slots.Zero = no (λ h. h)
 has_some lines = yes tt
 
-may_stand : (s : TextParts) (value : Line) → Dec (MayStand s value)
+pub may_stand : (s : TextParts) (value : Line) → Dec (MayStand s value)
 may_stand s line.Empty = yes tt
 may_stand s (line.Relation predicates) = is_in section.Text s
 may_stand s (line.Numbers size values) = is_in section.Data s
@@ -45,7 +45,7 @@ may_stand s line.Stop = some_and s.current (λ o. has_some o.slots)
 may_stand s line.Close = some s.current
 may_stand s value = is_none s.current
 
-is_new : (s : TextParts) (value : Line) → Dec (IsNew s value)
+pub is_new : (s : TextParts) (value : Line) → Dec (IsNew s value)
 is_new s (line.Label name) = is_none (address_of s.labels name)
 is_new s value = yes tt
 
@@ -68,7 +68,7 @@ fits_slot : (s : TextParts) (value : Line) → Dec (FitsSlot s value)
 fits_slot s (line.Slot draft stop) = if_some s.current (λ o. fits (completed draft (next_unit o)) (next_unit o) (count_of o.slots))
 fits_slot s value = yes tt
 
-has_room : (s : TextParts) (value : Line) → Dec (HasRoom s value)
+pub has_room : (s : TextParts) (value : Line) → Dec (HasRoom s value)
 has_room s (line.Open shape) = dec_lt (length s.bundles) BUNDLE_LIMIT
 has_room s (line.Numbers size values) = dec_le (length s.bytes + length (numbers_bytes size values)) DATA_LIMIT
 has_room s (line.Skip count) = dec_le (length s.bytes + count) DATA_LIMIT

@@ -3,7 +3,7 @@ use Rattle.std.proofs.Common.{◌≡◌, ◌∙◌, inl, inr, refl, sym, subst, 
 use Rattle.first_fault.specs.Stages.{IsFirstFault}
 use Rattle.ia_insn.specs.declared.limits.TheConstants.{ENTRY_LIMIT}
 use Rattle.ia_insn.specs.declared.relations.Relation.{Relation}
-use Rattle.ia_insn.specs.Bundles.{Bundle}
+use Rattle.ia_insn.specs.Programs.{IsEntryOf}
 use Rattle.asm_build.specs.declared.text_parts.EntryLine.{EntryLine}
 use Rattle.asm_build.specs.declared.text_parts.RelationLine.{RelationLine}
 use Rattle.asm_build.specs.declared.reason.Reason.{Reason}
@@ -38,7 +38,7 @@ of_next : (r : Result (List ℕ) TextError) (next : List ℕ → Result (List �
 of_next (Ok entries) next is later = later entries
 of_next (Err e) next is later = is
 
-of_entries : (labels : Labels) (entries : List ℕ) (lines : List EntryLine) → IfErr (all_declared labels entries lines) IsOfLine
+pub of_entries : (labels : Labels) (entries : List ℕ) (lines : List EntryLine) → IfErr (all_declared labels entries lines) IsOfLine
 of_entries labels entries [] = tt
 of_entries labels entries (e ∷ es) =
     of_next (declared_by (bundle_at (address_of labels e.name)) e.line entries) (λ more. all_declared labels more es)
@@ -49,7 +49,7 @@ of_earlier : (line : ℕ) (e : TextError) → IsOfLine e → IsOfLine (earlier_o
 of_earlier line (Fault other why) is = one_of (nat_lt other line) (Fault other why) (Fault line NoLabel) is (line, NoLabel, refl)
 of_earlier line Memory is = (line, NoLabel, refl)
 
-of_names : (unnamed : Option ℕ) (r : Result (List ℕ) TextError) → IfErr r IsOfLine → IfSome (earlier unnamed r) IsOfLine
+pub of_names : (unnamed : Option ℕ) (r : Result (List ℕ) TextError) → IfErr r IsOfLine → IfSome (earlier unnamed r) IsOfLine
 of_names None (Ok entries) is = tt
 of_names None (Err e) is = is
 of_names (Some line) (Ok entries) is = (line, NoLabel, refl)
@@ -59,11 +59,11 @@ name_of_line : (s : TextParts) → IfSome (name_fault s) IsOfLine
 name_of_line s = of_names (unnamed_bundle s.labels 0 s.bundles) (all_declared s.labels [] s.entries) (of_entries s.labels [] s.entries)
 
 -- of relations
-of_relations : (bundles : List Bundle) (entries : List ℕ) (before : List Relation) (lines : List RelationLine) (e : TextError) → IsFirstFault (relation_stages bundles entries before lines) e → IsOfLine e
-of_relations bundles entries before [] e never = absurd never
-of_relations bundles entries before (l ∷ ls) e (inl (key, is, other)) = (l.line, reason.Relation, is)
-of_relations bundles entries before (l ∷ ls) e (inr (entry, inl (key, is, over))) = (l.line, Limit, is)
-of_relations bundles entries before (l ∷ ls) e (inr (entry, inr (few, later))) = of_relations bundles entries (related before l) ls e later
+pub of_relations : (IsEntry : ℕ → Type 0) (before : List Relation) (lines : List RelationLine) (e : TextError) → IsFirstFault (relation_stages IsEntry before lines) e → IsOfLine e
+of_relations IsEntry before [] e never = absurd never
+of_relations IsEntry before (l ∷ ls) e (inl (key, is, other)) = (l.line, reason.Relation, is)
+of_relations IsEntry before (l ∷ ls) e (inr (entry, inl (key, is, over))) = (l.line, Limit, is)
+of_relations IsEntry before (l ∷ ls) e (inr (entry, inr (few, later))) = of_relations IsEntry (related before l) ls e later
 
 pub end_of_line : (count : ℕ) (s : TextParts) (e : TextError) → IsFirstFault (end_stages count s) e → IsOfLine e
 end_of_line count s e (inl (key, is, open_still)) = (count + 1, Misplaced, is)
@@ -72,6 +72,6 @@ end_of_line count s e (inr (closed, inr (some, inl (named, is, found)))) =
     let h : IsOfLine named = subst (λ (o : Option TextError). IfSome o IsOfLine) found (name_of_line s) in
     (h.0, h.1, is ∙ h.2)
 end_of_line count s e (inr (closed, inr (some, inr (none, inl (related, is, found))))) =
-    subst IsOfLine (sym is) (of_relations (program_of s).bundles (program_of s).entries [] s.relations related found)
+    subst IsOfLine (sym is) (of_relations (IsEntryOf (program_of s).bundles (program_of s).entries) [] s.relations related found)
 end_of_line count s e (inr (closed, inr (some, inr (none, inr (relations, inl (place, is, long)))))) = (line_at s.bundles place, LongRun, is)
 end_of_line count s e (inr (closed, inr (some, inr (none, inr (relations, inr (runs, never)))))) = absurd never

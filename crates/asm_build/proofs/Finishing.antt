@@ -15,7 +15,7 @@ use Rattle.ia_insn.specs.declared.bundle.Slots.{Slots}
 use Rattle.ia_insn.specs.declared.bundle.Slots.TheVariants.{Three, Long}
 use Rattle.ia_insn.specs.Bundles.{Bundle, slot_insn}
 use Rattle.ia_insn.specs.Places.{bundle_insn, insn_at, EachPlace, IsFirstBad}
-use Rattle.ia_insn.specs.Programs.{AreInRange, AreEntries}
+use Rattle.ia_insn.specs.Programs.{AreInRange, AreEntries, IsEntryOf}
 use Rattle.ia_insn.specs.Runs.{IsWithinRun}
 use Rattle.ia_insn.specs.Targets.{displacement, IsBundleAt, IsTargetInside}
 use Rattle.asm_build.specs.declared.draft.BundleLines.{BundleLines}
@@ -31,7 +31,7 @@ use Rattle.asm_build.specs.Addresses.{addressed}
 use Rattle.asm_build.specs.Names.{addressed_by, named, is_named, slot_names, unnamed_among, unnamed_slot, or_else, unnamed_bundle, slots_named, bundles_named, all_declared, earlier, name_fault, or_none, padded, program_of, line_at}
 use Rattle.asm_build.specs.Relations.{relation_stages}
 use Rattle.asm_build.specs.TextParts.{TextParts, Labels, address_of, IsWithinLimits, AreLabelsInside}
-use Rattle.asm_build.proofs.Addressed.{target_inside}
+use Rattle.asm_build.proofs.AddressedTargets.{target_inside}
 use Rattle.asm_build.proofs.Entries.{AreGood, declared_good, entries_of_rising}
 use Rattle.asm_build.proofs.LabelValues.{label_within}
 use Rattle.asm_build.proofs.RelationFaults.{few_related}
@@ -40,7 +40,7 @@ pub length_named : (labels : Labels) (n : ℕ) (bs : List BundleLines) → lengt
 length_named labels n [] = refl
 length_named labels n (b ∷ bs) = ap suc (length_named labels (n + 1) bs)
 
-padded_length : (k : ℕ) → k ≤ DATA_LIMIT → (k + (8 - k % 8) % 8 ≤ DATA_LIMIT) × ((k + (8 - k % 8) % 8) % 8 ≡ 0)
+pub padded_length : (k : ℕ) → k ≤ DATA_LIMIT → (k + (8 - k % 8) % 8 ≤ DATA_LIMIT) × ((k + (8 - k % 8) % 8) % 8 ≡ 0)
 padded_length k h = (omega (arith, h), omega arith)
 
 -- names: none is without its label, and the entries are those that lines name
@@ -57,7 +57,7 @@ entries_good s inside none =
 
 -- lines that declare relations have no fault
 abbrev pub AreRelated : TextParts → Type 0
-AreRelated s = ArePassed (relation_stages (program_of s).bundles (program_of s).entries [] s.relations)
+AreRelated s = ArePassed (relation_stages (IsEntryOf (program_of s).bundles (program_of s).entries) [] s.relations)
 
 pub in_range : (s : TextParts) → IsWithinLimits s → 1 ≤ length s.bundles → AreLabelsInside s → name_fault s ≡ None → AreRelated s
     → AreInRange (length (program_of s).bundles) (length (program_of s).entries) (length (program_of s).bytes) (length (program_of s).relations)
@@ -72,7 +72,7 @@ in_range s limits some inside none related =
       entries = (entries_good s inside none).1;
       bytes = rw size fits.0;
       words = rw size fits.1;
-      relations = few_related (program_of s).bundles (program_of s).entries [] s.relations (omega arith) related;
+      relations = few_related (IsEntryOf (program_of s).bundles (program_of s).entries) [] s.relations (omega arith) related;
     }
 
 pub entries_are : (s : TextParts) → AreLabelsInside s → name_fault s ≡ None → AreEntries (length (program_of s).bundles) (program_of s).entries
@@ -173,10 +173,10 @@ targets_are s inside none place is =
 
 -- lines have none where they have none among the program's bundles and entries
 pub related_of : (s : TextParts) (bundles : List Bundle) (entries : List ℕ) (lines : List RelationLine) → bundles ≡ (program_of s).bundles → entries ≡ (program_of s).entries → lines ≡ s.relations
-    → ArePassed (relation_stages bundles entries [] lines) → AreRelated s
+    → ArePassed (relation_stages (IsEntryOf bundles entries) [] lines) → AreRelated s
 related_of s bundles entries lines bs es ls passed =
-    subst (λ cs. ArePassed (relation_stages cs (program_of s).entries [] s.relations)) bs
-    (subst (λ fs. ArePassed (relation_stages bundles fs [] s.relations)) es (subst (λ ks. ArePassed (relation_stages bundles entries [] ks)) ls passed))
+    subst (λ cs. ArePassed (relation_stages (IsEntryOf cs (program_of s).entries) [] s.relations)) bs
+    (subst (λ fs. ArePassed (relation_stages (IsEntryOf bundles fs) [] s.relations)) es (subst (λ ks. ArePassed (relation_stages (IsEntryOf bundles entries) [] ks)) ls passed))
 
 -- What is known of bundles, entries, data and relations that are the program's: their counts and entries are right.
 pub record AreParts (s : TextParts) (bundles : List Bundle) (entries bytes : List ℕ) (relations : List Relation) : Type 0 where

@@ -1,5 +1,5 @@
 -- What holds of the address of each label.
-use Rattle.std.proofs.Common.{◌≡◌, ℕ, Bool, true, false, cond, List, [], ◌∷◌, Some, arith}
+use Rattle.std.proofs.Common.{◌≡◌, ℕ, Bool, true, false, cond, List, [], ◌∷◌, Some}
 use Rattle.std.specs.Prelude.{IfSome}
 use Rattle.std.specs.List.{AllByRecursion}
 use Rattle.std.specs.Map.{lookup, values_of}
@@ -9,9 +9,7 @@ use Rattle.std.specs.Ordering.{nat_cmp, match_ordering}
 use Rattle.std.specs.declared.cmp.Ordering.TheVariants.{Less, Equal, Greater}
 use Rattle.asm_build.specs.declared.address.Address.{Address}
 use Rattle.asm_build.specs.Addresses.{IsWithin}
-use Rattle.asm_build.specs.declared.text_parts.Section.{Section}
-use Rattle.asm_build.specs.declared.text_parts.Section.TheVariants as section
-use Rattle.asm_build.specs.TextParts.{TextParts, Labels, address_of, IsWithinLimits, place_in, here}
+use Rattle.asm_build.specs.TextParts.{Labels, address_of}
 
 -- holds of what is found
 pub found_among : (P : Address → Type 0) (test : List ℕ → Bool) (labels : Labels) → AllByRecursion P (values_of labels) → IfSome (lookup test labels) P
@@ -33,15 +31,7 @@ kept_among P (e ∷ es) name a all p =
       | Greater ↦ (all.0, kept_among P es name a all.1 p)
     ]
 
-place_within : (section : Section) (s : TextParts) → IsWithinLimits s → IsWithin (place_in section s)
-place_within section.Text s h = omega (arith, h.bundles)
-place_within section.Data s h = h.bytes
-
--- what a label names that stands here is in reach
-pub here_within : (s : TextParts) → IsWithinLimits s → IsWithin (here s)
-here_within s h = place_within s.section s h
-
 -- so labels stay within with one more
-pub label_added : (s : TextParts) (name : List ℕ) (a : Address) (labels : Labels) → IsWithinLimits s → a ≡ here s → labels ≡ insert_entry (slice_cmp nat_cmp) s.labels name a
+pub label_added : (name : List ℕ) (a : Address) (before labels : Labels) → AllByRecursion IsWithin (values_of before) → IsWithin a → labels ≡ insert_entry (slice_cmp nat_cmp) before name a
     → AllByRecursion IsWithin (values_of labels)
-label_added s name a labels h is grown = rw (grown, is) (kept_among IsWithin s.labels name (here s) h.labels (here_within s h))
+label_added name a before labels all within grown = rw grown (kept_among IsWithin before name a all within)

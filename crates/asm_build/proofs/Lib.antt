@@ -2,17 +2,18 @@ pub mod Marking
 pub mod Soundness
 pub mod Words
 mod ValueFaults
-mod Steps
+pub mod Steps
 mod Listed
-mod Addressed
-mod LabelValues
+pub mod AddressedTargets
+pub mod LabelValues
 mod Naming
 mod Numbers
-mod TakenLines
-mod Entries
-mod Finishing
+pub mod TakenLines
+pub mod Entries
+pub mod Finishing
+pub mod OneReading
 mod OneOutcome
-mod Answering
+pub mod Answering
 mod Choices
 mod TextLines
 mod PrintedLines
@@ -22,11 +23,11 @@ mod PutIn
 mod LabelsSoFar
 mod KeysBelow
 mod EntriesSoFar
-mod Membership
+pub mod Membership
 mod SortedSets
-mod RelationSets
+pub mod RelationSets
 mod RelationsSoFar
-mod RelationFaults
+pub mod RelationFaults
 mod NamedTemplates
 mod OpenBundles
 mod UntargetedSlots
@@ -39,12 +40,13 @@ mod ReadBack
 mod TextLength
 mod DecidedBundles
 mod DecidedRuns
-mod DecidedLines
-mod EndFaults
+pub mod DecidedLines
+pub mod EndFaults
+pub mod SomeReading
 mod SomeOutcome
-mod SaidLines
+pub mod SaidLines
 mod SaidBundles
 mod SaidLabels
-mod SaidEntries
+pub mod SaidEntries
 mod SaidRelations
 mod SaidTexts

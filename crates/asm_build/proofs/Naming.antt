@@ -17,7 +17,7 @@ use Rattle.asm_build.specs.declared.draft.SlotName.{SlotName}
 use Rattle.asm_build.specs.Addresses.{IsWithin, reach}
 use Rattle.asm_build.specs.Names.{addressed_by, named, put_in, slots_named}
 use Rattle.asm_build.specs.TextParts.{Labels, address_of}
-use Rattle.asm_build.proofs.Addressed.{fit_stays}
+use Rattle.asm_build.proofs.AddressedTargets.{fit_stays}
 use Rattle.asm_build.proofs.LabelValues.{label_within}
 
 -- the addresses of the labels are those of a program

@@ -11,7 +11,7 @@ use Rattle.bstr.proofs.lemmas.LineLemmas.{lines-nil}
 use Rattle.ia_insn.specs.Bundles.{Bundle}
 use Rattle.ia_insn.specs.Places.{EachPlace}
 use Rattle.ia_insn.specs.declared.relations.Relation.{Relation}
-use Rattle.ia_insn.specs.Programs.{Program, IsProgram, AreBytes, no_relation, relations_at}
+use Rattle.ia_insn.specs.Programs.{Program, IsProgram, IsEntryOf, AreBytes, no_relation, relations_at}
 use Rattle.ia_insn.specs.Runs.{IsWithinRun}
 use Rattle.asm_printing.specs.SlotTexts.{label_text}
 use Rattle.asm_build.specs.declared.address.Address.TheVariants as address
@@ -103,8 +103,8 @@ given_back p h s bs es rs ls next so_far good goes =
     let no_fault : name_fault (finished s bs es rs ls p.bytes) ≡ None = ap (λ o. earlier o (all_declared ls [] es)) names ∙ ap (earlier None) entries in
     let relation_lines : AreRelationLines p.relations rs = subst (λ ds. AreRelationLines ds rs) (all_below bundle_of count p.relations (relations_inside p.bundles p.entries p.relations h.relations)) so_far.relation_lines in
     let related = related_in_turn p.bundles p.entries no_relation [] p.relations rs relation_lines (fit_of_relations p.bundles p.entries p.relations h.relations) (λ r after. tt) (omega (arith, h.counts.relations)) in
-    let passed : ArePassed (relation_stages (bundles_named ls 0 bs) (or_none (all_declared ls [] es)) [] rs) =
-    subst (λ cs. ArePassed (relation_stages cs (or_none (all_declared ls [] es)) [] rs)) (sym bundles) (subst (λ fs. ArePassed (relation_stages p.bundles fs [] rs)) (sym (ap or_none entries)) related.passed) in
+    let passed : ArePassed (relation_stages (IsEntryOf (bundles_named ls 0 bs) (or_none (all_declared ls [] es))) [] rs) =
+    subst (λ cs. ArePassed (relation_stages (IsEntryOf cs (or_none (all_declared ls [] es))) [] rs)) (sym bundles) (subst (λ fs. ArePassed (relation_stages (IsEntryOf p.bundles fs) [] rs)) (sym (ap or_none entries)) related.passed) in
     let labels : AreLabelsInside (finished s bs es rs ls p.bytes) = subst (λ n. AllByRecursion (IsInside n) (values_of ls)) (sym there) so_far.labels.inside in
     record {
       parts = finished s bs es rs ls p.bytes;

@@ -1,6 +1,6 @@
 -- Relations in their order, with more of them.
 use Rattle.std.proofs.Common.{◌≡◌, ◌∙◌, refl, sym, ap, subst, inl, inr, ◌⊎◌, ℕ, zero, suc, ◌+◌, ◌<◌, ◌≤◌, List, [], ◌∷◌, ◌++◌, length, drop, flat_map, Contains, Ordering, Less, Equal, Greater, arith}
-use Rattle.std.specs.Prelude.{slice_index}
+use Rattle.std.specs.Prelude.{slice_index, OnOk, Result, Ok, Err}
 use Rattle.std.specs.List.{All, AllByRecursion}
 use Rattle.std.specs.BTreeSet.{insert_key}
 use Rattle.std.specs.Cmp.{nat_cmp_is}
@@ -9,9 +9,12 @@ use Rattle.std.proofs.lemmas.List.{drop_more}
 use Rattle.std.proofs.lemmas.Bool.{cases_order, cases_lt, lt-ltb, le-ltb}
 use Rattle.ia_insn.specs.declared.relations.Relation.{Relation}
 use Rattle.ia_insn.specs.Bundles.{Bundle}
-use Rattle.ia_insn.specs.Programs.{IsEntryOf, IsRelationBefore, IsDeclarable, IsRelationAt, AreRelations, no_relation, relation_at, relation_before}
+use Rattle.ia_insn.specs.Programs.{IsEntryOf, IsRelationBefore, AreRelations, no_relation, relation_at, relation_before}
 use Rattle.asm_reading.specs.Related.{IsRelated}
-use Rattle.asm_build.specs.Relations.{relation_cmp, relations_above, relations_among, with_relations}
+use Rattle.ia_insn.specs.declared.limits.TheConstants.{RELATION_LIMIT}
+use Rattle.asm_build.specs.declared.reason.TextError.{TextError}
+use Rattle.asm_build.specs.declared.text_parts.RelationLine.{RelationLine}
+use Rattle.asm_build.specs.Relations.{relation_cmp, relations_above, relations_among, with_relations, related, IsFit, AreRelationsOf}
 use Rattle.asm_build.proofs.Membership.{first_there, later_there, first_or_later, none_there, in_first, in_second, in_either, all_both, by_recursion}
 use Rattle.asm_build.proofs.SortedSets.{Ways, IsOrderedBy, Chain, put_there, still_there, was_there, chain_grows}
 
@@ -158,62 +161,56 @@ is_between bundle (p ∷ ps) qs r h = elim (first_or_later p r.p ps h.lower) [
       (is_between bundle ps qs r (record { bundle = h.bundle; lower = among; higher = h.higher; apart = h.apart }))
 ]
 
--- A relation that a program may declare, by itself: of an entry, and of two of p1 to p15, the lower one first.
-pub record IsFit (bundles : List Bundle) (entries : List ℕ) (r : Relation) : Type 0 where
-  pub entry : IsEntryOf bundles entries r.bundle
-  pub some : 1 ≤ r.p
-  pub apart : r.p < r.q
-  pub static : r.q ≤ 15
-
 -- of each two predicates
-fit_above : (bundles : List Bundle) (entries : List ℕ) (bundle p : ℕ) (qs : List ℕ) → IsEntryOf bundles entries bundle → IsRelated p → AllByRecursion IsRelated qs
-    → AllByRecursion (IsFit bundles entries) (relations_above bundle p qs)
-fit_above bundles entries bundle p [] entry is all = tt
-fit_above bundles entries bundle p (q ∷ qs) entry is all = elim (cases_lt p q) [
-  | inl less ↦ rw (lt-ltb p q less) (record { entry = entry; some = is.0; apart = less; static = all.0.1 }, fit_above bundles entries bundle p qs entry is all.1)
-  | inr most ↦ rw (le-ltb p q most) (fit_above bundles entries bundle p qs entry is all.1)
+fit_above : (IsEntry : ℕ → Type 0) (bundle p : ℕ) (qs : List ℕ) → IsEntry bundle → IsRelated p → AllByRecursion IsRelated qs
+    → AllByRecursion (IsFit IsEntry) (relations_above bundle p qs)
+fit_above IsEntry bundle p [] entry is all = tt
+fit_above IsEntry bundle p (q ∷ qs) entry is all = elim (cases_lt p q) [
+  | inl less ↦ rw (lt-ltb p q less) (record { entry = entry; some = is.0; apart = less; static = all.0.1 }, fit_above IsEntry bundle p qs entry is all.1)
+  | inr most ↦ rw (le-ltb p q most) (fit_above IsEntry bundle p qs entry is all.1)
 ]
 
-fit_between : (bundles : List Bundle) (entries : List ℕ) (bundle : ℕ) (ps qs : List ℕ) → IsEntryOf bundles entries bundle → AllByRecursion IsRelated ps → AllByRecursion IsRelated qs
-    → AllByRecursion (IsFit bundles entries) (flat_map (λ p. relations_above bundle p qs) ps)
-fit_between bundles entries bundle [] qs entry one all = tt
-fit_between bundles entries bundle (p ∷ ps) qs entry one all =
-    all_both (IsFit bundles entries) (relations_above bundle p qs) (flat_map (λ p. relations_above bundle p qs) ps)
-    (fit_above bundles entries bundle p qs entry one.0 all) (fit_between bundles entries bundle ps qs entry one.1 all)
+fit_between : (IsEntry : ℕ → Type 0) (bundle : ℕ) (ps qs : List ℕ) → IsEntry bundle → AllByRecursion IsRelated ps → AllByRecursion IsRelated qs
+    → AllByRecursion (IsFit IsEntry) (flat_map (λ p. relations_above bundle p qs) ps)
+fit_between IsEntry bundle [] qs entry one all = tt
+fit_between IsEntry bundle (p ∷ ps) qs entry one all =
+    all_both (IsFit IsEntry) (relations_above bundle p qs) (flat_map (λ p. relations_above bundle p qs) ps)
+    (fit_above IsEntry bundle p qs entry one.0 all) (fit_between IsEntry bundle ps qs entry one.1 all)
 
 -- Relations rise from one on, and each is one that a program may declare.
-abbrev pub AreFitFrom : List Bundle → List ℕ → Relation → List Relation → Type 0
-AreFitFrom bundles entries low rs = Chain IsRelationBefore (IsFit bundles entries) low rs
+abbrev pub AreFitFrom : (ℕ → Type 0) → Relation → List Relation → Type 0
+AreFitFrom IsEntry low rs = Chain IsRelationBefore (IsFit IsEntry) low rs
 
-above_none : (bundles : List Bundle) (entries : List ℕ) (r : Relation) → IsFit bundles entries r → IsRelationBefore no_relation r
-above_none bundles entries r h = elim (cases_order 0 r.bundle) [
+above_none : (IsEntry : ℕ → Type 0) (r : Relation) → IsFit IsEntry r → IsRelationBefore no_relation r
+above_none IsEntry r h = elim (cases_order 0 r.bundle) [
   | inl same ↦ inr (same, inl (omega (arith, h.some)))
   | inr (inl more) ↦ inl more
   | inr (inr less) ↦ absurd (omega (arith, less))
 ]
 
-fit_with : (bundles : List Bundle) (entries : List ℕ) (before rs : List Relation) → AllByRecursion (IsFit bundles entries) rs → AreFitFrom bundles entries no_relation before → AreFitFrom bundles entries no_relation (with_relations before rs)
-fit_with bundles entries before [] all h = h
-fit_with bundles entries before (r ∷ rs) all h =
-    fit_with bundles entries (insert_key relation_cmp before r) rs all.1
-    (chain_grows relation_cmp IsRelationBefore (IsFit bundles entries) relations_ordered no_relation r before (above_none bundles entries r all.0) all.0 h)
+fit_with : (IsEntry : ℕ → Type 0) (before rs : List Relation) → AllByRecursion (IsFit IsEntry) rs → AreFitFrom IsEntry no_relation before → AreFitFrom IsEntry no_relation (with_relations before rs)
+fit_with IsEntry before [] all h = h
+fit_with IsEntry before (r ∷ rs) all h =
+    fit_with IsEntry (insert_key relation_cmp before r) rs all.1
+    (chain_grows relation_cmp IsRelationBefore (IsFit IsEntry) relations_ordered no_relation r before (above_none IsEntry r all.0) all.0 h)
 
 -- the same by numbers
 before_from : Relation → List Relation → ℕ → Relation
 before_from low rs zero = low
 before_from low rs (suc n) = relation_at rs n
 
-abbrev IsFitAt : List Bundle → List ℕ → Relation → List Relation → ℕ → Type 0
-IsFitAt bundles entries low rs n = IsDeclarable bundles entries (before_from low rs n) (relation_at rs n)
+-- each relation by its number: it rises, and is one that may be declared
+abbrev IsFitAt : (ℕ → Type 0) → Relation → List Relation → ℕ → Type 0
+IsFitAt IsEntry low rs n = IsRelationBefore (before_from low rs n) (relation_at rs n) × IsFit IsEntry (relation_at rs n)
 
-fit_from : (bundles : List Bundle) (entries : List ℕ) (low : Relation) (rs : List Relation) → ((n : ℕ) → n < length rs → IsFitAt bundles entries low rs n) → AreFitFrom bundles entries low rs
+fit_from : (IsEntry : ℕ → Type 0) (low : Relation) (rs : List Relation) → ((n : ℕ) → n < length rs → IsFitAt IsEntry low rs n) → AreFitFrom IsEntry low rs
 unfolding before_from
-fit_from bundles entries low [] h = tt
-fit_from bundles entries low (r ∷ rs) h =
-    let here : IsDeclarable bundles entries low r = h 0 (omega arith) in
-    (here.rises, record { entry = here.entry; some = here.some; apart = here.apart; static = here.static }, fit_from bundles entries r rs (λ n less. after n (h (suc n) (omega (arith, less)))))
+fit_from IsEntry low [] h = tt
+fit_from IsEntry low (r ∷ rs) h =
+    let here : IsFitAt IsEntry low (r ∷ rs) 0 = h 0 (omega arith) in
+    (here.0, here.1, fit_from IsEntry r rs (λ n less. after n (h (suc n) (omega (arith, less)))))
   where
-    after : (n : ℕ) → IsFitAt bundles entries low (r ∷ rs) (suc n) → IsFitAt bundles entries r rs n
+    after : (n : ℕ) → IsFitAt IsEntry low (r ∷ rs) (suc n) → IsFitAt IsEntry r rs n
     after zero h = h
     after (suc n) h = h
 
@@ -230,24 +227,42 @@ unfolding before_from
 chain_rises Good rs h zero less = (chain_at Good no_relation rs h 0 less).0
 chain_rises Good rs h (suc n) less = (chain_at Good no_relation rs h (suc n) less).0
 
-pub fit_of_relations : (bundles : List Bundle) (entries : List ℕ) (rs : List Relation) → AreRelations bundles entries rs → AreFitFrom bundles entries no_relation rs
+pub fit_of_all : (IsEntry : ℕ → Type 0) (rs : List Relation) → AreRelationsOf IsEntry rs → AreFitFrom IsEntry no_relation rs
 unfolding before_from
-fit_of_relations bundles entries rs h = fit_from bundles entries no_relation rs (λ n less. at n (h n less))
+fit_of_all IsEntry rs h = fit_from IsEntry no_relation rs (λ n less. at n (h n less))
   where
-    at : (n : ℕ) → IsRelationAt bundles entries rs n → IsFitAt bundles entries no_relation rs n
+    at : (n : ℕ) → IsRelationBefore (relation_before rs n) (relation_at rs n) × IsFit IsEntry (relation_at rs n) → IsFitAt IsEntry no_relation rs n
     at zero is = is
     at (suc n) is = is
 
-pub relations_of_fit : (bundles : List Bundle) (entries : List ℕ) (rs : List Relation) → AreFitFrom bundles entries no_relation rs → AreRelations bundles entries rs
-relations_of_fit bundles entries rs h n less =
-    let fit = (chain_at (IsFit bundles entries) no_relation rs h n less).1 in
-    record { rises = chain_rises (IsFit bundles entries) rs h n less; entry = fit.entry; some = fit.some; apart = fit.apart; static = fit.static }
+pub all_of_fit : (IsEntry : ℕ → Type 0) (rs : List Relation) → AreFitFrom IsEntry no_relation rs → AreRelationsOf IsEntry rs
+all_of_fit IsEntry rs h n less = (chain_rises (IsFit IsEntry) rs h n less, (chain_at (IsFit IsEntry) no_relation rs h n less).1)
 
--- Relations of a program stay so with those of an entry between each two of predicates that a line may have.
-pub related_stay : (bundles : List Bundle) (entries : List ℕ) (before after : List Relation) (bundle : ℕ) (ps : List ℕ) → IsEntryOf bundles entries bundle → All IsRelated ps → after ≡ with_relations before (relations_among bundle ps)
-    → AreRelations bundles entries before → AreRelations bundles entries after
-related_stay bundles entries before after bundle ps entry all is h =
+-- those of a program
+pub all_of_relations : (bundles : List Bundle) (entries : List ℕ) (rs : List Relation) → AreRelations bundles entries rs → AreRelationsOf (IsEntryOf bundles entries) rs
+all_of_relations bundles entries rs h n less =
+    let is = h n less in
+    (is.rises, record { entry = is.entry; some = is.some; apart = is.apart; static = is.static })
+
+pub relations_of_all : (bundles : List Bundle) (entries : List ℕ) (rs : List Relation) → AreRelationsOf (IsEntryOf bundles entries) rs → AreRelations bundles entries rs
+relations_of_all bundles entries rs h n less =
+    let is = h n less in
+    record { rises = is.0; entry = is.1.entry; some = is.1.some; apart = is.1.apart; static = is.1.static }
+
+pub fit_of_relations : (bundles : List Bundle) (entries : List ℕ) (rs : List Relation) → AreRelations bundles entries rs → AreFitFrom (IsEntryOf bundles entries) no_relation rs
+fit_of_relations bundles entries rs h = fit_of_all (IsEntryOf bundles entries) rs (all_of_relations bundles entries rs h)
+
+-- Relations of entries stay so with those of an entry between each two of predicates that a line may have.
+pub related_stay : (IsEntry : ℕ → Type 0) (before after : List Relation) (bundle : ℕ) (ps : List ℕ) → IsEntry bundle → All IsRelated ps → after ≡ with_relations before (relations_among bundle ps)
+    → AreRelationsOf IsEntry before → AreRelationsOf IsEntry after
+related_stay IsEntry before after bundle ps entry all is h =
     let each = by_recursion IsRelated ps all in
-    let fit = fit_between bundles entries bundle ps ps entry each each in
-    let good = relations_of_fit bundles entries (with_relations before (relations_among bundle ps)) (fit_with bundles entries before (relations_among bundle ps) fit (fit_of_relations bundles entries before h)) in
-    subst (λ rs. AreRelations bundles entries rs) (sym is) good
+    let fit = fit_between IsEntry bundle ps ps entry each each in
+    let good = all_of_fit IsEntry (with_relations before (relations_among bundle ps)) (fit_with IsEntry before (relations_among bundle ps) fit (fit_of_all IsEntry before h)) in
+    subst (AreRelationsOf IsEntry) (sym is) good
+
+-- so they do with those that a line declares
+pub line_stays : (IsEntry : ℕ → Type 0) (before after : List Relation) (l : RelationLine) (r : Result (Unit {0}) TextError) → IsEntry l.bundle → All IsRelated l.predicates
+    → OnOk r ((length (related before l) ≤ RELATION_LIMIT) × (after ≡ related before l)) → OnOk r (AreRelationsOf IsEntry before → AreRelationsOf IsEntry after)
+line_stays IsEntry before after l (Ok u) entry all h = related_stay IsEntry before after l.bundle l.predicates entry all h.1
+line_stays IsEntry before after l (Err e) entry all h = tt

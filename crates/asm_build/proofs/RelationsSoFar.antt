@@ -15,12 +15,12 @@ use Rattle.asm_build.specs.declared.draft.BundleLines.{BundleLines}
 use Rattle.asm_build.specs.declared.text_parts.EntryLine.{EntryLine}
 use Rattle.asm_build.specs.declared.text_parts.RelationLine.{RelationLine}
 use Rattle.asm_build.specs.CanonicalText.{line as text_line, relation_text, relations_text}
-use Rattle.asm_build.specs.Relations.{relation_cmp, relations_among, related, all_related, relation_stages}
+use Rattle.asm_build.specs.Relations.{relation_cmp, relations_among, related, all_related, relation_stages, IsFit}
 use Rattle.asm_build.specs.TextParts.{Labels}
 use Rattle.asm_build.specs.TextReading.{Says}
 use Rattle.asm_build.proofs.KeysBelow.{below, KeysFrom}
 use Rattle.asm_build.proofs.Membership.{all_both}
-use Rattle.asm_build.proofs.RelationSets.{IsFit, AreFitFrom, fit_of_relations, relations_ordered}
+use Rattle.asm_build.proofs.RelationSets.{AreFitFrom, fit_of_relations, relations_ordered}
 use Rattle.asm_build.proofs.SortedSets.{at_end}
 use Rattle.asm_build.proofs.Taking.{Goes, stays, goes_on, line_goes}
 use Rattle.asm_build.proofs.WrittenBundles.{outside}
@@ -42,22 +42,22 @@ rises_or_stays : (r s : Relation) → IsRelationBefore r s → r.bundle ≤ s.bu
 rises_or_stays r s (inl below) = omega (arith, below)
 rises_or_stays r s (inr (same, p)) = omega (arith, same)
 
-bundles_rise : (bundles : List Bundle) (entries : List ℕ) (low : Relation) (rs : List Relation) → AreFitFrom bundles entries low rs → BundlesFrom low.bundle rs
+bundles_rise : (bundles : List Bundle) (entries : List ℕ) (low : Relation) (rs : List Relation) → AreFitFrom (IsEntryOf bundles entries) low rs → BundlesFrom low.bundle rs
 bundles_rise bundles entries low [] h = tt
 bundles_rise bundles entries low (r ∷ rs) h = (rises_or_stays low r h.0, bundles_rise bundles entries r rs h.2)
 
-each_fit : (bundles : List Bundle) (entries : List ℕ) (low : Relation) (rs : List Relation) → AreFitFrom bundles entries low rs → AllByRecursion (IsFit bundles entries) rs
+each_fit : (bundles : List Bundle) (entries : List ℕ) (low : Relation) (rs : List Relation) → AreFitFrom (IsEntryOf bundles entries) low rs → AllByRecursion (IsFit (IsEntryOf bundles entries)) rs
 each_fit bundles entries low [] h = tt
 each_fit bundles entries low (r ∷ rs) h = (h.1, each_fit bundles entries r rs h.2)
 
-each_inside : (bundles : List Bundle) (entries : List ℕ) (rs : List Relation) → AllByRecursion (IsFit bundles entries) rs → AllByRecursion (λ (r : Relation). r.bundle < length bundles) rs
+each_inside : (bundles : List Bundle) (entries : List ℕ) (rs : List Relation) → AllByRecursion (IsFit (IsEntryOf bundles entries)) rs → AllByRecursion (λ (r : Relation). r.bundle < length bundles) rs
 each_inside bundles entries [] h = tt
 each_inside bundles entries (r ∷ rs) h = (h.0.entry.inside, each_inside bundles entries rs h.1)
 
 pub relations_rise : (bundles : List Bundle) (entries : List ℕ) (rs : List Relation) → AreRelations bundles entries rs → BundlesFrom 0 rs
 relations_rise bundles entries rs h = bundles_rise bundles entries no_relation rs (fit_of_relations bundles entries rs h)
 
-pub relations_fit : (bundles : List Bundle) (entries : List ℕ) (rs : List Relation) → AreRelations bundles entries rs → AllByRecursion (IsFit bundles entries) rs
+pub relations_fit : (bundles : List Bundle) (entries : List ℕ) (rs : List Relation) → AreRelations bundles entries rs → AllByRecursion (IsFit (IsEntryOf bundles entries)) rs
 relations_fit bundles entries rs h = each_fit bundles entries no_relation rs (fit_of_relations bundles entries rs h)
 
 pub relations_inside : (bundles : List Bundle) (entries : List ℕ) (rs : List Relation) → AreRelations bundles entries rs → AllByRecursion (λ (r : Relation). r.bundle < length bundles) rs
@@ -70,7 +70,7 @@ pub record IsPrinted (n : ℕ) (r : Relation) : Type 0 where
   pub apart : r.p < r.q
   pub static : r.q ≤ 15
 
-pub printed_at : (bundles : List Bundle) (entries : List ℕ) (n : ℕ) (rs : List Relation) → AllByRecursion (IsFit bundles entries) rs → AllByRecursion (IsPrinted n) (relations_at rs n)
+pub printed_at : (bundles : List Bundle) (entries : List ℕ) (n : ℕ) (rs : List Relation) → AllByRecursion (IsFit (IsEntryOf bundles entries)) rs → AllByRecursion (IsPrinted n) (relations_at rs n)
 printed_at bundles entries n [] h = tt
 printed_at bundles entries n (r ∷ rs) h = elim (cases_order r.bundle n) [
   | inl same ↦ rw (eq-eqb r.bundle n same) (record { bundle = same; some = h.0.some; apart = h.0.apart; static = h.0.static }, printed_at bundles entries n rs h.1)
@@ -156,10 +156,10 @@ one_related done r l b p h before =
 
 -- Lines that declare relations in turn have no fault, and the relations are those.
 pub record InTurn (bundles : List Bundle) (entries : List ℕ) (done rest : List Relation) (lines : List RelationLine) : Type 0 where
-  pub passed : ArePassed (relation_stages bundles entries done lines)
+  pub passed : ArePassed (relation_stages (IsEntryOf bundles entries) done lines)
   pub all : all_related done lines ≡ done ++ rest
 
-pub related_in_turn : (bundles : List Bundle) (entries : List ℕ) (low : Relation) (done rest : List Relation) (lines : List RelationLine) → AreRelationLines rest lines → AreFitFrom bundles entries low rest
+pub related_in_turn : (bundles : List Bundle) (entries : List ℕ) (low : Relation) (done rest : List Relation) (lines : List RelationLine) → AreRelationLines rest lines → AreFitFrom (IsEntryOf bundles entries) low rest
     → ((r : Relation) → IsRelationBefore low r → AllByRecursion (λ (m : Relation). IsRelationBefore m r) done) → length done + length rest ≤ RELATION_LIMIT → InTurn bundles entries done rest lines
 related_in_turn bundles entries low done [] [] are fit before few = record { passed = tt; all = sym (append-nil done) }
 related_in_turn bundles entries low done (r ∷ rest) [] are fit before few = absurd are
@@ -171,7 +171,7 @@ related_in_turn bundles entries low done (r ∷ rest) (l ∷ lines) are fit befo
     record {
       passed = (
         subst (IsEntryOf bundles entries) (sym are.0.0) fit.1.entry,
-        (omega (arith, few, long, ap length one), subst (λ rs. ArePassed (relation_stages bundles entries rs lines)) (sym one) next.passed),
+        (omega (arith, few, long, ap length one), subst (λ rs. ArePassed (relation_stages (IsEntryOf bundles entries) rs lines)) (sym one) next.passed),
       );
       all = ap (λ rs. all_related rs lines) one ∙ next.all ∙ append_assoc done (r ∷ []) rest;
     }

@@ -129,7 +129,7 @@ one_begun s n v before passed = refl
 here_is : (s : TextParts) → s.current ≡ None → here s ≡ place_from s []
 here_is s none = by s.section
   where
-    by : (where_ : Section) → place_in where_ s ≡ place_of where_ (begun s + 0) (length s.bytes + 0)
+    by : (where_ : Section) → place_in where_ (address.Bundle (length s.bundles)) s.bytes ≡ place_of where_ (begun s + 0) (length s.bytes + 0)
     by section.Text = ap (λ n. address.Bundle n) (omega (arith, none_open s.current none))
     by section.Data = ap (λ n. address.Byte n) (omega arith)
 

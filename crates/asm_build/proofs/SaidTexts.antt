@@ -4,7 +4,7 @@ use Rattle.std.specs.Prelude.{IfSome, Contains, is_some, unwrap_or, if◌then◌
 use Rattle.first_fault.specs.Stages.{ArePassed}
 use Rattle.ia_insn.specs.declared.insn.Insn.{Insn}
 use Rattle.ia_insn.specs.declared.insn.Op.{Op}
-use Rattle.ia_insn.specs.Programs.{Program, AreEntries}
+use Rattle.ia_insn.specs.Programs.{Program, AreEntries, IsEntryOf}
 use Rattle.ia_insn.specs.Targets.{displacement}
 use Rattle.asm_reading.specs.declared.line.Line.{Line}
 use Rattle.asm_reading.specs.declared.line.Shape.{Shape}
@@ -149,7 +149,7 @@ said_declared lines labels names n same found (some, name, among, is) =
     (some, name, subst (λ all. Contains all name) (sym same) among, found name (address.Bundle n) is)
 
 -- The program that lines come to is what they say.
-program_said : (lines : List Line) (t : TextParts) → Follow start 1 lines t → t.current ≡ None → AreLabelsInside t → NoNameFault t → ArePassed (relation_stages (program_of t).bundles (program_of t).entries [] t.relations)
+program_said : (lines : List Line) (t : TextParts) → Follow start 1 lines t → t.current ≡ None → AreLabelsInside t → NoNameFault t → ArePassed (relation_stages (IsEntryOf (program_of t).bundles (program_of t).entries) [] t.relations)
     → IsProgramSaid lines (program_of t)
 program_said lines t follow closed inside clean related =
     let found : SameLabels lines t.labels = λ name a is. label_found lines t name a follow is in
@@ -169,7 +169,7 @@ program_said lines t follow closed inside clean related =
       bytes = ap padded (all_data start 1 lines t follow);
       ordered = rise_with [] t.relations tt;
       relations = λ r. ((λ is. relation_said lines t r follow is), (λ is. said_relation lines t r follow is));
-      landed = related_landed (program_of t).bundles (program_of t).entries [] t.relations related (λ r never. absurd (none_there r never));
+      landed = related_landed (IsEntryOf (program_of t).bundles (program_of t).entries) [] t.relations related (λ r never. absurd (none_there r never));
       once = λ name a b one other. same_address a b (address_of t.labels name) (found name a one) (found name b other);
       inside = λ name a is. subst (λ n. IsInside n a) (sym many) (is_inside count a (address_of t.labels name) (found name a is) (label_within (IsInside count) t.labels name inside));
     }

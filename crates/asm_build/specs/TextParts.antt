@@ -80,30 +80,37 @@ abbrev pub closed_of : Option OpenBundle → Option BundleLines
 closed_of None = None
 closed_of (Some o) = closed o
 
--- what a label that stands here names: the next bundle, or the next byte of data
-abbrev pub place_in : Section → TextParts → Address
-place_in section.Text s = Bundle (length s.bundles)
-place_in section.Data s = Byte (length s.bytes)
+-- what a label that stands here names: in text what comes next, and in data the next byte
+abbrev pub place_in : Section → Address → List ℕ → Address
+place_in section.Text next bytes = next
+place_in section.Data next bytes = Byte (length bytes)
 
+abbrev pub place_before : TextParts → Address → Address
+place_before s next = place_in s.section next s.bytes
+
+-- and what comes next is a bundle
 abbrev pub here : TextParts → Address
-here s = place_in s.section s
+here s = place_before s (Bundle (length s.bundles))
 
--- What the lines say after one more, the n-th.
+-- What the lines say after one more outside bundles, the n-th, where what comes next in text has this number.
+abbrev pub after_outside : TextParts → ℕ → ℕ → Line → TextParts
+after_outside s next n (line.Label name) = with_label s name (place_before s (Bundle next))
+after_outside s next n line.Text = turned s section.Text
+after_outside s next n line.Data = turned s section.Data
+after_outside s next n (line.Entry name) = with_entry s (record { line = n; name = name })
+after_outside s next n (line.Relation predicates) =
+    with_relation s (record { line = n; bundle = next; predicates = predicates })
+after_outside s next n (line.Numbers size values) = with_bytes s (numbers_bytes size values)
+after_outside s next n (line.Skip count) = with_bytes s (replicate count 0)
+after_outside s next n value = s
+
+-- What the lines say after one more, the n-th. What comes next in text is a bundle.
 abbrev pub after : TextParts → ℕ → Line → TextParts
-after s n line.Empty = s
-after s n (line.Label name) = with_label s name (here s)
-after s n line.Text = turned s section.Text
-after s n line.Data = turned s section.Data
-after s n (line.Entry name) = with_entry s (record { line = n; name = name })
-after s n (line.Relation predicates) =
-    with_relation s (record { line = n; bundle = length s.bundles; predicates = predicates })
-after s n line.Ignored = s
-after s n (line.Numbers size values) = with_bytes s (numbers_bytes size values)
-after s n (line.Skip count) = with_bytes s (replicate count 0)
 after s n (line.Open shape) = with_open s (Some (record { shape = shape; slots = slots.Zero }))
 after s n (line.Slot draft stop) = with_open s (option_map (λ o. added o n draft stop) s.current)
 after s n line.Stop = with_open s (option_map stopped s.current)
 after s n line.Close = with_bundle s (closed_of s.current)
+after s n value = after_outside s (length s.bundles) n value
 
 -- outside a bundle, where bundles or data are being written
 pub record IsIn (section : Section) (s : TextParts) : Type 0 where
@@ -161,9 +168,13 @@ abbrev pub IsValueError : TextParts → ℕ → Line → TextError → Type 0
 IsValueError s n value e =
     (e ≡ error.Memory) ⊎ ((reason : Reason) × (e ≡ error.Fault n reason) × IsFirstFault (value_stages s value) reason)
 
+-- each label of the text is of one of so many
+abbrev pub AreLabelsBelow : ℕ → TextParts → Type 0
+AreLabelsBelow count s = AllByRecursion (IsInside count) (values_of s.labels)
+
 -- each label of the text has a bundle
 abbrev pub AreLabelsInside : TextParts → Type 0
-AreLabelsInside s = AllByRecursion (IsInside (length s.bundles)) (values_of s.labels)
+AreLabelsInside s = AreLabelsBelow (length s.bundles) s
 
 -- At most as many bundles as a program may have, with the open one, and as many data, and labels of these.
 pub record IsWithinLimits (s : TextParts) : Type 0 where

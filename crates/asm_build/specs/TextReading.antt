@@ -5,7 +5,7 @@ use Rattle.first_fault.specs.Stages.{Stage, unless, first, IsFirstFault, ArePass
 use Rattle.asm_words.specs.declared.limits.TheConstants.{LINE_LIMIT}
 use Rattle.ia_insn.specs.declared.place.Place.{Place}
 use Rattle.ia_insn.specs.Places.{EachPlace, IsFirstBad}
-use Rattle.ia_insn.specs.Programs.{Program}
+use Rattle.ia_insn.specs.Programs.{Program, IsEntryOf}
 use Rattle.ia_insn.specs.Runs.{IsWithinRun}
 use Rattle.asm_words.specs.declared.fault.LineFault.{LineFault}
 use Rattle.asm_reading.specs.declared.line.Line.{Line}
@@ -34,22 +34,40 @@ SaysNothing line reason =
     ((LINE_LIMIT < length line) × (reason ≡ Limit))
     ⊎ ((length line ≤ LINE_LIMIT) × (e : LineFault) × FaultOf line e × (reason ≡ reason_of e))
 
+-- A way to read texts, line by line: what no lines say, what lines say after one more, the n-th, what is looked for in
+-- what a line says after those before it, and what is looked for after the last line, where so many were read.
+pub record Reading (State : Type 0) : Type 1 where
+  pub start : State
+  pub after : State → ℕ → Line → State
+  pub stages : State → Line → List (Stage Reason)
+  pub ends : ℕ → State → List (Stage TextError)
+
 -- A line is refused after what those before it say: by itself, or for what it says.
-abbrev pub IsRefused : TextParts → List ℕ → Reason → Type 0
-IsRefused s line reason =
-    SaysNothing line reason ⊎ ((value : Line) × Says line value × IsFirstFault (value_stages s value) reason)
+abbrev pub IsRefusedBy : {State : Type 0} → Reading State → State → List ℕ → Reason → Type 0
+IsRefusedBy reading s line reason =
+    SaysNothing line reason ⊎ ((value : Line) × Says line value × IsFirstFault (reading.stages s value) reason)
 
 -- A line says something that may follow what those before it say.
-abbrev pub IsTaken : TextParts → List ℕ → Line → Type 0
-IsTaken s line value = Says line value × ArePassed (value_stages s value)
+abbrev pub IsTakenBy : {State : Type 0} → Reading State → State → List ℕ → Line → Type 0
+IsTakenBy reading s line value = Says line value × ArePassed (reading.stages s value)
 
 -- What lines come to, the first of which is the n-th: what they say after those before them, or the fault of
 -- the first that is refused.
-abbrev pub ComesTo : TextParts → ℕ → List (List ℕ) → Result TextParts TextError → Type 0
-ComesTo s n [] r = r ≡ Ok s
-ComesTo s n (line ∷ lines) r =
-    ((reason : Reason) × IsRefused s line reason × (r ≡ Err (Fault n reason)))
-    ⊎ ((value : Line) × IsTaken s line value × ComesTo (after s n value) (n + 1) lines r)
+abbrev pub ComesToBy : {State : Type 0} → Reading State → State → ℕ → List (List ℕ) → Result State TextError → Type 0
+ComesToBy reading s n [] r = r ≡ Ok s
+ComesToBy reading s n (line ∷ lines) r =
+    ((reason : Reason) × IsRefusedBy reading s line reason × (r ≡ Err (Fault n reason)))
+    ⊎ ((value : Line) × IsTakenBy reading s line value × ComesToBy reading (reading.after s n value) (n + 1) lines r)
+
+-- All the lines of a text are taken, and say this.
+abbrev pub AllSayBy : {State : Type 0} → Reading State → List ℕ → State → Type 0
+AllSayBy reading text s = ComesToBy reading reading.start 1 (text_lines text) (Ok s)
+
+-- The first fault of a text: that of the first line that is refused, or else the first after the last line.
+abbrev pub HasFaultBy : {State : Type 0} → Reading State → List ℕ → TextError → Type 0
+HasFaultBy {State} reading text e =
+    ComesToBy reading reading.start 1 (text_lines text) (Err e)
+    ⊎ ((s : State) × AllSayBy reading text s × IsFirstFault (reading.ends (length (text_lines text)) s) e)
 
 -- the stage whose fault is the one that is found, where there is one
 abbrev pub found : Option TextError → Stage TextError
@@ -66,15 +84,27 @@ end_stages count s =
     unless ((s.current ≡ None) × AreLabelsInside s) (Fault (count + 1) Misplaced)
     ∷ unless (1 ≤ length s.bundles) (Fault (count + 1) Empty)
     ∷ found (name_fault s)
-    ∷ first_of (relation_stages (program_of s).bundles (program_of s).entries [] s.relations)
+    ∷ first_of (relation_stages (IsEntryOf (program_of s).bundles (program_of s).entries) [] s.relations)
     ∷ first Place (λ place. Fault (line_at s.bundles place) LongRun)
     (IsFirstBad (program_of s).bundles (IsWithinRun (program_of s).bundles))
     (EachPlace (program_of s).bundles (IsWithinRun (program_of s).bundles))
     ∷ []
 
--- All the lines of a text are taken, and say this.
+-- How the text of a program is read.
+abbrev pub program_reading : Reading TextParts
+program_reading = record { start = start; after = after; stages = value_stages; ends = end_stages }
+
+abbrev pub IsRefused : TextParts → List ℕ → Reason → Type 0
+IsRefused s line reason = IsRefusedBy program_reading s line reason
+
+abbrev pub IsTaken : TextParts → List ℕ → Line → Type 0
+IsTaken s line value = IsTakenBy program_reading s line value
+
+abbrev pub ComesTo : TextParts → ℕ → List (List ℕ) → Result TextParts TextError → Type 0
+ComesTo s n lines r = ComesToBy program_reading s n lines r
+
 abbrev pub AllSay : List ℕ → TextParts → Type 0
-AllSay text s = ComesTo start 1 (text_lines text) (Ok s)
+AllSay text s = AllSayBy program_reading text s
 
 -- The text reads as the program.
 pub record Reads (text : List ℕ) (p : Program) : Type 0 where
@@ -83,8 +113,6 @@ pub record Reads (text : List ℕ) (p : Program) : Type 0 where
   pub whole : ArePassed (end_stages (length (text_lines text)) parts)
   pub program : p ≡ program_of parts
 
--- The first fault of a text: that of the first line that is refused, or else the first after the last line.
+-- The first fault of a text that is to be a program.
 abbrev pub HasTextFault : List ℕ → TextError → Type 0
-HasTextFault text e =
-    ComesTo start 1 (text_lines text) (Err e)
-    ⊎ ((s : TextParts) × AllSay text s × IsFirstFault (end_stages (length (text_lines text)) s) e)
+HasTextFault text e = HasFaultBy program_reading text e

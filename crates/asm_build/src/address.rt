@@ -6,13 +6,20 @@ ghost use Rattle.asm_build.specs.Addresses.{IsInside, IsWithin, addressed, reach
 
 use ia_insn::{Op, bundle_address, data_address};
 
-/// What a label names: the next bundle, or the next byte of data.
-#[derive(Clone, Copy)]
-pub(crate) enum Address {
+/// What a label names: the next bundle, or the next byte of data. In a text without bundles instructions are counted
+/// in their place.
+#[derive(Clone, Copy, Debug, PartialEq, Eq)]
+pub enum Address {
     /// A bundle, by its number.
-    Bundle { n: u32 },
-    /// A byte of data, by how many stand before it.
-    Byte { at: u32 },
+    Bundle {
+        /// How many stand before it.
+        n: u32,
+    },
+    /// A byte of data.
+    Byte {
+        /// How many stand before it.
+        at: u32,
+    },
 }
 
 impl Address {
@@ -37,7 +44,7 @@ fn distance(m: u32, n: u32) -> i32
 
 /// The operation in the n-th bundle with the address of its name put in: as the distance of a branch or
 /// check, which take a bundle alone, or as the number of a `movl`. None for any other.
-pub(crate) fn addressed(op: &Op, address: Address, n: u32) -> Option<Op>
+pub fn addressed(op: &Op, address: Address, n: u32) -> Option<Op>
     requires here { n < reach }
     requires there { IsWithin address }
     ensures { result ≡ addressed op.now address n }

@@ -17,9 +17,10 @@ ghost use Rattle.asm_build.specs.Names.{name_fault, program_of, padded, line_at,
 ghost use Rattle.asm_build.specs.TextParts.{AreLabelsInside, after, start};
 ghost use Rattle.asm_build.specs.TextReading.{IsRefused, IsTaken, ComesTo, text_lines, Reads, HasTextFault, end_stages};
 
+use crate::data::padded;
 use crate::draft::BundleLines;
 use crate::laws::{no_fault_where_read, one_text_fault, one_text_program};
-use crate::names::{all_declared, bundles_named};
+use crate::names::bundles_named;
 use crate::reason::{Reason, TextError, fault, reason_of};
 use crate::relations::all_related;
 use crate::text_parts::TextParts;
@@ -73,7 +74,7 @@ fn take_lines(alloc: Global, text: &[u8]) -> Result<Lines, TextError>
 }
 
 /// Of two faults of lines, that of the earlier line.
-fn earlier(first: TextError, second: TextError) -> TextError
+pub fn earlier(first: TextError, second: TextError) -> TextError
     ensures { result ≡ earlier_of first second }
 {
     match (first, second) {
@@ -98,7 +99,7 @@ fn named(alloc: Global, parts: &TextParts) -> Result<NamedParts, TextError>
     ensures err { IfErr result (λ e. (e ≡ error.Memory) ⊎ (name_fault parts.now ≡ Some e)) }
 {
     let bundles = bundles_named(alloc, &parts.labels, &parts.bundles);
-    let entries = all_declared(alloc, &parts.labels, &parts.entries);
+    let entries = parts.declared(alloc);
     match (bundles, entries) {
         (Ok(bundles), Ok(entries)) => Ok(NamedParts { bundles, entries }),
         (Err(TextError::Memory), _) | (_, Err(TextError::Memory)) => Err(TextError::Memory),
@@ -108,7 +109,11 @@ fn named(alloc: Global, parts: &TextParts) -> Result<NamedParts, TextError>
 }
 
 /// The items of a set, rising.
-fn rising<T: Copy + Ord>(alloc: Global, set: &BTreeSet<T>) -> Result<Vec<T>, AllocError>
+///
+/// # Errors
+///
+/// Want of memory.
+pub fn rising<T: Copy + Ord>(alloc: Global, set: &BTreeSet<T>) -> Result<Vec<T>, AllocError>
     ensures { IfOk result (λ items. items.items ≡ set.now.keys) }
 {
     let mut items = Vec::with_capacity(alloc, set.len())?;
@@ -116,15 +121,6 @@ fn rising<T: Copy + Ord>(alloc: Global, set: &BTreeSet<T>) -> Result<Vec<T>, All
         items.push(*item)?;
     }
     Ok(items)
-}
-
-/// The data with zeros up to a multiple of eight.
-fn padded(mut data: Vec<u8>) -> Result<Vec<u8>, AllocError>
-    ensures { IfOk result (λ bytes. bytes.items ≡ padded data.items) }
-{
-    let more = (8 - data.len() % 8) % 8;
-    data.resize(data.len() + more, 0)?;
-    Ok(data)
 }
 
 /// The line of a slot.

@@ -1,11 +1,21 @@
-//! The text of data.
+//! Data, and their text.
 
-ghost use Rattle.std.specs.Prelude.{false, ◌≡◌, ◌++◌, ◌∷◌, [], ◌%◌, ◌||◌, ◌==◌, codes, length, slice_index, if◌then◌else◌, OnOk};
+ghost use Rattle.std.specs.Prelude.{false, ◌≡◌, ◌++◌, ◌∷◌, [], ◌%◌, ◌||◌, ◌==◌, codes, length, slice_index, if◌then◌else◌, OnOk, IfOk};
 ghost use Rattle.std.specs.Fmt.{digits};
+ghost use Rattle.asm_build.specs.Names.{padded};
 ghost use Rattle.asm_build.specs.CanonicalText.{data_word, words_of, words_text, data_text};
 
 use asm_text::{push_bytes, push_hex};
 use std::alloc::AllocError;
+
+/// The data with zeros up to a multiple of eight.
+pub(crate) fn padded(mut data: Vec<u8>) -> Result<Vec<u8>, AllocError>
+    ensures { IfOk result (λ bytes. bytes.items ≡ padded data.items) }
+{
+    let more = (8 - data.len() % 8) % 8;
+    data.resize(data.len() + more, 0)?;
+    Ok(data)
+}
 
 /// The word of eight bytes, the lowest first.
 fn data_word(bytes: [u8; 8]) -> u64

@@ -87,8 +87,8 @@ fn letter_of(unit: Unit) -> Unit
     }
 }
 
-/// The operation with this unit, where it has a unit letter that may be missing.
-fn lettered(op: &Op, unit: Unit) -> Op
+/// The operation with this unit, where it has a unit letter that may be missing: a break, a nop, a hint or a `chk.s`.
+pub fn lettered(op: &Op, unit: Unit) -> Op
     ensures { result ≡ lettered unit op.now }
 {
     match op {

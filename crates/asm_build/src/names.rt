@@ -1,6 +1,6 @@
 //! Putting in the addresses of names.
 
-ghost use Rattle.std.specs.Prelude.{◌≡◌, ℕ, ◌<◌, ◌≤◌, ◌⊎◌, true, false, [], IfOk, IfErr, Some, None, Ok, Err, length, is_some, OnOk};
+ghost use Rattle.std.specs.Prelude.{◌≡◌, ℕ, ◌<◌, ◌≤◌, ◌⊎◌, true, false, [], IfOk, IfErr, IfSome, Some, None, Ok, Err, length, is_some, OnOk};
 ghost use Rattle.std.specs.List.{AllByRecursion};
 ghost use Rattle.std.specs.Map.{values_of};
 ghost use Rattle.ia_insn.specs.declared.limits.TheConstants.{BUNDLE_LIMIT};
@@ -14,7 +14,7 @@ ghost use Rattle.asm_build.specs.TextParts.{address_of};
 use crate::address::{Address, addressed};
 use crate::draft::{BundleLines, SlotName};
 use crate::reason::{Reason, TextError, fault};
-use crate::text_parts::EntryLine;
+use crate::text_parts::{EntryLine, TextParts};
 use asm_words::Name;
 use ia_insn::limits::ENTRY_LIMIT;
 use ia_insn::{BundleOf, Insn, Op, Slots};
@@ -143,7 +143,7 @@ fn declare_by(
 }
 
 /// The declared entries that lines name, rising, or the fault of the first of these lines with one.
-pub(crate) fn all_declared(
+fn all_declared(
     alloc: Global,
     labels: &Labels,
     lines: &[EntryLine],
@@ -156,4 +156,35 @@ pub(crate) fn all_declared(
         declare_by(&mut entries, labels, line)?;
     }
     Ok(entries)
+}
+
+impl TextParts {
+    /// What a label of this name names, where there is one.
+    pub fn address_of(&self, name: &Name) -> Option<Address>
+        ensures value { result ≡ address_of self.now.labels name.now }
+        ensures within { IfSome result IsWithin }
+    {
+        self.labels.get(name).copied()
+    }
+
+    /// The operation in the n-th bundle with the address of its name put in, where a label that fits has it.
+    pub fn named(&self, n: u32, op: &Op, target: &Option<Name>) -> Option<Op>
+        requires { n < reach }
+        ensures { result ≡ named self.now.labels n op.now target.now }
+    {
+        named(&self.labels, n, op, target)
+    }
+
+    /// The declared entries, rising.
+    ///
+    /// # Errors
+    ///
+    /// The first fault of the lines that declare them: `NoLabel` for a name that no label of the text has, and `Limit`
+    /// for declared entries past [`ENTRY_LIMIT`]; or want of memory.
+    pub fn declared(&self, alloc: Global) -> Result<BTreeSet<u32>, TextError>
+        ensures ok { IfOk result (λ entries. all_declared self.now.labels [] self.now.entries ≡ Ok entries.keys) }
+        ensures err { IfErr result (λ e. (e ≡ error.Memory) ⊎ (all_declared self.now.labels [] self.now.entries ≡ Err e)) }
+    {
+        all_declared(alloc, &self.labels, &self.entries)
+    }
 }

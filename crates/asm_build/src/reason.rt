@@ -105,14 +105,14 @@ impl<T: Drop> From<AllocFailed<T>> for TextError {
 }
 
 /// The fault of a line.
-pub(crate) fn fault(line: u32, reason: Reason) -> TextError
+pub fn fault(line: u32, reason: Reason) -> TextError
     ensures { result ≡ Fault line reason }
 {
     TextError::Fault { line, reason }
 }
 
 /// The reason for which a line is refused by itself.
-pub(crate) fn reason_of(fault: LineFault) -> Reason
+pub fn reason_of(fault: LineFault) -> Reason
     ensures { result ≡ reason_of fault }
 {
     match fault {

@@ -1,14 +1,17 @@
 //! What the lines of a text say, one after the other.
 
-ghost use Rattle.std.specs.Prelude.{◌≡◌, ◌↔◌, ◌≤◌, ◌+◌, ◌++◌, None, IsTrue, OnOk, IfErr, length};
+ghost use Rattle.std.specs.Prelude.{◌≡◌, ◌↔◌, ◌≤◌, ◌+◌, ◌++◌, None, IsTrue, OnOk, IfOk, IfErr, length};
 ghost use Rattle.first_fault.specs.Stages.{ArePassed};
 ghost use Rattle.asm_reading.specs.declared.line.Line.TheVariants as line;
 ghost use Rattle.asm_build.specs.declared.reason.Reason.TheVariants as reason;
 ghost use Rattle.asm_build.specs.declared.reason.TextError.TheVariants as error;
-ghost use Rattle.asm_build.specs.TextParts.{TextParts as PartsOf, start, IsWithinLimits, after, value_stages, IsValueError, AreLabelsInside, here, turned, IsIn, numbers_bytes};
+ghost use Rattle.asm_build.specs.TextParts.{TextParts as PartsOf, start, IsWithinLimits, after, value_stages, IsValueError, AreLabelsBelow, AreLabelsInside, here, place_before, turned, with_label, with_relation, IsIn, numbers_bytes};
 ghost use Rattle.asm_build.specs.declared.text_parts.Section.TheVariants as section;
+ghost use Rattle.asm_build.specs.Addresses.{IsWithin};
+ghost use Rattle.asm_build.specs.Names.{padded};
 
 use crate::address::Address;
+use crate::data::padded;
 use crate::draft::{BundleLines, Open};
 use crate::reason::{Reason, TextError, fault};
 use asm_text::{Draft, Line, Predicates, Shape, Values};
@@ -19,15 +22,17 @@ use std::collections::BTreeMap;
 use std::marker::Model;
 
 /// What is being written: bundles, or data.
-#[derive(Clone, Copy, PartialEq, Eq)]
-pub(crate) enum Section {
+#[derive(Clone, Copy, Debug, PartialEq, Eq)]
+pub enum Section {
+    /// Bundles, or instructions without them.
     Text,
+    /// Data.
     Data,
 }
 
 /// A line that declares an entry.
-#[derive(Drop)]
-pub(crate) struct EntryLine {
+#[derive(Debug, Drop)]
+pub struct EntryLine {
     /// Its number, from 1.
     pub line: u32,
     /// The name of a label of the text.
@@ -35,26 +40,30 @@ pub(crate) struct EntryLine {
 }
 
 /// A line that declares relations of the next bundle, between each two of its predicates.
-#[derive(Drop)]
-pub(crate) struct RelationLine {
+#[derive(Debug, Drop)]
+pub struct RelationLine {
     /// Its number, from 1.
     pub line: u32,
-    /// How many bundles stand before it, which is the number of the next one.
+    /// How many bundles stand before it, which is the number of the next one. In a text without bundles instructions
+    /// are counted in their place.
     pub bundle: u32,
     /// The predicates.
     pub predicates: Predicates,
 }
 
 /// What the lines so far say. Contracts see its lists, and the labels in the order of their names.
+///
+/// A text without bundles has what lines outside of them say here too: then the methods that take a label or a
+/// relation have the number of what comes next in text from their caller.
 #[derive(Drop)]
-pub(crate) struct TextParts {
-    pub section: Section,
-    pub current: Option<Open>,
-    pub bundles: Vec<BundleLines>,
-    pub entries: Vec<EntryLine>,
-    pub relations: Vec<RelationLine>,
-    pub labels: BTreeMap<Name, Address>,
-    pub data: Vec<u8>,
+pub struct TextParts {
+    pub(crate) section: Section,
+    pub(crate) current: Option<Open>,
+    pub(crate) bundles: Vec<BundleLines>,
+    pub(crate) entries: Vec<EntryLine>,
+    pub(crate) relations: Vec<RelationLine>,
+    pub(crate) labels: BTreeMap<Name, Address>,
+    pub(crate) data: Vec<u8>,
 }
 
 impl Model for TextParts {
@@ -87,7 +96,7 @@ impl TextParts {
     ///
     /// The first fault of the line after those before it, or want of memory. Nothing is said of what stands here then,
     /// and nothing more is taken.
-    pub fn take(&mut self, n: u32, value: Line) -> Result<(), TextError>
+    pub(crate) fn take(&mut self, n: u32, value: Line) -> Result<(), TextError>
         ensures ok { OnOk result (ArePassed (value_stages self.old value) × (self.new ≡ after self.old n value)) }
         ensures err { IfErr result (IsValueError self.old n value) }
     {
@@ -108,15 +117,28 @@ impl TextParts {
         }
     }
 
-    #[tactic(auto, using(crate::proofs::ValueFaults::twice_there, crate::proofs::LabelValues::kept_among))]
     fn label(&mut self, n: u32, name: Name) -> Result<(), TextError>
         ensures ok { OnOk result (ArePassed (value_stages self.old (line.Label name)) × (self.new ≡ after self.old n (line.Label name))) }
+        ensures err { IfErr result (IsValueError self.old n (line.Label name)) }
+    {
+        let address = self.address();
+        self.label_of(n, name, address)
+    }
+
+    /// Takes the label on the n-th line, of what stands here.
+    ///
+    /// # Errors
+    ///
+    /// `Misplaced` within a bundle, `Twice` for a label again, or want of memory.
+    #[tactic(auto, using(crate::proofs::ValueFaults::twice_there, crate::proofs::LabelValues::kept_among))]
+    pub fn label_of(&mut self, n: u32, name: Name, address: Address) -> Result<(), TextError>
+        requires { IsWithin address }
+        ensures ok { OnOk result (ArePassed (value_stages self.old (line.Label name)) × (self.new ≡ with_label self.old name address)) }
         ensures err { IfErr result (IsValueError self.old n (line.Label name)) }
     {
         if self.current.is_some() {
             return Err(fault(n, Reason::Misplaced));
         }
-        let address = self.address();
         if self.labels.insert(name, address)?.is_some() {
             return Err(fault(n, Reason::Twice));
         }
@@ -125,19 +147,35 @@ impl TextParts {
 
     /// What a label names that stands here.
     fn address(&self) -> Address
-        ensures { result ≡ here self.now }
+        ensures value { result ≡ here self.now }
+        ensures within { IsWithin result }
+    {
+        let next = Address::Bundle {
+            n: self.bundles.len() as u32,
+        };
+        self.place(next)
+    }
+
+    /// What a label names that stands here: in text this, which comes next, and in data the next byte.
+    pub fn place(&self, next: Address) -> Address
+        requires { IsWithin next }
+        ensures value { result ≡ place_before self.now next }
+        ensures within { IsWithin result }
     {
         match self.section {
-            Section::Text => Address::Bundle {
-                n: self.bundles.len() as u32,
-            },
+            Section::Text => next,
             Section::Data => Address::Byte {
                 at: self.data.len() as u32,
             },
         }
     }
 
-    fn turn_to(&mut self, n: u32, section: Section) -> Result<(), TextError>
+    /// Turns to text or to data on the n-th line.
+    ///
+    /// # Errors
+    ///
+    /// `Misplaced` within a bundle.
+    pub fn turn_to(&mut self, n: u32, section: Section) -> Result<(), TextError>
         ensures ok { OnOk result ((self.old.current ≡ None) × (self.new ≡ turned self.old section)) }
         ensures err { IfErr result (λ e. (e ≡ error.Fault n reason.Misplaced) × ¬ (self.old.current ≡ None)) }
     {
@@ -148,7 +186,12 @@ impl TextParts {
         Ok(())
     }
 
-    fn entry(&mut self, n: u32, name: Name) -> Result<(), TextError>
+    /// Takes the declared entry on the n-th line.
+    ///
+    /// # Errors
+    ///
+    /// `Misplaced` within a bundle, or want of memory.
+    pub fn entry(&mut self, n: u32, name: Name) -> Result<(), TextError>
         ensures ok { OnOk result (ArePassed (value_stages self.old (line.Entry name)) × (self.new ≡ after self.old n (line.Entry name))) }
         ensures err { IfErr result (IsValueError self.old n (line.Entry name)) }
     {
@@ -159,7 +202,12 @@ impl TextParts {
         Ok(())
     }
 
-    fn ignored(&self, n: u32) -> Result<(), TextError>
+    /// Takes the n-th line, which says something without effect.
+    ///
+    /// # Errors
+    ///
+    /// `Misplaced` within a bundle.
+    pub fn ignored(&self, n: u32) -> Result<(), TextError>
         ensures ok { OnOk result (ArePassed (value_stages self.now line.Ignored)) }
         ensures err { IfErr result (IsValueError self.now n line.Ignored) }
     {
@@ -173,14 +221,27 @@ impl TextParts {
         ensures ok { OnOk result (ArePassed (value_stages self.old (line.Relation predicates)) × (self.new ≡ after self.old n (line.Relation predicates))) }
         ensures err { IfErr result (IsValueError self.old n (line.Relation predicates)) }
     {
-        if !self.is_in_text() {
-            return Err(fault(n, Reason::Misplaced));
-        }
-        self.relations.push(RelationLine {
+        let relation = RelationLine {
             line: n,
             bundle: self.bundles.len() as u32,
             predicates,
-        })?;
+        };
+        self.relation_of(relation)
+    }
+
+    /// Takes a line that declares relations.
+    ///
+    /// # Errors
+    ///
+    /// `Misplaced` in data or within a bundle, or want of memory.
+    pub fn relation_of(&mut self, relation: RelationLine) -> Result<(), TextError>
+        ensures ok { OnOk result (ArePassed (value_stages self.old (line.Relation relation.predicates)) × (self.new ≡ with_relation self.old relation)) }
+        ensures err { IfErr result (IsValueError self.old relation.line (line.Relation relation.predicates)) }
+    {
+        if !self.is_in_text() {
+            return Err(fault(relation.line, Reason::Misplaced));
+        }
+        self.relations.push(relation)?;
         Ok(())
     }
 
@@ -191,15 +252,20 @@ impl TextParts {
         self.current.is_none() && self.section == Section::Data
     }
 
-    /// Whether a bundle or relations may stand here.
-    fn is_in_text(&self) -> bool
+    /// Whether a bundle or relations may stand here: in text, and outside a bundle.
+    pub fn is_in_text(&self) -> bool
         ensures { IsTrue result ↔ IsIn section.Text self.now }
     {
         self.current.is_none() && self.section == Section::Text
     }
 
+    /// Takes the numbers on the n-th line, each in so many bytes.
+    ///
+    /// # Errors
+    ///
+    /// `Misplaced` outside of data, `Limit` for data past [`DATA_LIMIT`], or want of memory.
     #[tactic(auto, using(crate::proofs::Numbers::most_numbers, crate::proofs::Numbers::length_numbers, crate::proofs::ValueFaults::data_full))]
-    fn numbers(&mut self, n: u32, size: u8, values: &Values) -> Result<(), TextError>
+    pub fn numbers(&mut self, n: u32, size: u8, values: &Values) -> Result<(), TextError>
         ensures ok { OnOk result (ArePassed (value_stages self.old (line.Numbers size values.now)) × (self.new ≡ after self.old n (line.Numbers size values.now))) }
         ensures err { IfErr result (IsValueError self.old n (line.Numbers size values.now)) }
     {
@@ -215,7 +281,12 @@ impl TextParts {
         Ok(())
     }
 
-    fn skip(&mut self, n: u32, count: u32) -> Result<(), TextError>
+    /// Takes so many zeros, on the n-th line.
+    ///
+    /// # Errors
+    ///
+    /// `Misplaced` outside of data, `Limit` for data past [`DATA_LIMIT`], or want of memory.
+    pub fn skip(&mut self, n: u32, count: u32) -> Result<(), TextError>
         ensures ok { OnOk result (ArePassed (value_stages self.old (line.Skip count)) × (self.new ≡ after self.old n (line.Skip count))) }
         ensures err { IfErr result (IsValueError self.old n (line.Skip count)) }
     {
@@ -289,23 +360,48 @@ impl TextParts {
     }
 
     /// Whether there is a bundle.
-    pub fn has_bundles(&self) -> bool
+    pub(crate) fn has_bundles(&self) -> bool
         ensures { IsTrue result ↔ (1 ≤ length self.now.bundles) }
     {
         !self.bundles.is_empty()
     }
 
     /// Whether each label of the text has a bundle.
-    pub fn are_labels_inside(&self) -> bool
+    pub(crate) fn are_labels_inside(&self) -> bool
         ensures { IsTrue result ↔ AreLabelsInside self.now }
     {
         let count = self.bundles.len() as u32;
+        self.are_labels_below(count)
+    }
+
+    /// Whether each label of the text is of one of so many.
+    pub fn are_labels_below(&self, count: u32) -> bool
+        ensures { IsTrue result ↔ AreLabelsBelow count self.now }
+    {
         for address in self.labels.values() {
             if !address.is_inside(count) {
                 return false;
             }
         }
         true
+    }
+
+    /// The lines that declare relations, in order.
+    pub fn relations(&self) -> &[RelationLine]
+        ensures { result.now ≡ self.now.relations }
+    {
+        &self.relations
+    }
+
+    /// The data, with zeros up to a multiple of eight.
+    ///
+    /// # Errors
+    ///
+    /// Want of memory.
+    pub fn into_data(self) -> Result<Vec<u8>, AllocError>
+        ensures { IfOk result (λ bytes. bytes.items ≡ padded self.bytes) }
+    {
+        padded(self.data)
     }
 }
 

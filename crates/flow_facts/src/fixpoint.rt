@@ -6,7 +6,8 @@ ghost use Rattle.ia_insn.specs.declared.place.Place.{Place};
 ghost use Rattle.ia_insn.specs.Places.{place_at};
 ghost use Rattle.predicate_rel.specs.Pairs.{no_pairs, pairs_of};
 ghost use Rattle.predicate_rel.specs.Edges.{HasEdge, pairs_past};
-ghost use Rattle.flow_facts.specs.Walks.{Known, known_at, with_relations, known_first, IsSolution};
+ghost use Rattle.flow_facts.specs.Graphs.{with_relations};
+ghost use Rattle.flow_facts.specs.Walks.{Known, known_at, known_first, IsSolution};
 ghost use Rattle.flow_facts.specs.Tables.{Passed, weight, dirty_count, IsWitnessed, IsWitnessedAt, HasCome, IsUnderWay, marked, place_count};
 
 use crate::dirty::DirtyPlaces;

@@ -29,6 +29,7 @@ use Rattle.ia_meaning.proofs.PredicatePlaces.{holds_zero}
 use Rattle.resource_sets.proofs.Dependence.{place_same}
 use Rattle.resource_sets.proofs.Regularity.{guards, named_accesses, accesses_listed, in_range, guards_written, guarded, alloc_writes, guards_in_range}
 use Rattle.resource_sets.proofs.Coverage.{cells_inside}
+use Rattle.flow_facts.specs.Graphs.{over_program}
 use Rattle.group_checker.specs.Excuses.{accesses_in, accesses_at}
 use Rattle.group_checker.proofs.Falling.{before_trans, not_before_itself}
 use Rattle.group_checker.specs.OrderLaws.{Fits, FitTogether, IsInside}
@@ -127,11 +128,11 @@ plain_of j a h na w = go a.kind refl w
     go Fill e w = absurd (true≢false (sym w))
 
 -- the accesses at the place of an instruction
-pub accesses_here : (p : Program) (place : Place) (j : Insn) → insn_at p.bundles place ≡ Some j → accesses_at p place ≡ accesses j
+pub accesses_here : (p : Program) (place : Place) (j : Insn) → insn_at p.bundles place ≡ Some j → accesses_at (over_program p) place ≡ accesses j
 unfolding accesses_at
 accesses_here p place j e = ap accesses_in e
 
-pub has_here : (p : Program) (place : Place) (j : Insn) (a : Access) → insn_at p.bundles place ≡ Some j → HasAccess j a → Contains (accesses_at p place) a
+pub has_here : (p : Program) (place : Place) (j : Insn) (a : Access) → insn_at p.bundles place ≡ Some j → HasAccess j a → Contains (accesses_at (over_program p) place) a
 has_here p place j a e h = subst (λ l. Contains l a) (sym (accesses_here p place j e)) ((accesses_listed j a).1 h)
 
 -- the rotating part of a frame lies in it
@@ -257,7 +258,7 @@ module _ (p : Program) (past : List Place) (base : Registers) (ws : List Registe
   abbrev Past : List Place
   Past = here ∷ past
 
-  may_here : (g : ℕ) → may_write_guard g (accesses j) ≡ true → may_write_guard g (accesses_at p here) ≡ true
+  may_here : (g : ℕ) → may_write_guard g (accesses j) ≡ true → may_write_guard g (accesses_at (over_program p) here) ≡ true
   may_here g m = ap (may_write_guard g) (accesses_here p here j at) ∙ m
 
   -- a trace is one step longer

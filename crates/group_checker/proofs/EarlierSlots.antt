@@ -2,6 +2,7 @@
 use Rattle.std.proofs.Common.{◌≡◌, ℕ, ◌<◌, ◌⊎◌, List, [], ◌∷◌, ◌++◌, length, length-append, get_or, refl, sym, ◌∙◌, arith, inl, inr}
 use Rattle.std.proofs.lemmas.Bool.{cases_lt}
 use Rattle.std.proofs.lemmas.List.{get_or_default, get_or_push, get_or_append_left}
+use Rattle.std.proofs.lemmas.Option.{slice_get_cases}
 use Rattle.group_checker.specs.declared.window.EarlierSlot.{EarlierSlot}
 use Rattle.group_checker.specs.Windows.{IsAt}
 
@@ -12,6 +13,13 @@ at_once xs m a b h k = sym h.is ∙ get_or_default xs m a b h.short ∙ k.is
 -- each number below the length has its slot
 pub earlier_at : (xs : List EarlierSlot) (m : ℕ) (d : EarlierSlot) → m < length xs → IsAt xs m (get_or xs m d)
 earlier_at xs m d l = record { short = l; is = get_or_default xs m (get_or xs m d) d l }
+
+-- and so it has some slot
+pub some_at : (xs : List EarlierSlot) (m : ℕ) → m < length xs → (e : EarlierSlot) × IsAt xs m e
+some_at xs m l = elim (slice_get_cases xs m).1 [
+  | inl (x, short, is, at) ↦ (x, record { short = short; is = at })
+  | inr (beyond, is) ↦ absurd (omega arith)
+]
 
 -- what an index answers
 pub indexed : (xs : List EarlierSlot) (m : ℕ) (a : EarlierSlot) → m < length xs → a ≡ get_or xs m a → IsAt xs m a

@@ -1,18 +1,24 @@
--- Control falls to the next place, which comes later, and to each place from one at most.
-use Rattle.std.proofs.Common.{◌≡◌, ◌<◌, ◌≤◌, ◌⊎◌, Bool, true, false, cond, List, [], ◌∷◌, Option, None, Some, refl, sym, ◌∙◌, arith, inl, inr}
-use Rattle.std.specs.Prelude.{Contains}
+-- Control falls to the next place of a program or a row, which comes later, and to each place from one at most.
+use Rattle.std.proofs.Common.{◌≡◌, ℕ, ◌+◌, ◌<◌, ◌≤◌, ◌⊎◌, Bool, true, false, cond, List, [], ◌∷◌, length, nat_lt, ◌==◌, Option, None, Some, refl, sym, ap, ◌∙◌, subst, arith, inl, inr}
+use Rattle.std.specs.Prelude.{Contains, IsSome, slice_get}
 use Rattle.std.proofs.lemmas.Bool.{cases_lt, cases_eq}
+use Rattle.std.proofs.lemmas.Bool.Decides.{nat_tests}
+use Rattle.std.proofs.lemmas.Option.{same_Some, slice_get_cases}
 use Rattle.ia_insn.specs.declared.insn.Insn.{Insn}
 use Rattle.ia_insn.specs.declared.place.Place.{Place}
 use Rattle.ia_insn.specs.Bundles.{Bundle}
 use Rattle.ia_insn.specs.Places.{place_number, insn_at, IsBefore, IsNext, IsPlaceOf}
 use Rattle.ia_insn.specs.Programs.{Program}
-use Rattle.ia_meaning.specs.Sequence.{next_of, is_stopped}
+use Rattle.ia_insn.proofs.InOrder.{slot_small}
+use Rattle.ia_meaning.specs.Sequence.{first_of, next_of}
 use Rattle.ia_meaning.proofs.Follows.{next_is}
+use Rattle.predicate_rel.specs.declared.edge.Edge.{Edge}
 use Rattle.predicate_rel.specs.declared.edge.Edge.TheVariants.{Falls, Taken}
-use Rattle.predicate_rel.specs.Edges.{HasEdge, edge_of, edge_end, may_fall, pairs_past}
-use Rattle.flow_facts.specs.Walks.{Walk, begins, goes_on, IsWalk, end_of, facts_on, earlier_in_group}
-use Rattle.group_checker.proofs.Members.{not_in_none}
+use Rattle.predicate_rel.specs.Pairs.{Pairs}
+use Rattle.predicate_rel.specs.Edges.{HasEdge, edge_of, edge_end, may_fall, pairs_past, pairs_past_insn}
+use Rattle.flow_facts.specs.Graphs.{Graph, over_program, over_row, Row, HasRowEdge, row_insn, row_next, row_end_of, row_past, insn_in, next_in, IsPlaceIn, IsEdgeIn, pairs_past_in}
+use Rattle.flow_facts.specs.Walks.{Walk, begins, goes_on, IsWalkIn, end_of, facts_in, group_since}
+use Rattle.group_checker.proofs.Members.{not_in_none, cases_in}
 
 -- the order of places goes on
 pub before_trans : (a b c : Place) → IsBefore a b → IsBefore b c → IsBefore a c
@@ -46,22 +52,93 @@ pub number_rises : (a b : Place) → a.slot < 3 → IsBefore a b → place_numbe
 number_rises a b small (inl h) = omega arith
 number_rises a b small (inr h) = omega (arith, h.0, h.1)
 
--- an edge on which control falls leads to the next place
-pub falls_next : (p : Program) (i j : Place) → HasEdge p i Falls j → next_of p.bundles i ≡ Some j
+-- what is known past a place is what is known past the instruction there
+pub past_is : (g : Graph) (place : Place) (e : Edge) (f : Pairs) → pairs_past_in g place e f ≡ pairs_past_insn (insn_in g place) e f
+unfolding pairs_past row_past
+past_is (over_program p) place e f = refl
+past_is (over_row row) place e f = refl
+
+-- an edge begins at a place
+pub edge_inside : (g : Graph) (i : Place) (e : Edge) (j : Place) → IsEdgeIn g i e j → IsPlaceIn g i
+edge_inside (over_program p) i e j edge = edge.inside
+edge_inside (over_row row) i e j edge = edge.inside
+
+-- the place holds an instruction past which control may fall, and there is a next place
+pub record IsFall (g : Graph) (i j : Place) : Type 0 where
+  pub insn : Insn
+  pub here : insn_in g i ≡ Some insn
+  pub may : may_fall insn ≡ true
+  pub next : next_in g i ≡ Some j
+
+chosen : (b : Bool) (next : Option Place) (j : Place) → cond b next None ≡ Some j → (b ≡ true) × (next ≡ Some j)
+chosen true next j h = (refl, h)
+chosen false next j h = absurd cc
+
+program_fall : (p : Program) (i j : Place) → HasEdge p i Falls j → IsFall (over_program p) i j
 unfolding edge_end
-falls_next p i j e = of (insn_at p.bundles i) e.leads
+program_fall p i j e = of (insn_at p.bundles i) refl e.leads
   where
-    chosen : (b : Bool) → cond b (next_of p.bundles i) None ≡ Some j → next_of p.bundles i ≡ Some j
-    chosen true h = h
-    chosen false h = absurd cc
+    of : (o : Option Insn) → insn_at p.bundles i ≡ o → edge_of p.bundles i o Falls ≡ Some j → IsFall (over_program p) i j
+    of None here h = absurd cc
+    of (Some insn) here h = let c = chosen (may_fall insn) (next_of p.bundles i) j h in record { insn = insn; here = here; may = c.0; next = c.1 }
 
-    of : (o : Option Insn) → edge_of p.bundles i o Falls ≡ Some j → next_of p.bundles i ≡ Some j
-    of None h = absurd cc
-    of (Some insn) h = chosen (may_fall insn) h
+row_fall : (row : Row) (i j : Place) → HasRowEdge row i Falls j → IsFall (over_row row) i j
+row_fall row i j e = of (row_insn row.insns i) refl e.leads
+  where
+    of : (o : Option Insn) → row_insn row.insns i ≡ o → row_end_of row.insns i o Falls ≡ Some j → IsFall (over_row row) i j
+    of None here h = absurd cc
+    of (Some insn) here h = let c = chosen (may_fall insn) (row_next row.insns i) j h in record { insn = insn; here = here; may = c.0; next = c.1 }
 
--- two places that have one next place are one
-pub same_before : (bundles : List Bundle) (a b next : Place) → IsPlaceOf bundles a → IsPlaceOf bundles b → next_of bundles a ≡ Some next → next_of bundles b ≡ Some next → a ≡ b
-same_before bundles a b next is_a is_b e f = of (place_cases a b)
+-- what a fall says of where it begins
+pub fall_is : (g : Graph) (i j : Place) → IsEdgeIn g i Falls j → IsFall g i j
+fall_is (over_program p) i j e = program_fall p i j e
+fall_is (over_row row) i j e = row_fall row i j e
+
+-- the place of the next instruction of a row
+row_next_is : (insns : List Insn) (i j : Place) → row_next insns i ≡ Some j → (i.bundle + 1 < length insns) × (first_of (i.bundle + 1) ≡ j)
+unfolding row_next
+row_next_is insns i j e = of (nat_lt (i.bundle + 1) (length insns)) refl e
+  where
+    of : (b : Bool) → nat_lt (i.bundle + 1) (length insns) ≡ b → cond b (Some (first_of (i.bundle + 1))) None ≡ Some j → (i.bundle + 1 < length insns) × (first_of (i.bundle + 1) ≡ j)
+    of true t h = (grind (arith, nat_tests), same_Some _ _ h)
+    of false t h = absurd cc
+
+-- an instruction of a row stands at slot 0
+row_slot : (insns : List Insn) (i : Place) → IsSome (row_insn insns i) → i.slot ≡ 0
+unfolding row_insn
+row_slot insns i is = of (i.slot == 0) refl is
+  where
+    of : (b : Bool) → (i.slot == 0) ≡ b → IsSome (cond b (slice_get insns i.bundle) None) → i.slot ≡ 0
+    of true t h = grind (arith, nat_tests)
+    of false t h = absurd cc
+
+-- and each below its length stands there
+row_place : (insns : List Insn) (n : ℕ) → n < length insns → IsSome (row_insn insns (first_of n))
+unfolding row_insn
+row_place insns n l = elim (slice_get_cases insns n).1 [
+  | inl (x, short, is, at) ↦ subst IsSome (sym is) refl
+  | inr (beyond, is) ↦ absurd (omega arith)
+]
+
+-- the next place is a place
+pub next_place : (g : Graph) (i j : Place) → next_in g i ≡ Some j → IsPlaceIn g j
+next_place (over_program p) i j e = let n = next_is p.bundles i j e in n.is
+next_place (over_row row) i j e =
+    let n = row_next_is row.insns i j e in
+    subst (λ (k : Place). IsSome (row_insn row.insns k)) n.1 (row_place row.insns (i.bundle + 1) n.0)
+
+-- and comes later
+pub next_after : (g : Graph) (i j : Place) → next_in g i ≡ Some j → IsBefore i j
+next_after (over_program p) i j e = let n = next_is p.bundles i j e in n.after
+next_after (over_row row) i j e = let n = row_next_is row.insns i j e in subst (IsBefore i) n.1 (inl (omega arith))
+
+-- the slot of a place is 0 to 2
+pub slot_below : (g : Graph) (i : Place) → IsPlaceIn g i → i.slot < 3
+slot_below (over_program p) i is = slot_small p.bundles i is
+slot_below (over_row row) i is = let zero = row_slot row.insns i is in omega (arith, zero)
+
+program_before : (bundles : List Bundle) (a b next : Place) → IsPlaceOf bundles a → IsPlaceOf bundles b → next_of bundles a ≡ Some next → next_of bundles b ≡ Some next → a ≡ b
+program_before bundles a b next is_a is_b e f = of (place_cases a b)
   where
     of_a : IsNext bundles a next
     of_a = next_is bundles a next e
@@ -74,33 +151,78 @@ same_before bundles a b next is_a is_b e f = of (place_cases a b)
     of (inr (inl h)) = h
     of (inr (inr h)) = absurd (of_b.first a is_a h of_a.after)
 
+-- two places that have one next place are one
+pub same_before : (g : Graph) (a b next : Place) → IsPlaceIn g a → IsPlaceIn g b → next_in g a ≡ Some next → next_in g b ≡ Some next → a ≡ b
+same_before (over_program p) a b next is_a is_b e f = program_before p.bundles a b next is_a is_b e f
+same_before (over_row row) a b next is_a is_b e f =
+    let m = row_next_is row.insns a next e in
+    let n = row_next_is row.insns b next f in
+    let bundle : a.bundle + 1 ≡ b.bundle + 1 = ap (λ (k : Place). k.bundle) (m.1 ∙ sym n.1) in
+    same_place a b (omega (arith, bundle)) (row_slot row.insns a is_a ∙ sym (row_slot row.insns b is_b))
+
+-- control falls from a place where it may to the next one
+pub fall_edge : (g : Graph) (i j : Place) (insn : Insn) → insn_in g i ≡ Some insn → may_fall insn ≡ true → next_in g i ≡ Some j → IsEdgeIn g i Falls j
+unfolding edge_end
+fall_edge (over_program p) i j insn here may next = record {
+  inside = subst IsSome (sym here) refl;
+  leads = ap (λ (o : Option Insn). edge_of p.bundles i o Falls) here ∙ ap (λ (b : Bool). cond b (next_of p.bundles i) None) may ∙ next;
+  lands = next_place (over_program p) i j next;
+}
+fall_edge (over_row row) i j insn here may next = record {
+  inside = subst IsSome (sym here) refl;
+  leads = ap (λ (o : Option Insn). row_end_of row.insns i o Falls) here ∙ ap (λ (b : Bool). cond b (row_next row.insns i) None) may ∙ next;
+  lands = next_place (over_row row) i j next;
+}
+
+-- a fall leads to the next place
+pub falls_next : (g : Graph) (i j : Place) → IsEdgeIn g i Falls j → next_in g i ≡ Some j
+falls_next g i j e = let f = fall_is g i j e in f.next
+
 -- control falls to a place from one place at most
-pub one_before : (p : Program) (a b next : Place) → HasEdge p a Falls next → HasEdge p b Falls next → a ≡ b
-one_before p a b next e f = same_before p.bundles a b next e.inside f.inside (falls_next p a next e) (falls_next p b next f)
+pub one_before : (g : Graph) (a b next : Place) → IsEdgeIn g a Falls next → IsEdgeIn g b Falls next → a ≡ b
+one_before g a b next e f =
+    same_before g a b next (edge_inside g a Falls next e) (edge_inside g b Falls next f) (falls_next g a next e) (falls_next g b next f)
 
 -- control falls to a later place
-pub falls_up : (p : Program) (i j : Place) → HasEdge p i Falls j → IsBefore i j
-falls_up p i j e = let n = next_is p.bundles i j (falls_next p i j e) in n.after
+pub falls_up : (g : Graph) (i j : Place) → IsEdgeIn g i Falls j → IsBefore i j
+falls_up g i j e = next_after g i j (falls_next g i j e)
 
 -- A walk on which some slot is earlier in the group of its last place came from the place before.
-pub record ComesFrom (p : Program) (w : Walk) : Type 0 where
+pub record ComesFrom (g : Graph) (has_stop : Place → Bool) (w : Walk) : Type 0 where
   pub before : Walk
-  pub walks : IsWalk p before
-  pub edge : HasEdge p (end_of before) Falls (end_of w)
-  pub unstopped : is_stopped p.bundles (end_of before) ≡ false
-  pub facts : facts_on p w ≡ pairs_past p (end_of before) Falls (facts_on p before)
-  pub group : earlier_in_group p w ≡ end_of before ∷ earlier_in_group p before
+  pub walks : IsWalkIn g before
+  pub edge : IsEdgeIn g (end_of before) Falls (end_of w)
+  pub unstopped : has_stop (end_of before) ≡ false
+  pub facts : facts_in g w ≡ pairs_past_in g (end_of before) Falls (facts_in g before)
+  pub group : group_since has_stop w ≡ end_of before ∷ group_since has_stop before
 
 -- the last step of such a walk was a fall within the group
-pub comes_from : (p : Program) (w : Walk) (i : Place) → IsWalk p w → Contains (earlier_in_group p w) i → ComesFrom p w
-comes_from p (begins bundle) i is c = absurd (not_in_none i c)
-comes_from p (goes_on w Taken place) i is c = absurd (not_in_none i c)
-comes_from p (goes_on w Falls place) i is c = by_stop (is_stopped p.bundles (end_of w)) refl c
+pub comes_from : (g : Graph) (has_stop : Place → Bool) (w : Walk) (i : Place) → IsWalkIn g w → Contains (group_since has_stop w) i → ComesFrom g has_stop w
+comes_from g has_stop (begins bundle) i is c = absurd (not_in_none i c)
+comes_from g has_stop (goes_on w Taken place) i is c = absurd (not_in_none i c)
+comes_from g has_stop (goes_on w Falls place) i is c = by_stop (has_stop (end_of w)) refl c
   where
-    by_stop : (s : Bool) → is_stopped p.bundles (end_of w) ≡ s → Contains (cond s [] (end_of w ∷ earlier_in_group p w)) i → ComesFrom p (goes_on w Falls place)
+    by_stop : (s : Bool) → has_stop (end_of w) ≡ s → Contains (cond s [] (end_of w ∷ group_since has_stop w)) i → ComesFrom g has_stop (goes_on w Falls place)
     by_stop true e d = absurd (not_in_none i d)
     by_stop false e d = record { before = w; walks = is.0; edge = is.1; unstopped = e; facts = refl; group = rw e refl }
 
 -- A walk goes on by a fall within its group.
-pub falls_group : (p : Program) (w : Walk) (place : Place) → is_stopped p.bundles (end_of w) ≡ false → earlier_in_group p (goes_on w Falls place) ≡ end_of w ∷ earlier_in_group p w
-falls_group p w place e = rw e refl
+pub falls_group : (has_stop : Place → Bool) (w : Walk) (place : Place) → has_stop (end_of w) ≡ false → group_since has_stop (goes_on w Falls place) ≡ end_of w ∷ group_since has_stop w
+falls_group has_stop w place e = rw e refl
+
+-- the earlier places of a walk's group come before its last one
+pub group_before : (g : Graph) (has_stop : Place → Bool) (w : Walk) (i : Place) → IsWalkIn g w → Contains (group_since has_stop w) i → IsBefore i (end_of w)
+group_before g has_stop (begins bundle) i is c = absurd (not_in_none i c)
+group_before g has_stop (goes_on w Taken place) i is c = absurd (not_in_none i c)
+group_before g has_stop (goes_on w Falls place) i is c = by_stop (has_stop (end_of w)) c (λ d. group_before g has_stop w i is.0 d)
+  where
+    by_stop : (s : Bool) → Contains (cond s [] (end_of w ∷ group_since has_stop w)) i → (Contains (group_since has_stop w) i → IsBefore i (end_of w)) → IsBefore i place
+    by_stop true d again = absurd (not_in_none i d)
+    by_stop false d again = of (cases_in (end_of w) i (group_since has_stop w) d)
+      where
+        up : IsBefore (end_of w) place
+        up = falls_up g (end_of w) place is.1
+
+        of : (end_of w ≡ i) ⊎ Contains (group_since has_stop w) i → IsBefore i place
+        of (inl e) = subst (λ q. IsBefore q place) e up
+        of (inr k) = before_trans i (end_of w) place (again k) up

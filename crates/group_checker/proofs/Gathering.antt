@@ -24,6 +24,7 @@ use Rattle.resource_sets.specs.AccessLaws.{Location, StaticAt, CellAt, Predicate
 use Rattle.resource_sets.specs.Regularity.{IsInRange, IsChange, IsExcepted, frame_read}
 use Rattle.ia_meaning.proofs.PredicatePlaces.{holds_zero}
 use Rattle.resource_sets.proofs.Dependence.{spot_same, place_same}
+use Rattle.flow_facts.specs.Graphs.{over_program}
 use Rattle.group_checker.specs.Excuses.{accesses_at}
 use Rattle.group_checker.specs.OrderLaws.{FitTogether, IsInside}
 use Rattle.group_checker.proofs.Untouched.{SameAt, Mem, each_mem, Touches, TouchedBy, same_apply}
@@ -47,13 +48,13 @@ pub record MayBeWrittenSince (p : Program) (past : List Place) (i : Place) (g : 
   pub place : Place
   pub inside : Mem place past
   pub since : ¬ IsBefore place i
-  pub writes : may_write_guard g (accesses_at p place) ≡ true
+  pub writes : may_write_guard g (accesses_at (over_program p) place) ≡ true
 
 -- an access of an earlier slot whose guard was 1, and is so still or may have been written since
 pub record EarlierAccess (p : Program) (past : List Place) (base s : Registers) (a : Access) : Type 0 where
   pub place : Place
   pub inside : Mem place past
-  pub has : Contains (accesses_at p place) a
+  pub has : Contains (accesses_at (over_program p) place) a
   pub alive : IsStillOne base s a.guard ⊎ MayBeWrittenSince p past place a.guard
 
 -- a write of registers, that of an `alloc`'s frame apart
@@ -98,7 +99,7 @@ pub record IsGathering (p : Program) (past : List Place) (base : Registers) (ws 
 -- The slot clashes with no earlier one, where the guards of both are 1 or that of the earlier one may have been written.
 abbrev pub ClashesWithNone : Program → List Place → Insn → Registers → Type 0
 ClashesWithNone p past j s =
-    (i : Place) (a b : Access) → Mem i past → Contains (accesses_at p i) a → HasAccess j b → a.resource ≡ b.resource
+    (i : Place) (a b : Access) → Mem i past → Contains (accesses_at (over_program p) i) a → HasAccess j b → a.resource ≡ b.resource
     → IsChange a.kind → ¬ IsExcepted a.kind b.kind → holds s b.guard ≡ true
     → (holds s a.guard ≡ true) ⊎ MayBeWrittenSince p past i a.guard → ⊥
 

@@ -26,6 +26,7 @@ use Rattle.ia_meaning.specs.Actions.{is_alloc, insn_form, allocates}
 use Rattle.resource_sets.proofs.Coverage.{covered, spills}
 use Rattle.resource_sets.proofs.Apart.{apart}
 use Rattle.resource_sets.proofs.Regularity.{named_as_found}
+use Rattle.flow_facts.specs.Graphs.{over_program}
 use Rattle.flow_facts.specs.Walks.{Walk, earlier_in_group}
 use Rattle.group_checker.specs.Reports.{IsFree}
 use Rattle.group_checker.proofs.Members.{in_head, in_tail, head_in}
@@ -41,7 +42,8 @@ use Rattle.group_checker.proofs.Untouched.{Mem, each_of, fit_of}
 use Rattle.group_checker.proofs.Gathering.{joined, IsGathering, ClashesWithNone}
 use Rattle.group_checker.proofs.Seeing.{qp_same, same_effect}
 use Rattle.group_checker.proofs.Advancing.{IsLawful, advance, after_joined}
-use Rattle.group_checker.proofs.NoClashes.{group_before, clean_at, no_alloc}
+use Rattle.group_checker.proofs.Falling.{group_before}
+use Rattle.group_checker.proofs.NoClashes.{clean_at, no_alloc}
 
 -- the state that the slots so far leave, one by one
 abbrev pub state_of : Gathered → State
@@ -211,7 +213,7 @@ module _ (p : Program) (program : IsProgram p) (free : IsFree p) (g : Gathered) 
   clean = clean_at p free G w on.known j at past on.inside
 
   before : (i : Place) → Mem i past → IsBefore i g.place
-  before i m = let k = on.known.ends in subst (IsBefore i) k.ends (group_before p w i k.walks (on.inside i m))
+  before i m = let k = on.known.ends in subst (IsBefore i) k.ends (group_before (over_program p) (is_stopped p.bundles) w i k.walks (on.inside i m))
 
   law_effect : IsLawful j g.base G.registers V (effect (site p g.place.bundle) j V g.memory g.unat)
   law_effect =

@@ -7,11 +7,13 @@ pub mod Meets
 pub mod EarlierSlots
 pub mod Slots
 pub mod Windowing
+pub mod Stops
 pub mod Excusing
 pub mod Pairing
 pub mod Gaining
 pub mod ListedViolations
 pub mod Reporting
+pub mod FirstFound
 pub mod Uniqueness
 pub mod Promised
 pub mod Walked

@@ -1,9 +1,9 @@
 -- On a walk of a program without violations each slot is clean, and an `alloc` comes first in its group.
-use Rattle.std.proofs.Common.{◌≡◌, ◌⊎◌, inl, inr, Bool, true, false, List, [], ◌∷◌, Some, refl, sym, ◌∙◌, ap, subst, true≢false, cond}
+use Rattle.std.proofs.Common.{◌≡◌, ◌⊎◌, inl, inr, true, List, [], ◌∷◌, Some, refl, sym, ◌∙◌, ap, subst, true≢false}
 use Rattle.std.specs.Prelude.{Contains}
 use Rattle.ia_insn.specs.declared.insn.Insn.{Insn}
 use Rattle.ia_insn.specs.declared.place.Place.{Place}
-use Rattle.ia_insn.specs.Places.{insn_at, IsBefore}
+use Rattle.ia_insn.specs.Places.{insn_at}
 use Rattle.ia_insn.specs.Programs.{Program}
 use Rattle.ia_meaning.specs.State.{State}
 use Rattle.ia_meaning.specs.Names.{holds}
@@ -18,42 +18,24 @@ use Rattle.resource_sets.specs.AccessLaws.{HasAccess}
 use Rattle.ia_meaning.specs.Actions.{is_alloc, allocates, insn_form}
 use Rattle.resource_sets.specs.Regularity.{IsExcepted}
 use Rattle.resource_sets.proofs.Regularity.{changes_clash}
-use Rattle.predicate_rel.specs.declared.edge.Edge.TheVariants.{Falls, Taken}
-use Rattle.flow_facts.specs.Walks.{Walk, begins, goes_on, IsWalk, end_of, earlier_in_group}
+use Rattle.flow_facts.specs.Graphs.{over_program}
+use Rattle.flow_facts.specs.Walks.{Walk, end_of, earlier_in_group}
 use Rattle.group_checker.specs.Excuses.{accesses_at, IsLatest, IsExcused}
 use Rattle.group_checker.specs.Violations.{ClashesUnexcused, allocates_at, Breaks}
 use Rattle.group_checker.specs.Reports.{IsFree}
-use Rattle.group_checker.proofs.Members.{not_in_none, cases_in, head_in}
-use Rattle.group_checker.proofs.Falling.{before_trans, falls_up}
+use Rattle.group_checker.proofs.Members.{not_in_none, head_in}
 use Rattle.group_checker.specs.Traces.{IsKnown}
 use Rattle.group_checker.proofs.Untouched.{Mem}
 use Rattle.group_checker.proofs.Gathering.{MayBeWrittenSince, ClashesWithNone}
 use Rattle.group_checker.proofs.Advancing.{has_here}
 
--- the earlier places of a walk's group come before its last one
-pub group_before : (p : Program) (w : Walk) (i : Place) → IsWalk p w → Contains (earlier_in_group p w) i → IsBefore i (end_of w)
-group_before p (begins bundle) i is c = absurd (not_in_none i c)
-group_before p (goes_on w Taken place) i is c = absurd (not_in_none i c)
-group_before p (goes_on w Falls place) i is c = by_stop (is_stopped p.bundles (end_of w)) c (λ d. group_before p w i is.0 d)
-  where
-    by_stop : (s : Bool) → Contains (cond s [] (end_of w ∷ earlier_in_group p w)) i → (Contains (earlier_in_group p w) i → IsBefore i (end_of w)) → IsBefore i place
-    by_stop true d again = absurd (not_in_none i d)
-    by_stop false d again = of (cases_in (end_of w) i (earlier_in_group p w) d)
-      where
-        up : IsBefore (end_of w) place
-        up = falls_up p (end_of w) place is.1
-
-        of : (end_of w ≡ i) ⊎ Contains (earlier_in_group p w) i → IsBefore i place
-        of (inl e) = subst (λ q. IsBefore q place) e up
-        of (inr k) = before_trans i (end_of w) place (again k) up
-
 module _ (p : Program) (free : IsFree p) (s : State) (w : Walk) (known : IsKnown p s w) (j : Insn) (at : insn_at p.bundles s.place ≡ Some j) where
-  breaks_of : (i : Place) (rule : Rule) (q : Resource) → (rule ≡ Raw) ⊎ (rule ≡ Waw) → ClashesUnexcused p w i rule q → Breaks p w i rule q
-  breaks_of i rule q (inl e) c = subst (λ r. Breaks p w i r q) (sym e) (subst (λ r. ClashesUnexcused p w i r q) e c)
-  breaks_of i rule q (inr e) c = subst (λ r. Breaks p w i r q) (sym e) (subst (λ r. ClashesUnexcused p w i r q) e c)
+  breaks_of : (i : Place) (rule : Rule) (q : Resource) → (rule ≡ Raw) ⊎ (rule ≡ Waw) → ClashesUnexcused (over_program p) (is_stopped p.bundles) w i rule q → Breaks (over_program p) (is_stopped p.bundles) w i rule q
+  breaks_of i rule q (inl e) c = subst (λ r. Breaks (over_program p) (is_stopped p.bundles) w i r q) (sym e) (subst (λ r. ClashesUnexcused (over_program p) (is_stopped p.bundles) w i r q) e c)
+  breaks_of i rule q (inr e) c = subst (λ r. Breaks (over_program p) (is_stopped p.bundles) w i r q) (sym e) (subst (λ r. ClashesUnexcused (over_program p) (is_stopped p.bundles) w i r q) e c)
 
-  violates : (i : Place) (a b : Access) (rule : Rule) → Contains (earlier_in_group p w) i → Contains (accesses_at p i) a → HasAccess j b → a.resource ≡ b.resource → clash a b ≡ Some rule → (rule ≡ Raw) ⊎ (rule ≡ Waw)
-      → ¬ IsExcused p w i a.guard b.guard → ⊥
+  violates : (i : Place) (a b : Access) (rule : Rule) → Contains (earlier_in_group p w) i → Contains (accesses_at (over_program p) i) a → HasAccess j b → a.resource ≡ b.resource → clash a b ≡ Some rule → (rule ≡ Raw) ⊎ (rule ≡ Waw)
+      → ¬ IsExcused (over_program p) (is_stopped p.bundles) w i a.guard b.guard → ⊥
   violates i a b rule inside ha hb e c r stays =
       free (record { second = s.place; first = i; rule = rule; resource = a.resource })
       (record {
@@ -65,7 +47,7 @@ module _ (p : Program) (free : IsFree p) (s : State) (w : Walk) (known : IsKnown
             first = a;
             second = b;
             of_first = ha;
-            of_second = subst (λ q. Contains (accesses_at p q) b) (sym known.ends.ends) (has_here p s.place j b at hb);
+            of_second = subst (λ q. Contains (accesses_at (over_program p) q) b) (sym known.ends.ends) (has_here p s.place j b at hb);
             first_on = refl;
             second_on = sym e;
             clash = c;
@@ -75,7 +57,7 @@ module _ (p : Program) (free : IsFree p) (s : State) (w : Walk) (known : IsKnown
       })
 
   -- what is known is true, and what is known not to be written is not
-  unexcused : (past : List Place) (i : Place) (a b : Access) → ((k : Place) → Mem k past → Contains (earlier_in_group p w) k) → holds s.registers b.guard ≡ true → (holds s.registers a.guard ≡ true) ⊎ MayBeWrittenSince p past i a.guard → ¬ IsExcused p w i a.guard b.guard
+  unexcused : (past : List Place) (i : Place) (a b : Access) → ((k : Place) → Mem k past → Contains (earlier_in_group p w) k) → holds s.registers b.guard ≡ true → (holds s.registers a.guard ≡ true) ⊎ MayBeWrittenSince p past i a.guard → ¬ IsExcused (over_program p) (is_stopped p.bundles) w i a.guard b.guard
   unexcused past i a b inside on (inl h) x = let k = known.apart in k.apart a.guard b.guard x.known h on
   unexcused past i a b inside on (inr m) x = true≢false (sym m.writes ∙ x.unwritten m.place (inside m.place m.inside) m.since)
 

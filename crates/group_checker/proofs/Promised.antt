@@ -11,7 +11,8 @@ use Rattle.ia_meaning.specs.Landings.{are_both_one, breaks_relation}
 use Rattle.ia_meaning.proofs.PredicatePlaces.{holds_zero, holds_at_place, low_place}
 use Rattle.predicate_rel.specs.Pairs.{Pairs, no_pairs, other_of, is_same_pair, with_pair}
 use Rattle.predicate_rel.specs.Truth.{AreNeverBothOne}
-use Rattle.flow_facts.specs.Walks.{with_relations, known_first}
+use Rattle.flow_facts.specs.Graphs.{with_relations, known_at_entry}
+use Rattle.flow_facts.specs.Walks.{known_first}
 
 nothing_apart : (r : Registers) → AreNeverBothOne no_pairs r
 unfolding no_pairs
@@ -87,7 +88,7 @@ relations_apart f r (x ∷ rs) (static, later) none known =
 
 -- The predicates of no pair that an entry declares are both 1 where they break none of its relations, as in a start state.
 pub promised_apart : (p : Program) (r : Registers) (bundle : ℕ) → IsProgram p → breaks_relation p (take 16 r.predicates) bundle ≡ false → AreNeverBothOne (known_first p bundle) r
-unfolding known_first
+unfolding known_at_entry
 promised_apart p r bundle program none =
     relations_apart no_pairs r (relations_at p.relations bundle)
     (each_static bundle p.relations (λ n inside. let at = program.relations n inside in record { some = at.some; apart = at.apart; static = at.static }))

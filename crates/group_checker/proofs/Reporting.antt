@@ -1,5 +1,5 @@
 -- The report counts and begins to show the one rising list of all violations.
-use Rattle.std.proofs.Common.{◌≡◌, ℕ, zero, suc, ◌+◌, ◌-◌, ◌*◌, ◌<◌, ◌≤◌, ◌⊎◌, true, false, cond, eqb, eq-eqb, None, Some, List, [], ◌∷◌, ◌++◌, length, length-append, length-take, take, get_or, append_assoc, refl, sym, ap, ◌∙◌, subst, arith, inl, inr}
+use Rattle.std.proofs.Common.{◌≡◌, ℕ, zero, suc, ◌+◌, ◌-◌, ◌*◌, ◌<◌, ◌≤◌, ◌⊎◌, Bool, true, false, cond, eqb, eq-eqb, None, Some, List, [], ◌∷◌, ◌++◌, length, length-append, length-take, take, get_or, append_assoc, refl, sym, ap, ◌∙◌, subst, arith, inl, inr}
 use Rattle.std.specs.Prelude.{Contains, map}
 use Rattle.std.proofs.lemmas.List.{take_all, take_more}
 use Rattle.std.proofs.lemmas.Bool.{cases_eq, ne_eqb}
@@ -9,7 +9,7 @@ use Rattle.ia_insn.specs.declared.place.Place.{Place}
 use Rattle.ia_insn.specs.Places.{place_number, IsBefore, IsNext, IsPlaceOf}
 use Rattle.ia_insn.specs.Programs.{Program, IsProgram}
 use Rattle.ia_insn.proofs.InOrder.{bundle_small, slot_small}
-use Rattle.ia_meaning.specs.Sequence.{first_of, next_of}
+use Rattle.ia_meaning.specs.Sequence.{first_of, next_of, is_stopped}
 use Rattle.ia_meaning.proofs.Follows.{next_is}
 use Rattle.ia_meaning.proofs.Sequences.{next_fits}
 use Rattle.resource_sets.specs.declared.access.Resource.{Resource}
@@ -18,13 +18,14 @@ use Rattle.resource_sets.specs.declared.sets.TheConstants.{RESOURCE_COUNT}
 use Rattle.resource_sets.specs.declared.clashes.Rule.{Rule}
 use Rattle.resource_sets.specs.declared.clashes.Rule.TheVariants.{Raw, Waw, War63, AllocFirst, ClearLast}
 use Rattle.resource_sets.specs.ResourceSets.{resources_in}
+use Rattle.flow_facts.specs.Graphs.{Graph, over_program}
 use Rattle.group_checker.specs.declared.violation.Violation.{Violation}
 use Rattle.group_checker.specs.declared.window.EarlierSlot.{EarlierSlot}
 use Rattle.group_checker.specs.declared.report.TheConstants.{SHOWN_LIMIT}
 use Rattle.group_checker.specs.declared.report.Verdict.TheVariants.{Accepted, Violations}
 use Rattle.group_checker.specs.Order.{Precedes, IsListOf}
 use Rattle.group_checker.specs.Shown.{Report}
-use Rattle.group_checker.specs.Violations.{Violates}
+use Rattle.group_checker.specs.Violations.{ViolatesIn, Violates}
 use Rattle.group_checker.specs.Reports.{Shows, IsVerdict}
 use Rattle.group_checker.specs.Windows.{IsWindow, IsAt}
 use Rattle.group_checker.specs.Findings.{IsPair, IsNthPair, AreBroken}
@@ -34,7 +35,7 @@ use Rattle.group_checker.specs.Progress.{HasReported, IsEarlier, IsEarlierPair, 
 use Rattle.group_checker.proofs.Members.{not_in_none}
 use Rattle.group_checker.proofs.EarlierSlots.{at_once}
 use Rattle.group_checker.proofs.ListedViolations.{listed}
-use Rattle.group_checker.proofs.Falling.{before_trans, number_rises, place_cases, comes_from}
+use Rattle.group_checker.proofs.Falling.{before_trans, number_rises, place_cases, next_after, comes_from}
 use Rattle.group_checker.proofs.Rising.{precedes_by_second, precedes_by_first, rises_append, rises_none}
 
 -- what is cut is cut again
@@ -160,7 +161,7 @@ pub bounded : (p : Program) (r : Report) (P : Violation → Type 0) (bound more 
 bounded p r P bound more l u = retold p r P P bound more l (λ v x h. h) (λ v x h. h) u
 
 -- pairs with an earlier first slot come before
-pair_precedes : (p : Program) (es : List EarlierSlot) (j : Place) (n : ℕ) (v w : Violation) → IsWindow p es j → IsEarlierPair es j n v → IsNthPair es n j w → Precedes v w
+pair_precedes : (p : Program) (es : List EarlierSlot) (j : Place) (n : ℕ) (v w : Violation) → IsWindow (over_program p) (is_stopped p.bundles) es j → IsEarlierPair es j n v → IsNthPair es n j w → Precedes v w
 pair_precedes p es j n v w win (inl h) k = precedes_by_second v w (subst (IsBefore v.second) (sym k.pair.1) h)
 pair_precedes p es j n v w win (inr h) k =
     let has = h.1.has in
@@ -169,7 +170,7 @@ pair_precedes p es j n v w win (inr h) k =
     (subst (λ (q : Place). IsBefore q w.first) has.is (subst (IsBefore has.slot.place) (sym k.pair.0) up))
 
 -- the violations of one more pair of slots
-pub pair_reported : (p : Program) (old new : Report) (es : List EarlierSlot) (j : Place) (n bound : ℕ) (found : List Violation) → IsWindow p es j → HasReported p old (IsEarlierPair es j n) bound → IsListOf (λ v. IsNthPair es n j v × Violates p v) found → length found ≤ pair_bound → new.total ≡ old.total + length found → new.shown ≡ take SHOWN_LIMIT (old.shown ++ found) → HasReported p new (IsEarlierPair es j (n + 1)) (bound + pair_bound)
+pub pair_reported : (p : Program) (old new : Report) (es : List EarlierSlot) (j : Place) (n bound : ℕ) (found : List Violation) → IsWindow (over_program p) (is_stopped p.bundles) es j → HasReported p old (IsEarlierPair es j n) bound → IsListOf (λ v. IsNthPair es n j v × Violates p v) found → length found ≤ pair_bound → new.total ≡ old.total + length found → new.shown ≡ take SHOWN_LIMIT (old.shown ++ found) → HasReported p new (IsEarlierPair es j (n + 1)) (bound + pair_bound)
 pair_reported p old new es j n bound found win r list few total shown = record {
   all = r.all ++ found;
   list = list_append (λ v. Violates p v × IsEarlierPair es j n v) (λ v. IsNthPair es n j v × Violates p v) (λ v. Violates p v × IsEarlierPair es j (n + 1) v) r.all found
@@ -197,9 +198,9 @@ pair_reported p old new es j n bound found win r list few total shown = record {
     ]
 
 -- those of one pair of slots, told by what is broken
-pub pair_listed : (p : Program) (es : List EarlierSlot) (j : Place) (n : ℕ) (e : EarlierSlot) (b : Broken) → IsAt es n e → AreBroken p es n j b → IsListOf (λ v. IsNthPair es n j v × Violates p v) (violations_of e.place j b)
-pair_listed p es j n e b at all =
-    list_like (λ v. IsPair e.place j v × (is_broken b v ≡ true)) (λ v. IsNthPair es n j v × Violates p v) (violations_of e.place j b)
+pub pair_listed : (g : Graph) (has_stop : Place → Bool) (es : List EarlierSlot) (j : Place) (n : ℕ) (e : EarlierSlot) (b : Broken) → IsAt es n e → AreBroken g has_stop es n j b → IsListOf (λ v. IsNthPair es n j v × ViolatesIn g has_stop v) (violations_of e.place j b)
+pair_listed g has_stop es j n e b at all =
+    list_like (λ v. IsPair e.place j v × (is_broken b v ≡ true)) (λ v. IsNthPair es n j v × ViolatesIn g has_stop v) (violations_of e.place j b)
     (λ v h. (nth v h.0, all.only v (nth v h.0) h.1))
     (λ v h. (subst (λ (q : EarlierSlot). IsPair q.place j v) (at_once es n h.0.slot e h.0.at at) h.0.pair, all.has v h.0 h.1))
     (listed e.place j b)
@@ -231,7 +232,7 @@ none_of_second p r es j bound u = retold p r (IsEarlier j) (IsEarlierPair es j 0
     of v (inr h) = absurd (omega (arith, h.1.below))
 
 -- and past the last
-pub second_reported : (p : Program) (r : Report) (es : List EarlierSlot) (j : Place) (bound : ℕ) → IsWindow p es j → HasReported p r (IsEarlierPair es j (length es)) bound → HasReported p r (IsUpTo j) bound
+pub second_reported : (p : Program) (r : Report) (es : List EarlierSlot) (j : Place) (bound : ℕ) → IsWindow (over_program p) (is_stopped p.bundles) es j → HasReported p r (IsEarlierPair es j (length es)) bound → HasReported p r (IsUpTo j) bound
 second_reported p r es j bound win u = retold p r (IsEarlierPair es j (length es)) (IsUpTo j) bound bound (omega arith) (λ v x h. less v h) more u
   where
     less : (v : Violation) → IsEarlierPair es j (length es) v → IsUpTo j v
@@ -247,7 +248,7 @@ second_reported p r es j bound win u = retold p r (IsEarlierPair es j (length es
 -- the second slot of a violation is a place
 second_is_place : (p : Program) (v : Violation) → Violates p v → IsPlaceOf p.bundles v.second
 second_is_place p v x =
-    let from = comes_from p x.walk v.first x.there.walks x.inside in
+    let from = comes_from (over_program p) (is_stopped p.bundles) x.walk v.first x.there.walks x.inside in
     subst (IsPlaceOf p.bundles) x.there.ends from.edge.lands
 
 -- the places of a program have small numbers
@@ -257,13 +258,9 @@ number_small p j program is =
     let bundle = bundle_small p.bundles j is in
     omega (arith, program.counts.bundles)
 
--- the next place is a place
-pub next_place : (p : Program) (j next : Place) → next_of p.bundles j ≡ Some next → IsPlaceOf p.bundles next
-next_place p j next follows = let n = next_is p.bundles j next follows in n.is
-
--- and has a higher number
+-- the next place has a higher number
 pub number_next : (p : Program) (j next : Place) → IsPlaceOf p.bundles j → next_of p.bundles j ≡ Some next → place_number j < place_number next
-number_next p j next is follows = let n = next_is p.bundles j next follows in number_rises j next (slot_small p.bundles j is) n.after
+number_next p j next is follows = number_rises j next (slot_small p.bundles j is) (next_after (over_program p) j next follows)
 
 -- what comes before the next place is what came up to this one
 pub next_reported : (p : Program) (r : Report) (j next : Place) (bound more : ℕ) → next_of p.bundles j ≡ Some next → bound ≤ more → HasReported p r (IsUpTo j) bound → HasReported p r (IsEarlier next) more

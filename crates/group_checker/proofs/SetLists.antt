@@ -23,7 +23,8 @@ pub each_of : {X : Type 0} (P : X → Type 0) (xs : List X) → ((x : X) → Con
 each_of P [] h = tt
 each_of P (x ∷ xs) h = (h x (head_in x xs), each_of P xs (λ y c. h y (in_tail x y xs c)))
 
-in_each : {X : Type 0} (P : X → Type 0) (xs : List X) (x : X) → Each P xs → Contains xs x → P x
+-- what holds of each element holds of this one
+pub in_each : {X : Type 0} (P : X → Type 0) (xs : List X) (x : X) → Each P xs → Contains xs x → P x
 in_each P [] x h c = absurd (not_in_none x c)
 in_each P (y ∷ ys) x h c = elim (cases_in y x ys c) [ inl e ↦ subst P e h.0 | inr d ↦ in_each P ys x h.1 d ]
 

@@ -1,7 +1,6 @@
 -- What is found of two slots of one group by their accesses and by what is known of them.
 use Rattle.std.specs.Prelude.{◌≡◌, ℕ, Bool, true, false, not, ◌&&◌, ◌⊎◌, List, Contains, Some}
 use Rattle.ia_insn.specs.declared.place.Place.{Place}
-use Rattle.ia_insn.specs.Programs.{Program}
 use Rattle.ia_meaning.specs.Actions.{is_alloc}
 use Rattle.resource_sets.specs.declared.access.Resource.TheVariants.{Cfm}
 use Rattle.resource_sets.specs.declared.clashes.Rule.{Rule}
@@ -14,8 +13,10 @@ use Rattle.slot_table.specs.declared.slot.Slot.{Slot}
 use Rattle.group_checker.specs.declared.violation.Violation.{Violation}
 use Rattle.group_checker.specs.declared.window.EarlierSlot.{EarlierSlot}
 use Rattle.group_checker.specs.declared.broken.Broken.{Broken}
-use Rattle.group_checker.specs.Violations.{Violates}
+use Rattle.flow_facts.specs.Graphs.{Graph}
+use Rattle.group_checker.specs.Violations.{ViolatesIn}
 use Rattle.group_checker.specs.Broken.{is_broken}
+use Rattle.group_checker.specs.Order.{Precedes}
 use Rattle.group_checker.specs.Windows.{IsAt}
 
 -- Each walk through the first slot excuses accesses under these guards.
@@ -55,10 +56,20 @@ pub record IsNthPair (window : List EarlierSlot) (n : ℕ) (second : Place) (v :
   pub at : IsAt window n slot
   pub pair : IsPair slot.place second v
 
+-- The n-th slot of the window and this second one break a rule on some walk.
+abbrev pub IsPairViolated : Graph → (Place → Bool) → List EarlierSlot → ℕ → Place → Type 0
+IsPairViolated g has_stop window n second = (v : Violation) × IsNthPair window n second v × ViolatesIn g has_stop v
+
+-- The first violation of the two.
+pub record IsFirstOfPair (g : Graph) (has_stop : Place → Bool) (window : List EarlierSlot) (n : ℕ) (second : Place) (v : Violation) : Type 0 where
+  pub pair : IsNthPair window n second v
+  pub violates : ViolatesIn g has_stop v
+  pub first : (w : Violation) → IsNthPair window n second w → ViolatesIn g has_stop w → (v ≡ w) ⊎ Precedes v w
+
 -- What is broken is what the n-th slot of the window and this second one violate.
-pub record AreBroken (p : Program) (window : List EarlierSlot) (n : ℕ) (second : Place) (b : Broken) : Type 0 where
-  pub has : (v : Violation) → IsNthPair window n second v → Violates p v → is_broken b v ≡ true
-  pub only : (v : Violation) → IsNthPair window n second v → is_broken b v ≡ true → Violates p v
+pub record AreBroken (g : Graph) (has_stop : Place → Bool) (window : List EarlierSlot) (n : ℕ) (second : Place) (b : Broken) : Type 0 where
+  pub has : (v : Violation) → IsNthPair window n second v → ViolatesIn g has_stop v → is_broken b v ≡ true
+  pub only : (v : Violation) → IsNthPair window n second v → is_broken b v ≡ true → ViolatesIn g has_stop v
 
 -- An `alloc` comes just after another slot of its group.
 pub record IsAllocRule (slot : Slot) (v : Violation) : Type 0 where

@@ -11,3 +11,5 @@ pub mod Traces
 pub mod Agreement
 pub mod OrderLaws
 pub mod OrderExamples
+pub mod Firsts
+pub mod WindowLaws

@@ -3,35 +3,36 @@
 use Rattle.std.specs.Prelude.{◌≡◌, Bool, true, false, Option, None, Some, Contains}
 use Rattle.ia_insn.specs.declared.insn.Insn.{Insn}
 use Rattle.ia_insn.specs.declared.place.Place.{Place}
-use Rattle.ia_insn.specs.Places.{insn_at}
 use Rattle.ia_insn.specs.Programs.{Program}
 use Rattle.ia_meaning.specs.declared.form.Form.{Form}
 use Rattle.ia_meaning.specs.declared.form.Form.TheVariants.{ClearBases}
 use Rattle.ia_meaning.specs.Actions.{insn_form, allocates}
+use Rattle.ia_meaning.specs.Sequence.{is_stopped}
 use Rattle.resource_sets.specs.declared.access.Resource.{Resource}
 use Rattle.resource_sets.specs.declared.access.Resource.TheVariants.{Cfm}
 use Rattle.resource_sets.specs.declared.access.Access.{Access}
 use Rattle.resource_sets.specs.declared.clashes.Rule.{Rule}
 use Rattle.resource_sets.specs.declared.clashes.Rule.TheVariants.{Raw, Waw, War63, AllocFirst, ClearLast}
 use Rattle.resource_sets.specs.Clashes.{clash}
-use Rattle.flow_facts.specs.Walks.{Walk, EndsAt, end_of, earlier_in_group}
+use Rattle.flow_facts.specs.Graphs.{Graph, over_program, insn_in}
+use Rattle.flow_facts.specs.Walks.{Walk, EndsIn, end_of, group_since}
 use Rattle.group_checker.specs.declared.violation.Violation.{Violation}
 use Rattle.group_checker.specs.Excuses.{accesses_at, IsExcused, IsLatest}
 
 -- An access of slot i and one of a later slot j of its group, both of one resource, clash by the rule.
-pub record Clashes (p : Program) (i j : Place) (rule : Rule) (q : Resource) : Type 0 where
+pub record Clashes (g : Graph) (i j : Place) (rule : Rule) (q : Resource) : Type 0 where
   pub first : Access
   pub second : Access
-  pub of_first : Contains (accesses_at p i) first
-  pub of_second : Contains (accesses_at p j) second
+  pub of_first : Contains (accesses_at g i) first
+  pub of_second : Contains (accesses_at g j) second
   pub first_on : first.resource ≡ q
   pub second_on : second.resource ≡ q
   pub clash : clash first second ≡ Some rule
 
 -- So they do with the walk's last slot, and are not excused on the walk.
-pub record ClashesUnexcused (p : Program) (w : Walk) (i : Place) (rule : Rule) (q : Resource) : Type 0 where
-  pub clashes : Clashes p i (end_of w) rule q
-  pub stays : ¬ IsExcused p w i clashes.first.guard clashes.second.guard
+pub record ClashesUnexcused (g : Graph) (has_stop : Place → Bool) (w : Walk) (i : Place) (rule : Rule) (q : Resource) : Type 0 where
+  pub clashes : Clashes g i (end_of w) rule q
+  pub stays : ¬ IsExcused g has_stop w i clashes.first.guard clashes.second.guard
 
 -- `clrrrb` and `clrrrb.pr`
 abbrev pub clears : Form → Bool
@@ -43,26 +44,31 @@ clears_in None = false
 clears_in (Some insn) = clears (insn_form insn)
 
 -- the place holds an `alloc`
-unfoldable pub allocates_at : Program → Place → Bool
-allocates_at p place = allocates (insn_at p.bundles place)
+unfoldable pub allocates_at : Graph → Place → Bool
+allocates_at g place = allocates (insn_in g place)
 
 -- the place holds a `clrrrb` or `clrrrb.pr`
-unfoldable pub clears_at : Program → Place → Bool
-clears_at p place = clears_in (insn_at p.bundles place)
+unfoldable pub clears_at : Graph → Place → Bool
+clears_at g place = clears_in (insn_in g place)
 
 -- Slot i, of the walk's group, and the walk's last slot break the rule. Only reads and writes after writes may be excused.
 -- An `alloc` may have no slot before it in its group, and a `clrrrb` none after it; of `alloc` only the slot just before it,
 -- and of `clrrrb` only the slot just after it, makes the pair that is reported.
-abbrev pub Breaks : Program → Walk → Place → Rule → Resource → Type 0
-Breaks p w i Raw q = ClashesUnexcused p w i Raw q
-Breaks p w i Waw q = ClashesUnexcused p w i Waw q
-Breaks p w i War63 q = Clashes p i (end_of w) War63 q
-Breaks p w i AllocFirst q = (allocates_at p (end_of w) ≡ true) × IsLatest (earlier_in_group p w) i × (q ≡ Cfm)
-Breaks p w i ClearLast q = (clears_at p i ≡ true) × IsLatest (earlier_in_group p w) i × (q ≡ Cfm)
+abbrev pub Breaks : Graph → (Place → Bool) → Walk → Place → Rule → Resource → Type 0
+Breaks g has_stop w i Raw q = ClashesUnexcused g has_stop w i Raw q
+Breaks g has_stop w i Waw q = ClashesUnexcused g has_stop w i Waw q
+Breaks g has_stop w i War63 q = Clashes g i (end_of w) War63 q
+Breaks g has_stop w i AllocFirst q = (allocates_at g (end_of w) ≡ true) × IsLatest (group_since has_stop w) i × (q ≡ Cfm)
+Breaks g has_stop w i ClearLast q = (clears_at g i ≡ true) × IsLatest (group_since has_stop w) i × (q ≡ Cfm)
 
--- On some walk to the second slot, with the first earlier in its group, the two break the rule.
-pub record Violates (p : Program) (v : Violation) : Type 0 where
+-- On some walk to the second slot, with the first earlier in its group, the two break the rule. A stop follows the places
+-- that have one.
+pub record ViolatesIn (g : Graph) (has_stop : Place → Bool) (v : Violation) : Type 0 where
   pub walk : Walk
-  pub there : EndsAt p v.second walk
-  pub inside : Contains (earlier_in_group p walk) v.first
-  pub breaks : Breaks p walk v.first v.rule v.resource
+  pub there : EndsIn g v.second walk
+  pub inside : Contains (group_since has_stop walk) v.first
+  pub breaks : Breaks g has_stop walk v.first v.rule v.resource
+
+-- So they do in a program with its stops.
+abbrev pub Violates : Program → Violation → Type 0
+Violates p v = ViolatesIn (over_program p) (is_stopped p.bundles) v

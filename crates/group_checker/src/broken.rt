@@ -1,11 +1,14 @@
 //! What two slots of one group break, as sets of resources.
 
-ghost use Rattle.std.specs.Prelude.{◌≡◌, true, false};
+ghost use Rattle.std.specs.Prelude.{◌≡◌, true, false, slice_get};
+ghost use Rattle.std.specs.Bool.{OnTrue, OnFalse};
 ghost use Rattle.resource_sets.specs.declared.access.Resource.TheVariants as resource;
 ghost use Rattle.resource_sets.specs.ResourceSets.{has_resource};
 ghost use Rattle.group_checker.specs.declared.violation.Violation.{Violation};
-ghost use Rattle.group_checker.specs.Broken.{is_broken, Gains};
+ghost use Rattle.group_checker.specs.Broken.{is_broken, violations_by, violations_of, Gains};
 
+use crate::violation::Violation;
+use ia_insn::Place;
 use resource_sets::{Resource, ResourceSet, Rule};
 
 /// Of each rule the resources on which two slots break it.
@@ -21,6 +24,23 @@ pub(crate) struct Broken {
     pub alloc_first: ResourceSet,
     /// A `clrrrb` isn't last.
     pub clear_last: ResourceSet,
+}
+
+/// The violation by two slots of a rule on the first resource of a set. None where the set is empty.
+fn first_by(first: Place, second: Place, rule: Rule, resources: &ResourceSet) -> Option<Violation>
+    ensures { result ≡ slice_get (violations_by first second rule resources.now) 0 }
+{
+    if resources.len() == 0 {
+        return None;
+    }
+    let found = resources.resources();
+    let resource = *found.as_slice().first()?;
+    Some(Violation {
+        second,
+        first,
+        rule,
+        resource,
+    })
 }
 
 impl Broken {
@@ -59,5 +79,29 @@ impl Broken {
             frame.insert(Resource::Cfm);
             self.add(rule, &frame);
         }
+    }
+
+    /// Whether no rule is broken.
+    pub fn is_nothing(&self) -> bool
+        ensures nothing { OnTrue result ((v : Violation) → is_broken self.now v ≡ false) }
+        ensures something { OnFalse result ((v : Violation) × (is_broken self.now v ≡ true)) }
+    {
+        let found = self.raw.len()
+            + self.waw.len()
+            + self.war63.len()
+            + self.alloc_first.len()
+            + self.clear_last.len();
+        found == 0
+    }
+
+    /// The first of the violations that this is of two slots. None where no rule is broken.
+    pub fn first(&self, first: Place, second: Place) -> Option<Violation>
+        ensures { result ≡ slice_get (violations_of first second self.now) 0 }
+    {
+        first_by(first, second, Rule::Raw, &self.raw)
+            .or(first_by(first, second, Rule::Waw, &self.waw))
+            .or(first_by(first, second, Rule::War63, &self.war63))
+            .or(first_by(first, second, Rule::AllocFirst, &self.alloc_first))
+            .or(first_by(first, second, Rule::ClearLast, &self.clear_last))
     }
 }

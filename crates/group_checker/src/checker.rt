@@ -4,14 +4,15 @@ ghost use Rattle.std.specs.Prelude.{◌≡◌, ℕ, ◌+◌, ◌*◌, ◌^◌, �
 ghost use Rattle.ia_insn.specs.Places.{place_number};
 ghost use Rattle.ia_insn.specs.Programs.{Program, IsProgram};
 ghost use Rattle.ia_meaning.specs.OrderIndependence.{IsRobust};
+ghost use Rattle.ia_meaning.specs.Sequence.{is_stopped};
+ghost use Rattle.flow_facts.specs.Graphs.{over_program};
 ghost use Rattle.group_checker.specs.Reports.{IsVerdict, OneVerdict};
 ghost use Rattle.group_checker.specs.Windows.{IsUnderWay};
 ghost use Rattle.group_checker.specs.Progress.{HasReported, IsEarlier, IsEarlierPair, IsUpTo, pair_bound, place_bound, second_bound};
 
-use crate::moves::move_on;
 use crate::pairs::{are_apart, pair_broken};
 use crate::report::{Report, SHOWN_LIMIT, Verdict};
-use crate::window::EarlierSlot;
+use crate::window::{EarlierSlot, Window};
 use flow_facts::solve;
 use ia_insn::{Place, Program};
 use resource_sets::{Masks, masks_of};
@@ -37,7 +38,7 @@ fn check_pair(
     requires shown { length report.old.shown ≤ SHOWN_LIMIT }
     ensures total { OnOk result (report.new.total ≤ report.old.total + pair_bound) }
     ensures shown { OnOk result (length report.new.shown ≤ SHOWN_LIMIT) }
-    ensures reports { OnOk result ((p : Program) (bound : ℕ) → IsUnderWay p window.now second slot.now seconds.now → HasReported p report.old (IsEarlierPair window.now second n) bound → HasReported p report.new (IsEarlierPair window.now second (n + 1)) (bound + pair_bound)) }
+    ensures reports { OnOk result ((p : Program) (bound : ℕ) → IsUnderWay (over_program p) (is_stopped p.bundles) window.now second slot.now seconds.now → HasReported p report.old (IsEarlierPair window.now second n) bound → HasReported p report.new (IsEarlierPair window.now second (n + 1)) (bound + pair_bound)) }
 {
     if are_apart(window, n, slot, seconds) {
         return Ok(());
@@ -64,7 +65,7 @@ fn check_second(
     requires window { length window.now ≤ place_number second }
     requires total { report.old.total ≤ second_bound * place_number second }
     requires shown { length report.old.shown ≤ SHOWN_LIMIT }
-    ensures { OnOk result ((p : Program) → IsUnderWay p window.now second slot.now seconds.now → HasReported p report.old (IsEarlier second) (second_bound * place_number second) → HasReported p report.new (IsUpTo second) (second_bound * place_number second + pair_bound * length window.now)) }
+    ensures { OnOk result ((p : Program) → IsUnderWay (over_program p) (is_stopped p.bundles) window.now second slot.now seconds.now → HasReported p report.old (IsEarlier second) (second_bound * place_number second) → HasReported p report.new (IsUpTo second) (second_bound * place_number second + pair_bound * length window.now)) }
 {
     for n in 0..window.len() {
         check_pair(window, n, second, slot, seconds, report)?;
@@ -84,15 +85,15 @@ fn check_slots(alloc: Global, table: &SlotTable) -> Result<Verdict, AllocError>
 {
     let facts = solve(alloc, table)?;
     let mut report = Report::empty(alloc);
-    let mut window = Vec::new(alloc);
+    let mut window = Window::new(alloc);
     let mut second = Place::FIRST;
     'slots: loop {
         let Some(slot) = table.at(second) else {
             unreachable!();
         };
         let seconds = masks_of(slot.qp, &slot.form);
-        check_second(&window, second, slot, &seconds, &mut report)?;
-        move_on(&facts, &mut window, second, slot, seconds)?;
+        check_second(window.earlier_slots(), second, slot, &seconds, &mut report)?;
+        window.move_on(facts.at(second), second, slot, seconds)?;
         let Some(after) = slot.next else {
             return Ok(report.verdict());
         };

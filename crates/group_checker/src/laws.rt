@@ -1,7 +1,8 @@
-//! The laws of groups: the order of violations, the walk of a run, what slots see, and the order of writes. They do
-//! nothing.
+//! The laws of groups: the order of violations, windows, the walk of a run, what slots see, and the order of writes.
+//! They do nothing.
 
 ghost use Rattle.group_checker.specs.Order.{PlacesInOrder, RulesInOrder, ResourcesInOrder, NumbersInOrder};
+ghost use Rattle.group_checker.specs.WindowLaws.{FirstWindow, PartedWindow, SlotsDescribe, FallsRise, GroupsRise, GroupsAgree, ViolationsAgree, WindowsAgree};
 ghost use Rattle.group_checker.specs.Traces.{KnownOnRuns, StepsKnown, WalksGroup, RunIsTraced, RunsKeepState, RunsAreKnown, SolutionIsTrue};
 ghost use Rattle.group_checker.specs.Agreement.{ViewsAgree, OthersSeeTheStart, AllSeeTheStart};
 ghost use Rattle.group_checker.specs.OrderLaws.{OrdersLeaveTheSame, OrdersChangeFramesTheSame, GroupIsOrdered, NextGroupIsOrdered, FreeIsRobust};
@@ -14,6 +15,22 @@ pub fn violations_in_order()
     ensures rules { RulesInOrder }
     ensures resources { ResourcesInOrder }
     ensures numbers { NumbersInOrder }
+{}
+
+/// The window of a first place is empty, and so is that of a place that a stop comes before. A slot of a program
+/// describes what stands at its place.
+///
+/// A fall leads to a later place, so the earlier slots of a group come before the walk's end, and groups, violations and
+/// windows only look at the stops of places that come before.
+pub fn law_windows()
+    ensures first { FirstWindow }
+    ensures parted { PartedWindow }
+    ensures slots { SlotsDescribe }
+    ensures falls { FallsRise }
+    ensures rises { GroupsRise }
+    ensures groups { GroupsAgree }
+    ensures violations { ViolationsAgree }
+    ensures windows { WindowsAgree }
 {}
 
 /// Along each sequential run from a start state, the slots since the start, or since an indirect branch

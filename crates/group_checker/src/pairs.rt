@@ -1,20 +1,21 @@
 //! What two slots of one group break.
 
-ghost use Rattle.std.specs.Prelude.{◌≡◌, ◌<◌, true, false, length, ◌&&◌};
+ghost use Rattle.std.specs.Prelude.{◌≡◌, ◌<◌, ◌↔◌, Bool, true, false, IsTrue, length, ◌&&◌, MatchOption};
 ghost use Rattle.ia_insn.specs.declared.place.Place.{Place};
-ghost use Rattle.ia_insn.specs.Programs.{Program};
 ghost use Rattle.ia_meaning.specs.Actions.{is_alloc};
 ghost use Rattle.predicate_rel.specs.Pairs.{has_bit};
 ghost use Rattle.slot_table.specs.declared.slot.Slot.{Slot};
+ghost use Rattle.flow_facts.specs.Graphs.{Graph};
 ghost use Rattle.group_checker.specs.declared.violation.Violation.{Violation};
-ghost use Rattle.group_checker.specs.Violations.{Violates};
+ghost use Rattle.group_checker.specs.Violations.{ViolatesIn};
 ghost use Rattle.group_checker.specs.Windows.{IsUnderWay};
 ghost use Rattle.group_checker.specs.Broken.{Gains};
-ghost use Rattle.group_checker.specs.Findings.{IsNthPair, AreBroken, may_be_excused, excused_by, FindsBy, FindsWith, FindsIn, IsSlotRule};
+ghost use Rattle.group_checker.specs.Findings.{IsNthPair, IsPairViolated, IsFirstOfPair, AreBroken, may_be_excused, excused_by, FindsBy, FindsWith, FindsIn, IsSlotRule};
 
 use crate::broken::Broken;
+use crate::violation::Violation;
 use crate::window::EarlierSlot;
-use ia_insn::Pr;
+use ia_insn::{Place, Pr};
 use ia_meaning::Form;
 use resource_sets::{AccessSet, Masks, Rule, clash_of, may_clash};
 use slot_table::Slot;
@@ -101,7 +102,7 @@ fn may_break_slot_rule(first: &EarlierSlot, slot: &Slot) -> bool
 /// broken where this comes just after it: the two break no rule.
 pub(crate) fn are_apart(window: &[EarlierSlot], n: usize, slot: &Slot, seconds: &Masks) -> bool
     requires inside { n < length window.now }
-    ensures { result ≡ true → (p : Program) (j : Place) (v : Violation) → IsUnderWay p window.now j slot.now seconds.now → IsNthPair window.now n j v → ¬ Violates p v }
+    ensures { result ≡ true → (g : Graph) (has_stop : Place → Bool) (j : Place) (v : Violation) → IsUnderWay g has_stop window.now j slot.now seconds.now → IsNthPair window.now n j v → ¬ ViolatesIn g has_stop v }
 {
     let first = &window[n];
     if may_clash(&first.masks, seconds) {
@@ -114,7 +115,7 @@ pub(crate) fn are_apart(window: &[EarlierSlot], n: usize, slot: &Slot, seconds: 
 /// under way.
 pub(crate) fn pair_broken(window: &[EarlierSlot], n: usize, slot: &Slot, seconds: &Masks) -> Broken
     requires inside { n < length window.now }
-    ensures { (p : Program) (second : Place) → IsUnderWay p window.now second slot.now seconds.now → AreBroken p window.now n second result }
+    ensures { (g : Graph) (has_stop : Place → Bool) (second : Place) → IsUnderWay g has_stop window.now second slot.now seconds.now → AreBroken g has_stop window.now n second result }
 {
     let mut broken = Broken::nothing();
     let first = &window[n];
@@ -126,4 +127,34 @@ pub(crate) fn pair_broken(window: &[EarlierSlot], n: usize, slot: &Slot, seconds
     }
     slot_rules(first, slot, &mut broken);
     broken
+}
+
+/// Whether the n-th slot of the window and the slot under way break a rule on some walk. `seconds` has the accesses of
+/// the slot under way.
+pub(crate) fn breaks_rule(window: &[EarlierSlot], n: usize, slot: &Slot, seconds: &Masks) -> bool
+    requires inside { n < length window.now }
+    ensures { (g : Graph) (has_stop : Place → Bool) (j : Place) → IsUnderWay g has_stop window.now j slot.now seconds.now → IsTrue result ↔ IsPairViolated g has_stop window.now n j }
+{
+    if are_apart(window, n, slot, seconds) {
+        return false;
+    }
+    !pair_broken(window, n, slot, seconds).is_nothing()
+}
+
+/// The first violation of the n-th slot of the window and the slot under way, which stands at the place `second`. None
+/// exactly where the two break no rule. `seconds` has the accesses of the slot under way.
+pub(crate) fn first_of_pair(
+    window: &[EarlierSlot],
+    n: usize,
+    second: Place,
+    slot: &Slot,
+    seconds: &Masks,
+) -> Option<Violation>
+    requires inside { n < length window.now }
+    ensures { (g : Graph) (has_stop : Place → Bool) → IsUnderWay g has_stop window.now second slot.now seconds.now → MatchOption result (¬ IsPairViolated g has_stop window.now n second) (λ v. IsFirstOfPair g has_stop window.now n second v) }
+{
+    if are_apart(window, n, slot, seconds) {
+        return None;
+    }
+    pair_broken(window, n, slot, seconds).first(window[n].place, second)
 }

@@ -1,8 +1,21 @@
 //! What is known, at the slot under way, of the earlier slots of its group.
 
+ghost use Rattle.std.specs.Prelude.{◌≡◌, ◌↔◌, Bool, List, [], Some, IsTrue, MatchOption, OnOk};
+ghost use Rattle.std.specs.Option.{option_copied};
+ghost use Rattle.ia_insn.specs.declared.place.Place.{Place};
+ghost use Rattle.flow_facts.specs.Graphs.{Graph, next_in};
+ghost use Rattle.group_checker.specs.Firsts.{IsViolatedAt, IsFirstAt};
+ghost use Rattle.group_checker.specs.Windows.{IsWindow, IsUnderWay, IsKnownAt};
+
+use crate::moves::{advance, clears, joins};
+use crate::pairs::{breaks_rule, first_of_pair};
+use crate::violation::Violation;
 use ia_insn::Place;
-use predicate_rel::Facts;
+use predicate_rel::{Edge, Facts};
 use resource_sets::Masks;
+use slot_table::Slot;
+use std::alloc::{AllocError, Global};
+use std::marker::Model;
 
 /// A slot that is earlier in the group of the slot under way.
 #[derive(Drop)]
@@ -18,4 +31,110 @@ pub(crate) struct EarlierSlot {
     pub written: u64,
     /// What it accesses.
     pub masks: Masks,
+}
+
+/// The slots that are earlier in the group of the slot under way on some walk, in order, with what is known of them
+/// there (volume 1, chapter 3, instruction dependencies). The slots are those of a program or of a row of
+/// instructions, with the stops that the caller has in mind: the window knows neither. Contracts see the list of the
+/// slots.
+#[derive(Drop)]
+pub struct Window {
+    slots: Vec<EarlierSlot>,
+}
+
+impl Model for Window {
+    ghost use Rattle.std.specs.Prelude.{List};
+    ghost use Rattle.group_checker.specs.declared.window.EarlierSlot.{EarlierSlot};
+
+    ghost Value = { List EarlierSlot };
+
+    ghost view = { λ w. w.slots.items };
+}
+
+impl Window {
+    /// No slot is earlier: the window of a first place, and of one that a stop comes before
+    /// ([`law_windows`](crate::law_windows)).
+    pub fn new(alloc: Global) -> Window
+        ensures { result ≡ [] }
+    {
+        Window {
+            slots: Vec::new(alloc),
+        }
+    }
+
+    /// Forgets the slots: none is earlier.
+    pub fn clear(&mut self)
+        ensures { self.new ≡ [] }
+    {
+        self.slots.clear();
+    }
+
+    /// The slots.
+    pub(crate) fn earlier_slots(&self) -> &[EarlierSlot]
+        ensures { result.now ≡ self.now }
+    {
+        &self.slots
+    }
+
+    /// Whether a slot of the window and the slot under way break a rule on some walk. `masks` has the accesses of the
+    /// slot under way.
+    pub fn has_violation(&self, slot: &Slot, masks: &Masks) -> bool
+        ensures { (g : Graph) (has_stop : Place → Bool) (j : Place) → IsUnderWay g has_stop self.now j slot.now masks.now → IsTrue result ↔ IsViolatedAt g has_stop j }
+    {
+        for m in 0..self.slots.len() {
+            if breaks_rule(&self.slots, m, slot, masks) {
+                return true;
+            }
+        }
+        false
+    }
+
+    /// The first violation with the slot under way, which stands at the place `second`, in the order of violations.
+    /// `masks` has its accesses. None exactly where there is no violation.
+    pub fn first_violation(&self, second: Place, slot: &Slot, masks: &Masks) -> Option<Violation>
+        ensures { (g : Graph) (has_stop : Place → Bool) → IsUnderWay g has_stop self.now second slot.now masks.now → MatchOption result (¬ IsViolatedAt g has_stop second) (λ v. IsFirstAt g has_stop second v) }
+    {
+        for n in 0..self.slots.len() {
+            if let Some(found) = first_of_pair(&self.slots, n, second, slot, masks) {
+                return Some(found);
+            }
+        }
+        None
+    }
+
+    /// Takes the window from the slot under way, at `place`, to the next place: it has all slots that are then earlier
+    /// in the group on some walk. `here` is what is known before the slot on all walks that end there, and None where
+    /// none does; `masks` has the slot's accesses. Nothing else of the program or row is asked.
+    ///
+    /// # Errors
+    ///
+    /// Want of memory. What the window has then is not said.
+    pub fn move_on(
+        &mut self,
+        here: Option<&Facts>,
+        place: Place,
+        slot: &Slot,
+        masks: Masks,
+    ) -> Result<(), AllocError>
+        ensures { OnOk result ((g : Graph) (has_stop : Place → Bool) (next : Place) → IsKnownAt g place (option_copied here.entry) → IsUnderWay g has_stop self.old place slot.now masks → next_in g place ≡ Some next → IsWindow g has_stop self.new next) }
+    {
+        let Some(here) = here else {
+            self.slots.clear();
+            return Ok(());
+        };
+        if !joins(slot) {
+            self.slots.clear();
+            return Ok(());
+        }
+        let written = masks.written_predicates();
+        advance(&mut self.slots, slot, written);
+        self.slots.push(EarlierSlot {
+            place,
+            clears: clears(&slot.form),
+            known: here.after_form(&slot.form, slot.qp, Edge::Falls),
+            written,
+            masks,
+        })?;
+        Ok(())
+    }
 }

@@ -233,6 +233,7 @@ untouched P (Some l) other = (λ p. absurd (other p), λ loses. let e : l ≡ dr
 -- what a command answers to an input within the limit is never that it is too long
 not_too_long : (command : Command) (ws : List WatchState) (input bytes : List ℕ) → IsCommandOutput command ws input bytes TooLong → ⊥
 not_too_long command.Build ws input bytes o = o
+not_too_long command.Stops ws input bytes o = o
 not_too_long command.Show ws input bytes o = o
 not_too_long command.List ws input bytes o = o
 not_too_long command.Wrap ws input bytes o = o

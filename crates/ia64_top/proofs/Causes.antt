@@ -9,6 +9,7 @@ use Rattle.image_form.specs.declared.version.Version.TheVariants.{Two}
 use Rattle.image_form.specs.Laws.{NoFaultWhereSpelled, NoFaultWhereRaw}
 use Rattle.asm_build.specs.Listing.{IsListing}
 use Rattle.asm_build.specs.Laws.{NoFaultWhereRead}
+use Rattle.stop_placer.specs.Laws.{NoFaultWherePlaced}
 use Rattle.group_checker.specs.declared.report.Verdict.{Verdict}
 use Rattle.group_checker.specs.declared.report.Verdict.TheVariants.{Accepted, Violations}
 use Rattle.group_checker.specs.Reports.{IsVerdict}
@@ -18,7 +19,7 @@ use Rattle.ia_meaning.specs.Runs.{run_text}
 use Rattle.watch_seam.specs.Watchers.{WatchState}
 use Rattle.ia64_top.specs.declared.limits.TheConstants.{INPUT_LIMIT}
 use Rattle.ia64_top.specs.declared.words.Command.{Command}
-use Rattle.ia64_top.specs.declared.words.Command.TheVariants.{Build, Show, List as Listing, Wrap, Lift, Check, Run, Watch, Groups, Trial}
+use Rattle.ia64_top.specs.declared.words.Command.TheVariants.{Build, Stops, Show, List as Listing, Wrap, Lift, Check, Run, Watch, Groups, Trial}
 use Rattle.ia64_top.specs.declared.status.Status.{Status}
 use Rattle.ia64_top.specs.declared.status.Status.TheVariants.{Done, Violated, Refused, NoMemory, Limit, Faulted}
 use Rattle.ia64_top.specs.Words.{command_of, IsTrial}
@@ -28,9 +29,9 @@ use Rattle.ia64_top.specs.Texts.{verdict_text}
 use Rattle.ia64_top.specs.Judgements.{verdict_status, IsJudgement, PrintsClashes}
 use Rattle.ia64_top.specs.Runs.{watch_text}
 use Rattle.ia64_top.specs.Trials.{IsTrialOutput}
-use Rattle.ia64_top.specs.Readings.{Reading, as_image, as_bundles, as_text, as_either}
-use Rattle.ia64_top.specs.Output.{IsCanonical, IsMadeOutput, IsCheckedAs, IsRunAs, IsNumberedRunAs, IsCommandOutput, IsProgramOf, IsUnreadable, is_too_long, GivesClashes}
-use Rattle.ia64_top.proofs.Outputs.{GivesOne, RefusesNone, image_refuses_none, bundles_refuse_none, text_refuses_none, either_refuses_none}
+use Rattle.ia64_top.specs.Readings.{Reading, as_image, as_bundles, as_text, as_loose, as_either}
+use Rattle.ia64_top.specs.Output.{IsCanonical, IsPackedText, IsMadeOutput, IsCheckedAs, IsRunAs, IsNumberedRunAs, IsCommandOutput, IsProgramOf, IsUnreadable, is_too_long, GivesClashes}
+use Rattle.ia64_top.proofs.Outputs.{GivesOne, RefusesNone, image_refuses_none, bundles_refuse_none, text_refuses_none, loose_refuses_none, either_refuses_none}
 use Rattle.ia64_top.proofs.Answering.{same_command}
 
 -- What is answered to an input that is read in this way: something of its program, or its refusal.
@@ -79,17 +80,18 @@ of_trial seed bundles bytes Done o = tt
 of_trial seed bundles bytes Violated o = tt
 of_trial seed bundles bytes status o = absurd o
 
-cause : NoFaultWhereSpelled → NoFaultWhereRaw → NoFaultWhereRead → (c : Command) (ws : List WatchState) (input bytes : List ℕ) (status : Status) → IsCommandOutput c ws input bytes status → HasCause (λ p. IsProgramOf c input p) status
-cause spelled raw read Build ws input bytes status o = cause_of as_text (text_refuses_none read) input status (made_so as_text Written input bytes status o)
-cause spelled raw read Show ws input bytes status o = cause_of as_image (image_refuses_none spelled) input status (made_so as_image IsCanonical input bytes status o)
-cause spelled raw read Listing ws input bytes status o = cause_of as_image (image_refuses_none spelled) input status (made_so as_image IsListing input bytes status o)
-cause spelled raw read Wrap ws input bytes status o = cause_of as_bundles (bundles_refuse_none raw) input status (made_so as_bundles Written input bytes status o)
-cause spelled raw read Lift ws input bytes status o = cause_of as_image (image_refuses_none spelled) input status (made_so as_image (IsImage Two) input bytes status o)
-cause spelled raw read Check ws input bytes status o = cause_of as_either (either_refuses_none spelled read) input status (checked_so as_either input bytes status o)
-cause spelled raw read (Run groups) ws input bytes status o = cause_of as_either (either_refuses_none spelled read) input status (run_so run_text groups as_either input bytes status o)
-cause spelled raw read (Watch groups) ws input bytes status o = cause_of as_either (either_refuses_none spelled read) input status (run_so (watch_text ws) groups as_either input bytes status o)
-cause spelled raw read (Groups groups number) ws input bytes status o = cause_of as_either (either_refuses_none spelled read) input status (numbered_run_so groups number as_either input bytes status o)
-cause spelled raw read (Trial seed bundles) ws input bytes status o =
+cause : NoFaultWhereSpelled → NoFaultWhereRaw → NoFaultWhereRead → NoFaultWherePlaced → (c : Command) (ws : List WatchState) (input bytes : List ℕ) (status : Status) → IsCommandOutput c ws input bytes status → HasCause (λ p. IsProgramOf c input p) status
+cause spelled raw read placed Build ws input bytes status o = cause_of as_text (text_refuses_none read) input status (made_so as_text Written input bytes status o)
+cause spelled raw read placed Stops ws input bytes status o = cause_of as_loose (loose_refuses_none placed) input status (made_so as_loose (IsPackedText input) input bytes status o)
+cause spelled raw read placed Show ws input bytes status o = cause_of as_image (image_refuses_none spelled) input status (made_so as_image IsCanonical input bytes status o)
+cause spelled raw read placed Listing ws input bytes status o = cause_of as_image (image_refuses_none spelled) input status (made_so as_image IsListing input bytes status o)
+cause spelled raw read placed Wrap ws input bytes status o = cause_of as_bundles (bundles_refuse_none raw) input status (made_so as_bundles Written input bytes status o)
+cause spelled raw read placed Lift ws input bytes status o = cause_of as_image (image_refuses_none spelled) input status (made_so as_image (IsImage Two) input bytes status o)
+cause spelled raw read placed Check ws input bytes status o = cause_of as_either (either_refuses_none spelled read) input status (checked_so as_either input bytes status o)
+cause spelled raw read placed (Run groups) ws input bytes status o = cause_of as_either (either_refuses_none spelled read) input status (run_so run_text groups as_either input bytes status o)
+cause spelled raw read placed (Watch groups) ws input bytes status o = cause_of as_either (either_refuses_none spelled read) input status (run_so (watch_text ws) groups as_either input bytes status o)
+cause spelled raw read placed (Groups groups number) ws input bytes status o = cause_of as_either (either_refuses_none spelled read) input status (numbered_run_so groups number as_either input bytes status o)
+cause spelled raw read placed (Trial seed bundles) ws input bytes status o =
     let of = of_trial seed bundles bytes status o in
     record { refused = (λ e. absurd (subst TellsOfProgram e of), λ n. absurd (n (trial_program seed bundles) refl)); served = λ p g. of }
 
@@ -98,11 +100,11 @@ of_all : (c : Command) (input l : List ℕ) (status : Status) → IsReadOf c inp
 of_all (Trial seed bundles) input l status is h = h
 of_all c input l status is h = subst (λ i. HasCause (λ p. IsProgramOf c i p) status) is h
 
-pub cause_within : NoFaultWhereSpelled → NoFaultWhereRaw → NoFaultWhereRead → (words : List (List ℕ)) (c : Command) (ws : List WatchState) (left : Option (List ℕ)) (input bytes : List ℕ) (status : Status) → command_of words ≡ Some c → IfSome left (IsReadOf c input) → IsCommandOutput c ws input bytes status
+pub cause_within : NoFaultWhereSpelled → NoFaultWhereRaw → NoFaultWhereRead → NoFaultWherePlaced → (words : List (List ℕ)) (c : Command) (ws : List WatchState) (left : Option (List ℕ)) (input bytes : List ℕ) (status : Status) → command_of words ≡ Some c → IfSome left (IsReadOf c input) → IsCommandOutput c ws input bytes status
     → IfSome left (λ l. (d : Command) → command_of words ≡ Some d → HasCause (λ p. IsProgramOf d l p) status)
-cause_within spelled raw read words c ws None input bytes status e whole o = tt
-cause_within spelled raw read words c ws (Some l) input bytes status e whole o =
-    λ d f. subst (λ k. HasCause (λ p. IsProgramOf k l p) status) (same_command words c d e f) (of_all c input l status whole (cause spelled raw read c ws input bytes status o))
+cause_within spelled raw read placed words c ws None input bytes status e whole o = tt
+cause_within spelled raw read placed words c ws (Some l) input bytes status e whole o =
+    λ d f. subst (λ k. HasCause (λ p. IsProgramOf k l p) status) (same_command words c d e f) (of_all c input l status whole (cause spelled raw read placed c ws input bytes status o))
 
 pub refused_within : (words : List (List ℕ)) (left : Option (List ℕ)) (status : Status) → IfSome left (λ l. (d : Command) → command_of words ≡ Some d → HasCause (λ p. IsProgramOf d l p) status)
     → IfSome left (λ l. (d : Command) → command_of words ≡ Some d → is_too_long d l ≡ false → ((status ≡ Refused) ↔ IsUnreadable d l))

@@ -10,6 +10,8 @@ use Rattle.image_form.specs.declared.version.Version.TheVariants.{Two}
 use Rattle.image_form.specs.Laws.{OneProgram, OneImage, OneRawProgram, OneFault, OneRawFault, NoFaultWhereSpelled, NoFaultWhereRaw}
 use Rattle.asm_build.specs.CanonicalText.{slots_text}
 use Rattle.asm_build.specs.Laws.{OneTextProgram, OneTextFault, NoFaultWhereRead}
+use Rattle.stop_placer.specs.Packed.{Packed}
+use Rattle.stop_placer.specs.Laws.{OnePlaced, OnePlacingFault, NoFaultWherePlaced}
 use Rattle.asm_build.specs.Listing.{head_listed, IsBundleListing, AreBundleListings, IsListing}
 use Rattle.group_checker.specs.Reports.{OneVerdict}
 use Rattle.ia_meaning.specs.Steps.{Run as WholeRun}
@@ -21,13 +23,13 @@ use Rattle.ia64_top.specs.declared.words.Command.TheVariants as command
 use Rattle.ia64_top.specs.declared.status.Status.{Status}
 use Rattle.ia64_top.specs.declared.status.Status.TheVariants.{Done, Violated, Refused, Words, TooLong}
 use Rattle.ia64_top.specs.Words.{command_of}
-use Rattle.ia64_top.specs.Texts.{refusal_text, text_refusal_text, verdict_text}
-use Rattle.ia64_top.specs.Readings.{Reading, as_image, as_bundles, as_text, as_either}
+use Rattle.ia64_top.specs.Texts.{refusal_text, text_refusal_text, verdict_text, packed_text}
+use Rattle.ia64_top.specs.Readings.{Reading, as_image, as_bundles, as_text, as_loose, as_either}
 use Rattle.ia64_top.specs.Judgements.{IsJudgement, verdict_status}
 use Rattle.ia64_top.specs.Runs.{watch_text}
 use Rattle.ia64_top.specs.Trials.{IsTrialOutput}
-use Rattle.ia64_top.specs.Output.{IsCanonical, IsMadeOutput, IsSilent, IsCommandOutput, IsOutput, OneOutput, GivesOutput, is_too_long}
-use Rattle.ia64_top.proofs.Outputs.{GivesOne, RefusesNone, IsTold, either_gives_one, either_refuses_none, image_refuses_none, bundles_refuse_none, text_refuses_none}
+use Rattle.ia64_top.specs.Output.{IsCanonical, IsPackedText, IsMadeOutput, IsSilent, IsCommandOutput, IsOutput, OneOutput, GivesOutput, is_too_long}
+use Rattle.ia64_top.proofs.Outputs.{GivesOne, RefusesNone, IsTold, either_gives_one, either_refuses_none, image_refuses_none, bundles_refuse_none, text_refuses_none, loose_gives_one, loose_refuses_none}
 use Rattle.ia64_top.proofs.Judging.{violated_of_judgement, told_of_check}
 use Rattle.ia64_top.proofs.Running.{IsRunAnswer, told_of_run}
 use Rattle.ia64_top.proofs.NumberedRuns.{IsNumberedRunAnswer, told_of_numbered_run}
@@ -44,6 +46,9 @@ bundles_refuse_one one input mine bytes m o = o.2 ∙ ap refusal_text (one input
 
 text_refuses_one : OneTextFault → RefusesOne as_text
 text_refuses_one one input mine bytes m o = o.2 ∙ ap text_refusal_text (one input o.0 m.0 o.1 m.1) ∙ sym m.2
+
+loose_refuses_one : OnePlacingFault → RefusesOne as_loose
+loose_refuses_one one input mine bytes m o = o.2 ∙ ap text_refusal_text (one input o.0 m.0 o.1 m.1) ∙ sym m.2
 
 either_refuses_one : OneFault → OneTextFault → RefusesOne as_either
 either_refuses_one image text input mine bytes (inl m) (inl o) = image_refuses_one image input mine bytes m.1 o.1
@@ -94,6 +99,9 @@ one_image one p mine bytes m o = one (written_version p) p bytes mine o m
 
 one_canonical : MakesOne IsCanonical
 one_canonical p mine bytes m o = o.canonical ∙ sym m.canonical
+
+one_packed_text : OnePlaced → (input : List ℕ) → MakesOne (IsPackedText input)
+one_packed_text one input p mine bytes m o = o.printed ∙ ap packed_text (one input o.packed m.packed o.placed m.placed) ∙ sym m.printed
 
 one_bundle_listing : OneSpelling → (n : ℕ) (b : Bundle) (mine text : List ℕ) → IsBundleListing n b mine → IsBundleListing n b text → text ≡ mine
 one_bundle_listing one n b mine text m o = o.2 ∙ ap (λ bytes. head_listed n bytes b.template ++ slots_text n b.template b.slots) (one b o.0 m.0 o.1 m.1) ∙ sym m.2
@@ -146,17 +154,21 @@ pub record AreOne : Type 0 where
   pub image : ReadsOne as_image
   pub bundles : ReadsOne as_bundles
   pub text : ReadsOne as_text
+  pub loose : ReadsOne as_loose
   pub either : ReadsOne as_either
+  pub placed : OnePlaced
   pub spelled : OneImage
   pub listed : OneSpelling
   pub judged : OneVerdict
 
-pub are_one : OneProgram → OneRawProgram → OneTextProgram → NoFaultWhereSpelled → NoFaultWhereRaw → NoFaultWhereRead → OneFault → OneRawFault → OneTextFault → OneImage → OneSpelling → OneVerdict → AreOne
-are_one program raw_program text_program spelled raw read fault raw_fault text_fault image spelling verdict = record {
+pub are_one : OneProgram → OneRawProgram → OneTextProgram → NoFaultWhereSpelled → NoFaultWhereRaw → NoFaultWhereRead → OneFault → OneRawFault → OneTextFault → OneImage → OneSpelling → OneVerdict → OnePlaced → OnePlacingFault → NoFaultWherePlaced → AreOne
+are_one program raw_program text_program spelled raw read fault raw_fault text_fault image spelling verdict placed placing_fault unplaced = record {
   image = record { gives_one = program; refuses_none = image_refuses_none spelled; refuses_one = image_refuses_one fault };
   bundles = record { gives_one = raw_program; refuses_none = bundles_refuse_none raw; refuses_one = bundles_refuse_one raw_fault };
   text = record { gives_one = text_program; refuses_none = text_refuses_none read; refuses_one = text_refuses_one text_fault };
+  loose = record { gives_one = loose_gives_one placed; refuses_none = loose_refuses_none unplaced; refuses_one = loose_refuses_one placing_fault };
   either = record { gives_one = either_gives_one program text_program; refuses_none = either_refuses_none spelled read; refuses_one = either_refuses_one fault text_fault };
+  placed = placed;
   spelled = image;
   listed = spelling;
   judged = verdict;
@@ -164,6 +176,7 @@ are_one program raw_program text_program spelled raw read fault raw_fault text_f
 
 one_command_output : AreOne → (c : Command) (ws : List WatchState) (input mine bytes : List ℕ) (status other : Status) → IsCommandOutput c ws input mine status → IsCommandOutput c ws input bytes other → (bytes ≡ mine) × (other ≡ status)
 one_command_output one command.Build ws input mine bytes status other m o = one_made as_text Written (one_image one.spelled) one.text input mine bytes status other m o
+one_command_output one command.Stops ws input mine bytes status other m o = one_made as_loose (IsPackedText input) (one_packed_text one.placed input) one.loose input mine bytes status other m o
 one_command_output one command.Show ws input mine bytes status other m o = one_made as_image IsCanonical one_canonical one.image input mine bytes status other m o
 one_command_output one command.List ws input mine bytes status other m o = one_made as_image IsListing (one_listing one.listed) one.image input mine bytes status other m o
 one_command_output one command.Wrap ws input mine bytes status other m o = one_made as_bundles Written (one_image one.spelled) one.bundles input mine bytes status other m o

@@ -9,17 +9,18 @@ use Rattle.ia_meaning.specs.Runs.{run_text}
 use Rattle.ia_meaning.specs.OrderIndependence.{IsRobust}
 use Rattle.group_checker.specs.Reports.{IsFree}
 use Rattle.group_checker.specs.OrderLaws.{FreeIsRobust}
+use Rattle.stop_placer.specs.Laws.{OnePlaced}
 use Rattle.ia64_top.specs.declared.words.Command.{Command}
-use Rattle.ia64_top.specs.declared.words.Command.TheVariants.{Check, Run, Watch, Trial}
+use Rattle.ia64_top.specs.declared.words.Command.TheVariants.{Stops, Check, Run, Watch, Trial}
 use Rattle.ia64_top.specs.declared.status.Status.{Status}
 use Rattle.ia64_top.specs.declared.status.Status.TheVariants.{Done, TooLong, Limit, Faulted}
 use Rattle.ia64_top.specs.Words.{command_of, groups_of}
 use Rattle.ia64_top.specs.Statuses.{TellsAccepted}
 use Rattle.ia64_top.specs.Runs.{run_of, end_status, watch_text, IsRunOf, ordered_run_of, IsRunOfEveryOrder}
-use Rattle.ia64_top.specs.Readings.{as_either}
+use Rattle.ia64_top.specs.Readings.{as_loose, as_either}
 use Rattle.ia64_top.specs.Output.{IsProgramOf, IsRunAs, printed_run, IsCommandOutput, GivesRunOfEveryOrder}
 use Rattle.watch_seam.specs.Watchers.{WatchState}
-use Rattle.ia64_top.proofs.Outputs.{GivesOne}
+use Rattle.ia64_top.proofs.Outputs.{GivesOne, loose_gives_one}
 use Rattle.ia64_top.proofs.Answering.{same_command, run_whole}
 use Rattle.ia64_top.specs.Inputs.{IsReadOf}
 use Rattle.ia64_top.proofs.Judging.{done_of_judgement}
@@ -74,16 +75,19 @@ robust_run law one text groups input bytes status ran o p g =
     let at = a.1.accepts in
     robust_given law one input a.0 at.gives at.program at.free p g
 
-robust_program : FreeIsRobust → GivesOne as_either → (status : Status) (c : Command) (ws : List WatchState) (all input bytes : List ℕ) → TellsAccepted status c → IsReadOf c input all → IsCommandOutput c ws input bytes status
+robust_program : FreeIsRobust → GivesOne as_either → OnePlaced → (status : Status) (c : Command) (ws : List WatchState) (all input bytes : List ℕ) → TellsAccepted status c → IsReadOf c input all → IsCommandOutput c ws input bytes status
     → (p : Program) → IsProgramOf c all p → IsRobust p
-robust_program law one Done Check ws all input bytes t is o p g =
+robust_program law one placed Done Check ws all input bytes t is o p g =
     let j = o.2 in
     let done = done_of_judgement o.0 bytes Done o.2 in
     robust_given law one input o.0 o.1 j.program (done.0 refl) p (subst (λ i. as_either.Gives i p) (sym is) g)
-robust_program law one Done (Trial seed bundles) ws all input bytes t is o p g = subst IsRobust (sym g) o.robust
-robust_program law one status (Run groups) ws all input bytes t is o p g = robust_run law one run_text groups input bytes status (run_ran groups status t) o p (subst (λ i. as_either.Gives i p) (sym is) g)
-robust_program law one status (Watch groups) ws all input bytes t is o p g = robust_run law one (watch_text ws) groups input bytes status (watch_ran groups status t) o p (subst (λ i. as_either.Gives i p) (sym is) g)
-robust_program law one status c ws all input bytes t is o p g = absurd t
+robust_program law one placed Done Stops ws all input bytes t is o p g =
+    let text = o.2 in
+    subst IsRobust (loose_gives_one placed input o.0 p o.1 (subst (λ i. as_loose.Gives i p) (sym is) g)) (law o.0 text.valid text.free)
+robust_program law one placed Done (Trial seed bundles) ws all input bytes t is o p g = subst IsRobust (sym g) o.robust
+robust_program law one placed status (Run groups) ws all input bytes t is o p g = robust_run law one run_text groups input bytes status (run_ran groups status t) o p (subst (λ i. as_either.Gives i p) (sym is) g)
+robust_program law one placed status (Watch groups) ws all input bytes t is o p g = robust_run law one (watch_text ws) groups input bytes status (watch_ran groups status t) o p (subst (λ i. as_either.Gives i p) (sym is) g)
+robust_program law one placed status c ws all input bytes t is o p g = absurd t
 
 same_run : (text : WholeRun → List ℕ) (groups : ℕ) (p : Program) (codes : List (List ℕ)) → ordered_run_of p groups codes ≡ run_of p groups → (bytes : List ℕ) (status : Status) → IsRunOf text p groups bytes status
     → (bytes ≡ text (ordered_run_of p groups codes)) × (status ≡ end_status (ordered_run_of p groups codes).end)
@@ -119,13 +123,13 @@ abbrev pub RunsInEachOrder : List (List ℕ) → List WatchState → Option (Lis
 RunsInEachOrder words ws old new status input =
     (c : Command) (groups : ℕ) → command_of words ≡ Some c → groups_of c ≡ Some groups → TellsAccepted status c → (p : Program) → as_either.Gives input p → GivesRunOfEveryOrder (printed_run c ws) p groups old new status
 
-pub promised : FreeIsRobust → GivesOne as_either → (words : List (List ℕ)) (c : Command) (ws : List WatchState) (left : Option (List ℕ)) (input bytes : List ℕ) (status : Status) → command_of words ≡ Some c → IfSome left (IsReadOf c input)
+pub promised : FreeIsRobust → GivesOne as_either → OnePlaced → (words : List (List ℕ)) (c : Command) (ws : List WatchState) (left : Option (List ℕ)) (input bytes : List ℕ) (status : Status) → command_of words ≡ Some c → IfSome left (IsReadOf c input)
     → IsCommandOutput c ws input bytes status → IfSome left (Promises words status)
-promised law one words c ws None input bytes status e whole o = tt
-promised law one words c ws (Some l) input bytes status e whole o =
+promised law one placed words c ws None input bytes status e whole o = tt
+promised law one placed words c ws (Some l) input bytes status e whole o =
     λ d f t p g.
     let is = same_command words d c f e in
-    robust_program law one status c ws l input bytes (subst (TellsAccepted status) is t) whole o p (subst (λ k. IsProgramOf k l p) is g)
+    robust_program law one placed status c ws l input bytes (subst (TellsAccepted status) is t) whole o p (subst (λ k. IsProgramOf k l p) is g)
 
 pub run_in_each_order : FreeIsRobust → ZeroIsStart → GivesOne as_either → (words : List (List ℕ)) (c : Command) (ws : List WatchState) (left old new : Option (List ℕ)) (input bytes : List ℕ) (status : Status) → command_of words ≡ Some c → IfSome left (IsReadOf c input)
     → IsCommandOutput c ws input bytes status → Appends old new bytes → IfSome left (RunsInEachOrder words ws old new status)

@@ -1,13 +1,15 @@
 -- What is stated of what an input is read as.
-use Rattle.std.proofs.Common.{◌≡◌, ℕ, inl, inr, List, sym, subst}
+use Rattle.std.proofs.Common.{◌≡◌, ℕ, inl, inr, List, sym, ap, ◌∙◌, subst}
 use Rattle.std.specs.Prelude.{◌⊎◌, IfOk, MatchResult, Result, Ok, Err}
 use Rattle.ia_insn.specs.Programs.{Program}
 use Rattle.image_form.specs.Laws.{OneProgram, NoFaultWhereSpelled, NoFaultWhereRaw}
 use Rattle.asm_build.specs.Laws.{OneTextProgram, NoFaultWhereRead}
+use Rattle.stop_placer.specs.Packed.{Packed}
+use Rattle.stop_placer.specs.Laws.{OnePlaced, NoFaultWherePlaced}
 use Rattle.ia64_top.specs.declared.status.Status.{Status}
 use Rattle.ia64_top.specs.declared.status.Status.TheVariants.{Refused}
 use Rattle.ia64_top.specs.declared.answer.Answer.{Answer}
-use Rattle.ia64_top.specs.Readings.{Reading, IsRefusal, as_image, as_bundles, as_text, as_either}
+use Rattle.ia64_top.specs.Readings.{Reading, IsRefusal, as_image, as_bundles, as_text, as_loose, as_either}
 use Rattle.image_form.specs.Images.{BeginsAsImage}
 use Rattle.ia64_top.specs.Output.{IsMadeOutput}
 
@@ -29,6 +31,9 @@ bundles_refuse_none none input p bytes given refused = none p input refused.0 gi
 pub text_refuses_none : NoFaultWhereRead → RefusesNone as_text
 text_refuses_none none input p bytes given refused = none input p refused.0 given refused.1
 
+pub loose_refuses_none : NoFaultWherePlaced → RefusesNone as_loose
+loose_refuses_none none input p bytes given refused = none input given.0 refused.0 given.1 refused.1
+
 pub either_refuses_none : NoFaultWhereSpelled → NoFaultWhereRead → RefusesNone as_either
 either_refuses_none spelled read input p bytes (inl g) (inl r) = image_refuses_none spelled input p bytes g.1 r.1
 either_refuses_none spelled read input p bytes (inl g) (inr r) = absurd (r.0 g.0)
@@ -38,6 +43,9 @@ either_refuses_none spelled read input p bytes (inr g) (inr r) = text_refuses_no
 -- It is read as one program.
 abbrev pub GivesOne : Reading → Type 0
 GivesOne r = (input : List ℕ) (p q : Program) → r.Gives input p → r.Gives input q → p ≡ q
+
+pub loose_gives_one : OnePlaced → GivesOne as_loose
+loose_gives_one one input p q a b = sym a.2 ∙ ap (λ (k : Packed). k.program) (one input a.0 b.0 a.1 b.1) ∙ b.2
 
 pub either_gives_one : OneProgram → OneTextProgram → GivesOne as_either
 either_gives_one image text input p q (inl a) (inl b) = image input p q a.1 b.1

@@ -3,7 +3,7 @@ use Rattle.std.proofs.Common.{◌≡◌, ℕ, Bool, true, false, List, [], ◌�
 use Rattle.std.specs.Prelude.{if◌then◌else◌, codes, bytes_eq, option_map, IfSome}
 use Rattle.ia64_top.specs.declared.limits.TheConstants.{GROUP_LIMIT, TRIAL_LIMIT}
 use Rattle.ia64_top.specs.declared.words.Command.{Command}
-use Rattle.ia64_top.specs.declared.words.Command.TheVariants.{Build, Show, List as Listing, Wrap, Lift, Check, Run, Watch}
+use Rattle.ia64_top.specs.declared.words.Command.TheVariants.{Build, Stops, Show, List as Listing, Wrap, Lift, Check, Run, Watch}
 use Rattle.ia64_top.specs.Numbers.{number_between}
 use Rattle.ia64_top.specs.Words.{groups_command, trial_command, command_of, HasNumbersInRange}
 use Rattle.ia64_top.proofs.Numerals.{IsNumeralOf, numeral_of_number}
@@ -20,14 +20,15 @@ abbrev InRange : Option Command → Type 0
 InRange found = IfSome found HasNumbersInRange
 
 -- no word alone has a number
-word_alone : (a b c d e f : Bool) → InRange (if a then Some Build else if b then Some Show else if c then Some Listing else if d then Some Wrap else if e then Some Lift else if f then Some Check else None)
-word_alone true b c d e f = tt
-word_alone false true c d e f = tt
-word_alone false false true d e f = tt
-word_alone false false false true e f = tt
-word_alone false false false false true f = tt
-word_alone false false false false false true = tt
-word_alone false false false false false false = tt
+word_alone : (a b c d e f g : Bool) → InRange (if a then Some Build else if b then Some Stops else if c then Some Show else if d then Some Listing else if e then Some Wrap else if f then Some Lift else if g then Some Check else None)
+word_alone true b c d e f g = tt
+word_alone false true c d e f g = tt
+word_alone false false true d e f g = tt
+word_alone false false false true e f g = tt
+word_alone false false false false true f g = tt
+word_alone false false false false false true g = tt
+word_alone false false false false false false true = tt
+word_alone false false false false false false false = tt
 
 run_of : (groups : List ℕ) (found : Option ℕ) → IsFound 1 GROUP_LIMIT groups found → InRange (option_map Run found)
 run_of groups None is = tt
@@ -63,7 +64,7 @@ groups_if false false first second = tt
 
 words_in_range : (words : List (List ℕ)) → InRange (command_of words)
 words_in_range [] = tt
-words_in_range (word ∷ []) = word_alone (bytes_eq word (codes "build")) (bytes_eq word (codes "show")) (bytes_eq word (codes "list")) (bytes_eq word (codes "wrap")) (bytes_eq word (codes "lift")) (bytes_eq word (codes "check"))
+words_in_range (word ∷ []) = word_alone (bytes_eq word (codes "build")) (bytes_eq word (codes "stops")) (bytes_eq word (codes "show")) (bytes_eq word (codes "list")) (bytes_eq word (codes "wrap")) (bytes_eq word (codes "lift")) (bytes_eq word (codes "check"))
 words_in_range (word ∷ groups ∷ []) = run_if (bytes_eq word (codes "run")) (bytes_eq word (codes "watch")) groups
 words_in_range (word ∷ first ∷ second ∷ []) = groups_if (bytes_eq word (codes "groups")) (bytes_eq word (codes "trial")) first second
 words_in_range (word ∷ first ∷ second ∷ other ∷ words) = tt

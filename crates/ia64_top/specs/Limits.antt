@@ -5,9 +5,10 @@ use Rattle.image_form.specs.declared.version.TheConstants.{VERSION_1_BUNDLE_LIMI
 use Rattle.ia_meaning.specs.declared.limits.TheConstants.{STACK_LIMIT, ALAT_LIMIT}
 use Rattle.group_checker.specs.declared.report.TheConstants.{SHOWN_LIMIT}
 use Rattle.watch_seam.specs.declared.limits.TheConstants.{FILL_LIMIT}
+use Rattle.bundling.specs.declared.chunk.TheConstants.{QUIET_LIMIT}
 use Rattle.ia64_top.specs.declared.limits.TheConstants.{INPUT_LIMIT, GROUP_LIMIT, TRIAL_LIMIT}
 
--- of programs and their images, of states, of what is shown, and of calls
+-- of programs, their images and their packing, of states, of what is shown, and of calls
 pub record AreLimits : Type 0 where
   pub bundles : BUNDLE_LIMIT ≡ 32768
   pub bundles_in_version_1 : VERSION_1_BUNDLE_LIMIT ≡ 4096
@@ -15,6 +16,7 @@ pub record AreLimits : Type 0 where
   pub relations : RELATION_LIMIT ≡ 4096
   pub data_bytes : DATA_LIMIT ≡ 1048576
   pub slots_of_a_run : RUN_LIMIT ≡ 192
+  pub quiet_bundles : QUIET_LIMIT ≡ 63
   pub cells : STACK_LIMIT ≡ 65536
   pub alat : ALAT_LIMIT ≡ 32
   pub violations : SHOWN_LIMIT ≡ 100

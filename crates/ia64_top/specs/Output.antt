@@ -6,7 +6,7 @@ use Rattle.ia64_top.specs.declared.words.Command.{Command}
 use Rattle.ia64_top.specs.declared.words.Command.TheVariants as command
 use Rattle.ia64_top.specs.declared.status.Status.{Status}
 use Rattle.ia64_top.specs.declared.status.Status.TheVariants.{Done, Violated, Words, Refused, TooLong, Limit, Faulted}
-use Rattle.ia_insn.specs.Programs.{Program}
+use Rattle.ia_insn.specs.Programs.{Program, IsProgram}
 use Rattle.image_form.specs.Images.{IsImage, Written, BeginsAsImage}
 use Rattle.image_form.specs.declared.version.Version.TheVariants.{Two}
 use Rattle.asm_build.specs.CanonicalText.{canonical_text}
@@ -20,7 +20,11 @@ use Rattle.watch_seam.specs.Watchers.{WatchState}
 use Rattle.ia64_top.specs.Runs.{watch_text, IsRunOf, IsNumberedRunOf, IsRunOfEveryOrder}
 use Rattle.ia64_top.specs.Trials.{IsTrialOutput}
 use Rattle.group_checker.specs.Reports.{IsFree}
-use Rattle.ia64_top.specs.Readings.{Reading, IsRefusal, as_image, as_bundles, as_text, as_either}
+use Rattle.stop_placer.specs.Packed.{Packed}
+use Rattle.stop_placer.specs.Laws.{KeepsText}
+use Rattle.stop_placer.specs.Placing.{IsPlaced}
+use Rattle.ia64_top.specs.Texts.{packed_text}
+use Rattle.ia64_top.specs.Readings.{Reading, IsRefusal, as_image, as_bundles, as_text, as_loose, as_either}
 
 -- An input that isn't too long. An image is never longer than the limit.
 abbrev pub IsWithinLimit : List ℕ → Type 0
@@ -38,6 +42,17 @@ pub record IsCanonical (program : Program) (text : List ℕ) : Type 0 where
   pub canonical : text ≡ canonical_text program
   pub back : as_text.Gives text program
   pub short : length text ≤ INPUT_LIMIT
+
+-- The text is that of the program into which the input is packed, with the reason of each stop. It has no violation, and
+-- has the instructions of the input, in order, with nops beside them.
+pub record IsPackedText (input : List ℕ) (program : Program) (text : List ℕ) : Type 0 where
+  pub packed : Packed
+  pub placed : IsPlaced input packed
+  pub is : packed.program ≡ program
+  pub valid : IsProgram program
+  pub free : IsFree program
+  pub keeps : KeepsText input packed
+  pub printed : text ≡ packed_text packed
 
 -- What `check` writes and answers of an input that is read in a way.
 abbrev pub IsCheckedAs : Reading → List ℕ → List ℕ → Status → Type 0
@@ -88,6 +103,7 @@ IsNumberedRunAs groups number reading input bytes status = ⊥
 -- `trial`.
 abbrev pub IsProgramOf : Command → List ℕ → Program → Type 0
 IsProgramOf command.Build input program = as_text.Gives input program
+IsProgramOf command.Stops input program = as_loose.Gives input program
 IsProgramOf command.Show input program = as_image.Gives input program
 IsProgramOf command.List input program = as_image.Gives input program
 IsProgramOf command.Wrap input program = as_bundles.Gives input program
@@ -108,11 +124,13 @@ abbrev pub printed_run : Command → List WatchState → Run → List ℕ
 printed_run (command.Watch groups) watchers run = watch_text watchers run
 printed_run command watchers run = run_text run
 
--- `build` and `wrap` make the image of a program, `show` its canonical text, `list` its listing, and `lift` its image of
--- version 2. `check`, `run`, `watch` and `groups` take an image or a text, and `trial` takes no input.
+-- `build` and `wrap` make the image of a program, `stops` the text of the program into which a loose text is packed, `show`
+-- its canonical text, `list` its listing, and `lift` its image of version 2. `check`, `run`, `watch` and `groups` take an image or a text, and `trial` takes no input.
 abbrev pub IsCommandOutput : Command → List WatchState → List ℕ → List ℕ → Status → Type 0
 IsCommandOutput command.Build watchers input bytes status =
     IsMadeOutput as_text Written input bytes status
+IsCommandOutput command.Stops watchers input bytes status =
+    IsMadeOutput as_loose (IsPackedText input) input bytes status
 IsCommandOutput command.Show watchers input bytes status =
     IsMadeOutput as_image IsCanonical input bytes status
 IsCommandOutput command.List watchers input bytes status =

@@ -6,6 +6,8 @@ use Rattle.image_form.specs.Images.{Spells, RawSpells, BeginsAsImage}
 use Rattle.image_form.specs.Faults.{HasImageFault, HasRawFault}
 use Rattle.asm_build.specs.declared.reason.TextError.{TextError}
 use Rattle.asm_build.specs.TextReading.{Reads as ReadsText, HasTextFault}
+use Rattle.stop_placer.specs.Packed.{Packed}
+use Rattle.stop_placer.specs.Placing.{IsPlaced, HasPlacingFault}
 use Rattle.ia64_top.specs.declared.status.Status.{Status}
 use Rattle.ia64_top.specs.declared.status.Status.TheVariants.{Refused}
 use Rattle.ia64_top.specs.Texts.{refusal_text, text_refusal_text}
@@ -38,6 +40,13 @@ abbrev pub as_text : Reading
 as_text = record {
   Gives = λ input p. ReadsText input p;
   Refuses = λ input bytes. (e : TextError) × HasTextFault input e × (bytes ≡ text_refusal_text e);
+}
+
+-- a loose text, of whose instructions a program is packed
+abbrev pub as_loose : Reading
+as_loose = record {
+  Gives = λ input p. (k : Packed) × IsPlaced input k × (k.program ≡ p);
+  Refuses = λ input bytes. (e : TextError) × HasPlacingFault input e × (bytes ≡ text_refusal_text e);
 }
 
 -- an image where the input begins as one, and else a text

@@ -34,9 +34,11 @@ TellsOfProgram Limit = Unit {0}
 TellsOfProgram Faulted = Unit {0}
 TellsOfProgram status = ⊥
 
--- The status of a command tells that the program is accepted: `check` or `trial` is done, or `run` or `watch` printed a state.
+-- The status of a command tells that the program is accepted: `check`, `stops` or `trial` is done, or `run` or `watch` printed
+-- a state.
 abbrev pub TellsAccepted : Status → Command → Type 0
 TellsAccepted Done command.Check = Unit {0}
+TellsAccepted Done command.Stops = Unit {0}
 TellsAccepted Done (command.Trial seed bundles) = Unit {0}
 TellsAccepted Done (command.Run groups) = Unit {0}
 TellsAccepted Limit (command.Run groups) = Unit {0}

@@ -2,7 +2,7 @@
 use Rattle.std.specs.Prelude.{ℕ, ◌-◌, ◌^◌, ◌≤◌, ⊤, List, [], ◌∷◌, Option, Some, None, option_map, if◌then◌else◌, codes, bytes_eq, decimal}
 use Rattle.ia64_top.specs.declared.limits.TheConstants.{GROUP_LIMIT, TRIAL_LIMIT}
 use Rattle.ia64_top.specs.declared.words.Command.{Command}
-use Rattle.ia64_top.specs.declared.words.Command.TheVariants.{Build, Show, List as Listing, Wrap, Lift, Check, Run, Watch, Groups, Trial}
+use Rattle.ia64_top.specs.declared.words.Command.TheVariants.{Build, Stops, Show, List as Listing, Wrap, Lift, Check, Run, Watch, Groups, Trial}
 use Rattle.ia64_top.specs.Numbers.{number_between}
 
 -- A run has at least one group, and at most the limit, and a trial so many bundles.
@@ -46,12 +46,13 @@ abbrev pub trial_command : Option ℕ → Option ℕ → Option Command
 trial_command (Some seed) (Some bundles) = Some (Trial seed bundles)
 trial_command seed bundles = None
 
--- The command that the words are, where they are one: `build`, `show`, `list`, `wrap`, `lift` or `check` alone, `run` or
+-- The command that the words are, where they are one: `build`, `stops`, `show`, `list`, `wrap`, `lift` or `check` alone, `run` or
 -- `watch` and a number of groups, `groups`, a number of groups and the number of an order, of 64 bits, or `trial`, a seed of
 -- 64 bits and a number of bundles. Upper and lower case differ.
 abbrev pub command_of : List (List ℕ) → Option Command
 command_of (word ∷ []) =
     if bytes_eq word (codes "build") then Some Build
+    else if bytes_eq word (codes "stops") then Some Stops
     else if bytes_eq word (codes "show") then Some Show
     else if bytes_eq word (codes "list") then Some Listing
     else if bytes_eq word (codes "wrap") then Some Wrap

@@ -8,8 +8,8 @@ ghost use Rattle.ia64_top.specs.declared.limits.TheConstants.{GROUP_LIMIT, INPUT
 ghost use Rattle.ia64_top.specs.Words.{HasNumbersInRange, IsWatch};
 ghost use Rattle.group_checker.specs.Reports.{IsFree};
 ghost use Rattle.ia64_top.specs.Judgements.{IsJudgement, verdict_status};
-ghost use Rattle.ia64_top.specs.Output.{IsCanonical, IsMadeOutput, IsCheckedAs, IsAcceptedAs, IsUnrunAs, IsRunAs, IsNumberedRunAs, IsCommandOutput};
-ghost use Rattle.ia64_top.specs.Readings.{as_image, as_bundles, as_text, as_either, IsRefusal};
+ghost use Rattle.ia64_top.specs.Output.{IsCanonical, IsPackedText, IsMadeOutput, IsCheckedAs, IsAcceptedAs, IsUnrunAs, IsRunAs, IsNumberedRunAs, IsCommandOutput};
+ghost use Rattle.ia64_top.specs.Readings.{as_image, as_bundles, as_text, as_loose, as_either, IsRefusal};
 ghost use Rattle.ia64_top.specs.Runs.{end_status, watch_text, IsRunOf, IsNumberedRunOf};
 ghost use Rattle.ia_meaning.specs.Runs.{run_text};
 ghost use Rattle.watch_seam.specs.Watching.{HaveRoom};
@@ -20,7 +20,7 @@ ghost use Rattle.ia64_top.specs.Texts.{refusal_text, text_refusal_text, verdict_
 ghost use Rattle.ia64_top.specs.declared.status.Status.{Status};
 
 use crate::status::Status;
-use crate::text::{refusal, text_refusal, trial_text, verdict_text};
+use crate::text::{packed_text, refusal, text_refusal, trial_text, verdict_text};
 use crate::watching::watch_accepted;
 use crate::words::Command;
 use asm_build::{
@@ -38,6 +38,7 @@ use image_form::{
 };
 use state_text::state_text;
 use std::alloc::{AllocError, Global};
+use stop_placer::{place_stops, placed_is_free};
 use trial_maker::make;
 use watch_seam::Watch;
 
@@ -82,6 +83,21 @@ fn build_input(alloc: Global, input: &[u8]) -> Result<Answer, AllocError>
     match assemble(alloc, input) {
         Ok(program) => Ok(Answer {
             bytes: write_image(alloc, &program)?,
+            status: Status::Done,
+        }),
+        Err(error) => refuse_text(alloc, error),
+    }
+}
+
+/// The answer of `stops` to an input within the limit.
+fn stops_input(alloc: Global, input: &[u8]) -> Result<Answer, AllocError>
+    requires { length input.now ≤ INPUT_LIMIT }
+    ensures { IfOk result (λ answer. IsMadeOutput as_loose (IsPackedText input.now) input.now answer.bytes.items answer.status) }
+{
+    placed_is_free();
+    match place_stops(alloc, input) {
+        Ok(packed) => Ok(Answer {
+            bytes: packed_text(alloc, &packed)?,
             status: Status::Done,
         }),
         Err(error) => refuse_text(alloc, error),
@@ -394,6 +410,7 @@ pub(crate) fn respond(
 {
     match command {
         Command::Build => build_input(alloc, input),
+        Command::Stops => stops_input(alloc, input),
         Command::Show => show_input(alloc, input),
         Command::List => list_input(alloc, input),
         Command::Wrap => wrap_input(alloc, input),

@@ -12,6 +12,7 @@ use image_form::{
     one_raw_program,
 };
 use insn_codec::one_spelling;
+use stop_placer::{no_fault_where_placed, one_placed, one_placing_fault};
 
 /// The law that for words, watchers and an input there is at most one output, with one status: no other bytes are stated
 /// for them, and no other status. It does nothing.
@@ -30,6 +31,9 @@ pub fn one_output()
     one_image();
     one_spelling();
     one_verdict();
+    one_placed();
+    one_placing_fault();
+    no_fault_where_placed();
 }
 
 /// The number that a text gives `movl` for a name is where the program finds it: it is the address from which
@@ -41,7 +45,7 @@ pub fn law_names()
     addresses();
 }
 
-/// The law that the limits of programs, states and calls are the numbers of `docs/FORMATS.md`, "Limits". It does nothing.
+/// The law that the limits of programs, packing, states and calls are the numbers of `docs/FORMATS.md`, "Limits". It does nothing.
 pub fn law_limits()
     ensures { AreLimits }
 {}

@@ -1,15 +1,15 @@
 //! What is printed.
 
-ghost use Rattle.std.specs.Prelude.{◌≡◌, ◌++◌, ◌∷◌, IfOk, OnOk, Some, codes, decimal, string_bytes};
+ghost use Rattle.std.specs.Prelude.{◌≡◌, ◌++◌, ◌∷◌, IfOk, OnOk, Some, codes, decimal, flat_map, string_bytes};
 ghost use Rattle.ia_meaning.specs.StateText.{word_text};
 ghost use Rattle.ia64_top.specs.Texts.{line};
 ghost use Rattle.ia64_top.specs.Trials.{value_of, register_sum, trial_text};
 ghost use Rattle.ia_meaning.specs.Names.{look};
-ghost use Rattle.ia64_top.specs.Texts.{rule_text, resource_text, violation_text, verdict_text, slot_text, fault_text, refusal_text, text_fault_text, text_refusal_text};
+ghost use Rattle.ia64_top.specs.Texts.{why_text, stop_text, packed_text, rule_text, resource_text, violation_text, verdict_text, slot_text, fault_text, refusal_text, text_fault_text, text_refusal_text};
 ghost use Rattle.group_checker.specs.declared.report.Verdict.TheVariants.{Violations};
 ghost use Rattle.asm_build.specs.declared.reason.TextError.TheVariants as error;
 
-use asm_build::Reason;
+use asm_build::{Reason, disassemble};
 use emulator::Machine;
 use group_checker::{Report, Verdict, Violation};
 use ia_insn::{End, Gr, Place};
@@ -19,6 +19,7 @@ use resource_sets::{Resource, Rule};
 use state_text::{WordText, push_outcome};
 use std::alloc::{AllocError, Global};
 use std::fmt;
+use stop_placer::{Packed, StopWhy, Why};
 
 /// A rule of groups, as it is printed.
 #[derive(Clone, Copy, Debug)]
@@ -86,6 +87,63 @@ impl fmt::Display for ViolationText {
         let resource = ResourceText { resource };
         write!(f, "{rule} {resource} {first} {second}")
     }
+}
+
+/// Why a stop stands where it does, as it is printed.
+#[derive(Clone, Copy, Debug)]
+struct WhyText {
+    why: Why,
+}
+
+impl fmt::Display for WhyText {
+    ghost output = { λ shown. Some (why_text shown.why) };
+
+    /// `written`, `long`, or the violation that the stop prevents.
+    fn fmt<W: fmt::Write>(&self, f: &mut fmt::Formatter<W>) -> fmt::Result {
+        match self.why {
+            Why::Written => write!(f, "written"),
+            Why::Long => write!(f, "long"),
+            Why::Pair(violation) => write!(f, "{}", ViolationText { violation }),
+        }
+    }
+}
+
+/// A stop, as it is printed.
+#[derive(Clone, Copy, Debug)]
+struct StopText {
+    stop: StopWhy,
+}
+
+impl fmt::Display for StopText {
+    ghost output = { λ shown. Some (stop_text shown.stop) };
+
+    /// A comment: the place that the stop follows, and why.
+    fn fmt<W: fmt::Write>(&self, f: &mut fmt::Formatter<W>) -> fmt::Result {
+        let StopWhy { after, why } = self.stop;
+        let why = WhyText { why };
+        write!(f, "// {after} {why}")
+    }
+}
+
+/// The lines of stops.
+fn stop_lines(alloc: Global, stops: &[StopWhy]) -> Result<String, AllocError>
+    ensures { IfOk result (λ text. string_bytes text ≡ flat_map (λ s. line (stop_text s)) stops.now) }
+{
+    let mut text = String::new(alloc);
+    for stop in stops {
+        let shown = StopText { stop: *stop };
+        writeln!(text, "{shown}")?;
+    }
+    Ok(text)
+}
+
+/// What is printed of a packed text.
+pub(crate) fn packed_text(alloc: Global, packed: &Packed) -> Result<Vec<u8>, AllocError>
+    ensures { IfOk result (λ text. text.items ≡ packed_text packed.now) }
+{
+    let mut text = disassemble(alloc, packed.program())?;
+    text.extend_from_slice(stop_lines(alloc, packed.stops())?.as_bytes())?;
+    Ok(text)
 }
 
 /// What is printed of a program's violations.

@@ -31,6 +31,7 @@ use ia_meaning::{numbered_run_is_parallel, zero_is_start};
 use image_form::{image_size, no_fault_where_raw, no_fault_where_spelled, one_program};
 use io_seam::{ReadError, Sink, Source, read_all, write_all};
 use std::alloc::Global;
+use stop_placer::{no_fault_where_placed, one_placed};
 use watch_seam::Watch;
 
 /// The input of a command: all that the source has left, and nothing for `trial`, which doesn't read.
@@ -97,7 +98,7 @@ pub fn ia64<S: Source, K: Sink>(
         command_of words.now ≡ Some Command.Check → IsWithinLimit input → (program : Program) → as_either.Gives input program →
         ((result ≡ Status.Done) ↔ IsFree program)) }
 
-    // What `accepted` promises. Where `check` or `trial` is done, or `run` or `watch` prints a state, the program is order independent: from every
+    // What `accepted` promises. Where `check`, `stops` or `trial` is done, or `run` or `watch` prints a state, the program is order independent: from every
     // state at an entry, for every number of groups and every order of the writes in each group, groups at once leave
     // what slots one by one leave.
     ensures robust { IsAnswer result → IfSome (S.left source.old) (λ input. (command : Command) →
@@ -210,6 +211,8 @@ pub fn ia64<S: Source, K: Sink>(
     no_fault_where_spelled();
     no_fault_where_raw();
     no_fault_where_read();
+    one_placed();
+    no_fault_where_placed();
     law_orders();
     zero_is_start();
     numbered_run_is_parallel();

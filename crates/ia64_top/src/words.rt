@@ -14,6 +14,8 @@ use std::marker::Model;
 pub enum Command {
     /// Makes an image of a text.
     Build,
+    /// Packs the instructions of a loose text into bundles, with the stops that they need.
+    Stops,
     /// Gives the canonical text of a program.
     Show,
     /// Lists the bundles of a program.
@@ -140,7 +142,7 @@ impl Words {
         Ok(())
     }
 
-    /// The command that the words are, by the table: `build`, `show`, `list`, `wrap`, `lift` or `check` alone,
+    /// The command that the words are, by the table: `build`, `stops`, `show`, `list`, `wrap`, `lift` or `check` alone,
     /// `run` or `watch` and a number of groups, `groups`, a number of groups and that of an order, or `trial`, a seed and a
     /// number of bundles, in lower case.
     pub fn command(&self) -> Option<Command>
@@ -148,6 +150,7 @@ impl Words {
     {
         match self.words.as_slice() {
             [word] if word.as_slice() == b"build".as_slice() => Some(Command::Build),
+            [word] if word.as_slice() == b"stops".as_slice() => Some(Command::Stops),
             [word] if word.as_slice() == b"show".as_slice() => Some(Command::Show),
             [word] if word.as_slice() == b"list".as_slice() => Some(Command::List),
             [word] if word.as_slice() == b"wrap".as_slice() => Some(Command::Wrap),

@@ -534,6 +534,51 @@ fn lift_has_its_output(rt: HostRuntime) -> Result<(), Fail> {
     Ok(())
 }
 
+/// A sum of a sum: a stop is needed between the two.
+const LOOSE_SUMS: &str = "add r8=r9,r10\nadd r11=r8,r9\nbreak.i 0\n";
+
+/// It in a bundle, with the reason of its stop.
+const PACKED_SUMS: &str = "{ .mmi
+  add r8=r9,r10 ;;
+  add r11=r8,r9
+  break.i 0x0
+}
+// 0.0 RAW r8 0.0 0.1
+";
+
+/// Two moves under the two predicates of a compare, of which one alone is 1, and a return.
+const LOOSE_MOVES: &str = "cmp.eq p6,p7=r0,r0\n(p6) mov r8=1\n(p7) mov r8=2\nbr.ret b0\n";
+
+/// They in bundles: the moves need a stop behind the compare, and none between them.
+const PACKED_MOVES: &str = "{ .mmi
+  cmp.eq p6,p7=r0,r0 ;;
+  (p6) addl r8=1,r0
+  (p7) addl r8=2,r0
+}
+{ .mib
+  nop.m 0x0
+  nop.i 0x0
+  br.ret.sptk.few b0
+}
+// 0.0 RAW p6 0.0 0.1
+";
+
+#[test]
+fn stops_has_its_output(rt: HostRuntime) -> Result<(), Fail> {
+    let alloc = rt.alloc();
+    let rows = [
+        (LOOSE_SUMS, 0, PACKED_SUMS),
+        (LOOSE_MOVES, 0, PACKED_MOVES),
+        ("", 3, "line 1: empty\n"),
+        ("{ .mii\n", 3, "line 1: misplaced\n"),
+        ("br x\nnop 0x200000\n", 3, "line 2: range\n"),
+    ];
+    for (input, status, output) in rows {
+        answers(&rt, alloc, "stops", &text(input), status, &text(output))?;
+    }
+    Ok(())
+}
+
 /// A canonical text: a stop inside a bundle, a declared entry, relations of it and of bundle 0, a target, a long
 /// instruction, a predicate and nine words of data.
 const WHOLE_TEXT: &[u8] = b"L0:

@@ -1,8 +1,9 @@
 use Rattle.std.proofs.Common.{rules, ◌≡◌, None, sym, ap, subst, length, ◌≤◌, ◌∙◌, []}
-use Rattle.ia_insn.specs.Programs.{AreRelations}
-use Rattle.asm_build.specs.Relations.{all_related}
+use Rattle.ia_insn.specs.Programs.{AreRelations, IsEntryOf}
+use Rattle.asm_build.specs.Relations.{all_related, AreRelationsOf}
 use Rattle.asm_build.specs.TextParts.{AreLabelsInside}
 use Rattle.asm_build.proofs.Finishing.{AreRelated, AreParts, related_of, parts_in_range, parts_rise, parts_inside, run_reported}
+use Rattle.asm_build.proofs.RelationSets.{relations_of_all}
 use Rattle.asm_build.proofs.assembly.finish.Goals as goal
 
 parts : (c : goal.After-deref-4) → AreParts c.args.lines.parts c.in_ok-named.named.bundles.items c.in_ok-entries.entries.items c.in_ok-bytes.bytes.items c.in_ok-relations.relations.items
@@ -39,8 +40,9 @@ pub checked-requires-clause-relations : goal.checked-requires-clause-relations
 checked-requires-clause-relations c =
     let bundles : c.deref.result.now ≡ c.in_ok-named.named.bundles.items = search rules in
     let entries : c.deref-2.result.now ≡ c.in_ok-entries.entries.items = search rules in
-    let good : AreRelations c.in_ok-named.named.bundles.items c.in_ok-entries.entries.items c.in_ok-related.related.keys = rw (bundles, entries) at c.in_ok-related.ensures.good in
-    subst (λ rs. AreRelations c.in_ok-named.named.bundles.items c.in_ok-entries.entries.items rs) (sym c.in_ok-relations.ensures) good
+    let good : AreRelationsOf (IsEntryOf c.in_ok-named.named.bundles.items c.in_ok-entries.entries.items) c.in_ok-related.related.keys = rw (bundles, entries) at c.in_ok-related.ensures.good in
+    let of = relations_of_all c.in_ok-named.named.bundles.items c.in_ok-entries.entries.items c.in_ok-related.related.keys good in
+    subst (λ rs. AreRelations c.in_ok-named.named.bundles.items c.in_ok-entries.entries.items rs) (sym c.in_ok-relations.ensures) of
 
 pub returns-clause-err : goal.returns-clause-err
 returns-clause-err c =

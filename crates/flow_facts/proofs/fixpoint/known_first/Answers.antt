@@ -4,7 +4,7 @@ use Rattle.std.proofs.lemmas.List.{get_or_default}
 use Rattle.std.proofs.lemmas.List.Elements.{All-filter}
 use Rattle.ia_insn.specs.declared.relations.Relation.{Relation}
 use Rattle.ia_insn.specs.Programs.{Program, IsProgram, no_relation, relations_at}
-use Rattle.flow_facts.specs.Walks.{known_first}
+use Rattle.flow_facts.specs.Graphs.{known_at_entry}
 use Rattle.flow_facts.proofs.fixpoint.known_first.Goals as goal
 
 -- a relation of two predicates, the lower one first
@@ -20,5 +20,5 @@ pub declared-requires : goal.declared-requires
 declared-requires c = subst (λ (rs : List Relation). All IsOfTwo rs) (sym c.relations_at.ensures) (all_of_two c.args.program.now c.args.bundle c.is_program.ensures)
 
 pub returns : goal.returns
-unfolding known_first
+unfolding known_at_entry
 returns c = rw (sym c.relations_at.ensures) c.declared.ensures

@@ -1,4 +1,6 @@
 use Rattle.std.proofs.Common.{get_or, arith}
+use Rattle.ia_meaning.specs.Sequence.{is_stopped}
+use Rattle.flow_facts.specs.Graphs.{over_program}
 use Rattle.group_checker.specs.declared.report.TheConstants.{SHOWN_LIMIT}
 use Rattle.group_checker.proofs.EarlierSlots.{earlier_at}
 use Rattle.group_checker.proofs.Reporting.{pair_reported, pair_listed, pair_apart, shown_short}
@@ -15,10 +17,10 @@ returns-clause-reports c p bound u before =
     let es = c.args.window.now in
     let e = get_or es c.args.n c.index-window-n.result in
     pair_reported p c.args.report.now c.add_all.new.self es c.args.second c.args.n bound _ u.window before
-    (pair_listed p es c.args.second c.args.n e c.pair_broken-broken.result (earlier_at es c.args.n c.index-window-n.result c.requires.inside) (c.pair_broken-broken.ensures p c.args.second u))
+    (pair_listed (over_program p) (is_stopped p.bundles) es c.args.second c.args.n e c.pair_broken-broken.result (earlier_at es c.args.n c.index-window-n.result c.requires.inside) (c.pair_broken-broken.ensures (over_program p) (is_stopped p.bundles) c.args.second u))
     c.in_ok-add_all.ensures.few c.in_ok-add_all.ensures.total c.in_ok-add_all.ensures.shown
 
 pub returns-then-are_apart-clause-reports : goal.returns-then-are_apart-clause-reports
 returns-then-are_apart-clause-reports c p bound u before =
     pair_apart p c.args.report.now c.args.window.now c.args.second c.args.n bound
-    (λ v nth. c.are_apart.ensures c.if-are_apart.true p c.args.second v u nth) before
+    (λ v nth. c.are_apart.ensures c.if-are_apart.true (over_program p) (is_stopped p.bundles) c.args.second v u nth) before

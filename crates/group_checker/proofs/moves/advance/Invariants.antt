@@ -1,9 +1,8 @@
-use Rattle.std.proofs.Common.{◌≡◌, Some}
+use Rattle.std.proofs.Common.{Bool}
 use Rattle.ia_insn.specs.declared.place.Place.{Place}
-use Rattle.ia_insn.specs.Programs.{Program}
-use Rattle.slot_table.specs.Slots.{slot_at}
-use Rattle.group_checker.specs.Windows.{HasAdvanced}
+use Rattle.flow_facts.specs.Graphs.{Graph}
+use Rattle.group_checker.specs.Windows.{Describes, HasAdvanced}
 use Rattle.group_checker.proofs.moves.advance.Given as goal
 
 abbrev pub invariant-loop-m : goal.invariant-loop-m
-invariant-loop-m l = (p : Program) (j : Place) → slot_at p.bundles j ≡ Some l.slot → HasAdvanced p j l.mask l.initial.window.items l.window.items l.m
+invariant-loop-m l = (g : Graph) (has_stop : Place → Bool) (j : Place) → Describes g has_stop j l.slot → HasAdvanced g j l.mask l.initial.window.items l.window.items l.m

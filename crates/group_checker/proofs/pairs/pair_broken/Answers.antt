@@ -6,18 +6,18 @@ use Rattle.group_checker.proofs.Pairing.{pair_all}
 use Rattle.group_checker.proofs.pairs.pair_broken.Goals as goal
 
 pub returns : goal.returns
-returns c p second u =
+returns c g has_stop second u =
     let es = c.args.window.now in
     let e = c.index-window-n.result in
     let end : c.args.n + 1 ≡ length es = omega arith in
-    pair_all p es second c.args.slot.now c.args.seconds.now c.args.n e _ _ _ _ _ u (indexed es c.args.n e c.requires.inside c.index-window-n.is)
+    pair_all g has_stop es second c.args.slot.now c.args.seconds.now c.args.n e _ _ _ _ _ u (indexed es c.args.n e c.requires.inside c.index-window-n.is)
     (rw c.as_slice.ensures.value c.access_sets-firsts.ensures) (rw c.as_slice-2.ensures.value c.access_sets-seconds.ensures) c.nothing-broken.ensures c.clashes.ensures
     (gains_like _ _ (IsSlotRule e c.args.slot.now) (λ v. (c.args.n + 1 ≡ length es) × IsSlotRule e c.args.slot.now v) (λ v h. (end, h)) (λ v h. h.1) c.slot_rules.ensures)
 
 pub returns-then-n-window : goal.returns-then-n-window
-returns-then-n-window c p second u =
+returns-then-n-window c g has_stop second u =
     let es = c.args.window.now in
     let e = c.index-window-n.result in
-    pair_all p es second c.args.slot.now c.args.seconds.now c.args.n e _ _ _ _ _ u (indexed es c.args.n e c.requires.inside c.index-window-n.is)
+    pair_all g has_stop es second c.args.slot.now c.args.seconds.now c.args.n e _ _ _ _ _ u (indexed es c.args.n e c.requires.inside c.index-window-n.is)
     (rw c.as_slice.ensures.value c.access_sets-firsts.ensures) (rw c.as_slice-2.ensures.value c.access_sets-seconds.ensures) c.nothing-broken.ensures c.clashes.ensures
     (gains_nothing _ (λ v. (c.args.n + 1 ≡ length es) × IsSlotRule e c.args.slot.now v) (λ v h. omega (arith, h.0)))

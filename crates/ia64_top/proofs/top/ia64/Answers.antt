@@ -105,7 +105,7 @@ pub returns-in-Ok-write_all-clause-robust : goal.returns-in-Ok-write_all-clause-
 returns-in-Ok-write_all-clause-robust g c u =
     let one = either_gives_one c.one_program.ensures c.one_text_program.ensures in
     let whole = same_read c.in-Some.command (g.S.Source.left c.args.source.now) c.deref.result.now c.in-Ok.input.items c.deref.ensures.value c.in-Ok.ensures.whole in
-    promised c.law_orders.ensures.run one c.args.words.now c.in-Some.command _ (g.S.Source.left c.args.source.now) c.deref.result.now c.in-Ok-respond.answer.bytes.items c.in-Ok-respond.answer.status (sym c.in-Some.ensures) whole c.in-Ok-respond.ensures.output
+    promised c.law_orders.ensures.run one c.one_placed.ensures c.args.words.now c.in-Some.command _ (g.S.Source.left c.args.source.now) c.deref.result.now c.in-Ok-respond.answer.bytes.items c.in-Ok-respond.answer.status (sym c.in-Some.ensures) whole c.in-Ok-respond.ensures.output
 
 pub returns-in-Ok-write_all-clause-ordered : goal.returns-in-Ok-write_all-clause-ordered
 returns-in-Ok-write_all-clause-ordered g c u =
@@ -204,13 +204,13 @@ pub returns-in-Ok-write_all-clause-refused : goal.returns-in-Ok-write_all-clause
 returns-in-Ok-write_all-clause-refused g c u =
     let whole = same_read c.in-Some.command (g.S.Source.left c.args.source.now) c.deref.result.now c.in-Ok.input.items c.deref.ensures.value c.in-Ok.ensures.whole in
     refused_within c.args.words.now (g.S.Source.left c.args.source.now) c.in-Ok-respond.answer.status
-    (cause_within c.no_fault_where_spelled.ensures c.no_fault_where_raw.ensures c.no_fault_where_read.ensures c.args.words.now c.in-Some.command _ (g.S.Source.left c.args.source.now) c.deref.result.now c.in-Ok-respond.answer.bytes.items c.in-Ok-respond.answer.status (sym c.in-Some.ensures) whole c.in-Ok-respond.ensures.output)
+    (cause_within c.no_fault_where_spelled.ensures c.no_fault_where_raw.ensures c.no_fault_where_read.ensures c.no_fault_where_placed.ensures c.args.words.now c.in-Some.command _ (g.S.Source.left c.args.source.now) c.deref.result.now c.in-Ok-respond.answer.bytes.items c.in-Ok-respond.answer.status (sym c.in-Some.ensures) whole c.in-Ok-respond.ensures.output)
 
 pub returns-in-Ok-write_all-clause-served : goal.returns-in-Ok-write_all-clause-served
 returns-in-Ok-write_all-clause-served g c u w =
     let whole = same_read c.in-Some.command (g.S.Source.left c.args.source.now) c.deref.result.now c.in-Ok.input.items c.deref.ensures.value c.in-Ok.ensures.whole in
     served_within c.args.words.now (g.S.Source.left c.args.source.now) c.in-Ok-respond.answer.status
-    (cause_within c.no_fault_where_spelled.ensures c.no_fault_where_raw.ensures c.no_fault_where_read.ensures c.args.words.now c.in-Some.command _ (g.S.Source.left c.args.source.now) c.deref.result.now c.in-Ok-respond.answer.bytes.items c.in-Ok-respond.answer.status (sym c.in-Some.ensures) whole c.in-Ok-respond.ensures.output)
+    (cause_within c.no_fault_where_spelled.ensures c.no_fault_where_raw.ensures c.no_fault_where_read.ensures c.no_fault_where_placed.ensures c.args.words.now c.in-Some.command _ (g.S.Source.left c.args.source.now) c.deref.result.now c.in-Ok-respond.answer.bytes.items c.in-Ok-respond.answer.status (sym c.in-Some.ensures) whole c.in-Ok-respond.ensures.output)
 
 pub returns-in-Ok-write_all-clause-clashes : goal.returns-in-Ok-write_all-clause-clashes
 returns-in-Ok-write_all-clause-clashes g c is =

@@ -1,0 +1,4 @@
+pub mod Chunk
+pub mod Chunks
+pub mod Bundled
+pub mod Laws

@@ -1,0 +1,10 @@
+mod PlainPackings
+mod LineFaults
+mod Listing
+mod SoundLines
+mod NamedTargets
+mod EndOfText
+mod OneLoose
+mod SomeLoose
+mod RelationLines
+mod ReadTexts

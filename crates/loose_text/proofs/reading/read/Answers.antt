@@ -1,0 +1,16 @@
+use Rattle.std.proofs.Common.{arith}
+use Rattle.bstr.proofs.lemmas.LengthLemmas.{length-lines}
+use Rattle.asm_build.proofs.TakenLines.{end_reported}
+use Rattle.loose_text.specs.LooseReading.{loose_reading}
+use Rattle.loose_text.proofs.SoundLines.{all_sound}
+use Rattle.loose_text.proofs.reading.read.Goals as goal
+
+pub finish-requires-clause-count : goal.finish-requires-clause-count
+finish-requires-clause-count c = omega (arith, c.in_ok-lines.ensures.ok.1, length-lines c.args.text.now, c.requires)
+
+pub finish-requires-clause-sound : goal.finish-requires-clause-sound
+finish-requires-clause-sound c = all_sound c.args.text.now c.in_ok-lines.lines.parts c.in_ok-lines.ensures.ok.0
+
+pub returns-clause-fault : goal.returns-clause-fault
+returns-clause-fault c =
+    end_reported loose_reading c.args.text.now c.in_ok-lines.lines.parts c.in_ok-lines.lines.count c.finish.result c.in_ok-lines.ensures.ok.0 c.in_ok-lines.ensures.ok.1 c.finish.ensures.err

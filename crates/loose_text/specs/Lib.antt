@@ -1,0 +1,7 @@
+pub mod Packings
+pub mod PlainPackings
+pub mod LooseParts
+pub mod SoundParts
+pub mod LooseTexts
+pub mod LooseReading
+pub mod Laws

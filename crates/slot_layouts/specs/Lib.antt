@@ -1,0 +1,4 @@
+pub mod Classes
+pub mod Layouts
+pub mod Filled
+pub mod Laws

@@ -1,0 +1,9 @@
+pub mod Packings
+pub mod Packs
+pub mod QuietCounts
+pub mod Known
+pub mod PackingFaults
+pub mod Caused
+pub mod Packed
+pub mod Placing
+pub mod Laws

@@ -1,0 +1,148 @@
+#!/usr/bin/env python3
+"""test_loosen.py: tries tools/loosen. It needs no built program."""
+
+import contextlib
+import importlib.machinery
+import importlib.util
+import io
+import subprocess
+import sys
+import tempfile
+import unittest
+from pathlib import Path
+
+sys.dont_write_bytecode = True
+ROOT = Path(__file__).resolve().parent.parent
+TOOL = ROOT / "tools" / "loosen"
+
+loader = importlib.machinery.SourceFileLoader("loosen", str(TOOL))
+loosen = importlib.util.module_from_spec(importlib.util.spec_from_loader("loosen", loader))
+loader.exec_module(loosen)
+
+
+def lines(*given):
+    return "".join(f"{line}\n" for line in given)
+
+
+class Case(unittest.TestCase):
+    def leaves(self, left, *given, keeps_stops=False):
+        self.assertEqual(loosen.loosened(lines(*given), keeps_stops), lines(*left))
+
+
+class Bundles(Case):
+    """What is taken out, and what stays."""
+
+    def test_a_bundle(self):
+        self.leaves(["  add r8=r9,r10", "  add r11=r8,r9"],
+                    "{ .mii", "  nop.m 0x0", "  add r8=r9,r10", "  add r11=r8,r9 ;;", "}")
+
+    def test_spellings(self):
+        self.leaves(["add r8=r9 , r10", "(p6)add r8=r9,r10"], "{.mii", "nop", "add r8=r9 , r10;;", "(p6)add r8=r9,r10", "}")
+        self.leaves(["mf"], "{ .mmi", "mf", ";;", "nop.m# -0", "( p0 ) nop 0x000 ;;", "}")
+
+    def test_stops_on_their_own(self):
+        self.leaves(["add r8=r9,r10", "add r11=r9,r10"], "{ .mii", "nop 0", "add r8=r9,r10", ";;", "  ;;", "add r11=r9,r10", "}", ";;")
+
+    def test_nops_that_are_no_filling(self):
+        self.leaves(["(p6) nop.m 0", "nop.i 1", "nop.i 0x10"], "{ .mii", "(p6) nop.m 0", "nop.i 1", "nop.i 0x10", "}")
+
+    def test_units_of_slots(self):
+        self.leaves(["nop.m 1", "break.f", "hint.b 2"], "{ .mfb", "nop 1", "break", "hint 2", "}")
+        self.leaves(["chk.s.m r8,x", "(p6) chk.s.i r9,x", "chk.s.i r9,x"], "{ .mii", "chk.s r8,x", "(p6) chk.s r9,x", "chk.s.i r9,x", "}")
+        self.leaves(["break.x 0x200000"], "{ .mlx", "nop 0", "break 0x200000 ;;", "}")
+        self.leaves(["break.m", "break.i"], "{ .mib", "break", "break", "nop", "}")
+
+    def test_loose_lines(self):
+        """A text without bundles, as `stops` takes it, loses its stops and its filling alone."""
+        self.leaves(["x:", "break 1", "chk.s r8,x"], "x:", "nop", "break 1 ;;", "chk.s r8,x", ";;")
+
+    def test_what_is_no_line(self):
+        self.leaves(["} }", "{ .xyz", "what", "nop 0x"], "} }", "{ .xyz", "what", "nop 0x")
+
+
+class Labels(Case):
+    """Where a nop stays."""
+
+    def test_a_label_names_what_is_left(self):
+        self.leaves(["x:", "y:", ".entry y", "mf"], "x:", "y:", ".entry y", "{ .mii", "nop 0", "nop 0", "nop 0", "}", "{ .mmi", "nop 0", "mf", "nop 0", "}")
+
+    def test_a_label_of_nops(self):
+        self.leaves(["mf", "x:", "nop.b 0", "y:", "mf", "z:", "nop 0"],
+                    "mf", "x:", "{ .bbb", "nop.b 0", "nop.b 0 ;;", "nop.b 0", "}", "y:", "nop 0", "mf", "nop 0", "z:", "nop 0", "nop 0")
+
+    def test_nops_alone(self):
+        self.leaves(["nop.m 0"], "{ .mii", "nop.m 0", "nop.i 0", "nop.i 0 ;;", "}")
+
+    def test_a_relation_keeps_its_entry(self):
+        relation = '.pred.rel "mutex",p6,p7'
+        self.leaves([relation, "nop 0", "x:", relation, "mf"], relation, "nop 0", "nop 0", "x:", relation, "mf")
+
+    def test_what_a_call_comes_back_to(self):
+        self.leaves(["(p6) br.call.sptk b0=x", "nop 0", "x:", "mf", "br.call b0=b6", "nop 1"],
+                    "(p6) br.call.sptk b0=x", "nop 0", "nop 0", "x:", "mf", "br.call b0=b6", "nop 0", "nop 1")
+        self.leaves(["br.call b0=b6", "nop 0"], "br.call b0=b6", "nop 0", "nop 0")
+
+    def test_names_that_look_otherwise(self):
+        self.leaves(["nop:", "add :", ".text:", "data8:", "mf"], "nop:", "add :", ".text:", "data8:", "mf")
+
+
+class Others(Case):
+    """Directives, data and comments."""
+
+    def test_data(self):
+        given = ["mf", ".data", "x:", "data8 1,2 // nop 0", ".skip 8", ".entry y", ".text", "y:", "mf"]
+        self.leaves(given, *given)
+        self.leaves([".data#", "x:", "data1 0", ".text#", "nop 0"], ".data#", "x:", "data1 0", ".text#", "nop 0", "nop 0")
+
+    def test_comments(self):
+        self.leaves(["// a", "// b", "mf  // c // d", "// e", "", "// f"],
+                    "// a", "{ .mmi // b", "mf;; // c // d", "nop 0 // e", "nop 0", "", "} // f")
+        self.leaves(["mf", '"// not one"  // g'], "mf", '"// not one" // g')
+
+    def test_a_text_of_no_bytes(self):
+        self.assertEqual(loosen.loosened(""), "")
+
+    def test_no_line_feed_at_the_end(self):
+        self.assertEqual(loosen.loosened("mf ;;"), "mf\n")
+
+
+class KeptStops(Case):
+    def test_kept(self):
+        self.leaves(["add r8=r9,r10 ;;", "  ;;", "mf", ";;  // a"],
+                    "{ .mii", "nop 0 ;;", "add r8=r9,r10;;", "  nop 0 ;;", "}", "{ .mmi", "mf", "nop 0", ";; // a", "}", keeps_stops=True)
+
+    def test_before_the_first(self):
+        self.leaves(["mf"], "nop 0", ";;", "nop 0 ;;", "mf", keeps_stops=True)
+        self.leaves(["nop 0 ;;", ";;"], "nop 0 ;;", ";;", keeps_stops=True)
+
+
+class Calls(unittest.TestCase):
+    """The tool as it is called."""
+
+    def call(self, *words, data=b""):
+        done = subprocess.run([TOOL, *words], input=data, capture_output=True, check=False)
+        return done.returncode, done.stdout, done.stderr
+
+    def test_input(self):
+        self.assertEqual(self.call(data=b"mf ;;\r\n"), (0, b"mf\n", b""))
+        self.assertEqual(self.call("--keep-stops", data=b"mf ;; // d\xe9j\xe0\n"), (0, b"mf ;;  // d\xe9j\xe0\n", b""))
+        with tempfile.NamedTemporaryFile() as file:
+            file.write(b"nop 0 ;;\nmf\n")
+            file.flush()
+            self.assertEqual(self.call(file.name), (0, b"mf\n", b""))
+
+    def test_what_goes_wrong(self):
+        status, out, error = self.call("/no/such/file")
+        self.assertEqual((status, out), (2, b""))
+        self.assertIn(b"No such file", error)
+        self.assertEqual(self.call("--no-such-word")[:2], (2, b""))
+
+    def test_help(self):
+        out = io.StringIO()
+        with contextlib.redirect_stdout(out), self.assertRaises(SystemExit):
+            loosen.main(["--help"])
+        self.assertIn("takes the bundles and the stops out of a text", out.getvalue())
+
+
+if __name__ == "__main__":
+    unittest.main()
