@@ -13,6 +13,7 @@ STORES = {*range(0x30, 0x38), 0x3B}
 ALU = {4 * x4 + x2b for x4, x2b in (
     (0x0, 0), (0x0, 1), (0x1, 0), (0x1, 1), (0x2, 0), (0x9, 1),
     *((x4, x2b) for x4 in (0x3, 0x4, 0x6, 0xB) for x2b in range(4)))}
+LANES = {4 * x4 + x2b for x4, x2b in ((0x0, 0), (0x1, 0), (0x9, 0), (0x9, 1))}
 I_SYSTEM = {0x00, 0x01, 0x0A, 0x10, 0x11, 0x12, 0x14, 0x15, 0x16, 0x2A, 0x30, 0x31, 0x32, 0x33}
 I_AR, M_AR = {64, 65, 66}, {36}
 
@@ -40,10 +41,10 @@ SWEEPS = [
     ("m", {37: 4, 36: 0, 27: 1}, (30, 6), set()),
     ("m", {37: 4, 36: 1, 27: 1}, (30, 6), set()),
     ("m", {37: 5}, (30, 6), LOADS | STORES),
-    # A: x4 above x2b, without and with x2a and ve
+    # A: x4 above x2b, without and with x2a, by za and zb
     ("mi", {37: 8, 34: 0, 33: 0}, (27, 6), ALU),
-    ("mi", {37: 8, 34: 1, 33: 0}, (27, 6), set()),
-    ("mi", {37: 8, 34: 1, 33: 1}, (27, 6), set()),
+    *(("mi", {37: 8, 36: za, 34: 1, 33: zb}, (27, 6), LANES) for za, zb in ((0, 0), (0, 1), (1, 0))),
+    ("mi", {37: 8, 36: 1, 34: 1, 33: 1}, (27, 6), set()),
     # I: x6, x3, x2 above x, and x2c above x2b
     ("i", {37: 0, 33: 0}, (27, 6), I_SYSTEM),
     ("i", {37: 0}, (33, 3), {0, 1, 2, 3, 7}),
@@ -106,25 +107,16 @@ FRAMES = (
 # Instructions that the assembler knows and the profile leaves out, by the unit of their slot.
 LEFT_OUT = {
     "mi": """
-        padd1 r8=r9,r10
         padd1.sss r8=r9,r10
         padd1.uus r8=r9,r10
         padd1.uuu r8=r9,r10
-        padd2 r8=r9,r10
         padd2.sss r8=r9,r10
-        padd4 r8=r9,r10
-        psub1 r8=r9,r10
         psub2.uuu r8=r9,r10
-        psub4 r8=r9,r10
         pavg1 r8=r9,r10
         pavg1.raz r8=r9,r10
         pavg2 r8=r9,r10
         pavgsub1 r8=r9,r10
         pavgsub2 r8=r9,r10
-        pcmp1.eq r8=r9,r10
-        pcmp1.gt r8=r9,r10
-        pcmp2.eq r8=r9,r10
-        pcmp4.gt r8=r9,r10
         pshladd2 r8=r9,1,r10
         pshradd2 r8=r9,3,r10
     """,

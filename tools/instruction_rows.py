@@ -81,6 +81,7 @@ UNC = flag("", ".unc")
 LOAD_HINT = choice(("", "0"), (".nt1", "1"), (".nta", "3"))
 STORE_HINT = choice(("", "0"), (".nta", "3"))
 SIZE = choice(("1", "1"), ("2", "2"), ("4", "4"), ("8", "8"))
+PART_SIZE = choice(("1", "1"), ("2", "2"), ("4", "4"))
 LOAD_KIND = choice(
     ("", "Plain"), (".s", "S"), (".a", "A"), (".sa", "Sa"), (".bias", "Bias"), (".acq", "Acq"),
     (".c.clr", "CClr"), (".c.nc", "CNc"), (".c.clr.acq", "CClrAcq"))
@@ -295,6 +296,11 @@ ROWS = [
     Row("A", "cmp$four.$rel$kind $p1,$p2=$imm,$r3",
         "CmpImm { four: $four, rel: $rel, kind: $kind, p1: $p1, p2: $p2, imm: $imm, r3: $r3 }",
         four=FOUR, rel=EQUAL, kind=PARALLEL, imm=signed(8), r3=GR, **PREDICATES),
+    # A9
+    Row("A", "$f$size $r1=$r2,$r3", "Lane { f: $f, size: $size, r1: $r1, r2: $r2, r3: $r3 }",
+        f=choice(("padd", "Padd"), ("psub", "Psub")), size=PART_SIZE, **TWO_REGISTERS),
+    Row("A", "pcmp$size.$f $r1=$r2,$r3", "Lane { f: $f, size: $size, r1: $r1, r2: $r2, r3: $r3 }",
+        f=choice(("eq", "PcmpEq"), ("gt", "PcmpGt")), size=PART_SIZE, **TWO_REGISTERS),
     # I5 and I7
     Row("I", "$f $r1=$value,$count", "ShiftVar { f: $f, r1: $r1, value: $value, count: $count }",
         "27 32 34 35", f=choice(("shr", "Shr"), ("shr.u", "ShrU"), ("shl", "Shl")),

@@ -187,7 +187,7 @@ def gets_stops(lines):
             continue
         elif not stopped and (clears or words[0] in (".text", ".data", ".proc", ".endp") or "alloc" in words):
             return True
-        elif text[0] != ".":
+        elif text[0] != "." and not words[0].startswith("data"):
             stopped, clears = text.endswith(";;"), "clrrrb" in text
     return False
 

@@ -1,10 +1,10 @@
 -- Names that begin with other letters than a group of rows are named by none of it.
-use Rattle.std.proofs.Common.{◌≡◌, ◌≤◌, ◌<◌, ◌⊎◌, inl, inr, refl, ◌∙◌, ℕ, Bool, true, false, ◌&&◌, cond, nat_eq, leb, ltb, List, [], ◌∷◌, ◌++◌, map, get_or, arith, append-nil}
+use Rattle.std.proofs.Common.{◌≡◌, ◌≤◌, ◌<◌, ◌⊎◌, inl, inr, refl, ap, sym, ◌∙◌, ℕ, suc, Bool, true, false, ◌&&◌, cond, nat_eq, leb, ltb, List, [], ◌∷◌, ◌++◌, map, get_or, arith, append-nil}
 use Rattle.std.specs.Prelude.{filter}
 use Rattle.std.specs.List.{list_all}
 use Rattle.std.proofs.lemmas.Bool.{leb-true, ltb-true, ne_eqb}
 use Rattle.asm_forms.specs.Naming.{is_named, begins, named_forms}
-use Rattle.asm_forms.specs.Rows.{Row, rows_to_b, rows_c_to_i, rows_l_to_n, rows_from_o, rows}
+use Rattle.asm_forms.specs.Rows.{Row, rows_to_b, rows_c_to_i, rows_l_to_n, rows_o_to_r, rows_from_s, rows}
 use Rattle.asm_forms.proofs.Bools.{left, right}
 
 -- the first byte is one of these
@@ -46,57 +46,32 @@ kept : (p : Row → Bool) (xs ys : List Row) → filter p (xs ++ ys) ≡ filter 
 kept p [] ys = refl
 kept p (x ∷ xs) ys = kept_more p x xs ys (filter p xs) (filter p ys) (kept p xs ys) refl
 
-kept_four : (p : Row → Bool) (a b c d ka kb kc kd : List Row) → filter p a ≡ ka → filter p b ≡ kb → filter p c ≡ kc → filter p d ≡ kd → filter p (a ++ b ++ c ++ d) ≡ ka ++ kb ++ kc ++ kd
-kept_four p a b c d ka kb kc kd ea eb ec ed = rw (kept p (a ++ b ++ c) d, kept p (a ++ b) c, kept p a b, ea, eb, ec, ed) refl
-
--- the words of each group
-to_b : list_all (λ r. leads 46 99 r.word) rows_to_b ≡ true
-to_b = refl
-
-c_to_i : list_all (λ r. leads 99 108 r.word) rows_c_to_i ≡ true
-c_to_i = refl
-
-l_to_n : list_all (λ r. leads 108 111 r.word) rows_l_to_n ≡ true
-l_to_n = refl
-
-from_o : list_all (λ r. leads 111 256 r.word) rows_from_o ≡ true
-from_o = refl
-
-groups : rows_to_b ++ rows_c_to_i ++ rows_l_to_n ++ rows_from_o ≡ rows
-groups = refl
-
--- the forms that a name names are those of the rows of its letters
-joined : (name : List ℕ) (found here all : List Row) → found ≡ here → filter (is_named name) all ≡ filter (is_named name) here → map (λ r. r.form) (filter (is_named name) found) ≡ map (λ r. r.form) (filter (is_named name) all)
-joined name found here all e k = rw (e, k) refl
-
 elsewhere : (low above d : ℕ) (name : List ℕ) → (get_or name 0 d < low) ⊎ (above ≤ get_or name 0 d) → IsElsewhere low above name
 elsewhere low above d [] h = tt
 elsewhere low above d (c ∷ name) h = h
 
+-- The forms that a name names are those of the rows of its letters, where the rows before them have lower letters and
+-- those after them higher ones.
+in_group : (low above d : ℕ) (name : List ℕ) (before here after found : List Row) → before ++ here ++ after ≡ rows → list_all (λ r. leads 46 low r.word) before ≡ true → list_all (λ r. leads above 256 r.word) after ≡ true
+    → low ≤ get_or name 0 d → get_or name 0 d < above → found ≡ here → map (λ r. r.form) (filter (is_named name) found) ≡ named_forms name
+in_group low above d name before here after found all lower higher g l e =
+    let p = is_named name in
+    let none_before : filter p before ≡ [] = none_named 46 low name before (elsewhere 46 low d name (inr g)) lower in
+    let none_after : filter p after ≡ [] = none_named above 256 name after (elsewhere above 256 d name (inl l)) higher in
+    let split : filter p rows ≡ filter p before ++ filter p here ++ filter p after = ap (filter p) (sym all) ∙ kept p (before ++ here) after ∙ ap (λ xs. xs ++ filter p after) (kept p before here) in
+    ap (map (λ r. r.form)) (ap (filter p) e ∙ sym (split ∙ rw (none_before, none_after) (append-nil _)))
+
 pub in_to_b : (name : List ℕ) (found : List Row) (d : ℕ) → found ≡ rows_to_b → get_or name 0 d < 99 → map (λ r. r.form) (filter (is_named name) found) ≡ named_forms name
-in_to_b name found d e h =
-    let c = elsewhere 99 108 d name (inl h) in
-    let l = elsewhere 108 111 d name (inl (omega (arith, h))) in
-    let o = elsewhere 111 256 d name (inl (omega (arith, h))) in
-    joined name found rows_to_b rows e (kept_four (is_named name) rows_to_b rows_c_to_i rows_l_to_n rows_from_o (filter (is_named name) rows_to_b) [] [] [] refl (none_named 99 108 name rows_c_to_i c c_to_i) (none_named 108 111 name rows_l_to_n l l_to_n) (none_named 111 256 name rows_from_o o from_o) ∙ append-nil _ ∙ append-nil _ ∙ append-nil _)
+in_to_b name found d e l = in_group 0 99 d name [] rows_to_b (rows_c_to_i ++ rows_l_to_n ++ rows_o_to_r ++ rows_from_s) found refl refl refl (omega arith) l e
 
 pub in_c_to_i : (name : List ℕ) (found : List Row) (d : ℕ) → found ≡ rows_c_to_i → 99 ≤ get_or name 0 d → get_or name 0 d < 108 → map (λ r. r.form) (filter (is_named name) found) ≡ named_forms name
-in_c_to_i name found d e g h =
-    let b = elsewhere 46 99 d name (inr g) in
-    let l = elsewhere 108 111 d name (inl h) in
-    let o = elsewhere 111 256 d name (inl (omega (arith, h))) in
-    joined name found rows_c_to_i rows e (kept_four (is_named name) rows_to_b rows_c_to_i rows_l_to_n rows_from_o [] (filter (is_named name) rows_c_to_i) [] [] (none_named 46 99 name rows_to_b b to_b) refl (none_named 108 111 name rows_l_to_n l l_to_n) (none_named 111 256 name rows_from_o o from_o) ∙ append-nil _ ∙ append-nil _)
+in_c_to_i name found d e g l = in_group 99 108 d name rows_to_b rows_c_to_i (rows_l_to_n ++ rows_o_to_r ++ rows_from_s) found refl refl refl g l e
 
 pub in_l_to_n : (name : List ℕ) (found : List Row) (d : ℕ) → found ≡ rows_l_to_n → 108 ≤ get_or name 0 d → get_or name 0 d < 111 → map (λ r. r.form) (filter (is_named name) found) ≡ named_forms name
-in_l_to_n name found d e g h =
-    let b = elsewhere 46 99 d name (inr (omega (arith, g))) in
-    let c = elsewhere 99 108 d name (inr g) in
-    let o = elsewhere 111 256 d name (inl h) in
-    joined name found rows_l_to_n rows e (kept_four (is_named name) rows_to_b rows_c_to_i rows_l_to_n rows_from_o [] [] (filter (is_named name) rows_l_to_n) [] (none_named 46 99 name rows_to_b b to_b) (none_named 99 108 name rows_c_to_i c c_to_i) refl (none_named 111 256 name rows_from_o o from_o) ∙ append-nil _)
+in_l_to_n name found d e g l = in_group 108 111 d name (rows_to_b ++ rows_c_to_i) rows_l_to_n (rows_o_to_r ++ rows_from_s) found refl refl refl g l e
 
-pub in_from_o : (name : List ℕ) (found : List Row) (d : ℕ) → found ≡ rows_from_o → 111 ≤ get_or name 0 d → map (λ r. r.form) (filter (is_named name) found) ≡ named_forms name
-in_from_o name found d e g =
-    let b = elsewhere 46 99 d name (inr (omega (arith, g))) in
-    let c = elsewhere 99 108 d name (inr (omega (arith, g))) in
-    let l = elsewhere 108 111 d name (inr g) in
-    joined name found rows_from_o rows e (kept_four (is_named name) rows_to_b rows_c_to_i rows_l_to_n rows_from_o [] [] [] (filter (is_named name) rows_from_o) (none_named 46 99 name rows_to_b b to_b) (none_named 99 108 name rows_c_to_i c c_to_i) (none_named 108 111 name rows_l_to_n l l_to_n) refl)
+pub in_o_to_r : (name : List ℕ) (found : List Row) (d : ℕ) → found ≡ rows_o_to_r → 111 ≤ get_or name 0 d → get_or name 0 d < 115 → map (λ r. r.form) (filter (is_named name) found) ≡ named_forms name
+in_o_to_r name found d e g l = in_group 111 115 d name (rows_to_b ++ rows_c_to_i ++ rows_l_to_n) rows_o_to_r rows_from_s found refl refl refl g l e
+
+pub in_from_s : (name : List ℕ) (found : List Row) (d : ℕ) → found ≡ rows_from_s → 115 ≤ get_or name 0 d → map (λ r. r.form) (filter (is_named name) found) ≡ named_forms name
+in_from_s name found d e g = in_group 115 (suc (get_or name 0 d)) d name (rows_to_b ++ rows_c_to_i ++ rows_l_to_n ++ rows_o_to_r) rows_from_s [] found refl refl refl g (omega arith) e

@@ -87,6 +87,7 @@ members set.RelationImm = c.Relation rel.Eq ∷ c.Relation rel.Ne ∷ c.Relation
 members set.RelationLess = c.Relation rel.Le ∷ c.Relation rel.Gt ∷ []
 members set.Equality = c.Relation rel.Eq ∷ c.Relation rel.Ne ∷ []
 members set.Order = c.Relation rel.Gt ∷ c.Relation rel.Le ∷ c.Relation rel.Ge ∷ c.Relation rel.Lt ∷ []
+members set.LaneRelation = c.Relation rel.Eq ∷ c.Relation rel.Gt ∷ []
 members set.Unc = c.Compare cmp.Unc ∷ c.Compare cmp.Normal ∷ []
 members set.Parallel = c.Compare cmp.And ∷ c.Compare cmp.OrAndcm ∷ c.Compare cmp.Or ∷ []
 members set.U = c.U ∷ c.Absent ∷ []

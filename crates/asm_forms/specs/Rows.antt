@@ -5,7 +5,7 @@ use denote.Enum.Declared.{tag_of}
 use Rattle.asm_forms.specs.contracts.form.Form.{the_type}
 use Rattle.asm_forms.specs.declared.form.Form.{Form}
 use Rattle.asm_forms.specs.declared.form.Form.TheVariants as form
-use Rattle.asm_forms.specs.declared.rows.TheConstants.{ROWS_TO_B, ROWS_C_TO_I, ROWS_L_TO_N, ROWS_FROM_O}
+use Rattle.asm_forms.specs.declared.rows.TheConstants.{ROWS_TO_B, ROWS_C_TO_I, ROWS_L_TO_N, ROWS_O_TO_R, ROWS_FROM_S}
 use Rattle.asm_forms.specs.declared.completer.CompleterSet.{CompleterSet}
 use Rattle.asm_forms.specs.declared.items.Item.{Item}
 
@@ -33,12 +33,15 @@ rows_c_to_i = map (λ r. record { form = r.0; word = r.1.now; sets = r.2.now; it
 abbrev pub rows_l_to_n : List Row
 rows_l_to_n = map (λ r. record { form = r.0; word = r.1.now; sets = r.2.now; items = r.3.now }) ROWS_L_TO_N
 
-abbrev pub rows_from_o : List Row
-rows_from_o = map (λ r. record { form = r.0; word = r.1.now; sets = r.2.now; items = r.3.now }) ROWS_FROM_O
+abbrev pub rows_o_to_r : List Row
+rows_o_to_r = map (λ r. record { form = r.0; word = r.1.now; sets = r.2.now; items = r.3.now }) ROWS_O_TO_R
+
+abbrev pub rows_from_s : List Row
+rows_from_s = map (λ r. record { form = r.0; word = r.1.now; sets = r.2.now; items = r.3.now }) ROWS_FROM_S
 
 -- all rows
 abbrev pub rows : List Row
-rows = rows_to_b ++ rows_c_to_i ++ rows_l_to_n ++ rows_from_o
+rows = rows_to_b ++ rows_c_to_i ++ rows_l_to_n ++ rows_o_to_r ++ rows_from_s
 
 abbrev pub first_row : Row
 first_row = record { form = form.Data; word = []; sets = []; items = [] }

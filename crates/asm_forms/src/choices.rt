@@ -1,6 +1,6 @@
 //! Choices that the text spells out and that an instruction holds as a number or otherwise.
 
-/// A relation of a compare as it is written, crel in the manual (volume 3, chapter 2, `cmp`).
+/// A relation of a compare as it is written, crel and prel in the manual (volume 3, chapter 2, `cmp` and `pcmp`).
 #[derive(Clone, Copy, Debug, PartialEq, Eq)]
 pub enum Relation {
     /// Equal.

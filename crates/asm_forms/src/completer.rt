@@ -82,6 +82,8 @@ pub enum CompleterSet {
     Equality,
     /// `.gt`, `.le`, `.ge` or `.lt`, of a parallel compare with r0.
     Order,
+    /// `.eq` or `.gt`, of a compare of lanes (prel).
+    LaneRelation,
     /// `.unc` or nothing.
     Unc,
     /// `.and`, `.or` or `.or.andcm`.
@@ -261,6 +263,10 @@ pub fn members(set: CompleterSet) -> &'static [Completer]
             Completer::Relation(Relation::Le),
             Completer::Relation(Relation::Ge),
             Completer::Relation(Relation::Lt),
+        ],
+        CompleterSet::LaneRelation => &[
+            Completer::Relation(Relation::Eq),
+            Completer::Relation(Relation::Gt),
         ],
         CompleterSet::Unc => &[
             Completer::Compare(CmpKind::Unc),

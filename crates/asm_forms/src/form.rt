@@ -202,8 +202,26 @@ pub enum Form {
     Or,
     /// `or r1=imm,r3` (A3).
     OrImm,
+    /// `padd1 r1=r2,r3` (A9).
+    Padd1,
+    /// `padd2 r1=r2,r3` (A9).
+    Padd2,
+    /// `padd4 r1=r2,r3` (A9).
+    Padd4,
+    /// `pcmp1.prel r1=r2,r3` (A9).
+    Pcmp1,
+    /// `pcmp2.prel r1=r2,r3` (A9).
+    Pcmp2,
+    /// `pcmp4.prel r1=r2,r3` (A9).
+    Pcmp4,
     /// `popcnt r1=r3` (I9).
     Popcnt,
+    /// `psub1 r1=r2,r3` (A9).
+    Psub1,
+    /// `psub2 r1=r2,r3` (A9).
+    Psub2,
+    /// `psub4 r1=r2,r3` (A9).
+    Psub4,
     /// `shl r1=value,count` (I7).
     Shl,
     /// `shl r1=r2,n`: `dep.z r1=r2,n,64-n`.

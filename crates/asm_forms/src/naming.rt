@@ -8,7 +8,7 @@ ghost use Rattle.asm_forms.specs.Rows.{seen, row_of};
 
 use crate::completer::{Completer, CompleterSet, members, text};
 use crate::form::Form;
-use crate::rows::{Row, rows_c_to_i, rows_from_o, rows_l_to_n, rows_to_b};
+use crate::rows::{Row, rows_c_to_i, rows_from_s, rows_l_to_n, rows_o_to_r, rows_to_b};
 use arrayvec::ArrayVec;
 
 /// The completers of a form, place by place.
@@ -94,8 +94,10 @@ pub(crate) fn rows_by_letter(name: &[u8]) -> &'static [Row]
                 rows_c_to_i()
             } else if *first < b'o' {
                 rows_l_to_n()
+            } else if *first < b's' {
+                rows_o_to_r()
             } else {
-                rows_from_o()
+                rows_from_s()
             }
         }
         [] => rows_to_b(),

@@ -2,7 +2,7 @@
 
 ghost use Rattle.std.specs.Prelude.{◌≡◌, ◌<◌, ◌≤◌, map, length, slice_index_or};
 ghost use Rattle.asm_forms.specs.Items.{operand_count};
-ghost use Rattle.asm_forms.specs.Rows.{rows_to_b, rows_c_to_i, rows_l_to_n, rows_from_o, rows, first_row, row_of, seen};
+ghost use Rattle.asm_forms.specs.Rows.{rows_to_b, rows_c_to_i, rows_l_to_n, rows_o_to_r, rows_from_s, rows, first_row, row_of, seen};
 
 use crate::completer::CompleterSet;
 use crate::form::Form;
@@ -201,11 +201,24 @@ pub(crate) static ROWS_L_TO_N: [Row; 36] = [
     row!(NopLong, b"nop", [LongUnit], Imm62),
 ];
 
-/// The rows of the forms with a word that begins with `o` or a later letter.
-pub(crate) static ROWS_FROM_O: [Row; 33] = [
+/// The rows of the forms with a word that begins with `o` to `r`.
+pub(crate) static ROWS_O_TO_R: [Row; 12] = [
     row!(Or, b"or", [], Gr = Gr, Gr),
     row!(OrImm, b"or", [], Gr = Imm8, Gr),
+    row!(Padd1, b"padd1", [], Gr = Gr, Gr),
+    row!(Padd2, b"padd2", [], Gr = Gr, Gr),
+    row!(Padd4, b"padd4", [], Gr = Gr, Gr),
+    row!(Pcmp1, b"pcmp1", [LaneRelation], Gr = Gr, Gr),
+    row!(Pcmp2, b"pcmp2", [LaneRelation], Gr = Gr, Gr),
+    row!(Pcmp4, b"pcmp4", [LaneRelation], Gr = Gr, Gr),
     row!(Popcnt, b"popcnt", [], Gr = Gr),
+    row!(Psub1, b"psub1", [], Gr = Gr, Gr),
+    row!(Psub2, b"psub2", [], Gr = Gr, Gr),
+    row!(Psub4, b"psub4", [], Gr = Gr, Gr),
+];
+
+/// The rows of the forms with a word that begins with `s` or a later letter.
+pub(crate) static ROWS_FROM_S: [Row; 30] = [
     row!(Shl, b"shl", [], Gr = Gr, Gr),
     row!(ShlNumber, b"shl", [], Gr = Gr, Position),
     row!(Shladd, b"shladd", [], Gr = Gr, Count, Gr),
@@ -259,16 +272,23 @@ pub(crate) fn rows_l_to_n() -> &'static [Row]
     &ROWS_L_TO_N
 }
 
-pub(crate) fn rows_from_o() -> &'static [Row]
-    ensures value { map seen result.now ≡ rows_from_o }
-    ensures count { length result.now ≡ 33 }
+pub(crate) fn rows_o_to_r() -> &'static [Row]
+    ensures value { map seen result.now ≡ rows_o_to_r }
+    ensures count { length result.now ≡ 12 }
 {
-    &ROWS_FROM_O
+    &ROWS_O_TO_R
+}
+
+pub(crate) fn rows_from_s() -> &'static [Row]
+    ensures value { map seen result.now ≡ rows_from_s }
+    ensures count { length result.now ≡ 30 }
+{
+    &ROWS_FROM_S
 }
 
 /// The row at a place of the table.
 fn row_at(at: usize) -> Row
-    requires { at < 128 }
+    requires { at < 137 }
     ensures { seen result ≡ slice_index_or rows at first_row }
 {
     if at < 29 {
@@ -277,8 +297,10 @@ fn row_at(at: usize) -> Row
         rows_c_to_i()[at - 29]
     } else if at < 95 {
         rows_l_to_n()[at - 59]
+    } else if at < 107 {
+        rows_o_to_r()[at - 95]
     } else {
-        rows_from_o()[at - 95]
+        rows_from_s()[at - 107]
     }
 }
 

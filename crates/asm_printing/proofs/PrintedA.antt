@@ -25,4 +25,5 @@ printed_a qp (op.AddImm22 r1 imm r3) l = (l.fit.1.1.1.1.1.1.1.0, (l.fit.1.1.1.1.
 printed_a qp (op.Cmp four rel kind p1 p2 r2 r3) l = (l.fit.1.1.1.1.1.1.1.1.1.0, (l.fit.1.1.1.1.1.1.1.1.0, (l.fit.1.1.1.1.0, (l.fit.1.1.1.1.1.1.0, (l.fit.1.1.1.1.1.0, tt)))))
 printed_a qp (op.CmpZero four rel kind p1 p2 r3) l = (l.fit.1.1.1.1.1.1.1.1.0, (l.fit.1.1.1.1.1.1.1.0, (l.fit.1.1.1.1.0, (l.fit.1.1.1.1.1.0, tt))))
 printed_a qp (op.CmpImm four rel kind p1 p2 imm r3) l = (l.fit.1.1.1.1.1.1.1.1.1.0, (l.fit.1.1.1.1.1.1.1.1.0, (l.fit.1.1.1.1.0, (number_printed 8 imm l.range.1 (lit< tt), (l.fit.1.1.1.1.1.0, tt)))))
+printed_a qp (op.Lane f size r1 r2 r3) l = (l.fit.1.1.1.1.1.1.1.1.1.0, (l.fit.1.1.1.1.1.1.1.1.0, (l.fit.1.1.1.1.1.1.1.0, (l.fit.1.1.1.1.1.1.0, tt))))
 printed_a qp x l = absurd l.range

@@ -21,6 +21,8 @@ use Rattle.ia_insn.specs.declared.insn.Op.TheVariants as op
 use Rattle.ia_insn.specs.declared.registers.Ar.TheVariants as ar
 use Rattle.ia_insn.specs.declared.choices.AluFn.{AluFn}
 use Rattle.ia_insn.specs.declared.choices.AluFn.TheVariants as alu
+use Rattle.ia_insn.specs.declared.choices.LaneFn.{LaneFn}
+use Rattle.ia_insn.specs.declared.choices.LaneFn.TheVariants as lane_fn
 use Rattle.ia_insn.specs.declared.choices.ShiftFn.TheVariants as shift
 use Rattle.ia_insn.specs.declared.choices.Rel.{Rel}
 use Rattle.ia_insn.specs.declared.choices.Rel.TheVariants as rel
@@ -75,6 +77,18 @@ compare_imm_form false _ = form.CmpImmParallel
 compare_imm_form true cmp.Normal = form.Cmp4Imm
 compare_imm_form true cmp.Unc = form.Cmp4Imm
 compare_imm_form true _ = form.Cmp4ImmParallel
+
+-- the operations on lanes
+abbrev pub lane_form : LaneFn → AccessSize → Form
+lane_form lane_fn.Padd size.One = form.Padd1
+lane_form lane_fn.Padd size.Two = form.Padd2
+lane_form lane_fn.Padd _ = form.Padd4
+lane_form lane_fn.Psub size.One = form.Psub1
+lane_form lane_fn.Psub size.Two = form.Psub2
+lane_form lane_fn.Psub _ = form.Psub4
+lane_form _ size.One = form.Pcmp1
+lane_form _ size.Two = form.Pcmp2
+lane_form _ _ = form.Pcmp4
 
 abbrev pub ext_form : Bool → AccessSize → Form
 ext_form false size.One = form.Zxt1
@@ -164,9 +178,14 @@ natural n = t.Number false n
 abbrev pub ones_number : Bool → Token
 ones_number ones = if ones then t.Number true 1 else t.Number false 0
 
--- the completers of a compare, and the hints of a branch after its first completer
+-- the completers of a compare and of an operation on lanes, and the hints of a branch after its first completer
 abbrev pub compare_completers : Rel → CmpKind → List Completer
 compare_completers r kind = (c.Relation (relation_of r)) ∷ c.Compare kind ∷ []
+
+abbrev pub lane_completers : LaneFn → List Completer
+lane_completers lane_fn.PcmpEq = c.Relation crel.Eq ∷ []
+lane_completers lane_fn.PcmpGt = c.Relation crel.Gt ∷ []
+lane_completers _ = []
 
 abbrev pub branch_hints : ℕ → Bool → Bool → List Completer
 branch_hints w many clr = (c.Whether (whether w)) ∷ prefetch_hint many ∷ when clr c.Clr ∷ []
@@ -182,6 +201,7 @@ syntax_of (op.AddImm22 r1 imm r3) = syntax form.Addl [] (t.Gr r1 ∷ number imm 
 syntax_of (op.Cmp four rel kind p1 p2 r2 r3) = syntax (compare_form four kind) (compare_completers rel kind) (t.Pr p1 ∷ t.Pr p2 ∷ t.Gr r2 ∷ t.Gr r3 ∷ [])
 syntax_of (op.CmpZero four rel kind p1 p2 r3) = syntax (if four then form.Cmp4Zero else form.CmpZero) (compare_completers rel kind) (t.Pr p1 ∷ t.Pr p2 ∷ t.Gr r3 ∷ [])
 syntax_of (op.CmpImm four rel kind p1 p2 imm r3) = syntax (compare_imm_form four kind) (compare_completers rel kind) (t.Pr p1 ∷ t.Pr p2 ∷ number imm ∷ t.Gr r3 ∷ [])
+syntax_of (op.Lane f n r1 r2 r3) = syntax (lane_form f (size_of n)) (lane_completers f) (t.Gr r1 ∷ t.Gr r2 ∷ t.Gr r3 ∷ [])
 -- I formats
 syntax_of (op.ShiftVar shift.Shl r1 value count) = syntax form.Shl [] (t.Gr r1 ∷ t.Gr value ∷ t.Gr count ∷ [])
 syntax_of (op.ShiftVar shift.Shr r1 value count) = syntax form.Shr (c.Absent ∷ []) (t.Gr r1 ∷ t.Gr value ∷ t.Gr count ∷ [])

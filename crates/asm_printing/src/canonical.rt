@@ -5,12 +5,13 @@ ghost use Rattle.asm_words.specs.declared.tokens.Token.TheVariants as t;
 ghost use Rattle.asm_forms.specs.declared.completer.Completer.TheVariants as c;
 ghost use Rattle.ia_insn.specs.declared.insn.Op.TheVariants as ops;
 ghost use Rattle.ia_insn.specs.declared.choices.Unit.TheVariants as units;
-ghost use Rattle.asm_printing.specs.Canonical.{Syntax as SyntaxOf, syntax, size_of, alu_form, alu_imm_form, compare_form, compare_imm_form, ext_form, load_form, load_reg_form, load_imm_form, store_form, store_imm_form, relation_of, when, unc_of, move_whether, whether, cache_hint, prefetch_hint, number, natural, ones_number, compare_completers, branch_hints, syntax_of};
+ghost use Rattle.asm_printing.specs.Canonical.{Syntax as SyntaxOf, syntax, size_of, alu_form, alu_imm_form, compare_form, compare_imm_form, lane_form, ext_form, load_form, load_reg_form, load_imm_form, store_form, store_imm_form, relation_of, when, unc_of, move_whether, whether, cache_hint, prefetch_hint, number, natural, ones_number, compare_completers, branch_hints, syntax_of};
 
 use asm_forms::{AccessSize, CacheHint, Completer, Completers, Form, Operands, Relation, Whether};
 use asm_words::Token;
 use ia_insn::{
-    AluFn, Ar, Br, BranchKind, CmpKind, Gr, LoadKind, Op, Pr, Rel, ShiftFn, StoreKind, Unit, Update,
+    AluFn, Ar, Br, BranchKind, CmpKind, Gr, LaneFn, LoadKind, Op, Pr, Rel, ShiftFn, StoreKind,
+    Unit, Update,
 };
 use std::marker::Model;
 
@@ -171,6 +172,23 @@ fn compare_imm_form(four: bool, kind: CmpKind) -> Form
         (false, _) => Form::CmpImmParallel,
         (true, CmpKind::Normal | CmpKind::Unc) => Form::Cmp4Imm,
         (true, _) => Form::Cmp4ImmParallel,
+    }
+}
+
+/// The form of an operation on lanes.
+fn lane_form(f: LaneFn, size: AccessSize) -> Form
+    ensures { result ≡ lane_form f size }
+{
+    match (f, size) {
+        (LaneFn::Padd, AccessSize::One) => Form::Padd1,
+        (LaneFn::Padd, AccessSize::Two) => Form::Padd2,
+        (LaneFn::Padd, AccessSize::Four | AccessSize::Eight) => Form::Padd4,
+        (LaneFn::Psub, AccessSize::One) => Form::Psub1,
+        (LaneFn::Psub, AccessSize::Two) => Form::Psub2,
+        (LaneFn::Psub, AccessSize::Four | AccessSize::Eight) => Form::Psub4,
+        (LaneFn::PcmpEq | LaneFn::PcmpGt, AccessSize::One) => Form::Pcmp1,
+        (LaneFn::PcmpEq | LaneFn::PcmpGt, AccessSize::Two) => Form::Pcmp2,
+        (LaneFn::PcmpEq | LaneFn::PcmpGt, AccessSize::Four | AccessSize::Eight) => Form::Pcmp4,
     }
 }
 
@@ -393,6 +411,19 @@ fn compare_zero(four: bool, rel: Rel, kind: CmpKind, p1: Pr, p2: Pr, r3: Gr) -> 
         &compare_completers(rel, kind),
         &[Token::Pr(p1), Token::Pr(p2), Token::Gr(r3)],
     )
+}
+
+/// An operation on lanes.
+fn lanes(f: LaneFn, size: u8, r1: Gr, r2: Gr, r3: Gr) -> Syntax
+    ensures { result ≡ syntax_of (ops.Lane f size r1 r2 r3) }
+{
+    let form = lane_form(f, size_of(size));
+    let operands = [Token::Gr(r1), Token::Gr(r2), Token::Gr(r3)];
+    match f {
+        LaneFn::Padd | LaneFn::Psub => written(form, &[], &operands),
+        LaneFn::PcmpEq => written(form, &[Completer::Relation(Relation::Eq)], &operands),
+        LaneFn::PcmpGt => written(form, &[Completer::Relation(Relation::Gt)], &operands),
+    }
 }
 
 /// A shift by a register.
@@ -637,6 +668,13 @@ pub(crate) fn syntax_of(op: &Op) -> Syntax
             number(imm),
             r3,
         ),
+        Op::Lane {
+            f,
+            size,
+            r1,
+            r2,
+            r3,
+        } => lanes(f, size, r1, r2, r3),
         Op::ShiftVar {
             f,
             r1,

@@ -51,6 +51,7 @@ in_range_a qp (op.AddImm22 r1 imm r3) = both (differ r1 0) (fits_signed 22 imm)
 in_range_a qp (op.Cmp four rel kind p1 p2 r2 r3) = both (differ p1 p2) (some (a.compare kind rel))
 in_range_a qp (op.CmpZero four rel kind p1 p2 r3) = three (differ p1 p2) (both (some (a.parallel_op kind)) (some (a.zero_codes rel)))
 in_range_a qp (op.CmpImm four rel kind p1 p2 imm r3) = three (differ p1 p2) (both (fits_signed 8 imm) (some (a.compare kind rel)))
+in_range_a qp (op.Lane f size r1 r2 r3) = both (differ r1 0) (some (a.lane_size_codes size))
 in_range_a qp o = no (λ h. h)
 
 pub listed_a : (insn : Insn) → Dec (IsListedA insn)

@@ -19,6 +19,8 @@ use Rattle.ia_insn.specs.declared.choices.Rel.TheVariants as rel
 use Rattle.ia_insn.specs.declared.choices.AluFn.{AluFn}
 use Rattle.ia_insn.specs.declared.choices.AluFn.TheVariants as alu
 use Rattle.ia_insn.specs.declared.choices.CmpKind.{CmpKind}
+use Rattle.ia_insn.specs.declared.choices.LaneFn.{LaneFn}
+use Rattle.ia_insn.specs.declared.choices.LaneFn.TheVariants as lane_fn
 use Rattle.ia_insn.specs.declared.choices.ShiftFn.TheVariants as shift
 use Rattle.ia_insn.specs.declared.choices.BranchKind.TheVariants as branch
 use Rattle.ia_insn.specs.declared.choices.Unit.TheVariants as unit
@@ -122,6 +124,14 @@ cmp_imm_parallel four cs xs = parallel_imm four (rel_of (relation_at cs 0)) (com
 abbrev pub cmp_imm_less : Bool → List Completer → List Token → Option Op
 cmp_imm_less four cs xs = less four (relation_at cs 0) (compare_at cs 1) (pr_at xs 0) (pr_at xs 1) (signed_at xs 2) (gr_at xs 3)
 
+-- the compare of lanes by this relation, which is eq or gt
+abbrev pub lane_compare : Relation → LaneFn
+lane_compare crel.Gt = lane_fn.PcmpGt
+lane_compare _ = lane_fn.PcmpEq
+
+abbrev pub lane_op : LaneFn → ℕ → List Token → Option Op
+lane_op f size xs = Some (op.Lane f size (gr_at xs 0) (gr_at xs 1) (gr_at xs 2))
+
 abbrev pub ext : Bool → ℕ → List Token → Option Op
 ext signed size xs = Some (op.Ext signed size (gr_at xs 0) (gr_at xs 1))
 
@@ -218,7 +228,16 @@ op_of form.NopImm cs xs = Some (op.Nop (unit_at cs 0 unit.X) (magnitude_at xs 0)
 op_of form.NopLong cs xs = Some (op.Nop (unit_at cs 0 unit.X) (magnitude_at xs 0))
 op_of form.Or cs xs = alu_op alu.Or xs
 op_of form.OrImm cs xs = alu_imm alu.Or xs
+op_of form.Padd1 cs xs = lane_op lane_fn.Padd 1 xs
+op_of form.Padd2 cs xs = lane_op lane_fn.Padd 2 xs
+op_of form.Padd4 cs xs = lane_op lane_fn.Padd 4 xs
+op_of form.Pcmp1 cs xs = lane_op (lane_compare (relation_at cs 0)) 1 xs
+op_of form.Pcmp2 cs xs = lane_op (lane_compare (relation_at cs 0)) 2 xs
+op_of form.Pcmp4 cs xs = lane_op (lane_compare (relation_at cs 0)) 4 xs
 op_of form.Popcnt cs xs = Some (op.Popcnt (gr_at xs 0) (gr_at xs 1))
+op_of form.Psub1 cs xs = lane_op lane_fn.Psub 1 xs
+op_of form.Psub2 cs xs = lane_op lane_fn.Psub 2 xs
+op_of form.Psub4 cs xs = lane_op lane_fn.Psub 4 xs
 op_of form.Shl cs xs = Some (op.ShiftVar shift.Shl (gr_at xs 0) (gr_at xs 1) (gr_at xs 2))
 op_of form.ShlNumber cs xs = Some (op.DepZ (gr_at xs 0) (gr_at xs 1) (small_at xs 2) (left_at xs 2))
 op_of form.Shladd cs xs = shladd false xs

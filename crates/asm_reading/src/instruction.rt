@@ -1,7 +1,7 @@
 //! The instruction that the completers and the operands of a form make.
 
 ghost use Rattle.std.specs.Prelude.{◌≡◌, ◌≢◌, negsuc, ◌≤ℤ◌, ◌<ℤ◌};
-ghost use Rattle.asm_reading.specs.Instructions.{op_of, compared, compared_imm, less, rel_of, parallel, parallel_zero, parallel_imm, sum, of_i_slot, allocation, alu_op, alu_imm, add_imm14, shladd, cmp, cmp_parallel, cmp_zero, cmp_imm, cmp_imm_parallel, cmp_imm_less, ext, load, store};
+ghost use Rattle.asm_reading.specs.Instructions.{op_of, compared, compared_imm, less, rel_of, parallel, parallel_zero, parallel_imm, sum, of_i_slot, allocation, alu_op, alu_imm, add_imm14, shladd, cmp, cmp_parallel, cmp_zero, cmp_imm, cmp_imm_parallel, cmp_imm_less, lane_compare, lane_op, ext, load, store};
 
 use crate::operands::{
     ar_at, br_at, compare_at, gr_at, hint_at, is_many_at, is_negative_at, is_present_at, is_unc_at,
@@ -11,7 +11,7 @@ use crate::operands::{
 };
 use asm_forms::{Completer, Form, NumberField, Relation, holds};
 use asm_words::Token;
-use ia_insn::{AluFn, Ar, BranchKind, CmpKind, Gr, Op, Pr, Rel, ShiftFn, Unit, Update};
+use ia_insn::{AluFn, Ar, BranchKind, CmpKind, Gr, LaneFn, Op, Pr, Rel, ShiftFn, Unit, Update};
 
 /// A compare of registers `a` and `b` into `p` and `q`. The machine has eq, lt and ltu: the others
 /// exchange the targets, the operands or both.
@@ -357,6 +357,29 @@ fn cmp_imm_less(four: bool, cs: &[Completer], xs: &[Token]) -> Option<Op>
     )
 }
 
+/// The compare of lanes by a relation, which is eq or gt.
+fn lane_compare(relation: Relation) -> LaneFn
+    ensures { result ≡ lane_compare relation }
+{
+    match relation {
+        Relation::Gt => LaneFn::PcmpGt,
+        _ => LaneFn::PcmpEq,
+    }
+}
+
+/// An operation on lanes.
+fn lane_op(f: LaneFn, size: u8, xs: &[Token]) -> Option<Op>
+    ensures { result ≡ lane_op f size xs.now }
+{
+    Some(Op::Lane {
+        f,
+        size,
+        r1: gr_at(xs, 0),
+        r2: gr_at(xs, 1),
+        r3: gr_at(xs, 2),
+    })
+}
+
 /// An extension of so many bytes.
 fn ext(signed: bool, size: u8, xs: &[Token]) -> Option<Op>
     ensures { result ≡ ext signed size xs.now }
@@ -674,10 +697,19 @@ pub(crate) fn op_of(form: Form, cs: &[Completer], xs: &[Token]) -> Option<Op>
         }),
         Form::Or => alu_op(AluFn::Or, xs),
         Form::OrImm => alu_imm(AluFn::Or, xs),
+        Form::Padd1 => lane_op(LaneFn::Padd, 1, xs),
+        Form::Padd2 => lane_op(LaneFn::Padd, 2, xs),
+        Form::Padd4 => lane_op(LaneFn::Padd, 4, xs),
+        Form::Pcmp1 => lane_op(lane_compare(relation_at(cs, 0)), 1, xs),
+        Form::Pcmp2 => lane_op(lane_compare(relation_at(cs, 0)), 2, xs),
+        Form::Pcmp4 => lane_op(lane_compare(relation_at(cs, 0)), 4, xs),
         Form::Popcnt => Some(Op::Popcnt {
             r1: gr_at(xs, 0),
             r3: gr_at(xs, 1),
         }),
+        Form::Psub1 => lane_op(LaneFn::Psub, 1, xs),
+        Form::Psub2 => lane_op(LaneFn::Psub, 2, xs),
+        Form::Psub4 => lane_op(LaneFn::Psub, 4, xs),
         Form::Shl => Some(Op::ShiftVar {
             f: ShiftFn::Shl,
             r1: gr_at(xs, 0),

@@ -353,16 +353,13 @@ fn among(
         [Form::Data4, ..] => data_line(AccessSize::Four, line, before, after, buffer),
         [Form::Data8, ..] => data_line(AccessSize::Eight, line, before, after, buffer),
         [Form::PredRel, ..] => relation_line(line, before, after, buffer),
-        [
-            Form::Text
-            | Form::Data
-            | Form::Entry
-            | Form::Global
-            | Form::Proc
-            | Form::Endp
-            | Form::Skip,
-            ..
-        ] => directive_line(forms, line, before, after, buffer),
+        [Form::Text, ..] => directive_line(forms, line, before, after, buffer),
+        [Form::Data, ..] => directive_line(forms, line, before, after, buffer),
+        [Form::Entry, ..] => directive_line(forms, line, before, after, buffer),
+        [Form::Global, ..] => directive_line(forms, line, before, after, buffer),
+        [Form::Proc, ..] => directive_line(forms, line, before, after, buffer),
+        [Form::Endp, ..] => directive_line(forms, line, before, after, buffer),
+        [Form::Skip, ..] => directive_line(forms, line, before, after, buffer),
         [_, ..] => slot_of(forms, name, line, before, after, buffer),
     }
 }

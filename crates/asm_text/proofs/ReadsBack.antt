@@ -3,7 +3,7 @@ use Rattle.ia_insn.specs.declared.insn.Op.{Op}
 use Rattle.ia_insn.specs.declared.insn.Op.TheVariants as op
 use Rattle.ia_insn.specs.Ranges.{HasRanges}
 use Rattle.asm_text.proofs.WayBack.{ReadsBack}
-use Rattle.asm_text.proofs.ReadsBackA.{alu_back, shladd_back, imm8_back, imm14_back, imm22_back, cmp_back, cmp_zero_back, cmp_imm_back}
+use Rattle.asm_text.proofs.ReadsBackA.{alu_back, shladd_back, imm8_back, imm14_back, imm22_back, cmp_back, cmp_zero_back, cmp_imm_back, lane_back}
 use Rattle.asm_text.proofs.ReadsBackI.{shift_back, popcnt_back, shrp_back, extr_back, dep_z_back, dep_z_imm_back, dep_imm_back, dep_back, tbit_back, tnat_back, chk_s_back, mov_to_br_back, mov_from_br_back, mov_to_pr_back, mov_to_pr_rot_back, mov_from_ip_back, mov_from_pr_back, to_ar_back, to_ar_imm_back, from_ar_back, ext_back}
 use Rattle.asm_text.proofs.ReadsBackM.{load_back, store_back, chk_a_back, invala_back, mf_back, invala_e_back, alloc_back}
 use Rattle.asm_text.proofs.ReadsBackB.{br_back, br_call_back, br_ind_back, br_ret_back, br_call_ind_back, clrrrb_back}
@@ -18,6 +18,7 @@ reads_back (op.AddImm22 r1 imm r3) h = imm22_back r1 imm r3 h.1
 reads_back (op.Cmp four rel kind p1 p2 r2 r3) h = cmp_back four kind rel p1 p2 r2 r3 h.1
 reads_back (op.CmpZero four rel kind p1 p2 r3) h = cmp_zero_back four kind rel p1 p2 r3 h.1 h.2
 reads_back (op.CmpImm four rel kind p1 p2 imm r3) h = cmp_imm_back four kind rel p1 p2 imm r3 h.1 h.2
+reads_back (op.Lane f size r1 r2 r3) h = lane_back f size r1 r2 r3 h.1
 reads_back (op.ShiftVar f r1 value count) h = shift_back f r1 value count
 reads_back (op.Popcnt r1 r3) h = popcnt_back r1 r3
 reads_back (op.Shrp r1 r2 r3 count) h = shrp_back r1 r2 r3 count h.1

@@ -1,5 +1,5 @@
 -- The printed A instructions are read back.
-use Rattle.std.proofs.Common.{refl, ℕ, ◌≤◌, ℤ, Bool, true, false, IsSome, lit<}
+use Rattle.std.proofs.Common.{refl, inl, inr, ℕ, ◌≤◌, ℤ, Bool, true, false, IsSome, lit<}
 use Rattle.std.proofs.lemmas.Bool.{le-leb}
 use Rattle.ia_insn.specs.declared.insn.Op.TheVariants as op
 use Rattle.ia_insn.specs.declared.choices.AluFn.{AluFn}
@@ -8,6 +8,9 @@ use Rattle.ia_insn.specs.declared.choices.Rel.{Rel}
 use Rattle.ia_insn.specs.declared.choices.Rel.TheVariants as rel
 use Rattle.ia_insn.specs.declared.choices.CmpKind.{CmpKind}
 use Rattle.ia_insn.specs.declared.choices.CmpKind.TheVariants as cmp
+use Rattle.ia_insn.specs.declared.choices.LaneFn.{LaneFn}
+use Rattle.ia_insn.specs.declared.choices.LaneFn.TheVariants as lane_fn
+use Rattle.ia_insn.specs.Ranges.{IsPartSize}
 use Rattle.ia_insn.specs.Signed.{FitsSigned}
 use Rattle.ia_insn.specs.FormatsA.{imm8_codes, compare, parallel_op, zero_codes}
 use Rattle.asm_printing.proofs.FieldRanges.{is_below, is_short, has_imm8, has_imm14, has_imm22}
@@ -130,3 +133,18 @@ cmp_imm_back false cmp.OrAndcm rel.Eq p1 p2 imm r3 h s = record { choice = refl;
 cmp_imm_back true cmp.OrAndcm rel.Ne p1 p2 imm r3 h s = record { choice = refl; fits = rw (has_imm8 imm h) refl; label = refl; slot = refl; bare = refl; op = rw (is_short 8 9223372036854775808 imm h (lit< tt), signed_back imm) refl }
 cmp_imm_back false cmp.OrAndcm rel.Ne p1 p2 imm r3 h s = record { choice = refl; fits = rw (has_imm8 imm h) refl; label = refl; slot = refl; bare = refl; op = rw (is_short 8 9223372036854775808 imm h (lit< tt), signed_back imm) refl }
 cmp_imm_back four k r p1 p2 imm r3 h s = cc
+
+-- A9
+pub lane_back : (f : LaneFn) (size r1 r2 r3 : ℕ) → IsPartSize size → ReadsBack (op.Lane f size r1 r2 r3)
+lane_back lane_fn.Padd size r1 r2 r3 (inl e) = rw e (record { choice = refl; fits = refl; label = refl; slot = refl; bare = refl; op = refl })
+lane_back lane_fn.Padd size r1 r2 r3 (inr (inl e)) = rw e (record { choice = refl; fits = refl; label = refl; slot = refl; bare = refl; op = refl })
+lane_back lane_fn.Padd size r1 r2 r3 (inr (inr e)) = rw e (record { choice = refl; fits = refl; label = refl; slot = refl; bare = refl; op = refl })
+lane_back lane_fn.Psub size r1 r2 r3 (inl e) = rw e (record { choice = refl; fits = refl; label = refl; slot = refl; bare = refl; op = refl })
+lane_back lane_fn.Psub size r1 r2 r3 (inr (inl e)) = rw e (record { choice = refl; fits = refl; label = refl; slot = refl; bare = refl; op = refl })
+lane_back lane_fn.Psub size r1 r2 r3 (inr (inr e)) = rw e (record { choice = refl; fits = refl; label = refl; slot = refl; bare = refl; op = refl })
+lane_back lane_fn.PcmpEq size r1 r2 r3 (inl e) = rw e (record { choice = refl; fits = refl; label = refl; slot = refl; bare = refl; op = refl })
+lane_back lane_fn.PcmpEq size r1 r2 r3 (inr (inl e)) = rw e (record { choice = refl; fits = refl; label = refl; slot = refl; bare = refl; op = refl })
+lane_back lane_fn.PcmpEq size r1 r2 r3 (inr (inr e)) = rw e (record { choice = refl; fits = refl; label = refl; slot = refl; bare = refl; op = refl })
+lane_back lane_fn.PcmpGt size r1 r2 r3 (inl e) = rw e (record { choice = refl; fits = refl; label = refl; slot = refl; bare = refl; op = refl })
+lane_back lane_fn.PcmpGt size r1 r2 r3 (inr (inl e)) = rw e (record { choice = refl; fits = refl; label = refl; slot = refl; bare = refl; op = refl })
+lane_back lane_fn.PcmpGt size r1 r2 r3 (inr (inr e)) = rw e (record { choice = refl; fits = refl; label = refl; slot = refl; bare = refl; op = refl })

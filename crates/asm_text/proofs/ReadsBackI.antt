@@ -9,7 +9,7 @@ use Rattle.ia_insn.specs.declared.choices.ShiftFn.TheVariants as shift
 use Rattle.ia_insn.specs.declared.choices.Unit.{Unit as ExecutionUnit}
 use Rattle.ia_insn.specs.declared.choices.Unit.TheVariants as unit
 use Rattle.ia_insn.specs.Signed.{twos, FitsSigned}
-use Rattle.ia_insn.specs.Ranges.{IsBitField, IsCheckOf}
+use Rattle.ia_insn.specs.Ranges.{IsBitField, IsPartSize, IsCheckOf}
 use Rattle.asm_printing.proofs.FieldRanges.{is_below, is_short, has_imm8, has_tag, has_rotating_mask}
 use Rattle.asm_text.proofs.WayBack.{ReadsBack, signed_back, mask_back}
 
@@ -132,7 +132,7 @@ from_ar_back r1 ar.Lc = record { choice = refl; fits = refl; label = refl; slot 
 from_ar_back r1 ar.Ec = record { choice = refl; fits = refl; label = refl; slot = refl; bare = refl; op = refl }
 
 -- I29
-pub ext_back : (signed : Bool) (size r1 r3 : ℕ) → (size ≡ 1) ⊎ ((size ≡ 2) ⊎ (size ≡ 4)) → ReadsBack (op.Ext signed size r1 r3)
+pub ext_back : (signed : Bool) (size r1 r3 : ℕ) → IsPartSize size → ReadsBack (op.Ext signed size r1 r3)
 ext_back true size r1 r3 (inl e) = rw e (record { choice = refl; fits = refl; label = refl; slot = refl; bare = refl; op = refl })
 ext_back true size r1 r3 (inr (inl e)) = rw e (record { choice = refl; fits = refl; label = refl; slot = refl; bare = refl; op = refl })
 ext_back true size r1 r3 (inr (inr e)) = rw e (record { choice = refl; fits = refl; label = refl; slot = refl; bare = refl; op = refl })

@@ -4,19 +4,21 @@ use Rattle.std.proofs.lemmas.Bool.{leb-true}
 use Rattle.std.specs.Prelude.{IsSome, unwrap_or}
 use Rattle.bundle_bits.specs.Words.{is_layout, the}
 use Rattle.ia_insn.specs.Signed.{flag}
-use Rattle.ia_insn.specs.FormatsA.{x4_of, x2b_of, imm8_codes, compare, parallel_op, zero_codes, fields, IsInRange, IsListedA, word_a, CodeA}
+use Rattle.ia_insn.specs.FormatsA.{x4_of, x2b_of, imm8_codes, compare, parallel_op, zero_codes, lane_size_codes, lane_codes, fields, IsInRange, IsListedA, word_a, CodeA}
 use Rattle.bundle_bits.proofs.Words.{value_in, row, word-fits, least_of, word-reaches}
 use Rattle.ia_insn.proofs.Parts.{imm8-back, imm14-back, imm22-back}
 use Rattle.ia_insn.specs.declared.insn.Insn.{Insn}
 use Rattle.ia_insn.specs.declared.insn.Op.{Op}
-use Rattle.ia_insn.specs.declared.insn.Op.TheVariants.{Alu, ShlAdd, AluImm8, AddImm14, AddImm22, Cmp, CmpZero, CmpImm}
+use Rattle.ia_insn.specs.declared.insn.Op.TheVariants.{Alu, ShlAdd, AluImm8, AddImm14, AddImm22, Cmp, CmpZero, CmpImm, Lane}
 use Rattle.ia_insn.specs.declared.choices.AluFn.{AluFn}
 use Rattle.ia_insn.specs.declared.choices.AluFn.TheVariants.{Add, Sub, And, Andcm, Or, Xor}
+use Rattle.ia_insn.specs.declared.choices.LaneFn.{LaneFn}
+use Rattle.ia_insn.specs.declared.choices.LaneFn.TheVariants.{Padd, Psub, PcmpEq, PcmpGt}
 use Rattle.ia_insn.specs.declared.choices.Rel.{Rel}
 use Rattle.ia_insn.specs.declared.choices.Rel.TheVariants.{Eq, Ne, Lt, Ltu, Gt, Ge, Le}
 use Rattle.ia_insn.specs.declared.choices.CmpKind.{CmpKind}
 use Rattle.ia_insn.specs.declared.choices.CmpKind.TheVariants as kinds
-use Rattle.formats_a.specs.Reading.{alu_of, imm8_of, parallel_kind_of, rel_of, kind_of, zero_rel_of, integer_in, add_imm22_in, compare_in, op_in, candidate}
+use Rattle.formats_a.specs.Reading.{alu_of, imm8_of, lane_size_of, lane_fn_of, parallel_kind_of, rel_of, kind_of, zero_rel_of, integer_in, add_imm22_in, compare_in, op_in, candidate}
 
 -- Each table of codes read backwards, and what of the codes tells formats apart.
 
@@ -69,6 +71,15 @@ zero-back Ge listed = refl
 zero-back Lt listed = refl
 zero-back rel listed = absurd cc
 
+lane_size-back : (size : ℕ) → IsSome (lane_size_codes size) → (let z = unwrap_or (lane_size_codes size) (0, 0) in lane_size_of z.0 z.1) ≡ size
+lane_size-back size listed = grind arith
+
+lane_fn-back : (f : LaneFn) → (let x = lane_codes f in lane_fn_of x.0 x.1) ≡ f
+lane_fn-back Padd = refl
+lane_fn-back Psub = refl
+lane_fn-back PcmpEq = refl
+lane_fn-back PcmpGt = refl
+
 -- x2 of a compare of registers is 0, or 1 of four bytes
 low-flag : (b : Bool) → (let x = flag b in (eqb x 1 ≡ b) × (ltb 1 x ≡ false))
 low-flag false = (refl, refl)
@@ -111,6 +122,7 @@ back w qp (CmpImm four rel kind p1 p2 imm r3) range =
     let t = compare-back kind rel range.2 in
     let x2 = high-flag four in
     simp (t.0, t.1, t.2, t.3, x2.0, x2.1, imm8-back imm range.1) refl
+back w qp (Lane f size r1 r2 r3) range = simp (lane_fn-back f, lane_size-back size range.1) refl
 back w qp op range = absurd range
 
 -- The candidate of an instruction's word is the instruction.
@@ -155,6 +167,7 @@ high-opcode qp (AddImm22 r1 imm r3) range = refl
 high-opcode qp (Cmp four rel kind p1 p2 r2 r3) range = compare-high kind rel range.1
 high-opcode qp (CmpZero four rel kind p1 p2 r3) range = parallel-high kind range.1
 high-opcode qp (CmpImm four rel kind p1 p2 imm r3) range = compare-high kind rel range.2
+high-opcode qp (Lane f size r1 r2 r3) range = refl
 high-opcode qp op range = absurd range
 
 pub opcode_is_high : (i : Insn) (w : ℕ) → CodeA i w → 2 ^ 40 ≤ w

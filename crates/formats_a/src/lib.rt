@@ -1,8 +1,9 @@
 //! The A instructions: integer operations that go into an M or an I slot (volume 3, chapter 4,
-//! instruction formats, A1 to A8).
+//! instruction formats, A1 to A9).
 //!
 //! They are the additions, subtractions and logical operations on registers and on immediates of
-//! 8, 14 and 22 bits, shift left and add, and the compares. [`decode_a`] gives the instruction of
+//! 8, 14 and 22 bits, shift left and add, the compares, and the additions, subtractions and compares
+//! of lanes. [`decode_a`] gives the instruction of
 //! a slot's word and [`encode_a`] the word of an instruction. Both are exact: a word with a bit
 //! set that its format leaves blank, a reserved code or an operand out of its range is that of no
 //! instruction.
@@ -22,7 +23,7 @@ mod writing;
 use ia_insn::{Insn, is_listed_a};
 
 /// The A instruction whose word this is, and None exactly where it is that of none (volume 3,
-/// chapter 4, instruction formats, A1 to A8). Where in its bundle the word stands is not looked at.
+/// chapter 4, instruction formats, A1 to A9). Where in its bundle the word stands is not looked at.
 #[tactic(auto, using(crate::proofs::RowsA::read_back, crate::proofs::RowsA::code_is_below))]
 pub fn decode_a(word: u64) -> Option<Insn>
     // What is answered has this word.
@@ -54,7 +55,7 @@ fn has_word(insn: &Insn, word: u64) -> bool
 }
 
 /// The word of an A instruction, and None exactly where the instruction is of another family or
-/// an operand is not in its range (volume 3, chapter 4, instruction formats, A1 to A8).
+/// an operand is not in its range (volume 3, chapter 4, instruction formats, A1 to A9).
 #[tactic(auto, using(crate::proofs::RowsA::word_is_below))]
 pub fn encode_a(insn: &Insn) -> Option<u64>
     ensures word { SomeIff result (IsListedA insn.now) (word_a insn.now) }

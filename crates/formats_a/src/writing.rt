@@ -2,14 +2,14 @@
 //! format.
 
 ghost use Rattle.std.specs.Prelude.{◌≡◌, IsSome, unwrap_or};
-ghost use Rattle.ia_insn.specs.FormatsA.{x4_of, x2b_of, imm8_codes, compare, parallel_op, zero_codes, IsListedA, word_a};
+ghost use Rattle.ia_insn.specs.FormatsA.{x4_of, x2b_of, imm8_codes, compare, parallel_op, zero_codes, lane_size_codes, lane_codes, IsListedA, word_a};
 
 use bundle_bits::{Field, word_of_parts};
 use ia_insn::fields::{
     C, Ct2d, Imm5c, Imm6d, Imm7b, Imm9d, Major, P1, P2, Qp, R1, R2, R3, R3A5, S, Ta, Tb, Ve, X2,
-    X2a, X2b, X4,
+    X2a, X2b, X4, Za, Zb,
 };
-use ia_insn::{AluFn, CmpKind, Insn, Op, Rel, twos_complement};
+use ia_insn::{AluFn, CmpKind, Insn, LaneFn, Op, Rel, twos_complement};
 
 /// x4 and x2b of an operation on two registers.
 fn codes_of_alu(f: AluFn) -> (u64, u64)
@@ -89,6 +89,31 @@ fn codes_of_zero(rel: Rel) -> (u64, u64)
         Rel::Ge => (1, 0),
         Rel::Lt => (1, 1),
         _ => unreachable!(),
+    }
+}
+
+/// za and zb of lanes of a size in bytes.
+fn codes_of_lane_size(size: u8) -> (u64, u64)
+    requires { IsSome (lane_size_codes size) }
+    ensures { result ≡ unwrap_or (lane_size_codes size) (0, 0) }
+{
+    match size {
+        1 => (0, 0),
+        2 => (0, 1),
+        4 => (1, 0),
+        _ => unreachable!(),
+    }
+}
+
+/// x4 and x2b of an operation on lanes.
+fn codes_of_lane(f: LaneFn) -> (u64, u64)
+    ensures { result ≡ lane_codes f }
+{
+    match f {
+        LaneFn::Padd => (0, 0),
+        LaneFn::Psub => (1, 0),
+        LaneFn::PcmpEq => (9, 0),
+        LaneFn::PcmpGt => (9, 1),
     }
 }
 
@@ -247,6 +272,29 @@ pub(crate) fn write(insn: &Insn) -> u64
                 Imm7b::of(Field::<0, 7>::get(bits)),
                 C::of(c),
                 P1::of(u64::from(p1.number())),
+                qp,
+            ])
+        }
+        // A9: lanes of two registers
+        Op::Lane {
+            f,
+            size,
+            r1,
+            r2,
+            r3,
+        } => {
+            let (za, zb) = codes_of_lane_size(size);
+            let (x4, x2b) = codes_of_lane(f);
+            word_of_parts(&[
+                Major::of(8),
+                Za::of(za),
+                X2a::of(1),
+                Zb::of(zb),
+                X4::of(x4),
+                X2b::of(x2b),
+                R3::of(u64::from(r3.number())),
+                R2::of(u64::from(r2.number())),
+                R1::of(u64::from(r1.number())),
                 qp,
             ])
         }

@@ -1,14 +1,16 @@
 -- The A formats, of M and I slots: the fields of each instruction, and when it is listed
--- (volume 3, chapter 4, instruction formats, A1 to A8).
-use Rattle.std.specs.Prelude.{◌≡◌, ◌≢◌, ℕ, ◌+◌, ◌-◌, ◌*◌, ◌≤◌, List, [], ◌∷◌, Option, Some, None, IsSome, unwrap_or}
-use Rattle.ia_insn.specs.Fields.{Major, Qp, Tb, X2, X2a, Ve, Ta, X4, X2b, C, P2, R3, R3A5, R2, R1, P1, S, Imm9d, Imm6d, Imm5c, Imm7b, Ct2d}
+-- (volume 3, chapter 4, instruction formats, A1 to A9).
+use Rattle.std.specs.Prelude.{◌≡◌, ◌≢◌, ℕ, ◌+◌, ◌-◌, ◌*◌, ◌≤◌, ◌==◌, if◌then◌else◌, List, [], ◌∷◌, Option, Some, None, IsSome, unwrap_or}
+use Rattle.ia_insn.specs.Fields.{Major, Qp, Za, Tb, X2, X2a, Ve, Zb, Ta, X4, X2b, C, P2, R3, R3A5, R2, R1, P1, S, Imm9d, Imm6d, Imm5c, Imm7b, Ct2d}
 use Rattle.bundle_bits.specs.Words.{Part, word_of, AllFit, bits}
 use Rattle.ia_insn.specs.Signed.{twos, FitsSigned, flag}
 use Rattle.ia_insn.specs.declared.insn.Insn.{Insn}
 use Rattle.ia_insn.specs.declared.insn.Op.{Op}
-use Rattle.ia_insn.specs.declared.insn.Op.TheVariants.{Alu, ShlAdd, AluImm8, AddImm14, AddImm22, Cmp, CmpZero, CmpImm}
+use Rattle.ia_insn.specs.declared.insn.Op.TheVariants.{Alu, ShlAdd, AluImm8, AddImm14, AddImm22, Cmp, CmpZero, CmpImm, Lane}
 use Rattle.ia_insn.specs.declared.choices.AluFn.{AluFn}
 use Rattle.ia_insn.specs.declared.choices.AluFn.TheVariants.{Add, Add1, Sub, Sub1, Addp4, And, Andcm, Or, Xor}
+use Rattle.ia_insn.specs.declared.choices.LaneFn.{LaneFn}
+use Rattle.ia_insn.specs.declared.choices.LaneFn.TheVariants.{Padd, Psub, PcmpEq, PcmpGt}
 use Rattle.ia_insn.specs.declared.choices.Rel.{Rel}
 use Rattle.ia_insn.specs.declared.choices.Rel.TheVariants.{Eq, Ne, Lt, Ltu, Gt, Ge, Le}
 use Rattle.ia_insn.specs.declared.choices.CmpKind.{CmpKind}
@@ -77,6 +79,18 @@ zero_codes Ge = Some (1, 0)
 zero_codes Lt = Some (1, 1)
 zero_codes rel = None
 
+-- za and zb of lanes of a size, A9
+abbrev pub lane_size_codes : ℕ → Option (ℕ × ℕ)
+lane_size_codes size =
+    if size == 1 then Some (0, 0) else if size == 2 then Some (0, 1) else if size == 4 then Some (1, 0) else None
+
+-- x4 and x2b of the operations on lanes, A9
+abbrev pub lane_codes : LaneFn → ℕ × ℕ
+lane_codes Padd = (0, 0)
+lane_codes Psub = (1, 0)
+lane_codes PcmpEq = (9, 0)
+lane_codes PcmpGt = (9, 1)
+
 -- The fields, from the top bit down: each that the format has, so what it leaves blank has none. An
 -- instruction of another family has none at all.
 abbrev pub fields : ℕ → Op → List Part
@@ -116,6 +130,11 @@ fields qp (CmpImm four rel kind p1 p2 imm r3) =
     let x = unwrap_or (compare kind rel) (0, 0, 0) in
     Major x.0 ∷ S (bits 7 1 u) ∷ X2 (2 + flag four) ∷ Ta x.1 ∷ P2 p2 ∷ R3 r3 ∷ Imm7b (bits 0 7 u) ∷ C x.2 ∷ P1 p1
     ∷ Qp qp ∷ []
+-- A9: lanes of two registers
+fields qp (Lane f size r1 r2 r3) =
+    let z = unwrap_or (lane_size_codes size) (0, 0) in
+    let x = lane_codes f in
+    Major 8 ∷ Za z.0 ∷ X2a 1 ∷ Zb z.1 ∷ X4 x.0 ∷ X2b x.1 ∷ R3 r3 ∷ R2 r2 ∷ R1 r1 ∷ Qp qp ∷ []
 fields qp op = []
 
 -- What of an instruction's range its fields' widths don't say: r0 is no target, two predicate
@@ -129,6 +148,7 @@ IsInRange qp (AddImm22 r1 imm r3) = (r1 ≢ 0) × FitsSigned 22 imm
 IsInRange qp (Cmp four rel kind p1 p2 r2 r3) = (p1 ≢ p2) × IsSome (compare kind rel)
 IsInRange qp (CmpZero four rel kind p1 p2 r3) = (p1 ≢ p2) × IsSome (parallel_op kind) × IsSome (zero_codes rel)
 IsInRange qp (CmpImm four rel kind p1 p2 imm r3) = (p1 ≢ p2) × FitsSigned 8 imm × IsSome (compare kind rel)
+IsInRange qp (Lane f size r1 r2 r3) = (r1 ≢ 0) × IsSome (lane_size_codes size)
 IsInRange qp op = ⊥
 
 -- The instruction is an A instruction, in its range.

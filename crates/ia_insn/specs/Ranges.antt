@@ -23,6 +23,10 @@ pub record IsBitField (pos len most : ℕ) : Type 0 where
 abbrev pub IsAccessSize : ℕ → Type 0
 IsAccessSize size = (size ≡ 1) ⊎ ((size ≡ 2) ⊎ ((size ≡ 4) ⊎ (size ≡ 8)))
 
+-- 1, 2 or 4 bytes: a part of a register
+abbrev pub IsPartSize : ℕ → Type 0
+IsPartSize size = (size ≡ 1) ⊎ ((size ≡ 2) ⊎ (size ≡ 4))
+
 -- a fill is of 8 bytes
 abbrev pub IsLoadSize : LoadKind → ℕ → Type 0
 IsLoadSize loads.Fill size = size ≡ 8
@@ -63,6 +67,7 @@ HasRanges (ops.AddImm22 r1 imm r3) = (r1 ≢ 0) × FitsSigned 22 imm × (r3 ≤ 
 HasRanges (ops.Cmp four rel kind p1 p2 r2 r3) = (p1 ≢ p2) × IsSome (compare kind rel)
 HasRanges (ops.CmpZero four rel kind p1 p2 r3) = (p1 ≢ p2) × IsSome (parallel_op kind) × IsSome (zero_codes rel)
 HasRanges (ops.CmpImm four rel kind p1 p2 imm r3) = (p1 ≢ p2) × FitsSigned 8 imm × IsSome (compare kind rel)
+HasRanges (ops.Lane f size r1 r2 r3) = (r1 ≢ 0) × IsPartSize size
 HasRanges (ops.ShiftVar f r1 value count) = r1 ≢ 0
 HasRanges (ops.Popcnt r1 r3) = r1 ≢ 0
 HasRanges (ops.Shrp r1 r2 r3 count) = (r1 ≢ 0) × (count ≤ 63)
@@ -83,7 +88,7 @@ HasRanges (ops.MovFromPr r1) = r1 ≢ 0
 HasRanges (ops.MovToAr ar r2) = Unit {0}
 HasRanges (ops.MovToArImm ar imm) = FitsSigned 8 imm
 HasRanges (ops.MovFromAr r1 ar) = r1 ≢ 0
-HasRanges (ops.Ext signed size r1 r3) = (r1 ≢ 0) × ((size ≡ 1) ⊎ ((size ≡ 2) ⊎ (size ≡ 4)))
+HasRanges (ops.Ext signed size r1 r3) = (r1 ≢ 0) × IsPartSize size
 HasRanges (ops.Load size kind hint r1 r3 update) =
     (r1 ≢ 0) × IsLoadSize kind size × (hint ≤ 3) × (hint ≢ 2) × IsLoadUpdate r1 r3 update
 HasRanges (ops.Store size kind hint r3 r2 update) =

@@ -42,6 +42,19 @@ pub enum AluFn {
     Xor,
 }
 
+/// An operation on the lanes of two registers, parallel in the manual (volume 3, chapter 4, format A9).
+#[derive(Clone, Copy, Debug, PartialEq, Eq)]
+pub enum LaneFn {
+    /// The sums.
+    Padd,
+    /// The differences.
+    Psub,
+    /// Ones where the lanes are equal, else zeros.
+    PcmpEq,
+    /// Ones where the first lane is greater than the second, signed, else zeros.
+    PcmpGt,
+}
+
 /// A shift by a count in a register (volume 3, chapter 4, formats I5 and I7).
 #[derive(Clone, Copy, Debug, PartialEq, Eq)]
 pub enum ShiftFn {

@@ -2,7 +2,9 @@
 
 ghost use Rattle.std.specs.Prelude.{◌≡◌};
 
-use crate::choices::{AluFn, BranchKind, CmpKind, LoadKind, Rel, ShiftFn, StoreKind, Unit, Update};
+use crate::choices::{
+    AluFn, BranchKind, CmpKind, LaneFn, LoadKind, Rel, ShiftFn, StoreKind, Unit, Update,
+};
 use crate::registers::{Ar, Br, Gr, Pr};
 
 /// An instruction with its qualifying predicate (volume 1, chapter 3, instruction encoding). A
@@ -120,6 +122,19 @@ pub enum Op {
         p2: Pr,
         /// The first operand, -128 to 127.
         imm: i64,
+        /// The second operand.
+        r3: Gr,
+    },
+    /// `f` of each lane of `r2` and the same one of `r3`, into that lane of `r1` (A9).
+    Lane {
+        /// The operation.
+        f: LaneFn,
+        /// How many bytes a lane has: 1, 2 or 4.
+        size: u8,
+        /// The target.
+        r1: Gr,
+        /// The first operand.
+        r2: Gr,
         /// The second operand.
         r3: Gr,
     },

@@ -38,7 +38,9 @@ mod template;
 
 pub use addresses::{BUNDLE_BASE, DATA_BASE, bundle_address, data_address};
 pub use bundle::{BundleOf, Slots};
-pub use choices::{AluFn, BranchKind, CmpKind, LoadKind, Rel, ShiftFn, StoreKind, Unit, Update};
+pub use choices::{
+    AluFn, BranchKind, CmpKind, LaneFn, LoadKind, Rel, ShiftFn, StoreKind, Unit, Update,
+};
 pub use ending::{End, FaultKind, GroupEvent, How};
 pub use entries::{are_in_range, is_entry, misplaced_entry};
 pub use insn::{Insn, Op};

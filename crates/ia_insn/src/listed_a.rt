@@ -1,10 +1,10 @@
-//! Which instructions are A instructions, in their range (volume 3, chapter 4, formats A1 to A8).
+//! Which instructions are A instructions, in their range (volume 3, chapter 4, formats A1 to A9).
 //!
 //! A call such as `has_seven_bits` does nothing: it tells the proof that a register's number fits its
 //! field.
 
 ghost use Rattle.std.specs.Prelude.{◌↔◌, IsTrue, IsSome};
-ghost use Rattle.ia_insn.specs.FormatsA.{imm8_codes, compare, parallel_op, zero_codes, IsListedA};
+ghost use Rattle.ia_insn.specs.FormatsA.{imm8_codes, compare, parallel_op, zero_codes, lane_size_codes, IsListedA};
 
 use crate::choices::{AluFn, CmpKind, Rel};
 use crate::insn::{Insn, Op};
@@ -36,6 +36,13 @@ fn is_zero_compare(kind: CmpKind, rel: Rel) -> bool
 {
     matches!(kind, CmpKind::And | CmpKind::Or | CmpKind::OrAndcm)
         && matches!(rel, Rel::Gt | Rel::Le | Rel::Ge | Rel::Lt)
+}
+
+/// Whether lanes have this size in bytes.
+fn is_lane_size(size: u8) -> bool
+    ensures { IsTrue result ↔ IsSome (lane_size_codes size) }
+{
+    size == 1 || size == 2 || size == 4
 }
 
 /// Whether the instruction is an A instruction whose operands are in their ranges.
@@ -106,6 +113,17 @@ pub fn is_listed_a(insn: &Insn) -> bool
         } => {
             r3.has_seven_bits();
             p1.number() != p2.number() && fits_signed::<8>(imm) && is_compare(kind, rel)
+        }
+        Op::Lane {
+            size,
+            r1,
+            r2,
+            r3,
+            ..
+        } => {
+            r2.has_seven_bits();
+            r3.has_seven_bits();
+            !r1.is_zero() && is_lane_size(size)
         }
         _ => false,
     }

@@ -8,6 +8,7 @@ use Rattle.ia_insn.specs.declared.choices.AluFn.TheVariants as alu_fn
 use Rattle.ia_insn.specs.declared.choices.CmpKind.{CmpKind}
 use Rattle.ia_insn.specs.declared.choices.CmpKind.TheVariants.{Normal, Unc, And, Or, OrAndcm}
 use Rattle.ia_insn.specs.declared.choices.Rel.TheVariants.{Eq, Lt, Ltu, Gt}
+use Rattle.ia_insn.specs.declared.choices.LaneFn.TheVariants.{Padd, Psub, PcmpEq, PcmpGt}
 use Rattle.ia_insn.specs.declared.choices.ShiftFn.TheVariants.{Shr, ShrU, Shl}
 use Rattle.ia_insn.specs.declared.choices.Unit.TheVariants.{M}
 use Rattle.ia_insn.specs.declared.insn.Insn.{Insn}
@@ -266,6 +267,21 @@ relations :
     × (run_at 0 (op.CmpZero false Gt Or 6 7 1) ≡ nothing)
 unfolding look spot holds predicate_spot predicate_place
 relations = (refl, refl, refl, refl, refl, refl)
+
+-- Nothing is carried from lane to lane. Lanes are compared as signed numbers, and the result of a NaT is one.
+operations_on_lanes :
+    (run_at 0x01ff (op.Lane Padd 1 5 4 1) ≡ gives 0x0102)
+    × (run_at 0x01ff (op.Lane Padd 2 5 4 1) ≡ gives 0x0202)
+    × (run_at 0xffff_ffff (op.Lane Padd 4 5 4 1) ≡ gives 2)
+    × (run_at 0x0100 (op.Lane Psub 1 5 4 1) ≡ gives 0x01fd)
+    × (run_at 0 (op.Lane Psub 4 5 4 1) ≡ gives 0xffff_fffd)
+    × (run_at 0x1_0003 (op.Lane PcmpEq 2 5 4 1) ≡ gives 0xffff_ffff_0000_ffff)
+    × (run_at 0x0180 (op.Lane PcmpGt 1 5 4 1) ≡ gives 0xff00)
+    × (run_at 0x0180 (op.Lane PcmpGt 1 5 1 4) ≡ gives 0x00ff)
+    × (run_at 0x8000_0000 (op.Lane PcmpGt 4 5 0 4) ≡ gives 0xffff_ffff)
+    × (run_at 0 (op.Lane Padd 1 5 1 3) ≡ falls (SetStatic 5 (nat_cell 10) ∷ []) memory)
+unfolding look spot holds
+operations_on_lanes = (refl, refl, refl, refl, refl, refl, refl, refl, refl, refl)
 
 -- Moves.
 

@@ -1,5 +1,6 @@
 pub mod Sequences
 pub mod FormRanges
+pub mod LaneValues
 pub mod Inversions
 mod Examples
 pub mod Arrivals

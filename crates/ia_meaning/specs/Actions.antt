@@ -23,6 +23,7 @@ use Rattle.ia_meaning.specs.declared.form.MovedWord.TheVariants as word
 use Rattle.ia_meaning.specs.declared.form.Form.{Form}
 use Rattle.ia_meaning.specs.declared.form.Form.TheVariants.{Compute, Fetch, Test, ToPredicates, ToBranch, ToApplication, FromMemory, ToMemory, CheckNat, CheckAlat, ForgetAll, Forget, Allocate, Jump, JumpIndirect, Loop, Call, Return, ClearBases, Stop, Idle}
 use Rattle.ia_meaning.specs.Arithmetic.{immediate, alu, shift_add, shift, shift_pair, extract, deposit, extend, compared, bit, tested}
+use Rattle.ia_meaning.specs.Lanes.{lanes}
 
 abbrev pub test_kind : Bool → CmpKind
 test_kind unc = if unc then Unc else Normal
@@ -50,6 +51,7 @@ form_of (op.AddImm22 r1 imm r3) = Compute r1 0 r3 (function.AluImmediate Add imm
 form_of (op.Cmp four rel kind p1 p2 r2 r3) = Test kind p1 p2 r2 r3 (condition.Compare four rel)
 form_of (op.CmpZero four rel kind p1 p2 r3) = Test kind p1 p2 0 r3 (condition.Compare four rel)
 form_of (op.CmpImm four rel kind p1 p2 imm r3) = Test kind p1 p2 0 r3 (condition.CompareImmediate four rel imm)
+form_of (op.Lane f size r1 r2 r3) = Compute r1 r2 r3 (function.Lanes f size)
 -- I
 form_of (op.ShiftVar f r1 value count) = Compute r1 value count (function.Shift f)
 form_of (op.Popcnt r1 r3) = Compute r1 0 r3 function.Popcount
@@ -98,6 +100,7 @@ abbrev pub value_of : Function → ℕ → ℕ → ℕ
 value_of (function.Alu f) a b = alu f a b
 value_of (function.ShiftAdd p4 count) a b = shift_add p4 count a b
 value_of (function.AluImmediate f imm) a b = alu f (immediate imm) b
+value_of (function.Lanes f size) a b = lanes f size a b
 value_of (function.Shift f) a b = shift f a b
 value_of function.Popcount a b = count_ones b
 value_of (function.ShiftPair count) a b = shift_pair count a b

@@ -1,8 +1,8 @@
 -- The ranges of the numbers of a form.
-use Rattle.std.specs.Prelude.{◌≡◌, ◌⊎◌, ◌*◌, ◌≤◌}
-use Rattle.ia_insn.specs.Ranges.{IsBitField, IsLoadSize, IsStoreSize}
+use Rattle.std.specs.Prelude.{◌*◌, ◌≤◌}
+use Rattle.ia_insn.specs.Ranges.{IsBitField, IsPartSize, IsLoadSize, IsStoreSize}
 use Rattle.ia_meaning.specs.declared.form.Function.{Function}
-use Rattle.ia_meaning.specs.declared.form.Function.TheVariants.{ShiftAdd, ShiftPair, Extract, Deposit, DepositImmediate, Extend}
+use Rattle.ia_meaning.specs.declared.form.Function.TheVariants.{ShiftAdd, Lanes, ShiftPair, Extract, Deposit, DepositImmediate, Extend}
 use Rattle.ia_meaning.specs.declared.form.Condition.{Condition}
 use Rattle.ia_meaning.specs.declared.form.Condition.TheVariants.{BitIsZero}
 use Rattle.ia_meaning.specs.declared.form.Form.{Form}
@@ -11,11 +11,12 @@ use Rattle.ia_meaning.specs.declared.form.Form.TheVariants.{Compute, Test, FromM
 -- counts, fields and sizes are those that its value is defined for
 abbrev pub IsFunction : Function → Type 0
 IsFunction (ShiftAdd p4 count) = count ≤ 63
+IsFunction (Lanes f size) = IsPartSize size
 IsFunction (ShiftPair count) = count ≤ 63
 IsFunction (Extract signed pos len) = IsBitField pos len 64
 IsFunction (Deposit pos len) = IsBitField pos len 64
 IsFunction (DepositImmediate pos len imm) = IsBitField pos len 64
-IsFunction (Extend signed size) = (size ≡ 1) ⊎ ((size ≡ 2) ⊎ (size ≡ 4))
+IsFunction (Extend signed size) = IsPartSize size
 IsFunction f = Unit {0}
 
 abbrev pub IsCondition : Condition → Type 0

@@ -2,6 +2,7 @@ pub mod State
 pub mod Writes
 pub mod Names
 pub mod Arithmetic
+pub mod Lanes
 pub mod Actions
 pub mod FormRanges
 pub mod Outcomes

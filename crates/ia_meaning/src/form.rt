@@ -8,7 +8,8 @@ ghost use Rattle.ia_meaning.specs.Loads.{update_register};
 ghost use Rattle.ia_meaning.specs.declared.form.Form.TheVariants.{Compute, Test};
 
 use ia_insn::{
-    AluFn, Ar, Br, BranchKind, CmpKind, Gr, LoadKind, Op, Pr, Rel, ShiftFn, StoreKind, Unit, Update,
+    AluFn, Ar, Br, BranchKind, CmpKind, Gr, LaneFn, LoadKind, Op, Pr, Rel, ShiftFn, StoreKind,
+    Unit, Update,
 };
 
 /// What a [`Form::Fetch`] copies into a general register.
@@ -42,6 +43,8 @@ pub enum Function {
     ShiftAdd { p4: bool, count: u8 },
     /// An operation of the arithmetic and logic unit on an immediate and the second.
     AluImmediate { f: AluFn, imm: i64 },
+    /// An operation on each lane of both, of `size` bytes, 1, 2 or 4.
+    Lanes { f: LaneFn, size: u8 },
     /// The first shifted by the second.
     Shift(ShiftFn),
     /// How many bits of the second are 1.
@@ -331,6 +334,13 @@ pub fn form_of(op: &Op) -> Form
             r3,
             Condition::CompareImmediate { four, rel, imm },
         ),
+        Op::Lane {
+            f,
+            size,
+            r1,
+            r2,
+            r3,
+        } => compute(r1, r2, r3, Function::Lanes { f, size }),
         Op::ShiftVar {
             f,
             r1,

@@ -2,7 +2,7 @@
 use Rattle.std.proofs.Common.{ℕ, ◌⊎◌, inl, inr}
 use Rattle.ia_insn.specs.declared.insn.Insn.{Insn}
 use Rattle.ia_insn.specs.declared.insn.Op.{Op}
-use Rattle.ia_insn.specs.declared.insn.Op.TheVariants.{Alu, ShlAdd, AluImm8, AddImm14, AddImm22, Cmp, CmpZero, CmpImm}
+use Rattle.ia_insn.specs.declared.insn.Op.TheVariants.{Alu, ShlAdd, AluImm8, AddImm14, AddImm22, Cmp, CmpZero, CmpImm, Lane}
 use Rattle.ia_insn.specs.FormatsA as a
 use Rattle.ia_insn.specs.FormatsI as i
 use Rattle.ia_insn.specs.FormatsM as m
@@ -21,6 +21,7 @@ not_common qp (AddImm22 r1 imm r3) common own = neither own
 not_common qp (Cmp four rel kind p1 p2 r2 r3) common own = neither own
 not_common qp (CmpZero four rel kind p1 p2 r3) common own = neither own
 not_common qp (CmpImm four rel kind p1 p2 imm r3) common own = neither own
+not_common qp (Lane f size r1 r2 r3) common own = neither own
 not_common qp op common own = common
 
 pub not_a_and_m : (insn : Insn) → a.IsListedA insn → m.IsListedM insn → ⊥

@@ -1,7 +1,7 @@
 //! Fields of a word (volume 3, chapter 2: `extr`, `dep`, `sxt`, `zxt` and `tbit`).
 
-ghost use Rattle.std.specs.Prelude.{◌≡◌, ◌⊎◌, ◌+◌, ◌-◌, ◌*◌, ◌%◌, ◌<◌, ◌≤◌, ◌^◌};
-ghost use Rattle.ia_insn.specs.Ranges.{IsBitField};
+ghost use Rattle.std.specs.Prelude.{◌≡◌, ◌+◌, ◌-◌, ◌*◌, ◌%◌, ◌<◌, ◌≤◌, ◌^◌};
+ghost use Rattle.ia_insn.specs.Ranges.{IsBitField, IsPartSize};
 ghost use Rattle.ia_meaning.specs.Arithmetic.{extended, cut, extract, deposit, extend, bit};
 
 use crate::shifts::shift_right_signed;
@@ -77,7 +77,7 @@ pub(crate) fn deposit(pos: u8, len: u8, x: u64, a: u64) -> u64
 
 /// The low 1, 2 or 4 bytes of a word, filled with zeros or, where `signed` is set, with their sign.
 pub(crate) fn extend(signed: bool, size: u8, a: u64) -> u64
-    requires { (size ≡ 1) ⊎ ((size ≡ 2) ⊎ (size ≡ 4)) }
+    requires { IsPartSize size }
     ensures { result ≡ extend signed size a }
 {
     let width = 8 * size;

@@ -20,6 +20,7 @@ use crate::fields::{deposit, extend, extract};
 use crate::shifts::{shift, shift_pair};
 pub use fields::bit;
 use ia_meaning::{Cell, Condition, Function, MovedWord};
+use lane_ops::lanes;
 
 /// The value that a computation gives for the values of its operands r2 and r3 (volume 3, chapter 2). An
 /// operation with one operand, or with an immediate, reads the value in whose place its form has that
@@ -32,6 +33,7 @@ pub fn computed(function: &Function, a: u64, b: u64) -> u64
         Function::Alu(f) => alu(f, a, b),
         Function::ShiftAdd { p4, count } => shift_add(p4, count, a, b),
         Function::AluImmediate { f, imm } => alu(f, immediate(imm), b),
+        Function::Lanes { f, size } => lanes(f, size, a, b),
         Function::Shift(f) => shift(f, a, b),
         Function::Popcount => u64::from(b.count_ones()),
         Function::ShiftPair { count } => shift_pair(count, a, b),

@@ -16,11 +16,11 @@ mod image_form_tests;
 #[cfg(test)]
 mod io_seam_tests;
 #[cfg(test)]
+mod lane_ops_tests;
+#[cfg(test)]
 mod predicate_rel_tests;
 #[cfg(test)]
 mod resource_sets_tests;
-#[cfg(test)]
-mod stop_placer_tests;
 #[cfg(test)]
 mod trial_maker_tests;
 #[cfg(test)]

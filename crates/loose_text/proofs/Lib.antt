@@ -1,5 +1,4 @@
 mod PlainPackings
-mod LineFaults
 mod Listing
 mod SoundLines
 mod NamedTargets

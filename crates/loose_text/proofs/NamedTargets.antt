@@ -1,5 +1,5 @@
 -- What names mean in a loose text.
-use Rattle.std.proofs.Common.{◌≡◌, ◌∙◌, refl, ap, subst, ℕ, zero, suc, ◌+◌, ◌<◌, Bool, true, false, List, [], ◌∷◌, ◌++◌, map, length, get_or, drop, Option, Some, None, ℤ, arith}
+use Rattle.std.proofs.Common.{◌≡◌, ◌∙◌, refl, subst, ℕ, zero, suc, ◌+◌, ◌<◌, Bool, true, false, List, [], ◌∷◌, ◌++◌, map, length, get_or, Option, Some, None, ℤ, arith}
 use Rattle.std.specs.Prelude.{is_some, IfSome, slice_get, if◌then◌else◌}
 use Rattle.ia_insn.specs.declared.insn.Op.{Op}
 use Rattle.ia_insn.specs.declared.insn.Op.TheVariants as op
@@ -10,7 +10,6 @@ use Rattle.asm_build.specs.Addresses.{addressed, IsInside}
 use Rattle.asm_build.specs.Names.{named, addressed_by}
 use Rattle.asm_build.specs.TextParts.{Labels, address_of, AreLabelsBelow}
 use Rattle.asm_build.proofs.LabelValues.{label_within}
-use Rattle.asm_build.proofs.Steps.{item_and_rest}
 use Rattle.loose_text.specs.declared.item.ItemLine.{ItemLine}
 use Rattle.loose_text.specs.LooseParts.{LooseParts, items_of}
 use Rattle.loose_text.specs.LooseReading.{unnamed_item, target_of, loose_of}
@@ -78,12 +77,3 @@ targets_at s (l ∷ ls) (suc n) k sound below h = targets_at s ls n k sound belo
 pub each_target : (s : LooseParts) → IsSound s → AreLabelsBelow (length s.items) s.declared → unnamed_item s.declared.labels 0 s.items ≡ None → (n : ℕ)
     → IfSome (slice_get (loose_of s).items n) (λ i. IfSome (slice_get (loose_of s).targets n) (IsTargetOf (loose_of s).items i.insn.op))
 each_target s sound below none n = targets_at s s.items n (0 + n) sound below (each_named s.declared.labels 0 s.items n none)
-
--- one instruction more that is named
-pub named_next : (labels : Labels) (n : ℕ) (lines : List ItemLine) (l : ItemLine) → n < length lines → l ≡ get_or lines n l → is_some (named labels n l.item.insn.op l.target) ≡ true
-    → unnamed_item labels n (drop n lines) ≡ unnamed_item labels (n + 1) (drop (n + 1) lines)
-named_next labels n lines l inside is named_here = ap (unnamed_item labels n) (item_and_rest lines n l inside is) ∙ rw named_here refl
-
-pub unnamed_next : (labels : Labels) (n : ℕ) (lines : List ItemLine) (l : ItemLine) → n < length lines → l ≡ get_or lines n l → is_some (named labels n l.item.insn.op l.target) ≡ false
-    → unnamed_item labels n (drop n lines) ≡ Some l.item.line
-unnamed_next labels n lines l inside is unnamed_here = ap (unnamed_item labels n) (item_and_rest lines n l inside is) ∙ rw unnamed_here refl

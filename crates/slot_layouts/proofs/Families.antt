@@ -30,6 +30,7 @@ is_a qp (ops.AddImm22 r1 imm r3) h = refl
 is_a qp (ops.Cmp four rel kind p1 p2 r2 r3) h = refl
 is_a qp (ops.CmpZero four rel kind p1 p2 r3) h = refl
 is_a qp (ops.CmpImm four rel kind p1 p2 imm r3) h = refl
+is_a qp (ops.Lane f size r1 r2 r3) h = refl
 is_a qp op h = absurd h
 
 is_i : (qp : ℕ) (op : Op) → format_i.IsInRange qp op → class_of op ≡ I

@@ -34,6 +34,7 @@ class_of (ops.AddImm22 r1 imm r3) = A
 class_of (ops.Cmp four rel kind p1 p2 r2 r3) = A
 class_of (ops.CmpZero four rel kind p1 p2 r3) = A
 class_of (ops.CmpImm four rel kind p1 p2 imm r3) = A
+class_of (ops.Lane f size r1 r2 r3) = A
 class_of (ops.ChkS unit r2 disp) = class_of_unit unit
 class_of (ops.MovToAr Unat r2) = M
 class_of (ops.MovToArImm Unat imm) = M

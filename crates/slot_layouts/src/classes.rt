@@ -80,7 +80,8 @@ pub fn class_of(op: &Op) -> SlotClass
         | Op::AddImm22 { .. }
         | Op::Cmp { .. }
         | Op::CmpZero { .. }
-        | Op::CmpImm { .. } => SlotClass::A,
+        | Op::CmpImm { .. }
+        | Op::Lane { .. } => SlotClass::A,
         Op::ChkS { unit, .. }
         | Op::Break { unit, .. }
         | Op::Nop { unit, .. }

@@ -1,15 +1,15 @@
 //! Where control goes on from a slot.
 
-ghost use Rattle.std.specs.Prelude.{◌≡◌, ◌^◌, ◌<◌, Some};
+ghost use Rattle.std.specs.Prelude.{◌≡◌, ◌^◌, ◌<◌, ◌==◌, ◌&&◌, not, Some};
 ghost use Rattle.ia_meaning.specs.Sequence.{next_of, is_stopped};
 ghost use Rattle.predicate_rel.specs.Edges.{leaves, displacement_of, target_at};
 
-use ia_insn::{Place, Program};
+use ia_insn::{Place, Pr, Program};
 use ia_meaning::{Form, Goal, target_of};
 
 /// Whether it is a `br.cond`, `br.call` or `br.ret`, direct or indirect, or a `break`: where the
 /// qualifying predicate is 1, control doesn't fall through.
-pub(crate) fn leaves(form: &Form) -> bool
+fn leaves(form: &Form) -> bool
     ensures { result ≡ leaves form.now }
 {
     matches!(
@@ -20,6 +20,14 @@ pub(crate) fn leaves(form: &Form) -> bool
             | Form::Return { .. }
             | Form::Stop { .. }
     )
+}
+
+/// Whether control may fall through an instruction with this qualifying predicate and form: not from a branch
+/// or `break` under p0, but for loop branches (volume 1, chapter 3, instruction sequencing).
+pub fn may_fall(qp: Pr, form: &Form) -> bool
+    ensures { result ≡ not ((qp == 0) && leaves form.now) }
+{
+    !(qp.is_zero() && leaves(form))
 }
 
 /// How many bundles from its own the target of a direct branch or check is. None exactly for other

@@ -10,6 +10,7 @@ mod places;
 mod slot;
 mod table;
 
+pub use edges::may_fall;
 pub use places::place_number;
 pub use slot::Slot;
 pub use table::SlotTable;

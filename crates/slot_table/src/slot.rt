@@ -3,7 +3,7 @@
 ghost use Rattle.std.specs.Prelude.{◌≡◌};
 ghost use Rattle.slot_table.specs.Slots.{slot_at, edge_from};
 
-use crate::edges::{is_stopped, leaves, next, target};
+use crate::edges::{is_stopped, may_fall, next, target};
 use ia_insn::{Place, Pr, Program};
 use ia_meaning::{Form, form_of};
 use predicate_rel::Edge;
@@ -38,7 +38,7 @@ impl Slot {
             form,
             qp: insn.qp,
             stop: is_stopped(program, place),
-            falls: !(insn.qp.is_zero() && leaves(&form)),
+            falls: may_fall(insn.qp, &form),
             next: next(program, place),
             target: target(place.bundle, &form),
         })

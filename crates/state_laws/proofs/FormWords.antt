@@ -1,18 +1,18 @@
 -- What a listed instruction says of its form.
-use Rattle.std.proofs.Common.{◌≡◌, ◌≢◌, ℕ, ◌*◌, ◌≤◌, ◌⊎◌, inr, arith}
+use Rattle.std.proofs.Common.{◌≢◌, ℕ, ◌*◌, ◌≤◌, inr, arith}
 use Rattle.ia_insn.specs.declared.choices.AluFn.TheVariants.{Add}
 use Rattle.ia_insn.specs.declared.choices.LoadKind.{LoadKind}
 use Rattle.ia_insn.specs.declared.choices.LoadKind.TheVariants as load
 use Rattle.ia_insn.specs.declared.choices.BranchKind.TheVariants.{Cond}
 use Rattle.ia_insn.specs.declared.insn.Op.{Op}
 use Rattle.ia_insn.specs.declared.insn.Op.TheVariants as op
-use Rattle.ia_insn.specs.Ranges.{IsAccessSize, IsLoadSize, HasRanges}
+use Rattle.ia_insn.specs.Ranges.{IsPartSize, IsAccessSize, IsLoadSize, HasRanges}
 use Rattle.ia_meaning.specs.State.{IsWord}
 use Rattle.ia_meaning.specs.Arithmetic.{immediate}
 use Rattle.ia_meaning.specs.declared.form.Form.{Form}
 use Rattle.ia_meaning.specs.declared.form.Form.TheVariants.{Compute, ToApplication, FromMemory, Allocate}
 use Rattle.ia_meaning.specs.Actions.{addition, form_of, value_of, moved}
-use Rattle.state_laws.proofs.Words.{immediate_word, alu_word, shift_add_word, shift_word, shift_pair_word, extract_word, deposit_word, extend_word, ones_word}
+use Rattle.state_laws.proofs.Words.{immediate_word, alu_word, shift_add_word, lanes_word, shift_word, shift_pair_word, extract_word, deposit_word, extend_word, ones_word}
 
 -- what it computes and moves of words are words, and its numbers are in range
 abbrev pub HasFormWords : Form → Type 0
@@ -26,7 +26,7 @@ load_size : (kind : LoadKind) (size : ℕ) → IsLoadSize kind size → IsAccess
 load_size load.Fill size h = inr (inr (inr h))
 load_size kind size h = h
 
-ext_size : (size : ℕ) → (size ≡ 1) ⊎ ((size ≡ 2) ⊎ (size ≡ 4)) → size ≤ 8
+ext_size : (size : ℕ) → IsPartSize size → size ≤ 8
 ext_size size h = omega arith
 
 pub form_words : (o : Op) → HasRanges o → HasFormWords (form_of o)
@@ -35,6 +35,7 @@ form_words (op.ShlAdd p4 r1 r2 count r3) h = λ a b i j. shift_add_word p4 count
 form_words (op.AluImm8 f r1 imm r3) h = λ a b i j. alu_word f (immediate imm) b (immediate_word 8 imm (omega arith) h.1) j
 form_words (op.AddImm14 p4 r1 imm r3) h = λ a b i j. alu_word (addition p4) (immediate imm) b (immediate_word 14 imm (omega arith) h.1) j
 form_words (op.AddImm22 r1 imm r3) h = λ a b i j. alu_word Add (immediate imm) b (immediate_word 22 imm (omega arith) h.1) j
+form_words (op.Lane f size r1 r2 r3) h = λ a b i j. lanes_word f size a b h.1
 form_words (op.ShiftVar f r1 value count) h = λ a b i j. shift_word f a b i
 form_words (op.Popcnt r1 r3) h = λ a b i j. ones_word b j
 form_words (op.Shrp r1 r2 r3 count) h = λ a b i j. shift_pair_word count a b

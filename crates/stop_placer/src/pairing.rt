@@ -6,7 +6,6 @@ ghost use Rattle.std.specs.Option.{option_copied};
 ghost use Rattle.ia_insn.specs.declared.limits.TheConstants.{BUNDLE_LIMIT};
 ghost use Rattle.ia_insn.specs.declared.place.Place.{Place};
 ghost use Rattle.ia_meaning.specs.Sequence.{first_of};
-ghost use Rattle.predicate_rel.specs.Edges.{leaves};
 ghost use Rattle.flow_facts.specs.Graphs.{Graph, insn_in};
 ghost use Rattle.flow_facts.specs.Walks.{known_at};
 ghost use Rattle.group_checker.specs.Firsts.{IsViolatedAt};
@@ -27,12 +26,12 @@ use flow_facts::{InFacts, solve};
 use group_checker::Window;
 use ia_insn::limits::BUNDLE_LIMIT;
 use ia_insn::{Insn, Place};
-use ia_meaning::{Form, form_of};
+use ia_meaning::form_of;
 use loose_text::{Item, LooseText};
 use predicate_rel::Facts;
 use resource_sets::{Masks, masks_of};
 use row_laws::known_in_the_row;
-use slot_table::{Slot, SlotTable};
+use slot_table::{Slot, SlotTable, may_fall};
 use std::alloc::{AllocError, Global};
 
 /// What is known of predicates before each instruction of a row: what is known at its place in a program that has the
@@ -75,21 +74,6 @@ impl RowFacts {
     }
 }
 
-/// Whether it is a `br.cond`, `br.call` or `br.ret`, direct or indirect, or a `break`: where the qualifying predicate
-/// is 1, control doesn't fall through.
-fn leaves(form: &Form) -> bool
-    ensures { result ≡ leaves form.now }
-{
-    matches!(
-        form,
-        Form::Jump { .. }
-            | Form::JumpIndirect { .. }
-            | Form::Call { .. }
-            | Form::Return { .. }
-            | Form::Stop { .. }
-    )
-}
-
 /// What windows ask of an instruction of a row, where no stop follows it. Where control goes on from it they don't ask.
 fn slot_of(insn: &Insn) -> Slot
     ensures { (g : Graph) (has_stop : Place → Bool) (place : Place) → insn_in g place ≡ Some insn.now → has_stop place ≡ false → Describes g has_stop place result }
@@ -99,7 +83,7 @@ fn slot_of(insn: &Insn) -> Slot
         form,
         qp: insn.qp,
         stop: false,
-        falls: !(insn.qp.is_zero() && leaves(&form)),
+        falls: may_fall(insn.qp, &form),
         next: None,
         target: None,
     }
