@@ -218,8 +218,11 @@ def loose_texts(calls, random):
 
 
 def loose_faults(calls, random):
-    """Loose texts with one fault, which have to be refused with its reason and line."""
+    """Loose texts with one fault, which have to be refused with its reason and line; not those that have a relation behind a
+    call besides, as in `loose_texts`."""
     text = loosened(random, random_text(random, bundles=random.randrange(1, 12)))
+    if calls.call("stops", data=text.encode("latin-1")).output.endswith(b": relation\n"):
+        return
     lines, number, reason = random.choice(LOOSE_FAULT_KINDS)(random, text.split("\n")[:-1])
     wanted = Answer(REFUSED, f"line {number}: {reason}\n".encode())
     calls.same("stops", calls.call("stops", data=encoded(random, lines)), wanted, "the fault that was put in")
