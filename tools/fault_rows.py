@@ -10,6 +10,7 @@ import itertools
 
 LOADS = {*range(0x00, 0x18), 0x1B, *range(0x20, 0x2C)}
 STORES = {*range(0x30, 0x38), 0x3B}
+SEMAPHORES = {*range(0x08, 0x0C), 0x12, 0x13, 0x16, 0x17}
 ALU = {4 * x4 + x2b for x4, x2b in (
     (0x0, 0), (0x0, 1), (0x1, 0), (0x1, 1), (0x2, 0), (0x9, 1),
     *((x4, x2b) for x4 in (0x3, 0x4, 0x6, 0xB) for x2b in range(4)))}
@@ -35,10 +36,10 @@ SWEEPS = [
     ("m", {37: 0}, (33, 3), {0, 4, 5}),
     ("m", {37: 1, 33: 0}, (27, 6), {0x22, 0x2A}),
     ("m", {37: 1}, (33, 3), {0, 1, 6}),
-    # M: x6 of loads and stores, without and with an update, and of what bit 27 sets apart
+    # M: x6 of loads and stores, without and with an update, and of semaphores, which bit 27 sets apart
     ("m", {37: 4, 36: 0, 27: 0}, (30, 6), LOADS | STORES),
     ("m", {37: 4, 36: 1, 27: 0}, (30, 6), LOADS),
-    ("m", {37: 4, 36: 0, 27: 1}, (30, 6), set()),
+    ("m", {37: 4, 36: 0, 27: 1}, (30, 6), SEMAPHORES),
     ("m", {37: 4, 36: 1, 27: 1}, (30, 6), set()),
     ("m", {37: 5}, (30, 6), LOADS | STORES),
     # A: x4 above x2b, without and with x2a, by za and zb
@@ -85,11 +86,13 @@ def base_of_its_target(word):
 
 
 def out_of_range(row):
-    """The changes that put an operand of the row out of its range: the hint of a load, a store or a
-    move to a branch register, the base of an update, and the parts of a frame."""
+    """The changes that put an operand of the row out of its range: the hint of a load, a store, a
+    semaphore or a move to a branch register, the base of an update, and the parts of a frame."""
     has_update = "update: None" not in row.debug.template
     if row.name == "Load":
         return [field(28, 2, 2)] + has_update * [field(20, 7, 0), base_of_its_target]
+    if row.name in ("Xchg", "FetchAdd"):
+        return [field(28, 2, 2)]
     if row.name == "Store":
         return [field(28, 2, 1), field(28, 2, 2)] + has_update * [field(20, 7, 0)]
     if row.name == "MovToBr":
@@ -200,20 +203,12 @@ LEFT_OUT = {
         ld16.acq r8,ar.csd=[r9]
         st16 [r8]=r9,ar.csd
         st16.rel.nta [r8]=r9,ar.csd
-        xchg1 r8=[r9],r10
-        xchg2.nt1 r8=[r9],r10
-        xchg4.nta r8=[r9],r10
-        xchg8 r8=[r9],r10
         cmpxchg1.acq r8=[r9],r10,ar.ccv
         cmpxchg2.rel r8=[r9],r10,ar.ccv
         cmpxchg4.acq.nta r8=[r9],r10,ar.ccv
         cmpxchg8.rel.nt1 r8=[r9],r10,ar.ccv
         cmp8xchg16.acq r8=[r9],r10,ar.csd,ar.ccv
         cmp8xchg16.rel r8=[r9],r10,ar.csd,ar.ccv
-        fetchadd4.acq r8=[r9],1
-        fetchadd4.rel r8=[r9],-16
-        fetchadd8.acq r8=[r9],8
-        fetchadd8.rel.nta r8=[r9],4
         lfetch [r8]
         lfetch.nt1 [r8]
         lfetch.nt2 [r8]

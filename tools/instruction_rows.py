@@ -86,6 +86,8 @@ LOAD_KIND = choice(
     ("", "Plain"), (".s", "S"), (".a", "A"), (".sa", "Sa"), (".bias", "Bias"), (".acq", "Acq"),
     (".c.clr", "CClr"), (".c.nc", "CNc"), (".c.clr.acq", "CClrAcq"))
 STORE_KIND = choice(("", "Plain"), (".rel", "Rel"))
+SEMAPHORE = flag(".acq", ".rel")
+INCREMENT = choice(*((str(n), str(n)) for n in (1, 4, 8, 16, -1, -4, -8, -16)))
 COMPARED = choice(("lt", "Lt"), ("ltu", "Ltu"), ("eq", "Eq"))
 EQUAL = choice(("eq", "Eq"), ("ne", "Ne"))
 SIGN = choice(("gt", "Gt"), ("le", "Le"), ("ge", "Ge"), ("lt", "Lt"))
@@ -365,10 +367,10 @@ ROWS = [
     Row("I", "break.i $imm", "Break { unit: I, imm: $imm }", "26", imm=NUMBER),
     Row("I", "nop.i $imm", "Nop { unit: I, imm: $imm }", imm=NUMBER),
     Row("I", "hint.i $imm", "Hint { unit: I, imm: $imm }", imm=NUMBER),
-    # M1
+    # M1: with bit 27 some of these are semaphores
     Row("M", "ld$size$kind$hint $r1=[$r3]",
         "Load { size: $size, kind: $kind, hint: $hint, r1: $r1, r3: $r3, update: None }",
-        "13-19 27", size=SIZE, kind=LOAD_KIND, hint=LOAD_HINT, r1=TARGET, r3=GR),
+        "13-19", size=SIZE, kind=LOAD_KIND, hint=LOAD_HINT, r1=TARGET, r3=GR),
     Row("M", "ld8.fill$hint $r1=[$r3]",
         "Load { size: 8, kind: Fill, hint: $hint, r1: $r1, r3: $r3, update: None }",
         "13-19 27", hint=LOAD_HINT, r1=TARGET, r3=GR),
@@ -400,6 +402,15 @@ ROWS = [
     Row("M", "st8.spill$hint [$r3]=$r2,$imm",
         "Store { size: 8, kind: Spill, hint: $hint, r3: $r3, r2: $r2, update: Imm($imm) }",
         hint=STORE_HINT, r3=TARGET, r2=GR, imm=signed(9)),
+    # M16
+    Row("M", "xchg$size$hint $r1=[$r3],$r2",
+        "Xchg { size: $size, hint: $hint, r1: $r1, r3: $r3, r2: $r2 }", "36",
+        size=SIZE, hint=LOAD_HINT, **TWO_REGISTERS),
+    # M17
+    Row("M", "fetchadd$size$release$hint $r1=[$r3],$inc",
+        "FetchAdd { size: $size, release: $release, hint: $hint, r1: $r1, r3: $r3, inc: $inc }",
+        "16-19 36", size=choice(("4", "4"), ("8", "8")), release=SEMAPHORE, hint=LOAD_HINT,
+        inc=INCREMENT, r1=TARGET, r3=GR),
     # M20
     Row("M", "chk.s.m $r2,$disp", "ChkS { unit: M, r2: $r2, disp: $disp }", r2=GR, disp=TO_BUNDLE),
     # M22

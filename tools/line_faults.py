@@ -143,9 +143,19 @@ st8.acq [r9]=r8
 st8.nt1 [r9]=r8
 st8.nta.rel [r9]=r8
 st16 [r9]=r8
-xchg8 r8=[r9],r10
+xchg r8=[r9],r10
+xchg16 r8=[r9],r10
+xchg8.acq r8=[r9],r10
+xchg8.nt2 r8=[r9],r10
+xchg8.nta.nt1 r8=[r9],r10
 cmpxchg8.acq r8=[r9],r10,ar.ccv
-fetchadd8.acq r8=[r9],1
+fetchadd4 r8=[r9],1
+fetchadd8.nta r8=[r9],1
+fetchadd8.nta.acq r8=[r9],1
+fetchadd4.acq.rel r8=[r9],1
+fetchadd8.bias r8=[r9],1
+fetchadd.acq r8=[r9],1
+fetchadd2.acq r8=[r9],1
 chk.s.b r8,x
 chk.s.x r8,x
 chk.a r8,x
@@ -443,6 +453,16 @@ st8 [r9]=foo
 st8 [r9]=p8,8
 st8.spill [r9]=b0
 st1.rel.nta [r9]= ;;
+xchg8 8=[r9],r10
+xchg8 [r9]=r8
+xchg8 r8=[9],r10
+xchg4 r8=[r9], ;;
+xchg8 r8=[r9],5
+xchg1.nta r8=[r9],foo
+xchg8 r8=[r9],ar.ccv
+fetchadd8.acq p8=[r9],1
+fetchadd4.rel r8=[9],1
+fetchadd8.acq r8=[foo],1
 invala.e 5
 invala.e p6
 invala.e foo
@@ -635,6 +655,10 @@ st8 [r9]=r8,foo
 st8 [r9]=r8,.
 st4.rel [r9]=r8, ;;
 st8.spill [r9]=r8,r9
+fetchadd8.acq r8=[r9],r10
+fetchadd4.rel r8=[r9],foo
+fetchadd8.acq.nta r8=[r9],-
+fetchadd8.acq r8=[r9], ;;
 alloc r8=ar.pfs,r9,0,0,0
 alloc r8=ar.pfs,foo,0,0,0
 alloc r8=ar.pfs,0,r9,0,0
@@ -729,6 +753,9 @@ mov.m ar.unat=-129
 ld8 r8=[r8],256
 ld8 r0=[r9],-257
 st8 [r0]=r8,256
+fetchadd8.acq r8=[r9],32
+fetchadd4.rel r0=[r9],-32
+fetchadd8.acq r8=[r9],32769
 alloc r8=ar.pfs,97,0,0,foo
 alloc r8=ar.pfs,96,97,0,0
 alloc r8=ar.pfs,0,0,-1,0
@@ -888,6 +915,15 @@ st8 [r9],r8
 st8 [r9]=r8 8
 st8 [r9]=r8,8,8
 st8.spill 5
+xchg8
+xchg8 r8=[r9]
+xchg8 r8=[r9],
+xchg8 r8=[r9],r10,8
+xchg8 r8,[r9],r10
+fetchadd8.acq r8=[r9]
+fetchadd8.acq r8=[r9],
+fetchadd8.acq r8=[r9],8,8
+fetchadd4.rel r8,[r9],1
 invala r8
 invala 5
 invala ;; ;;
@@ -991,6 +1027,8 @@ shrp r0=r8,r9,1
 zxt1 r0=r8
 ld8 r0=[r9]
 ld8.fill r0=[r9],8
+xchg8 r0=[r9],r10
+fetchadd8.rel r0=[r9],1
 alloc r0=ar.pfs,0,0,0,0
 movl r0=5
 movl r0=foo
@@ -1235,6 +1273,10 @@ ld8.fill r8=[r9]|,8
 st8 [r9]=r8|,8
 st2.rel.nta [r9]=r8|,8
 st8.spill [r9]=r8|,8
+xchg8 r8=[r9],r10
+xchg1.nta r8=[r9],r10
+fetchadd4.acq r8=[r9],1
+fetchadd8.rel.nt1 r8=[r9],-16
 invala.e r8
 alloc r8=ar.pfs,1,2,3,0
 br x

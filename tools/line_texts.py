@@ -157,6 +157,8 @@ EDGES = [
     *edges("m", ["mov.m ar.unat=$n"], -128, 127),
     *edges("m", ["ld8 r8=[r9],$n", "ld1.c.clr.acq.nta r8=[r9],$n", "ld8.fill r8=[r9],$n",
                  "st8 [r9]=r8,$n", "st2.rel.nta [r9]=r8,$n", "st8.spill [r9]=r8,$n"], -256, 255),
+    *(edge for n in (1, 4, 8, 16, -1, -4, -8, -16)
+      for edge in edges("m", ["fetchadd4.acq r8=[r9],$n", "fetchadd8.rel.nta r8=[r9],$n"], n, n)),
     *edges("m", [f"alloc r8=ar.pfs,{numbers}" for numbers in ("$n,0,0,0", "0,$n,0,0", "0,0,$n,0")],
            0, 96),
     *edges("m", ["alloc r8=ar.pfs,0,96,0,$n", "alloc r8=ar.pfs,50,20,26,$n"], 0, 96, 8),

@@ -99,7 +99,7 @@ try_groups() {
 }
 
 # What the comment of an example says that `run` prints.
-for name in count counted_loop pipelined_loop predicated behind_a_call call speculation equal_bytes; do
+for name in count counted_loop pipelined_loop predicated behind_a_call call speculation equal_bytes lock counter; do
   sed -n 's|^//   ||p' "examples/$name.s" > "$dir/$name"
   try "$name, as it says" 0 "$dir/$name" "examples/$name.s" run 100
   try_watch "$name" 0 "$dir/$name" "examples/$name.s" 100
@@ -252,7 +252,7 @@ for words in '1 4097' '1 0' '1 01' '-1 1' '01 1' '18446744073709551616 1' '1' '1
 done
 
 # The examples that are right: accepted, as text and as image. Built, shown and built again they give one image.
-for name in count predicated behind_a_call counted_loop pipelined_loop call deep_recursion speculation equal_bytes; do
+for name in count predicated behind_a_call counted_loop pipelined_loop call deep_recursion speculation equal_bytes lock counter; do
   try "$name" 0 "$dir/accepted" "examples/$name.s" check
   "$program" build < "examples/$name.s" > "$dir/image" && "$program" show < "$dir/image" > "$dir/shown"
   note $? "$name: not built or not shown"

@@ -28,7 +28,7 @@ try() {
 printf 'accepted\n' > "$dir/accepted"
 printf 'violations 1\nRAW r8 0.1 0.2\n' > "$dir/raw"
 printf 'image: magic\n' > "$dir/magic"
-for name in count call pipelined_loop equal_bytes loop_edge; do sed -n 's|^//   ||p' "examples/$name.s" > "$dir/$name"; done
+for name in count call pipelined_loop equal_bytes lock counter loop_edge; do sed -n 's|^//   ||p' "examples/$name.s" > "$dir/$name"; done
 {
   printf 'watch 0\n1 0.0 0.2 falls\n2 1.0 1.2 falls\n3 2.0 2.2 taken\n4 1.0 1.2 falls\n5 2.0 2.2 taken\n'
   printf '6 1.0 1.2 falls\n7 2.0 2.2 taken\n8 1.0 1.2 falls\nwatch 1\ngroups 22 slots 66 taken 9\n'
@@ -48,6 +48,8 @@ try 'two predicates' 0 "$dir/accepted" '' examples/predicated.s ./ia64 check
 try 'two predicates behind a call' 0 "$dir/accepted" '' examples/behind_a_call.s ./ia64 check
 try 'a run of a pipelined loop' 0 "$dir/pipelined_loop" '' examples/pipelined_loop.s ./ia64 run 100
 try 'a run of operations on lanes' 0 "$dir/equal_bytes" '' examples/equal_bytes.s ./ia64 run 100
+try 'a run with a lock' 0 "$dir/lock" '' examples/lock.s ./ia64 run 100
+try 'a run of several fetch-and-adds, all at once' 0 "$dir/counter" '' examples/counter.s ./ia64 groups 100 1
 try 'a violation on the way back' 1 "$dir/loop_edge" '' examples/loop_edge.s ./ia64 check
 try 'a run with register frames' 0 "$dir/call" '' examples/call.s ./ia64 run 100
 try 'build' 0 examples/read_after_write.image '' examples/read_after_write.s ./ia64 build

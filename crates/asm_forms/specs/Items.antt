@@ -1,5 +1,5 @@
 -- What a form wants at one place of its operands, and from which tokens that is read.
-use Rattle.std.specs.Prelude.{ℕ, ◌+◌, ◌%◌, Bool, true, false, ◌&&◌, nat_le, ◌==◌, if◌then◌else◌, List, [], ◌∷◌}
+use Rattle.std.specs.Prelude.{ℕ, ◌+◌, ◌%◌, Bool, true, false, ◌&&◌, ◌||◌, nat_le, ◌==◌, if◌then◌else◌, List, [], ◌∷◌}
 use Rattle.asm_words.specs.declared.tokens.Token.{Token}
 use Rattle.asm_words.specs.declared.tokens.Token.TheVariants as t
 use Rattle.asm_forms.specs.declared.items.Item.{Item}
@@ -9,7 +9,7 @@ use Rattle.asm_forms.specs.declared.items.Mark.TheVariants as m
 use Rattle.asm_forms.specs.declared.items.Kind.{Kind}
 use Rattle.asm_forms.specs.declared.items.Kind.TheVariants as k
 use Rattle.asm_forms.specs.declared.items.NumberField.{NumberField}
-use Rattle.asm_forms.specs.declared.items.NumberField.TheVariants.{Imm8, Less8, Imm9, Imm14, Imm22, Imm21, Imm62, Imm64, Count, Position, Length, Length16, ZeroOrMinusOne, Frame, Rotating, Tag, Mask, RotatingMask, Skip, Data1, Data2, Data4}
+use Rattle.asm_forms.specs.declared.items.NumberField.TheVariants.{Imm8, Less8, Imm9, Imm14, Imm22, Imm21, Imm62, Imm64, Count, Position, Length, Length16, ZeroOrMinusOne, Frame, Rotating, Tag, Mask, RotatingMask, Increment, Skip, Data1, Data2, Data4}
 use Rattle.ia_insn.specs.declared.registers.Ar.TheVariants as ar
 use Rattle.ia_insn.specs.declared.limits.TheConstants.{DATA_LIMIT}
 
@@ -37,6 +37,7 @@ holds Rotating s m = within s m 0 96 && (m % 8 == 0)
 holds Tag s m = within s m 256 255
 holds Mask s m = within s m 65536 131071
 holds RotatingMask s m = within s m 8796093022208 8796093022207 && (m % 65536 == 0)
+holds Increment s m = (m == 1) || (m == 4) || (m == 8) || (m == 16)
 holds Skip s m = within s m 0 DATA_LIMIT
 holds Data1 s m = within s m 128 255
 holds Data2 s m = within s m 32768 65535

@@ -40,6 +40,10 @@ pub enum Completer {
     Load(LoadKind),
     /// The store type (sttype), none for a normal store.
     Store(StoreKind),
+    /// Acquire, of a fetch-and-add (sem).
+    Acq,
+    /// Release, of a fetch-and-add (sem).
+    Rel,
     /// The cache hint (ldhint and sthint), none for no hint.
     Hint(CacheHint),
     /// One entry, of an invalidation.
@@ -120,6 +124,8 @@ pub enum CompleterSet {
     StoreTypeSpill,
     /// `.nta` or nothing (sthint).
     StoreHint,
+    /// `.acq` or `.rel` (sem).
+    SemaphoreType,
     /// `.a`.
     A,
     /// `.nc`.
@@ -201,6 +207,8 @@ pub fn text(completer: Completer) -> &'static [u8]
         Completer::Store(StoreKind::Plain) => b"",
         Completer::Store(StoreKind::Rel) => b".rel",
         Completer::Store(StoreKind::Spill) => b".spill",
+        Completer::Acq => b".acq",
+        Completer::Rel => b".rel",
         Completer::Hint(CacheHint::None) => b"",
         Completer::Hint(CacheHint::Nt1) => b".nt1",
         Completer::Hint(CacheHint::Nta) => b".nta",
@@ -336,6 +344,7 @@ pub fn members(set: CompleterSet) -> &'static [Completer]
             Completer::Hint(CacheHint::Nta),
             Completer::Hint(CacheHint::None),
         ],
+        CompleterSet::SemaphoreType => &[Completer::Acq, Completer::Rel],
         CompleterSet::A => &[Completer::A],
         CompleterSet::Nc => &[Completer::Nc],
         CompleterSet::Clr => &[Completer::Clr],

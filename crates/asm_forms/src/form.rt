@@ -118,6 +118,10 @@ pub enum Form {
     Dep,
     /// `extr[.u] r1=r3,pos,len` (I11).
     Extr,
+    /// `fetchadd4.sem[.ldhint] r1=[r3],inc3` (M17).
+    Fetchadd4,
+    /// `fetchadd8.sem[.ldhint] r1=[r3],inc3` (M17).
+    Fetchadd8,
     /// `hint[.m, .i or .b]`, whose number is 0 (I18, M48 and B9).
     Hint,
     /// `hint[.m, .i or .b] imm` (I18, M48 and B9).
@@ -272,6 +276,14 @@ pub enum Form {
     Tnat,
     /// `tnat.nz[.unc] p1,p2=r3`: `tnat.z` with its targets exchanged.
     TnatNz,
+    /// `xchg1[.ldhint] r1=[r3],r2` (M16).
+    Xchg1,
+    /// `xchg2[.ldhint] r1=[r3],r2` (M16).
+    Xchg2,
+    /// `xchg4[.ldhint] r1=[r3],r2` (M16).
+    Xchg4,
+    /// `xchg8[.ldhint] r1=[r3],r2` (M16).
+    Xchg8,
     /// `xor r1=r2,r3` (A1).
     Xor,
     /// `xor r1=imm,r3` (A3).

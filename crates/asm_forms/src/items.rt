@@ -46,6 +46,8 @@ pub enum NumberField {
     Mask,
     /// 44 bits, signed, in multiples of 65536.
     RotatingMask,
+    /// 1, 4, 8 or 16, or one of these with a minus sign.
+    Increment,
     /// 0 to the limit of data.
     Skip,
     /// -128 to 255.
@@ -151,6 +153,7 @@ pub fn holds(field: NumberField, negative: bool, magnitude: u64) -> bool
             within(negative, magnitude, 8_796_093_022_208, 8_796_093_022_207)
                 && magnitude % 65_536 == 0
         }
+        NumberField::Increment => matches!(magnitude, 1 | 4 | 8 | 16),
         NumberField::Skip => within(negative, magnitude, 0, DATA_LIMIT as u64),
         NumberField::Data1 => within(negative, magnitude, 128, 255),
         NumberField::Data2 => within(negative, magnitude, 32_768, 65_535),

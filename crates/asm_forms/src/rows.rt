@@ -99,7 +99,7 @@ pub(crate) static ROWS_TO_B: [Row; 29] = [
 ];
 
 /// The rows of the forms with a word that begins with `c` to `i`.
-pub(crate) static ROWS_C_TO_I: [Row; 30] = [
+pub(crate) static ROWS_C_TO_I: [Row; 32] = [
     row!(ChkS, b"chk", [S, CheckUnit], Gr, Label),
     row!(ChkANc, b"chk", [A, Nc], Gr, Label),
     row!(ChkAClr, b"chk", [A, Clr], Gr, Label),
@@ -155,6 +155,20 @@ pub(crate) static ROWS_C_TO_I: [Row; 30] = [
     ),
     row!(Dep, b"dep", [], Gr = Gr, Gr, Position, Length16),
     row!(Extr, b"extr", [U], Gr = Gr, Position, Length),
+    row!(
+        Fetchadd4,
+        b"fetchadd4",
+        [SemaphoreType, LoadHint],
+        Gr = [Gr],
+        Increment
+    ),
+    row!(
+        Fetchadd8,
+        b"fetchadd8",
+        [SemaphoreType, LoadHint],
+        Gr = [Gr],
+        Increment
+    ),
     row!(Hint, b"hint", [HintUnit]),
     row!(HintImm, b"hint", [HintUnit], Imm21),
     row!(Invala, b"invala", []),
@@ -218,7 +232,7 @@ pub(crate) static ROWS_O_TO_R: [Row; 12] = [
 ];
 
 /// The rows of the forms with a word that begins with `s` or a later letter.
-pub(crate) static ROWS_FROM_S: [Row; 30] = [
+pub(crate) static ROWS_FROM_S: [Row; 34] = [
     row!(Shl, b"shl", [], Gr = Gr, Gr),
     row!(ShlNumber, b"shl", [], Gr = Gr, Position),
     row!(Shladd, b"shladd", [], Gr = Gr, Count, Gr),
@@ -244,6 +258,10 @@ pub(crate) static ROWS_FROM_S: [Row; 30] = [
     row!(TbitNz, b"tbit", [Nz, Unc], Pr, Pr = Gr, Position),
     row!(Tnat, b"tnat", [Z, Unc], Pr, Pr = Gr),
     row!(TnatNz, b"tnat", [Nz, Unc], Pr, Pr = Gr),
+    row!(Xchg1, b"xchg1", [LoadHint], Gr = [Gr], Gr),
+    row!(Xchg2, b"xchg2", [LoadHint], Gr = [Gr], Gr),
+    row!(Xchg4, b"xchg4", [LoadHint], Gr = [Gr], Gr),
+    row!(Xchg8, b"xchg8", [LoadHint], Gr = [Gr], Gr),
     row!(Xor, b"xor", [], Gr = Gr, Gr),
     row!(XorImm, b"xor", [], Gr = Imm8, Gr),
     row!(Zxt1, b"zxt1", [], Gr = Gr),
@@ -260,7 +278,7 @@ pub(crate) fn rows_to_b() -> &'static [Row]
 
 pub(crate) fn rows_c_to_i() -> &'static [Row]
     ensures value { map seen result.now ≡ rows_c_to_i }
-    ensures count { length result.now ≡ 30 }
+    ensures count { length result.now ≡ 32 }
 {
     &ROWS_C_TO_I
 }
@@ -281,26 +299,26 @@ pub(crate) fn rows_o_to_r() -> &'static [Row]
 
 pub(crate) fn rows_from_s() -> &'static [Row]
     ensures value { map seen result.now ≡ rows_from_s }
-    ensures count { length result.now ≡ 30 }
+    ensures count { length result.now ≡ 34 }
 {
     &ROWS_FROM_S
 }
 
 /// The row at a place of the table.
 fn row_at(at: usize) -> Row
-    requires { at < 137 }
+    requires { at < 143 }
     ensures { seen result ≡ slice_index_or rows at first_row }
 {
     if at < 29 {
         rows_to_b()[at]
-    } else if at < 59 {
+    } else if at < 61 {
         rows_c_to_i()[at - 29]
-    } else if at < 95 {
-        rows_l_to_n()[at - 59]
-    } else if at < 107 {
-        rows_o_to_r()[at - 95]
+    } else if at < 97 {
+        rows_l_to_n()[at - 61]
+    } else if at < 109 {
+        rows_o_to_r()[at - 97]
     } else {
-        rows_from_s()[at - 107]
+        rows_from_s()[at - 109]
     }
 }
 

@@ -1,8 +1,10 @@
 -- The numbers of listed instructions have room in the fields of their forms.
-use Rattle.std.proofs.Common.{◌≡◌, refl, ℕ, suc, ◌-◌, ◌/◌, ◌%◌, ◌<◌, ◌≤◌, ◌^◌, ℤ, pos, negsuc, true, ltb, arith}
+use Rattle.std.proofs.Common.{◌≡◌, inl, inr, refl, sym, ℕ, suc, ◌-◌, ◌/◌, ◌%◌, ◌<◌, ◌≤◌, ◌^◌, ℤ, pos, negsuc, unsigned_abs, true, ltb, IsSome, arith}
 use Rattle.std.proofs.lemmas.Bool.{le-leb}
 use Rattle.ia_insn.specs.Signed.{twos, FitsSigned}
-use Rattle.asm_forms.specs.declared.items.NumberField.TheVariants.{Imm8, Imm9, Imm14, Imm22, Tag, RotatingMask}
+use Rattle.ia_insn.specs.FormatsM.{increment_code}
+use Rattle.ia_insn.specs.Ranges.{IsIncrement}
+use Rattle.asm_forms.specs.declared.items.NumberField.TheVariants.{Imm8, Imm9, Imm14, Imm22, Tag, RotatingMask, Increment}
 use Rattle.asm_forms.specs.Items.{within, holds}
 use Rattle.asm_printing.specs.Canonical.{negative, distance}
 
@@ -48,6 +50,28 @@ pub has_rotating_mask : (z : ℤ) → FitsSigned 44 z → twos 44 z / 1 % 65536 
 has_rotating_mask z h e =
     let w : within (negative z) (distance z) 8796093022208 8796093022207 ≡ true = is_within 44 8796093022208 8796093022207 z h refl refl in
     rw (w, is_multiple z h e) refl
+
+-- how far a number is from 0 is the number without its sign
+same_distance : (z : ℤ) → unsigned_abs z ≡ distance z
+same_distance (pos n) = refl
+same_distance (negsuc n) = refl
+
+-- an increment has room in its field, and is at most 16 without its sign
+pub has_increment : (z : ℤ) → IsIncrement z → holds Increment (negative z) (distance z) ≡ true
+has_increment z (inl e) = rw (sym (same_distance z), e) refl
+has_increment z (inr (inl e)) = rw (sym (same_distance z), e) refl
+has_increment z (inr (inr (inl e))) = rw (sym (same_distance z), e) refl
+has_increment z (inr (inr (inr e))) = rw (sym (same_distance z), e) refl
+
+pub increment_within : (z : ℤ) → IsIncrement z → distance z ≤ 16
+increment_within z h = grind (arith, same_distance)
+
+-- a number that has a code is at most 16, so that it can be printed with its sign
+coded : (n : ℕ) → IsSome (increment_code n) → n ≤ 16
+coded n h = grind arith
+
+pub increment_printed : (z : ℤ) → IsSome (increment_code (unsigned_abs z)) → distance z < 18446744073709551616
+increment_printed z h = omega (arith, coded (unsigned_abs z) h, same_distance z)
 
 -- a signed number of a width below 64 can be printed
 pub number_printed : (width : ℕ) (z : ℤ) → FitsSigned width z → 2 ^ (width - 1) < 18446744073709551616 → distance z < 18446744073709551616

@@ -8,7 +8,7 @@ use Rattle.ia_insn.specs.declared.choices.Unit.TheVariants as unit
 use Rattle.ia_insn.specs.declared.choices.Update.TheVariants as update
 use Rattle.ia_insn.specs.FormatsM.{IsListedM}
 use Rattle.asm_printing.proofs.Written.{operands_of, IsPrinted}
-use Rattle.asm_printing.proofs.FieldRanges.{number_printed}
+use Rattle.asm_printing.proofs.FieldRanges.{number_printed, increment_printed}
 
 pub printed_m : (qp : ℕ) (x : Op) → IsListedM (record { qp = qp; op = x }) → (qp < 64) × AllByRecursion IsPrinted (operands_of x)
 printed_m qp (op.Load size kind hint r1 r3 update.None) l = (l.fit.1.1.1.1.1.1.1.0, (l.fit.1.1.1.1.1.1.0, (l.fit.1.1.1.1.1.0, tt)))
@@ -16,6 +16,8 @@ printed_m qp (op.Load size kind hint r1 r3 (update.Reg r2)) l = (l.fit.1.1.1.1.1
 printed_m qp (op.Load size kind hint r1 r3 (update.Imm imm)) l = (l.fit.1.1.1.1.1.1.1.1.0, (l.fit.1.1.1.1.1.1.1.0, (l.fit.1.1.1.1.1.0, (number_printed 9 imm l.range.3.2 (lit< tt), tt))))
 printed_m qp (op.Store size kind hint r3 r2 update.None) l = (l.fit.1.1.1.1.1.1.1.0, (l.fit.1.1.1.1.1.0, (l.fit.1.1.1.1.1.1.0, tt)))
 printed_m qp (op.Store size kind hint r3 r2 (update.Imm imm)) l = (l.fit.1.1.1.1.1.1.1.1.0, (l.fit.1.1.1.1.1.0, (l.fit.1.1.1.1.1.1.0, (number_printed 9 imm l.range.2.1 (lit< tt), tt))))
+printed_m qp (op.Xchg size hint r1 r3 r2) l = (l.fit.1.1.1.1.1.1.1.1.0, (l.fit.1.1.1.1.1.1.1.0, (l.fit.1.1.1.1.1.0, (l.fit.1.1.1.1.1.1.0, tt))))
+printed_m qp (op.FetchAdd size release hint r1 r3 inc) l = (l.fit.1.1.1.1.1.1.1.1.1.0, (l.fit.1.1.1.1.1.1.1.1.0, (l.fit.1.1.1.1.1.0, (increment_printed inc l.range.3, tt))))
 printed_m qp (op.ChkS unit.M r2 disp) l = (l.fit.1.1.1.1.1.1.0, (l.fit.1.1.1.1.0, (tt, tt)))
 printed_m qp (op.ChkA false r1 disp) l = (l.fit.1.1.1.1.1.0, (l.fit.1.1.1.1.0, (tt, tt)))
 printed_m qp (op.ChkA true r1 disp) l = (l.fit.1.1.1.1.1.0, (l.fit.1.1.1.1.0, (tt, tt)))

@@ -128,6 +128,16 @@ store_imm_form size.Two = form.St2Imm
 store_imm_form size.Four = form.St4Imm
 store_imm_form size.Eight = form.St8Imm
 
+abbrev pub exchange_form : AccessSize → Form
+exchange_form size.One = form.Xchg1
+exchange_form size.Two = form.Xchg2
+exchange_form size.Four = form.Xchg4
+exchange_form size.Eight = form.Xchg8
+
+abbrev pub fetch_add_form : AccessSize → Form
+fetch_add_form size.Four = form.Fetchadd4
+fetch_add_form _ = form.Fetchadd8
+
 abbrev pub relation_of : Rel → Relation
 relation_of rel.Eq = crel.Eq
 relation_of rel.Ne = crel.Ne
@@ -155,6 +165,10 @@ whether n = if n == 0 then wh.Sptk else (if n == 1 then wh.Spnt else (if n == 2 
 -- the cache hint: 0 none, 1 nt1, 3 nta
 abbrev pub cache_hint : ℕ → CacheHint
 cache_hint n = if n == 0 then hint.None else (if n == 1 then hint.Nt1 else hint.Nta)
+
+-- the semaphore type of a fetch-and-add
+abbrev pub semaphore_type : Bool → Completer
+semaphore_type release = if release then c.Rel else c.Acq
 
 abbrev pub prefetch_hint : Bool → Completer
 prefetch_hint many = if many then c.Many else c.Few
@@ -235,6 +249,8 @@ syntax_of (op.Load n kind h r1 r3 (update.Reg r2)) = syntax (load_reg_form (size
 syntax_of (op.Load n kind h r1 r3 (update.Imm imm)) = syntax (load_imm_form (size_of n)) (c.Load kind ∷ (c.Hint (cache_hint h)) ∷ []) (t.Gr r1 ∷ t.Gr r3 ∷ number imm ∷ [])
 syntax_of (op.Store n kind h r3 r2 (update.Imm imm)) = syntax (store_imm_form (size_of n)) (c.Store kind ∷ (c.Hint (cache_hint h)) ∷ []) (t.Gr r3 ∷ t.Gr r2 ∷ number imm ∷ [])
 syntax_of (op.Store n kind h r3 r2 _) = syntax (store_form (size_of n)) (c.Store kind ∷ (c.Hint (cache_hint h)) ∷ []) (t.Gr r3 ∷ t.Gr r2 ∷ [])
+syntax_of (op.Xchg n h r1 r3 r2) = syntax (exchange_form (size_of n)) ((c.Hint (cache_hint h)) ∷ []) (t.Gr r1 ∷ t.Gr r3 ∷ t.Gr r2 ∷ [])
+syntax_of (op.FetchAdd n release h r1 r3 inc) = syntax (fetch_add_form (size_of n)) (semaphore_type release ∷ (c.Hint (cache_hint h)) ∷ []) (t.Gr r1 ∷ t.Gr r3 ∷ number inc ∷ [])
 syntax_of (op.ChkA false r1 disp) = syntax form.ChkANc (c.A ∷ c.Nc ∷ []) (t.Gr r1 ∷ t.Name ∷ [])
 syntax_of (op.ChkA true r1 disp) = syntax form.ChkAClr (c.A ∷ c.Clr ∷ []) (t.Gr r1 ∷ t.Name ∷ [])
 syntax_of op.Invala = syntax form.Invala [] []

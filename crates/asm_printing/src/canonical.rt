@@ -5,7 +5,7 @@ ghost use Rattle.asm_words.specs.declared.tokens.Token.TheVariants as t;
 ghost use Rattle.asm_forms.specs.declared.completer.Completer.TheVariants as c;
 ghost use Rattle.ia_insn.specs.declared.insn.Op.TheVariants as ops;
 ghost use Rattle.ia_insn.specs.declared.choices.Unit.TheVariants as units;
-ghost use Rattle.asm_printing.specs.Canonical.{Syntax as SyntaxOf, syntax, size_of, alu_form, alu_imm_form, compare_form, compare_imm_form, lane_form, ext_form, load_form, load_reg_form, load_imm_form, store_form, store_imm_form, relation_of, when, unc_of, move_whether, whether, cache_hint, prefetch_hint, number, natural, ones_number, compare_completers, branch_hints, syntax_of};
+ghost use Rattle.asm_printing.specs.Canonical.{Syntax as SyntaxOf, syntax, size_of, alu_form, alu_imm_form, compare_form, compare_imm_form, lane_form, ext_form, load_form, load_reg_form, load_imm_form, store_form, store_imm_form, exchange_form, fetch_add_form, relation_of, when, unc_of, move_whether, whether, cache_hint, semaphore_type, prefetch_hint, number, natural, ones_number, compare_completers, branch_hints, syntax_of};
 
 use asm_forms::{AccessSize, CacheHint, Completer, Completers, Form, Operands, Relation, Whether};
 use asm_words::Token;
@@ -266,6 +266,28 @@ fn store_imm_form(size: AccessSize) -> Form
     }
 }
 
+/// The form of an exchange.
+fn exchange_form(size: AccessSize) -> Form
+    ensures { result ≡ exchange_form size }
+{
+    match size {
+        AccessSize::One => Form::Xchg1,
+        AccessSize::Two => Form::Xchg2,
+        AccessSize::Four => Form::Xchg4,
+        AccessSize::Eight => Form::Xchg8,
+    }
+}
+
+/// The form of a fetch-and-add.
+fn fetch_add_form(size: AccessSize) -> Form
+    ensures { result ≡ fetch_add_form size }
+{
+    match size {
+        AccessSize::Four => Form::Fetchadd4,
+        AccessSize::One | AccessSize::Two | AccessSize::Eight => Form::Fetchadd8,
+    }
+}
+
 /// The relation as it is written.
 fn relation_of(rel: Rel) -> Relation
     ensures { result ≡ relation_of rel }
@@ -333,6 +355,17 @@ fn cache_hint(n: u8) -> CacheHint
         CacheHint::Nt1
     } else {
         CacheHint::Nta
+    }
+}
+
+/// The semaphore type of a fetch-and-add.
+fn semaphore_type(release: bool) -> Completer
+    ensures { result ≡ semaphore_type release }
+{
+    if release {
+        Completer::Rel
+    } else {
+        Completer::Acq
     }
 }
 
@@ -541,6 +574,28 @@ fn store(size: u8, kind: StoreKind, hint: u8, r3: Gr, r2: Gr, update: Update) ->
         ),
         _ => written(store_form(size), &completers, &[address, value]),
     }
+}
+
+/// An exchange.
+fn exchange(size: u8, hint: u8, r1: Gr, r3: Gr, r2: Gr) -> Syntax
+    ensures { result ≡ syntax_of (ops.Xchg size hint r1 r3 r2) }
+{
+    written(
+        exchange_form(size_of(size)),
+        &[Completer::Hint(cache_hint(hint))],
+        &[Token::Gr(r1), Token::Gr(r3), Token::Gr(r2)],
+    )
+}
+
+/// A fetch-and-add.
+fn fetch_add(size: u8, release: bool, hint: u8, r1: Gr, r3: Gr, inc: i16) -> Syntax
+    ensures { result ≡ syntax_of (ops.FetchAdd size release hint r1 r3 inc) }
+{
+    written(
+        fetch_add_form(size_of(size)),
+        &[semaphore_type(release), Completer::Hint(cache_hint(hint))],
+        &[Token::Gr(r1), Token::Gr(r3), number(i64::from(inc))],
+    )
 }
 
 /// A branch with this first completer and these hints.
@@ -806,6 +861,21 @@ pub(crate) fn syntax_of(op: &Op) -> Syntax
             r2,
             update,
         } => store(size, kind, hint, r3, r2, update),
+        Op::Xchg {
+            size,
+            hint,
+            r1,
+            r3,
+            r2,
+        } => exchange(size, hint, r1, r3, r2),
+        Op::FetchAdd {
+            size,
+            release,
+            hint,
+            r1,
+            r3,
+            inc,
+        } => fetch_add(size, release, hint, r1, r3, inc),
         Op::ChkA {
             clear: false,
             r1,

@@ -1,5 +1,5 @@
 -- It is decided whether an instruction is listed.
-use Rattle.std.proofs.Common.{◌≡◌, refl, ℕ, ◌*◌, ◌-◌, ◌^◌, ℤ, pos, negsuc, List, [], ◌∷◌}
+use Rattle.std.proofs.Common.{◌≡◌, refl, ℕ, ◌*◌, ◌-◌, ◌^◌, ℤ, pos, negsuc, unsigned_abs, List, [], ◌∷◌}
 use Rattle.std.proofs.Math.Decide.{ℕ_discrete, dec_le, dec_lt}
 use Rattle.bundle_bits.specs.Words.{Part, AllFit, bits}
 use Rattle.ia_insn.specs.declared.insn.Insn.{Insn}
@@ -102,6 +102,8 @@ store_update r3 (update.Imm imm) = both (differ r3 0) (fits_signed 9 imm)
 in_range_m : (qp : ℕ) (o : Op) → Dec (m.IsInRange qp o)
 in_range_m qp (op.Load size kind hint r1 r3 u) = four (differ r1 0) (three (differ hint 2) (both (some (m.load_code kind size)) (load_update r1 r3 u)))
 in_range_m qp (op.Store size kind hint r3 r2 u) = three (either (ℕ_discrete hint 0) (ℕ_discrete hint 3)) (both (some (m.store_code kind size)) (store_update r3 u))
+in_range_m qp (op.Xchg size hint r1 r3 r2) = three (differ r1 0) (both (differ hint 2) (some (m.exchange_code size)))
+in_range_m qp (op.FetchAdd size release hint r1 r3 inc) = four (differ r1 0) (three (differ hint 2) (both (some (m.fetch_add_code size release)) (some (m.increment_code (unsigned_abs inc)))))
 in_range_m qp (op.ChkS unit.M r2 disp) = fits_signed 21 disp
 in_range_m qp (op.ChkA clear r1 disp) = fits_signed 21 disp
 in_range_m qp op.Invala = yes tt

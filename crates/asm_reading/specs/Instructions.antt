@@ -9,7 +9,7 @@ use Rattle.asm_forms.specs.declared.form.Form.{Form}
 use Rattle.asm_forms.specs.declared.form.Form.TheVariants as form
 use Rattle.asm_forms.specs.declared.items.NumberField.TheVariants.{Imm14}
 use Rattle.asm_forms.specs.Items.{holds}
-use Rattle.asm_reading.specs.Operands.{gr_at, pr_at, br_at, ar_at, magnitude_at, is_negative_at, small_at, left_at, signed_at, short_at, wrapped_at, mask_at, is_present_at, relation_at, compare_at, is_unc_at, shift_right_at, load_kind_at, store_kind_at, hint_at, whether_at, move_whether_at, is_many_at, loop_kind_at, unit_at}
+use Rattle.asm_reading.specs.Operands.{gr_at, pr_at, br_at, ar_at, magnitude_at, is_negative_at, small_at, left_at, signed_at, short_at, wrapped_at, mask_at, is_present_at, relation_at, compare_at, is_unc_at, shift_right_at, load_kind_at, store_kind_at, is_release_at, hint_at, whether_at, move_whether_at, is_many_at, loop_kind_at, unit_at}
 use Rattle.ia_insn.specs.declared.insn.Op.{Op}
 use Rattle.ia_insn.specs.declared.insn.Op.TheVariants as op
 use Rattle.ia_insn.specs.declared.registers.Ar.{Ar}
@@ -141,6 +141,12 @@ load size cs xs update = Some (op.Load size (load_kind_at cs 0) (hint_at cs 1) (
 abbrev pub store : ℕ → List Completer → List Token → Update → Option Op
 store size cs xs update = Some (op.Store size (store_kind_at cs 0) (hint_at cs 1) (gr_at xs 0) (gr_at xs 1) update)
 
+abbrev pub exchange : ℕ → List Completer → List Token → Option Op
+exchange size cs xs = Some (op.Xchg size (hint_at cs 0) (gr_at xs 0) (gr_at xs 1) (gr_at xs 2))
+
+abbrev pub fetch_add : ℕ → List Completer → List Token → Option Op
+fetch_add size cs xs = Some (op.FetchAdd size (is_release_at cs 0) (hint_at cs 1) (gr_at xs 0) (gr_at xs 1) (short_at xs 2))
+
 -- the instruction of a form with these completers and operands
 abbrev pub op_of : Form → List Completer → List Token → Option Op
 op_of form.Add cs xs = alu_op alu.Add xs
@@ -186,6 +192,8 @@ op_of form.DepZImm cs xs = Some (op.DepZImm (gr_at xs 0) (signed_at xs 1) (small
 op_of form.DepImm cs xs = Some (op.DepImm (gr_at xs 0) (not (magnitude_at xs 1 == 0)) (gr_at xs 2) (small_at xs 3) (small_at xs 4))
 op_of form.Dep cs xs = Some (op.Dep (gr_at xs 0) (gr_at xs 1) (gr_at xs 2) (small_at xs 3) (small_at xs 4))
 op_of form.Extr cs xs = Some (op.Extr (not (is_present_at cs 0)) (gr_at xs 0) (gr_at xs 1) (small_at xs 2) (small_at xs 3))
+op_of form.Fetchadd4 cs xs = fetch_add 4 cs xs
+op_of form.Fetchadd8 cs xs = fetch_add 8 cs xs
 op_of form.Hint cs xs = Some (op.Hint (unit_at cs 0 unit.I) 0)
 op_of form.HintImm cs xs = Some (op.Hint (unit_at cs 0 unit.I) (magnitude_at xs 0))
 op_of form.Invala cs xs = Some op.Invala
@@ -263,6 +271,10 @@ op_of form.Tbit cs xs = Some (op.Tbit (is_unc_at cs 1) (pr_at xs 0) (pr_at xs 1)
 op_of form.TbitNz cs xs = Some (op.Tbit (is_unc_at cs 1) (pr_at xs 1) (pr_at xs 0) (gr_at xs 2) (small_at xs 3))
 op_of form.Tnat cs xs = Some (op.Tnat (is_unc_at cs 1) (pr_at xs 0) (pr_at xs 1) (gr_at xs 2))
 op_of form.TnatNz cs xs = Some (op.Tnat (is_unc_at cs 1) (pr_at xs 1) (pr_at xs 0) (gr_at xs 2))
+op_of form.Xchg1 cs xs = exchange 1 cs xs
+op_of form.Xchg2 cs xs = exchange 2 cs xs
+op_of form.Xchg4 cs xs = exchange 4 cs xs
+op_of form.Xchg8 cs xs = exchange 8 cs xs
 op_of form.Xor cs xs = alu_op alu.Xor xs
 op_of form.XorImm cs xs = alu_imm alu.Xor xs
 op_of form.Zxt1 cs xs = ext false 1 xs

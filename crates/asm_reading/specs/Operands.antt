@@ -161,6 +161,14 @@ store_kind _ = store.Plain
 abbrev pub store_kind_at : List Completer → ℕ → StoreKind
 store_kind_at cs k = store_kind (completer_at cs k)
 
+-- whether a fetch-and-add is a release
+abbrev pub is_release : Completer → Bool
+is_release c.Rel = true
+is_release _ = false
+
+abbrev pub is_release_at : List Completer → ℕ → Bool
+is_release_at cs k = is_release (completer_at cs k)
+
 abbrev hint_number : CacheHint → ℕ
 hint_number hint.None = 0
 hint_number hint.Nt1 = 1

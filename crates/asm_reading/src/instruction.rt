@@ -1,13 +1,13 @@
 //! The instruction that the completers and the operands of a form make.
 
 ghost use Rattle.std.specs.Prelude.{◌≡◌, ◌≢◌, negsuc, ◌≤ℤ◌, ◌<ℤ◌};
-ghost use Rattle.asm_reading.specs.Instructions.{op_of, compared, compared_imm, less, rel_of, parallel, parallel_zero, parallel_imm, sum, of_i_slot, allocation, alu_op, alu_imm, add_imm14, shladd, cmp, cmp_parallel, cmp_zero, cmp_imm, cmp_imm_parallel, cmp_imm_less, lane_compare, lane_op, ext, load, store};
+ghost use Rattle.asm_reading.specs.Instructions.{op_of, compared, compared_imm, less, rel_of, parallel, parallel_zero, parallel_imm, sum, of_i_slot, allocation, alu_op, alu_imm, add_imm14, shladd, cmp, cmp_parallel, cmp_zero, cmp_imm, cmp_imm_parallel, cmp_imm_less, lane_compare, lane_op, ext, load, store, exchange, fetch_add};
 
 use crate::operands::{
-    ar_at, br_at, compare_at, gr_at, hint_at, is_many_at, is_negative_at, is_present_at, is_unc_at,
-    left_at, load_kind_at, loop_kind_at, magnitude_at, mask_at, move_whether_at, pr_at,
-    relation_at, shift_right_at, short_at, signed_at, small_at, store_kind_at, unit_at, whether_at,
-    wrapped_at,
+    ar_at, br_at, compare_at, gr_at, hint_at, is_many_at, is_negative_at, is_present_at,
+    is_release_at, is_unc_at, left_at, load_kind_at, loop_kind_at, magnitude_at, mask_at,
+    move_whether_at, pr_at, relation_at, shift_right_at, short_at, signed_at, small_at,
+    store_kind_at, unit_at, whether_at, wrapped_at,
 };
 use asm_forms::{Completer, Form, NumberField, Relation, holds};
 use asm_words::Token;
@@ -420,6 +420,33 @@ fn store(size: u8, cs: &[Completer], xs: &[Token], update: Update) -> Option<Op>
     })
 }
 
+/// An exchange of so many bytes.
+fn exchange(size: u8, cs: &[Completer], xs: &[Token]) -> Option<Op>
+    ensures { result ≡ exchange size cs.now xs.now }
+{
+    Some(Op::Xchg {
+        size,
+        hint: hint_at(cs, 0),
+        r1: gr_at(xs, 0),
+        r3: gr_at(xs, 1),
+        r2: gr_at(xs, 2),
+    })
+}
+
+/// A fetch-and-add of so many bytes.
+fn fetch_add(size: u8, cs: &[Completer], xs: &[Token]) -> Option<Op>
+    ensures { result ≡ fetch_add size cs.now xs.now }
+{
+    Some(Op::FetchAdd {
+        size,
+        release: is_release_at(cs, 0),
+        hint: hint_at(cs, 1),
+        r1: gr_at(xs, 0),
+        r3: gr_at(xs, 1),
+        inc: short_at(xs, 2),
+    })
+}
+
 /// The instruction of a form with these completers and operands; None where they make none.
 pub(crate) fn op_of(form: Form, cs: &[Completer], xs: &[Token]) -> Option<Op>
     ensures { result ≡ op_of form cs.now xs.now }
@@ -567,6 +594,8 @@ pub(crate) fn op_of(form: Form, cs: &[Completer], xs: &[Token]) -> Option<Op>
             pos: small_at(xs, 2),
             len: small_at(xs, 3),
         }),
+        Form::Fetchadd4 => fetch_add(4, cs, xs),
+        Form::Fetchadd8 => fetch_add(8, cs, xs),
         Form::Hint => Some(Op::Hint {
             unit: unit_at(cs, 0, Unit::I),
             imm: 0,
@@ -783,6 +812,10 @@ pub(crate) fn op_of(form: Form, cs: &[Completer], xs: &[Token]) -> Option<Op>
             p2: pr_at(xs, 0),
             r3: gr_at(xs, 2),
         }),
+        Form::Xchg1 => exchange(1, cs, xs),
+        Form::Xchg2 => exchange(2, cs, xs),
+        Form::Xchg4 => exchange(4, cs, xs),
+        Form::Xchg8 => exchange(8, cs, xs),
         Form::Xor => alu_op(AluFn::Xor, xs),
         Form::XorImm => alu_imm(AluFn::Xor, xs),
         Form::Zxt1 => ext(false, 1, xs),

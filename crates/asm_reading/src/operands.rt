@@ -2,7 +2,7 @@
 //! completer stands there, the answer is the first value of the kind.
 
 ghost use Rattle.std.specs.Prelude.{◌≡◌, ◌<◌, ◌≤◌};
-ghost use Rattle.asm_reading.specs.Operands.{token_at, gr_at, pr_at, br_at, ar_at, magnitude_at, is_negative_at, small_at, u32_at, left_at, signed_at, short_at, wrapped, wrapped_at, mask_at, completer_at, is_present_at, relation_at, compare_at, is_unc_at, shift_right_at, load_kind_at, store_kind_at, hint_at, whether_at, move_whether_at, is_many_at, loop_kind_at, unit_at, bytes};
+ghost use Rattle.asm_reading.specs.Operands.{token_at, gr_at, pr_at, br_at, ar_at, magnitude_at, is_negative_at, small_at, u32_at, left_at, signed_at, short_at, wrapped, wrapped_at, mask_at, completer_at, is_present_at, relation_at, compare_at, is_unc_at, shift_right_at, load_kind_at, store_kind_at, is_release_at, hint_at, whether_at, move_whether_at, is_many_at, loop_kind_at, unit_at, bytes};
 
 use asm_forms::{AccessSize, CacheHint, Completer, Relation, Whether};
 use asm_words::Token;
@@ -242,6 +242,13 @@ pub(crate) fn store_kind_at(completers: &[Completer], at: usize) -> StoreKind
         Completer::Store(kind) => kind,
         _ => StoreKind::Plain,
     }
+}
+
+/// Whether a fetch-and-add is a release.
+pub(crate) fn is_release_at(completers: &[Completer], at: usize) -> bool
+    ensures { result ≡ is_release_at completers.now at }
+{
+    matches!(completer_at(completers, at), Completer::Rel)
 }
 
 /// The cache hint: 0 none, 1 nt1, 3 nta.

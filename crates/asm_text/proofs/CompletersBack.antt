@@ -12,8 +12,8 @@ use Rattle.ia_insn.specs.declared.choices.LoadKind.{LoadKind}
 use Rattle.ia_insn.specs.declared.choices.LoadKind.TheVariants as load
 use Rattle.ia_insn.specs.declared.choices.StoreKind.{StoreKind}
 use Rattle.ia_insn.specs.declared.choices.StoreKind.TheVariants as store
-use Rattle.asm_reading.specs.Operands.{hint_of, is_many, is_present, whether}
-use Rattle.asm_printing.specs.Canonical.{when, prefetch_hint, cache_hint, branch_hints, whether as whether_numbered}
+use Rattle.asm_reading.specs.Operands.{hint_of, is_many, is_present, is_release, whether}
+use Rattle.asm_printing.specs.Canonical.{when, prefetch_hint, cache_hint, semaphore_type, branch_hints, whether as whether_numbered}
 
 whether_in : (a b d : Bool) → list_any (is_same (c.Whether (cond a wh.Sptk (cond b wh.Spnt (cond d wh.Dptk wh.Dpnt))))) (members set.Whether) ≡ true
 whether_in true b d = refl
@@ -117,3 +117,19 @@ spill_choice k h g = both _ _ (spill_in k) (both _ _ (store_hint_in h g) refl)
 pub store_hint_back : (h : ℕ) → (h ≡ 0) ⊎ (h ≡ 3) → hint_of (c.Hint (cache_hint h)) ≡ h
 store_hint_back h (inl e) = rw e refl
 store_hint_back h (inr e) = rw e refl
+
+-- the completers of an exchange
+pub exchange_choice : (h : ℕ) → is_choice (set.LoadHint ∷ []) ((c.Hint (cache_hint h)) ∷ []) ≡ true
+exchange_choice h = both _ _ (cache_hint_in (eqb h 0) (eqb h 1)) refl
+
+-- the completers of a fetch-and-add
+semaphore_in : (release : Bool) → list_any (is_same (semaphore_type release)) (members set.SemaphoreType) ≡ true
+semaphore_in true = refl
+semaphore_in false = refl
+
+pub fetch_add_choice : (release : Bool) (h : ℕ) → is_choice (set.SemaphoreType ∷ set.LoadHint ∷ []) (semaphore_type release ∷ (c.Hint (cache_hint h)) ∷ []) ≡ true
+fetch_add_choice release h = both _ _ (semaphore_in release) (both _ _ (cache_hint_in (eqb h 0) (eqb h 1)) refl)
+
+pub release_back : (release : Bool) → is_release (semaphore_type release) ≡ release
+release_back true = refl
+release_back false = refl

@@ -5,7 +5,7 @@ use Rattle.ia_insn.specs.Ranges.{HasRanges}
 use Rattle.asm_text.proofs.WayBack.{ReadsBack}
 use Rattle.asm_text.proofs.ReadsBackA.{alu_back, shladd_back, imm8_back, imm14_back, imm22_back, cmp_back, cmp_zero_back, cmp_imm_back, lane_back}
 use Rattle.asm_text.proofs.ReadsBackI.{shift_back, popcnt_back, shrp_back, extr_back, dep_z_back, dep_z_imm_back, dep_imm_back, dep_back, tbit_back, tnat_back, chk_s_back, mov_to_br_back, mov_from_br_back, mov_to_pr_back, mov_to_pr_rot_back, mov_from_ip_back, mov_from_pr_back, to_ar_back, to_ar_imm_back, from_ar_back, ext_back}
-use Rattle.asm_text.proofs.ReadsBackM.{load_back, store_back, chk_a_back, invala_back, mf_back, invala_e_back, alloc_back}
+use Rattle.asm_text.proofs.ReadsBackM.{load_back, store_back, exchange_back, fetch_add_back, chk_a_back, invala_back, mf_back, invala_e_back, alloc_back}
 use Rattle.asm_text.proofs.ReadsBackB.{br_back, br_call_back, br_ind_back, br_ret_back, br_call_ind_back, clrrrb_back}
 use Rattle.asm_text.proofs.ReadsBackX.{movl_back, break_back, nop_back, hint_back}
 
@@ -42,6 +42,8 @@ reads_back (op.MovFromAr r1 ar) h = from_ar_back r1 ar
 reads_back (op.Ext signed size r1 r3) h = ext_back signed size r1 r3 h.1
 reads_back (op.Load size kind hint r1 r3 update) h = load_back size kind hint r1 r3 update h.1 h.2 h.3 h.4
 reads_back (op.Store size kind hint r3 r2 update) h = store_back size kind hint r3 r2 update h.0 h.1 h.2
+reads_back (op.Xchg size hint r1 r3 r2) h = exchange_back size hint r1 r3 r2 h.1 h.2 h.3
+reads_back (op.FetchAdd size release hint r1 r3 inc) h = fetch_add_back size release hint r1 r3 inc h.1 h.2 h.3 h.4
 reads_back (op.ChkA clear r1 disp) h = chk_a_back clear r1 disp
 reads_back op.Invala h = invala_back
 reads_back op.Mf h = mf_back

@@ -15,12 +15,12 @@ use Rattle.ia_insn.specs.declared.choices.Update.{Update}
 use Rattle.ia_insn.specs.declared.choices.Update.TheVariants as update
 use Rattle.ia_insn.specs.Signed.{FitsSigned}
 use Rattle.ia_insn.specs.FormatsM.{IsLoadUpdate, IsStoreUpdate}
-use Rattle.ia_insn.specs.Ranges.{IsAccessSize, IsLoadSize, IsStoreSize}
+use Rattle.ia_insn.specs.Ranges.{IsAccessSize, IsIncrement, IsLoadSize, IsStoreSize}
 use Rattle.asm_reading.specs.Operands.{signed, is_negative, magnitude}
-use Rattle.asm_printing.specs.Canonical.{number}
-use Rattle.asm_printing.proofs.FieldRanges.{is_below, is_short, has_imm9}
+use Rattle.asm_printing.specs.Canonical.{distance, number}
+use Rattle.asm_printing.proofs.FieldRanges.{is_below, is_short, has_imm9, has_increment, increment_within}
 use Rattle.asm_text.proofs.WayBack.{ReadsBack, signed_back}
-use Rattle.asm_text.proofs.CompletersBack.{hint_back, is_fill, is_spill, load_choice, fill_choice, store_choice, spill_choice, store_hint_back}
+use Rattle.asm_text.proofs.CompletersBack.{hint_back, is_fill, is_spill, load_choice, fill_choice, store_choice, spill_choice, store_hint_back, exchange_choice, fetch_add_choice, release_back}
 
 -- a load's size is one of the four
 load_size : (k : LoadKind) (n : ℕ) → IsLoadSize k n → IsAccessSize n
@@ -91,6 +91,28 @@ store_by n k h r3 r2 (update.Reg r) a s g v = absurd v
 -- M4 and M5
 pub store_back : (n : ℕ) (k : StoreKind) (h r3 r2 : ℕ) (u : Update) → IsStoreSize k n → (h ≡ 0) ⊎ (h ≡ 3) → IsStoreUpdate r3 u → ReadsBack (op.Store n k h r3 r2 u)
 store_back n k h r3 r2 u s g v = store_by n k h r3 r2 u (store_size k n s) (not_spill k n s) g v
+
+-- M16
+same_exchange : (n h g r1 r3 r2 : ℕ) → h ≡ g → Some (op.Xchg n h r1 r3 r2) ≡ Some (op.Xchg n g r1 r3 r2)
+same_exchange n h g r1 r3 r2 e = rw e refl
+
+pub exchange_back : (n h r1 r3 r2 : ℕ) → IsAccessSize n → h ≤ 3 → h ≢ 2 → ReadsBack (op.Xchg n h r1 r3 r2)
+exchange_back n h r1 r3 r2 (inl e) l d = rw e (record { choice = read_choice form.Xchg1 _ (exchange_choice h); fits = refl; label = refl; slot = refl; bare = refl; op = same_exchange 1 _ h r1 r3 r2 (hint_back h l d) })
+exchange_back n h r1 r3 r2 (inr (inl e)) l d = rw e (record { choice = read_choice form.Xchg2 _ (exchange_choice h); fits = refl; label = refl; slot = refl; bare = refl; op = same_exchange 2 _ h r1 r3 r2 (hint_back h l d) })
+exchange_back n h r1 r3 r2 (inr (inr (inl e))) l d = rw e (record { choice = read_choice form.Xchg4 _ (exchange_choice h); fits = refl; label = refl; slot = refl; bare = refl; op = same_exchange 4 _ h r1 r3 r2 (hint_back h l d) })
+exchange_back n h r1 r3 r2 (inr (inr (inr e))) l d = rw e (record { choice = read_choice form.Xchg8 _ (exchange_choice h); fits = refl; label = refl; slot = refl; bare = refl; op = same_exchange 8 _ h r1 r3 r2 (hint_back h l d) })
+
+-- M17
+same_fetch_add : (n : ℕ) (s release : Bool) (h g r1 r3 : ℕ) (i inc : ℤ) → s ≡ release → h ≡ g → i ≡ inc → Some (op.FetchAdd n s h r1 r3 i) ≡ Some (op.FetchAdd n release g r1 r3 inc)
+same_fetch_add n s release h g r1 r3 i inc e f x = rw (e, f, x) refl
+
+-- an increment comes back
+increment_back : (inc : ℤ) → IsIncrement inc → short (number inc) ≡ inc
+increment_back inc h = rw (is_below (distance inc) 16 32768 (increment_within inc h) (lit< tt), signed_back inc) refl
+
+pub fetch_add_back : (n : ℕ) (release : Bool) (h r1 r3 : ℕ) (inc : ℤ) → (n ≡ 4) ⊎ (n ≡ 8) → h ≤ 3 → h ≢ 2 → IsIncrement inc → ReadsBack (op.FetchAdd n release h r1 r3 inc)
+fetch_add_back n release h r1 r3 inc (inl e) l d v = rw e (record { choice = read_choice form.Fetchadd4 _ (fetch_add_choice release h); fits = rw (has_increment inc v) refl; label = refl; slot = refl; bare = refl; op = same_fetch_add 4 _ release _ h r1 r3 _ inc (release_back release) (hint_back h l d) (increment_back inc v) })
+fetch_add_back n release h r1 r3 inc (inr e) l d v = rw e (record { choice = read_choice form.Fetchadd8 _ (fetch_add_choice release h); fits = rw (has_increment inc v) refl; label = refl; slot = refl; bare = refl; op = same_fetch_add 8 _ release _ h r1 r3 _ inc (release_back release) (hint_back h l d) (increment_back inc v) })
 
 -- M22
 pub chk_a_back : (clear : Bool) (r1 : ℕ) (disp : ℤ) → ReadsBack (op.ChkA clear r1 disp)

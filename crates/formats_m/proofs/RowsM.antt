@@ -1,5 +1,5 @@
 -- What is read of the word of an M instruction is the instruction.
-use Rattle.std.proofs.Common.{◌≡◌, ℕ, ◌+◌, ◌*◌, ◌^◌, ◌<◌, ◌⊎◌, inl, inr, Bool, true, false, leb, ltb, eqb, sym, ap, subst, ◌∙◌, refl, arith}
+use Rattle.std.proofs.Common.{◌≡◌, ℕ, ◌+◌, ◌*◌, ◌^◌, ◌<◌, ◌⊎◌, inl, inr, Bool, true, false, leb, ltb, eqb, sym, subst, ◌∙◌, refl, arith}
 use Rattle.std.proofs.lemmas.Bool.{leb-true}
 use Rattle.std.specs.Prelude.{ℤ, IsSome, unwrap_or}
 use Rattle.bundle_bits.specs.Words.{bits, is_layout, the}
@@ -9,7 +9,7 @@ use Rattle.bundle_bits.proofs.Words.{value_in, row, word-fits, limit_of, word-be
 use Rattle.ia_insn.proofs.Parts.{signed-back, imm8-back, check_displacement-back, branch_displacement-back, imm21-back}
 use Rattle.ia_insn.specs.declared.insn.Insn.{Insn}
 use Rattle.ia_insn.specs.declared.insn.Op.{Op}
-use Rattle.ia_insn.specs.declared.insn.Op.TheVariants.{Load, Store, ChkS, ChkA, Invala, InvalaE, Mf, MovToAr, MovFromAr, MovToArImm, Alloc, Break, Nop, Hint}
+use Rattle.ia_insn.specs.declared.insn.Op.TheVariants.{Load, Store, Xchg, FetchAdd, ChkS, ChkA, Invala, InvalaE, Mf, MovToAr, MovFromAr, MovToArImm, Alloc, Break, Nop, Hint}
 use Rattle.ia_insn.specs.declared.registers.Ar.TheVariants.{Unat}
 use Rattle.ia_insn.specs.declared.choices.LoadKind.{LoadKind}
 use Rattle.ia_insn.specs.declared.choices.LoadKind.TheVariants as loads
@@ -17,7 +17,9 @@ use Rattle.ia_insn.specs.declared.choices.StoreKind.{StoreKind}
 use Rattle.ia_insn.specs.declared.choices.StoreKind.TheVariants as stores
 use Rattle.ia_insn.specs.declared.choices.Unit.TheVariants as units
 use Rattle.ia_insn.specs.declared.choices.Update.TheVariants as updates
-use Rattle.formats_m.specs.Reading.{size_of, load_kind_of, store_kind_of, load_update_in, store_update_in, memory_in, system_in, major_0_in, major_1_in, op_in, candidate}
+use Rattle.formats_m.specs.Reading.{size_of, load_kind_of, store_kind_of, load_update_in, store_update_in, memory_in, system_in, major_0_in, major_1_in, op_in, candidate, has_semaphore_marks_in}
+use Rattle.sem_ops.specs.Semaphores.{IsSemaphore}
+use Rattle.sem_ops.specs.Laws.{OneInstruction as OneSemaphore}
 
 -- Each table of codes read backwards, and what of the codes tells formats apart.
 
@@ -81,8 +83,13 @@ layout qp (Nop units.M imm) = refl
 layout qp (Hint units.M imm) = refl
 layout qp op = refl
 
--- What is read of the fields of an instruction is the instruction.
-back : (w qp : ℕ) (op : Op) → IsInRange qp op → candidate (value_in w (fields qp op)) ≡ record { qp = qp; op = op }
+-- what the marks of an exchange or a fetch-and-add say of an instruction: with them it is one, and else the candidate
+abbrev IsBack : Bool → Insn → Insn → Type 0
+IsBack true read i = IsSemaphore i.op
+IsBack false read i = read ≡ i
+
+-- What is read of the fields of an instruction is the instruction, and an exchange or a fetch-and-add alone has their marks.
+back : (w qp : ℕ) (op : Op) → IsInRange qp op → (let v = value_in w (fields qp op) in IsBack (has_semaphore_marks_in v) (candidate v) (record { qp = qp; op = op }))
 unfolding load_update_in store_update_in memory_in system_in major_0_in major_1_in op_in candidate
 back w qp (Load size kind hint r1 r3 updates.None) range =
     let t = load-back kind size range.2 in
@@ -100,6 +107,8 @@ back w qp (Store size kind hint r3 r2 (updates.Reg r)) range = absurd range.2
 back w qp (Store size kind hint r3 r2 (updates.Imm imm)) range =
     let t = store-back kind size range.1 in
     simp (t.0, t.1, t.2, imm9-back imm range.2.1) refl
+back w qp (Xchg size hint r1 r3 r2) range = tt
+back w qp (FetchAdd size release hint r1 r3 inc) range = tt
 back w qp (ChkS units.M r2 disp) range = simp (check_displacement-back disp range) refl
 back w qp (ChkA clear r1 disp) range =
     let t = clear-back clear in
@@ -116,9 +125,16 @@ back w qp (Nop units.M imm) range = simp (imm21-back imm range) refl
 back w qp (Hint units.M imm) range = simp (imm21-back imm range) refl
 back w qp op range = absurd range
 
--- The candidate of an instruction's word is the instruction.
-pub read_back : (i : Insn) (w : ℕ) → CodeM i w → candidate (the w) ≡ i
-read_back i w code = ap candidate (row (fields i.qp i.op) 41 (layout i.qp i.op) code.listed.fit w code.sum) ∙ back w i.qp i.op code.listed.range
+code_back : (i : Insn) (w : ℕ) → CodeM i w → IsBack (has_semaphore_marks_in (the w)) (candidate (the w)) i
+code_back i w code = subst (λ v. IsBack (has_semaphore_marks_in v) (candidate v) i) (sym (row (fields i.qp i.op) 41 (layout i.qp i.op) code.listed.fit w code.sum)) (back w i.qp i.op code.listed.range)
+
+-- An instruction whose word has the marks is an exchange or a fetch-and-add.
+pub of_semaphore : (i : Insn) (w : ℕ) → CodeM i w → has_semaphore_marks_in (the w) ≡ true → IsSemaphore i.op
+of_semaphore i w code is = subst (λ b. IsBack b (candidate (the w)) i) is (code_back i w code)
+
+-- The candidate of the word of another instruction is the instruction.
+pub read_back : (i : Insn) (w : ℕ) → CodeM i w → has_semaphore_marks_in (the w) ≡ false → candidate (the w) ≡ i
+read_back i w code other = subst (λ b. IsBack b (candidate (the w)) i) other (code_back i w code)
 
 -- A word has 41 bits.
 pub word_is_below : (i : Insn) → IsListedM i → word_m i < 2 ^ 41
@@ -140,6 +156,9 @@ low-opcode qp op = refl
 pub opcode_is_low : (i : Insn) (w : ℕ) → CodeM i w → w < 2 ^ 40
 opcode_is_low i w code = omega (arith, code.sum, word-below-limit (fields i.qp i.op) 41 (layout i.qp i.op) code.listed.fit, leb-true _ _ (low-opcode i.qp i.op))
 
--- A word is that of at most one instruction.
-pub only_instruction : (w : ℕ) (i j : Insn) → CodeM i w → CodeM j w → i ≡ j
-only_instruction w i j of_i of_j = sym (read_back i w of_i) ∙ read_back j w of_j
+-- A word is that of at most one instruction, where it is that of at most one exchange or fetch-and-add.
+pub only_instruction : OneSemaphore → (w : ℕ) (i j : Insn) → CodeM i w → CodeM j w → i ≡ j
+only_instruction one w i j of_i of_j = by_marks (has_semaphore_marks_in (the w)) refl where
+  by_marks : (b : Bool) → has_semaphore_marks_in (the w) ≡ b → i ≡ j
+  by_marks true e = one w i j of_i (of_semaphore i w of_i e) of_j (of_semaphore j w of_j e)
+  by_marks false e = sym (read_back i w of_i e) ∙ read_back j w of_j e

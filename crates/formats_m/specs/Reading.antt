@@ -1,9 +1,9 @@
 -- What the decoder reads out of a word before it looks whether the word is that of an instruction:
--- the one M instruction that the word can be, or any where it is that of none
--- (volume 3, chapter 4, instruction formats, M1 to M5 and M20 to M48).
-use Rattle.std.specs.Prelude.{ℕ, ℤ, ◌+◌, ◌*◌, ◌/◌, ◌%◌, ◌==◌, nat_lt, if◌then◌else◌}
+-- whether it can be that of an exchange or a fetch-and-add, and the one other M instruction that the word can be,
+-- or any where it is that of none (volume 3, chapter 4, instruction formats, M1 to M5, M16, M17 and M20 to M48).
+use Rattle.std.specs.Prelude.{ℕ, ℤ, ◌+◌, ◌*◌, ◌/◌, ◌%◌, ◌==◌, ◌&&◌, nat_lt, Bool, if◌then◌else◌}
 use Rattle.bundle_bits.specs.Words.{Part}
-use Rattle.ia_insn.specs.Fields.{Major, Qp, M, X3, X2M24, X6M1, X4M24, X6, Y, R3, R2, R1, S, IM3, Imm7b, Imm7a, Sor, Sol, Sof, HintM1}
+use Rattle.ia_insn.specs.Fields.{Major, Qp, M, X3, X2M24, X6M1, X4M24, X6, XM1, Y, R3, R2, R1, S, IM3, Imm7b, Imm7a, Sor, Sol, Sof, HintM1}
 use Rattle.ia_insn.specs.Immediates.{imm8_in, check_displacement_in, branch_displacement_in, imm21_in}
 use Rattle.ia_insn.specs.Signed.{signed_of}
 use Rattle.ia_insn.specs.declared.insn.Insn.{Insn}
@@ -86,6 +86,10 @@ major_1_in the =
 
 unfoldable pub op_in : ((ℕ → Part) → ℕ) → Op
 op_in the = if the Major == 0 then major_0_in the else if the Major == 1 then major_1_in the else memory_in the
+
+-- M16 and M17: major opcode 4 with x 1
+abbrev pub has_semaphore_marks_in : ((ℕ → Part) → ℕ) → Bool
+has_semaphore_marks_in the = the Major == 4 && the XM1 == 1
 
 unfoldable pub candidate : ((ℕ → Part) → ℕ) → Insn
 candidate the = record { qp = the Qp; op = op_in the }

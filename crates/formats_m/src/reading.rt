@@ -1,15 +1,16 @@
-//! What the fields of a word say: the one M instruction that the word can be.
+//! What the fields of a word say: whether it can be that of an exchange or a fetch-and-add, and the one
+//! other M instruction that the word can be.
 //!
 //! Reserved codes, blank bits and ranges are not looked at. Where they make the word that of no
 //! instruction, the instruction read here has another word, or none.
 
 ghost use Rattle.std.specs.Prelude.{◌≡◌};
 ghost use Rattle.bundle_bits.specs.Words.{the};
-ghost use Rattle.formats_m.specs.Reading.{size_of, load_kind_of, store_kind_of, load_imm9_in, store_imm9_in, load_update_in, store_update_in, memory_in, system_in, major_0_in, major_1_in, op_in, candidate};
+ghost use Rattle.formats_m.specs.Reading.{size_of, load_kind_of, store_kind_of, load_imm9_in, store_imm9_in, load_update_in, store_update_in, memory_in, system_in, major_0_in, major_1_in, op_in, candidate, has_semaphore_marks_in};
 
 use ia_insn::fields::{
     HintM1, IM3, Imm7a, Imm7b, M, Major, Qp, R1, R2, R3, S, Sof, Sol, Sor, X2M24, X3, X4M24, X6,
-    X6M1, Y,
+    X6M1, XM1, Y,
 };
 use ia_insn::immediates::{branch_displacement, check_displacement, imm8, imm21};
 use ia_insn::{Ar, Gr, Insn, LoadKind, Op, Pr, StoreKind, Unit, Update, sign_extended};
@@ -208,7 +209,15 @@ fn read_op(word: u64) -> Op
     }
 }
 
-/// The instruction that a word is if it is that of an M instruction.
+/// Whether a word is that of an exchange or a fetch-and-add if it is that of an M instruction (M16 and
+/// M17), by the major opcode and x.
+pub(crate) fn has_semaphore_marks(word: u64) -> bool
+    ensures { result ≡ has_semaphore_marks_in (the word) }
+{
+    Major::get(word) == 4 && XM1::get(word) == 1
+}
+
+/// The instruction that a word is if it is that of another M instruction.
 #[tactic(auto, unfolding(crate::specs::Reading::candidate))]
 pub(crate) fn read(word: u64) -> Insn
     ensures { result ≡ candidate (the word) }

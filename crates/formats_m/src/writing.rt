@@ -1,5 +1,5 @@
 //! The word of an instruction: the opcode extensions of a load or a store, and a row of fields for
-//! each format.
+//! each format but M16 and M17.
 
 ghost use Rattle.std.specs.Prelude.{◌≡◌, ◌<◌, ◌≤◌, IsSome, unwrap_or};
 ghost use Rattle.ia_insn.specs.FormatsM.{log2_of, load_base, load_code, store_code, IsListedM, word_m};
@@ -10,6 +10,7 @@ use ia_insn::fields::{
     Sol, Sor, X2M24, X3, X4M24, X6, X6M1, XM1, Y,
 };
 use ia_insn::{Ar, Insn, LoadKind, Op, StoreKind, Unit, Update, twos_complement};
+use sem_ops::encode_sem;
 
 /// The number of `ar.unat` (volume 1, chapter 3, application registers).
 const UNAT: u64 = 36;
@@ -72,7 +73,7 @@ fn code_of_store(kind: StoreKind, size: u8) -> u64
 }
 
 /// The word of an M instruction whose operands are in their ranges: a row for each format, with its
-/// fields from the top down.
+/// fields from the top down, or what `sem_ops` says.
 pub(crate) fn write(insn: &Insn) -> u64
     requires { IsListedM insn.now }
     ensures { result ≡ word_m insn.now }
@@ -178,6 +179,11 @@ pub(crate) fn write(insn: &Insn) -> u64
                 qp,
             ])
         }
+        // M16 and M17: exchange, and fetch and add an increment
+        Op::Xchg { .. } | Op::FetchAdd { .. } => match encode_sem(insn) {
+            Some(word) => word,
+            None => unreachable!(),
+        },
         // M20: speculation check
         Op::ChkS {
             unit: Unit::M,

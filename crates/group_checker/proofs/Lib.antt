@@ -25,6 +25,11 @@ pub mod Advancing
 pub mod NoClashes
 pub mod GroupOrders
 pub mod FirstSlots
+pub mod GatheredSlots
+pub mod WholeGroups
+pub mod WritesStand
+pub mod TargetsStand
+pub mod FetchAdds
 pub mod Agreeing
 pub mod RunOrders
 pub mod OrderExamples

@@ -10,6 +10,9 @@ pub mod Progress
 pub mod Traces
 pub mod Agreement
 pub mod OrderLaws
+pub mod GroupSlots
+pub mod Targets
 pub mod OrderExamples
+pub mod FetchAdds
 pub mod Firsts
 pub mod WindowLaws

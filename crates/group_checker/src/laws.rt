@@ -1,4 +1,5 @@
-//! The laws of groups: the order of violations, windows, the walk of a run, what slots see, and the order of writes.
+//! The laws of groups: the order of violations, windows, the walk of a run, what slots see, the order of writes, what is
+//! there after a group, and fetch-and-adds.
 //! They do nothing.
 
 ghost use Rattle.group_checker.specs.Order.{PlacesInOrder, RulesInOrder, ResourcesInOrder, NumbersInOrder};
@@ -6,6 +7,9 @@ ghost use Rattle.group_checker.specs.WindowLaws.{FirstWindow, PartedWindow, Slot
 ghost use Rattle.group_checker.specs.Traces.{KnownOnRuns, StepsKnown, WalksGroup, RunIsTraced, RunsKeepState, RunsAreKnown, SolutionIsTrue};
 ghost use Rattle.group_checker.specs.Agreement.{ViewsAgree, OthersSeeTheStart, AllSeeTheStart};
 ghost use Rattle.group_checker.specs.OrderLaws.{OrdersLeaveTheSame, OrdersChangeFramesTheSame, GroupIsOrdered, NextGroupIsOrdered, FreeIsRobust};
+ghost use Rattle.group_checker.specs.GroupSlots.{SlotsLead};
+ghost use Rattle.group_checker.specs.Targets.{TargetsStand, NextTargetsStand};
+ghost use Rattle.group_checker.specs.FetchAdds.{FetchAddsFindSums, FetchAddsAreSummed, FetchAddTargetsStand, TwoFetchAdds};
 ghost use Rattle.group_checker.specs.OrderExamples.{TwoOrders, TwoMoves, FirstAlloc, LateAlloc, BranchPredicate, BranchRegister, ReturnState, ParallelCompares, MemoryOrder, SpillsAndFills, LaterWrites};
 
 /// The order in which violations are shown: places by bundle and slot, rules from RAW to CLEAR, resources from general
@@ -66,6 +70,29 @@ pub fn law_orders()
     ensures group { GroupIsOrdered }
     ensures next { NextGroupIsOrdered }
     ensures run { FreeIsRobust }
+{}
+
+/// The slots of a group, one after the other, lead to what is gathered of it.
+///
+/// In each group of a program without violations, from each state to which a walk leads whose facts are true there, in every
+/// order of its writes, what a slot other than an `alloc` gives a general register is there after the group, but in a cell
+/// that is past the end of the frame then; and so it is in the next group of each run from a start state.
+pub fn law_targets()
+    ensures slots { SlotsLead }
+    ensures group { TargetsStand }
+    ensures next { NextTargetsStand }
+{}
+
+/// Where the memory accesses of a group are fetch-and-adds of one size under p0 to one address, each finds there what was
+/// there before the group, and the increments of the earlier ones; and the group leaves there the sum with all of them,
+/// modulo 2 to the power of the bits, in every order of its writes. What a fetch-and-add under p0 gives its target is there
+/// after the group, as what each slot gives a general register is ([`law_targets`]). An example is a group of two, which is
+/// one of these groups.
+pub fn law_fetch_adds()
+    ensures values { FetchAddsFindSums }
+    ensures memory { FetchAddsAreSummed }
+    ensures targets { FetchAddTargetsStand }
+    ensures example { TwoFetchAdds }
 {}
 
 /// Examples over the definitions alone. A group of two writes of r14, 1 and then 2, leaves 2 in program order and

@@ -24,7 +24,10 @@ mod violation;
 mod window;
 
 pub use checker::{check, one_verdict};
-pub use laws::{law_orders, law_two_orders, law_view, law_walk, law_windows, violations_in_order};
+pub use laws::{
+    law_fetch_adds, law_orders, law_targets, law_two_orders, law_view, law_walk, law_windows,
+    violations_in_order,
+};
 pub use report::{Report, SHOWN_LIMIT, Verdict};
 pub use violation::Violation;
 pub use window::Window;

@@ -10,7 +10,7 @@ use Rattle.ia_meaning.specs.Names.{spot, look, predicate_place, predicate_spot, 
 use Rattle.ia_meaning.specs.Arithmetic.{bit}
 use Rattle.ia_meaning.specs.Moves.{is_masked, masked_writes}
 use Rattle.slot_effects.specs.declared.change.Change.{Change}
-use Rattle.slot_effects.specs.declared.change.Change.TheVariants.{Nothing, General, Predicates, PredicateWord, Branch, Application, Loaded, Entered, Hit, Stored, Forgotten, AllForgotten, Allocated, Turned, Called, Returned, Cleared}
+use Rattle.slot_effects.specs.declared.change.Change.TheVariants.{Nothing, General, Predicates, PredicateWord, Branch, Application, Loaded, Entered, Hit, Stored, Exchanged, Forgotten, AllForgotten, Allocated, Turned, Called, Returned, Cleared}
 use Rattle.slot_effects.specs.Changes.{set_at, writes_of, memory_after, spills_of}
 use Rattle.group_engine.specs.declared.steering.Steering.{Steering}
 use Rattle.group_engine.specs.Kept.{Kept, keeping}
@@ -74,6 +74,7 @@ writes_seen r s (Loaded r1 r3 forgets update cell) = simp (seen_look, look_with_
 writes_seen r s (Entered r1 r3 size update cell) = simp (seen_look, look_with_pfs)
 writes_seen r s (Hit r1 r3 forgets update) = simp (seen_look, look_with_pfs)
 writes_seen r s (Stored r3 size spills update cell) = simp (seen_look, look_with_pfs)
+writes_seen r s (Exchanged r1 r3 size old value) = refl
 writes_seen r s (Forgotten r1) = refl
 writes_seen r s AllForgotten = refl
 writes_seen r s (Allocated r1 sof sol sor) = refl
@@ -94,6 +95,7 @@ memory_seen r s (Loaded r1 r3 forgets update cell) m = refl
 memory_seen r s (Entered r1 r3 size update cell) m = simp seen_look
 memory_seen r s (Hit r1 r3 forgets update) m = refl
 memory_seen r s (Stored r3 size spills update cell) m = simp seen_look
+memory_seen r s (Exchanged r1 r3 size old value) m = simp seen_look
 memory_seen r s (Forgotten r1) m = refl
 memory_seen r s AllForgotten m = refl
 memory_seen r s (Allocated r1 sof sol sor) m = refl

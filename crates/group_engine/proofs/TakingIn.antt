@@ -16,7 +16,7 @@ use Rattle.ia_meaning.specs.Views.{view}
 use Rattle.ia_meaning.specs.ParallelGroups.{Gathered, now_of, frame_ahead, after_frame, unat_after, gathers}
 use Rattle.ia_meaning.proofs.WriteLists.{apply_append}
 use Rattle.slot_effects.specs.declared.change.Change.{Change}
-use Rattle.slot_effects.specs.declared.change.Change.TheVariants.{Stored}
+use Rattle.slot_effects.specs.declared.change.Change.TheVariants.{Stored, Exchanged}
 use Rattle.slot_effects.specs.declared.slot_effect.SlotEffect.{SlotEffect}
 use Rattle.slot_effects.specs.Changes.{writes_of, memory_after, spills_of, outcome_making, MayMake}
 use Rattle.slot_effects.specs.Outcomes.{outcome_of_effect}
@@ -80,6 +80,7 @@ gathers_with p g insn e pfs h first place =
 -- So may be made.
 may_seen : (r : Registers) (s : Steering) (m : Memory) (c : Change) → MayMake (seen_by r s) m c → MayMake (record r { pfs = s.pfs }) m c
 may_seen r s m (Stored r3 size spills update cell) h = rw (look_with_pfs r s.pfs r3, ← seen_look r s r3) h
+may_seen r s m (Exchanged r1 r3 size old value) h = rw (look_with_pfs r s.pfs r3, ← seen_look r s r3) h
 may_seen r s m c h = h
 
 pub may_with : (p : Program) (g : Gathered) (insn : Insn) (e : SlotEffect) (pfs : ℕ) → IsEffectOf p g insn e pfs → MayMake (record g.base { pfs = pfs }) g.memory e.change

@@ -316,6 +316,13 @@ impl KeptWrites {
                 let base = registers.held(r3);
                 self.keep_base(&registers.frame, r3, &update, base, zero);
             }
+            Change::Exchanged { r1, old, .. } => {
+                let previous = Cell {
+                    value: old,
+                    nat: false,
+                };
+                self.keep_general(&registers.frame, r1, previous);
+            }
             Change::Allocated { r1, sof, sol, sor } => {
                 self.keep_allocated(&registers.frame, pfs, r1, sof, sol, sor);
             }

@@ -112,6 +112,15 @@ impl Thread {
                 let address = registers.held(r3).value;
                 self.store(address, size, cell, spills);
             }
+            Change::Exchanged {
+                r3,
+                size,
+                value,
+                ..
+            } => {
+                let address = registers.held(r3).value;
+                self.store(address, size, Cell { value, nat: false }, false);
+            }
             Change::Forgotten { r1 } => self.forget(registers, r1),
             Change::AllForgotten => self.alat.clear(),
             _ => {}

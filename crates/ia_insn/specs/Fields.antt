@@ -78,6 +78,12 @@ Y = field 26 1
 abbrev pub Vc : ℕ → Part
 Vc = field 20 1
 
+abbrev pub SM17 : ℕ → Part
+SM17 = field 15 1
+
+abbrev pub I2b : ℕ → Part
+I2b = field 13 2
+
 abbrev pub YI11 : ℕ → Part
 YI11 = field 13 1
 

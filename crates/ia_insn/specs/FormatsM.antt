@@ -1,14 +1,14 @@
 -- The M formats, of M slots: the fields of each instruction, and when it is listed
--- (volume 3, chapter 4, instruction formats, M1 to M5 and M20 to M48).
-use Rattle.std.specs.Prelude.{◌≡◌, ◌≢◌, ◌⊎◌, ℕ, ◌+◌, ◌*◌, ◌<◌, ◌≤◌, ◌^◌, ◌==◌, if◌then◌else◌, List, [], ◌∷◌, Option, Some, None, IsSome, unwrap_or}
+-- (volume 3, chapter 4, instruction formats, M1 to M5, M16, M17 and M20 to M48).
+use Rattle.std.specs.Prelude.{◌≡◌, ◌≢◌, ◌⊎◌, ℕ, ℤ, pos, int_lt, unsigned_abs, Bool, ◌+◌, ◌*◌, ◌<◌, ◌≤◌, ◌^◌, ◌==◌, if◌then◌else◌, List, [], ◌∷◌, Option, Some, None, IsSome, unwrap_or}
 use Rattle.std.specs.Option.{option_map}
-use Rattle.ia_insn.specs.Fields.{Major, Qp, M, X3, X2M24, X6M1, X4M24, X6, XM1, Y, R3, Ar3, R2, R1, S, I, IM3, Imm13c, Imm20b, Imm7b, Imm20a, Imm7a, Sor, Sol, Sof, HintM1}
+use Rattle.ia_insn.specs.Fields.{Major, Qp, M, X3, X2M24, X6M1, X4M24, X6, XM1, SM17, I2b, Y, R3, Ar3, R2, R1, S, I, IM3, Imm13c, Imm20b, Imm7b, Imm20a, Imm7a, Sor, Sol, Sof, HintM1}
 use Rattle.bundle_bits.specs.Words.{Part, word_of, AllFit, bits}
 use Rattle.ia_insn.specs.Signed.{twos, FitsSigned, flag}
 use Rattle.ia_insn.specs.FormatsI.{ar_number}
 use Rattle.ia_insn.specs.declared.insn.Insn.{Insn}
 use Rattle.ia_insn.specs.declared.insn.Op.{Op}
-use Rattle.ia_insn.specs.declared.insn.Op.TheVariants.{Load, Store, ChkS, ChkA, Invala, InvalaE, Mf, MovToAr, MovFromAr, MovToArImm, Alloc, Break, Nop, Hint}
+use Rattle.ia_insn.specs.declared.insn.Op.TheVariants.{Load, Store, Xchg, FetchAdd, ChkS, ChkA, Invala, InvalaE, Mf, MovToAr, MovFromAr, MovToArImm, Alloc, Break, Nop, Hint}
 use Rattle.ia_insn.specs.declared.registers.Ar.TheVariants.{Unat}
 use Rattle.ia_insn.specs.declared.choices.LoadKind.{LoadKind}
 use Rattle.ia_insn.specs.declared.choices.LoadKind.TheVariants as loads
@@ -48,6 +48,20 @@ store_code stores.Plain size = option_map (λ k. 0x30 + k) (log2_of size)
 store_code stores.Rel size = option_map (λ k. 0x34 + k) (log2_of size)
 store_code stores.Spill size = if size == 8 then Some 0x3b else None
 
+-- x6 of an exchange, M16
+abbrev pub exchange_code : ℕ → Option ℕ
+exchange_code size = option_map (λ k. 0x08 + k) (log2_of size)
+
+-- x6 of a fetch-and-add, M17, by its size and whether it is a release
+abbrev pub fetch_add_code : ℕ → Bool → Option ℕ
+fetch_add_code size release =
+    if size == 4 then Some (0x12 + 4 * flag release) else if size == 8 then Some (0x13 + 4 * flag release) else None
+
+-- i2b of an increment without its sign, M17
+abbrev pub increment_code : ℕ → Option ℕ
+increment_code n =
+    if n == 16 then Some 0 else if n == 8 then Some 1 else if n == 4 then Some 2 else if n == 1 then Some 3 else None
+
 -- The fields, from the top bit down. An instruction of another family has none.
 abbrev pub fields : ℕ → Op → List Part
 -- M1: load
@@ -69,6 +83,13 @@ fields qp (Store size kind hint r3 r2 (updates.Imm imm)) =
     let u = twos 9 imm in
     Major 5 ∷ S (bits 8 1 u) ∷ X6M1 (unwrap_or (store_code kind size) 0) ∷ HintM1 hint ∷ IM3 (bits 7 1 u) ∷ R3 r3
     ∷ R2 r2 ∷ Imm7a (bits 0 7 u) ∷ Qp qp ∷ []
+-- M16: exchange
+fields qp (Xchg size hint r1 r3 r2) =
+    Major 4 ∷ M 0 ∷ X6M1 (unwrap_or (exchange_code size) 0) ∷ HintM1 hint ∷ XM1 1 ∷ R3 r3 ∷ R2 r2 ∷ R1 r1 ∷ Qp qp ∷ []
+-- M17: fetch and add an increment
+fields qp (FetchAdd size release hint r1 r3 inc) =
+    Major 4 ∷ M 0 ∷ X6M1 (unwrap_or (fetch_add_code size release) 0) ∷ HintM1 hint ∷ XM1 1 ∷ R3 r3
+    ∷ SM17 (flag (int_lt inc (pos 0))) ∷ I2b (unwrap_or (increment_code (unsigned_abs inc)) 0) ∷ R1 r1 ∷ Qp qp ∷ []
 -- M20: speculation check
 fields qp (ChkS units.M r2 disp) =
     let u = twos 21 disp in
@@ -129,6 +150,9 @@ IsInRange qp (Load size kind hint r1 r3 update) =
     (r1 ≢ 0) × (hint ≢ 2) × IsSome (load_code kind size) × IsLoadUpdate r1 r3 update
 IsInRange qp (Store size kind hint r3 r2 update) =
     ((hint ≡ 0) ⊎ (hint ≡ 3)) × IsSome (store_code kind size) × IsStoreUpdate r3 update
+IsInRange qp (Xchg size hint r1 r3 r2) = (r1 ≢ 0) × (hint ≢ 2) × IsSome (exchange_code size)
+IsInRange qp (FetchAdd size release hint r1 r3 inc) =
+    (r1 ≢ 0) × (hint ≢ 2) × IsSome (fetch_add_code size release) × IsSome (increment_code (unsigned_abs inc))
 IsInRange qp (ChkS units.M r2 disp) = FitsSigned 21 disp
 IsInRange qp (ChkA clear r1 disp) = FitsSigned 21 disp
 IsInRange qp Invala = Unit {0}

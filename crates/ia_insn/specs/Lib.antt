@@ -9,6 +9,7 @@ pub mod FormatsF
 pub mod FormatsX
 pub mod Listed
 pub mod Ranges
+pub mod NewValues
 pub mod Fits
 pub mod Templates
 pub mod Bundles

@@ -1,5 +1,5 @@
 -- The ranges of the operands of a listed instruction.
-use Rattle.std.specs.Prelude.{◌≡◌, ◌≢◌, ◌⊎◌, ℕ, ◌*◌, ◌%◌, ◌<◌, ◌≤◌, ◌^◌, IsSome}
+use Rattle.std.specs.Prelude.{◌≡◌, ◌≢◌, ◌⊎◌, ℕ, ℤ, unsigned_abs, ◌*◌, ◌%◌, ◌<◌, ◌≤◌, ◌^◌, IsSome}
 use Rattle.bundle_bits.specs.Words.{bits}
 use Rattle.ia_insn.specs.Signed.{twos, FitsSigned}
 use Rattle.ia_insn.specs.declared.insn.Op.{Op}
@@ -26,6 +26,11 @@ IsAccessSize size = (size ≡ 1) ⊎ ((size ≡ 2) ⊎ ((size ≡ 4) ⊎ (size �
 -- 1, 2 or 4 bytes: a part of a register
 abbrev pub IsPartSize : ℕ → Type 0
 IsPartSize size = (size ≡ 1) ⊎ ((size ≡ 2) ⊎ (size ≡ 4))
+
+-- an increment of a fetch-and-add: 1, 4, 8, 16, or one of these with a minus sign
+abbrev pub IsIncrement : ℤ → Type 0
+IsIncrement inc =
+    (unsigned_abs inc ≡ 1) ⊎ ((unsigned_abs inc ≡ 4) ⊎ ((unsigned_abs inc ≡ 8) ⊎ (unsigned_abs inc ≡ 16)))
 
 -- a fill is of 8 bytes
 abbrev pub IsLoadSize : LoadKind → ℕ → Type 0
@@ -93,6 +98,9 @@ HasRanges (ops.Load size kind hint r1 r3 update) =
     (r1 ≢ 0) × IsLoadSize kind size × (hint ≤ 3) × (hint ≢ 2) × IsLoadUpdate r1 r3 update
 HasRanges (ops.Store size kind hint r3 r2 update) =
     IsStoreSize kind size × ((hint ≡ 0) ⊎ (hint ≡ 3)) × IsStoreUpdate r3 update
+HasRanges (ops.Xchg size hint r1 r3 r2) = (r1 ≢ 0) × IsAccessSize size × (hint ≤ 3) × (hint ≢ 2)
+HasRanges (ops.FetchAdd size release hint r1 r3 inc) =
+    (r1 ≢ 0) × ((size ≡ 4) ⊎ (size ≡ 8)) × (hint ≤ 3) × (hint ≢ 2) × IsIncrement inc
 HasRanges (ops.ChkA clear r1 disp) = FitsSigned 21 disp
 HasRanges ops.Invala = Unit {0}
 HasRanges ops.Mf = Unit {0}

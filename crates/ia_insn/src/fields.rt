@@ -77,6 +77,12 @@ pub type Y = Field<26, 1>;
 /// Bit 20: vc, an opcode extension.
 pub type Vc = Field<20, 1>;
 
+/// Bit 15: s of M17, the sign of an increment.
+pub type SM17 = Field<15, 1>;
+
+/// Bits 14:13: i2b, an increment without its sign.
+pub type I2b = Field<13, 2>;
+
 /// Bit 13: y of I11, I16 and I17, an opcode extension.
 pub type YI11 = Field<13, 1>;
 

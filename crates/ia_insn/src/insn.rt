@@ -368,6 +368,35 @@ pub enum Op {
         /// What is added to the base, which is no register.
         update: Update,
     },
+    /// `r2` to the address `r3`, and what was there into `r1`, zero-extended (M16).
+    Xchg {
+        /// How many bytes: 1, 2, 4 or 8.
+        size: u8,
+        /// The cache hint (ldhint): 0 none, 1 nt1, 3 nta.
+        hint: u8,
+        /// The target.
+        r1: Gr,
+        /// The base, which holds the address.
+        r3: Gr,
+        /// The source.
+        r2: Gr,
+    },
+    /// `inc` is added to what is at the address `r3`, and what was there goes into `r1`, zero-extended (M17).
+    FetchAdd {
+        /// How many bytes: 4 or 8.
+        size: u8,
+        /// The semaphore type (sem): whether it is rel, ordered after what precedes, and not acq, ordered before
+        /// what follows.
+        release: bool,
+        /// The cache hint (ldhint): 0 none, 1 nt1, 3 nta.
+        hint: u8,
+        /// The target.
+        r1: Gr,
+        /// The base, which holds the address.
+        r3: Gr,
+        /// The increment (inc3): 1, 4, 8 or 16, or one of these with a minus sign.
+        inc: i16,
+    },
     /// A branch where the ALAT has no entry of `r1` (M22).
     ChkA {
         /// Whether an entry that is found is removed.

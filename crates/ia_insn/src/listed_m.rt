@@ -1,11 +1,11 @@
-//! Which instructions are M instructions, in their range (volume 3, chapter 4, formats M1 to M5 and
-//! M20 to M48).
+//! Which instructions are M instructions, in their range (volume 3, chapter 4, formats M1 to M5, M16,
+//! M17 and M20 to M48).
 //!
 //! A call such as `has_seven_bits` does nothing: it tells the proof that a register's number fits its
 //! field.
 
-ghost use Rattle.std.specs.Prelude.{◌≡◌, ◌≢◌, ◌<◌, ◌≤◌, ◌↔◌, IsTrue, IsSome};
-ghost use Rattle.ia_insn.specs.FormatsM.{log2_of, load_code, store_code, IsListedM};
+ghost use Rattle.std.specs.Prelude.{◌≡◌, ◌≢◌, ◌<◌, ◌≤◌, ◌↔◌, IsTrue, IsSome, unsigned_abs};
+ghost use Rattle.ia_insn.specs.FormatsM.{log2_of, load_code, store_code, exchange_code, fetch_add_code, increment_code, IsListedM};
 ghost use Rattle.ia_insn.specs.declared.insn.Op.TheVariants.{Load, Store};
 
 use crate::choices::{LoadKind, StoreKind, Unit, Update};
@@ -38,6 +38,27 @@ fn is_store_size(kind: StoreKind, size: u8) -> bool
         StoreKind::Spill => size == 8,
         StoreKind::Plain | StoreKind::Rel => is_size(size),
     }
+}
+
+/// Whether an exchange has this many bytes.
+fn is_exchange_size(size: u8) -> bool
+    ensures { IsTrue result ↔ IsSome (exchange_code size) }
+{
+    is_size(size)
+}
+
+/// Whether a fetch-and-add has this many bytes.
+fn is_fetch_add_size(size: u8, release: bool) -> bool
+    ensures { IsTrue result ↔ IsSome (fetch_add_code size release) }
+{
+    size == 4 || size == 8
+}
+
+/// Whether this is an increment of a fetch-and-add.
+fn is_increment(inc: i16) -> bool
+    ensures { IsTrue result ↔ IsSome (increment_code (unsigned_abs inc)) }
+{
+    matches!(inc.unsigned_abs(), 1 | 4 | 8 | 16)
 }
 
 /// Whether a load into the target may update the base.
@@ -113,6 +134,32 @@ pub fn is_listed_m(insn: &Insn) -> bool
             r2,
             update,
         } => is_listed_store(insn.qp, size, kind, hint, r3, r2, update),
+        Op::Xchg {
+            size,
+            hint,
+            r1,
+            r3,
+            r2,
+        } => {
+            r3.has_seven_bits();
+            r2.has_seven_bits();
+            !r1.is_zero() && hint <= 3 && hint != 2 && is_exchange_size(size)
+        }
+        Op::FetchAdd {
+            size,
+            release,
+            hint,
+            r1,
+            r3,
+            inc,
+        } => {
+            r3.has_seven_bits();
+            !r1.is_zero()
+                && hint <= 3
+                && hint != 2
+                && is_fetch_add_size(size, release)
+                && is_increment(inc)
+        }
         Op::ChkS { unit, r2, disp } => {
             r2.has_seven_bits();
             unit == Unit::M && fits_signed::<21>(i64::from(disp))

@@ -600,6 +600,45 @@ deferred_update :
 unfolding look spot holds access_fault loaded forgotten entered has_hit
 deferred_update = (refl, refl, refl)
 
+-- Exchanges. Of a register or a sum the low bytes are stored, and the target, which may be the base, gets what was there.
+abbrev of_bytes : List ℕ → Memory
+of_bytes bytes = record memory { bytes = bytes }
+
+exchanges :
+    (run_with (op.Xchg 1 0 2 4 4) (cell 0x100001) memory 0 ≡ falls (SetStatic 2 (cell 2) ∷ []) (of_bytes (1 ∷ 1 ∷ 3 ∷ 4 ∷ 5 ∷ 6 ∷ 7 ∷ 8 ∷ 9 ∷ 10 ∷ 11 ∷ 12 ∷ 13 ∷ 14 ∷ 15 ∷ 16 ∷ [])))
+    × (run_with (op.Xchg 8 0 4 4 2) (cell 0x100000) memory 0 ≡ falls (SetStatic 4 (cell 0x0807_0605_0403_0201) ∷ []) (of_bytes (5 ∷ 0 ∷ 0 ∷ 0 ∷ 0 ∷ 0 ∷ 0 ∷ 0 ∷ 9 ∷ 10 ∷ 11 ∷ 12 ∷ 13 ∷ 14 ∷ 15 ∷ 16 ∷ [])))
+    × (run_with (op.FetchAdd 4 false 0 2 4 (negsuc 15)) (cell 0x100004) memory 0 ≡ falls (SetStatic 2 (cell 0x0807_0605) ∷ []) (of_bytes (1 ∷ 2 ∷ 3 ∷ 4 ∷ 245 ∷ 5 ∷ 7 ∷ 8 ∷ 9 ∷ 10 ∷ 11 ∷ 12 ∷ 13 ∷ 14 ∷ 15 ∷ 16 ∷ [])))
+    × (run_with (op.FetchAdd 8 true 0 2 4 (pos 8)) (cell 0x100008) memory 0 ≡ falls (SetStatic 2 (cell 0x100f_0e0d_0c0b_0a09) ∷ []) (of_bytes (1 ∷ 2 ∷ 3 ∷ 4 ∷ 5 ∷ 6 ∷ 7 ∷ 8 ∷ 17 ∷ 10 ∷ 11 ∷ 12 ∷ 13 ∷ 14 ∷ 15 ∷ 16 ∷ [])))
+unfolding look spot holds access_fault loaded stored untouched
+exchanges = (refl, refl, refl, refl)
+
+-- A sum wraps within its bytes.
+sums_wrapped :
+    (run_with (op.FetchAdd 4 false 0 2 4 (negsuc 0)) (cell 0x100000) (of_bytes (replicate 8 0)) 0 ≡ falls (SetStatic 2 (cell 0) ∷ []) (of_bytes (replicate 4 255 ++ replicate 4 0)))
+    × (run_with (op.FetchAdd 8 false 0 2 4 (pos 1)) (cell 0x100000) (of_bytes (replicate 8 255)) 0 ≡ falls (SetStatic 2 (cell 0xffff_ffff_ffff_ffff) ∷ []) (of_bytes (replicate 8 0)))
+unfolding look spot holds access_fault loaded stored untouched
+sums_wrapped = (refl, refl)
+
+-- The entry of the bytes goes, and the one beside them doesn't.
+exchange_touches :
+    ((run_with (op.Xchg 1 0 2 4 1) (cell 0x100007) (with_entry 0x100000) 0).memory.alat ≡ [])
+    × ((run_with (op.Xchg 1 0 2 4 1) (cell 0x100008) (with_entry 0x100000) 0).memory.alat ≡ entry (Static 4) 0x100000 8 ∷ [])
+    × ((run_with (op.FetchAdd 4 false 0 2 4 (pos 1)) (cell 0x100004) (with_entry 0x100000) 0).memory.alat ≡ [])
+unfolding look spot holds access_fault loaded stored untouched
+exchange_touches = (refl, refl, refl)
+
+-- NaT of the address, or of the register that is exchanged; an address that is not a multiple of the size, and bytes that are
+-- not data; a register outside the frame
+exchange_faults :
+    (run_with (op.Xchg 8 0 2 4 1) (nat_cell 0x100001) memory 0 ≡ faults NatConsumed memory)
+    × (run_with (op.Xchg 8 0 2 4 3) (cell 0x100001) memory 0 ≡ faults NatConsumed memory)
+    × (run_with (op.FetchAdd 4 false 0 2 4 (pos 1)) (nat_cell 0x100000) memory 0 ≡ faults NatConsumed memory)
+    × (run_with (op.FetchAdd 8 false 0 2 4 (pos 1)) (cell 0xffffc) memory 0 ≡ faults Unaligned memory)
+    × (run_with (op.Xchg 2 0 2 4 1) (cell 0x100010) memory 0 ≡ faults BadAddress memory)
+    × (run_with (op.Xchg 2 0 2 4 32) (cell 0x100000) memory 0 ≡ faults OutOfFrame memory)
+unfolding look spot holds access_fault loaded stored untouched
+exchange_faults = (refl, refl, refl, refl, refl, refl)
+
 -- Landings. The program has an entry, bundle 1, and a call in bundle 2.
 
 abbrev idle : Insn

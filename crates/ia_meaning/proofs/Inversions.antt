@@ -1,6 +1,6 @@
 -- What can come of a slot, by the forms: from these lemmas the facts of outcomes follow. Each case tells where
 -- its values come from.
-use Rattle.std.proofs.Common.{◌≡◌, ◌≢◌, ℕ, ◌+◌, ◌-◌, ◌/◌, ◌%◌, ◌^◌, ◌≤◌, ◌⊎◌, inl, inr, Bool, true, false, not, ◌&&◌, ◌||◌, ◌==◌, nat_lt, List, [], ◌∷◌, Option, Some, None, Result, Ok, Err, refl, arith, if◌then◌else◌}
+use Rattle.std.proofs.Common.{◌≡◌, ◌≢◌, ℕ, ℤ, ◌+◌, ◌-◌, ◌/◌, ◌%◌, ◌^◌, ◌≤◌, ◌⊎◌, inl, inr, Bool, true, false, not, ◌&&◌, ◌||◌, ◌==◌, nat_lt, List, [], ◌∷◌, Option, Some, None, Result, Ok, Err, refl, arith, if◌then◌else◌}
 use Rattle.std.proofs.lemmas.Bool.Decides.{nat_tests}
 use Rattle.ia_meaning.specs.declared.limits.TheConstants.{STACK_LIMIT}
 use Rattle.ia_insn.specs.declared.choices.CmpKind.{CmpKind}
@@ -25,10 +25,10 @@ use Rattle.ia_meaning.specs.declared.write.FrameCause.TheVariants.{Resized, Rena
 use Rattle.ia_meaning.specs.Names.{spot, look, holds, predicate_spot, set_spot, set_predicate}
 use Rattle.ia_meaning.specs.Outcomes.{Outcome, falls, goes, breaks, faults}
 use Rattle.ia_meaning.specs.declared.form.Form.{Form}
-use Rattle.ia_meaning.specs.declared.form.Form.TheVariants.{Compute, Fetch, Test, ToPredicates, ToBranch, ToApplication, FromMemory, ToMemory, CheckNat, CheckAlat, ForgetAll, Forget, Allocate, Jump, JumpIndirect, Loop, Call, Return, ClearBases, Stop, Idle}
+use Rattle.ia_meaning.specs.declared.form.Form.TheVariants.{Compute, Fetch, Test, ToPredicates, ToBranch, ToApplication, FromMemory, ToMemory, Exchange, CheckNat, CheckAlat, ForgetAll, Forget, Allocate, Jump, JumpIndirect, Loop, Call, Return, ClearBases, Stop, Idle}
 use Rattle.ia_meaning.specs.Actions.{value_of, result_of, moved}
 use Rattle.ia_meaning.specs.Moves.{computed, fetched, source_value, test_writes, test_made, test_skipped, predicate_writes, to_predicates, to_branch, has_reserved_zeros, application_written, to_application}
-use Rattle.ia_meaning.specs.Loads.{access_fault, loaded, forgotten, has_hit, has_entry, update_register, base_writes, is_speculative, is_check, load_alat, load_nat, deferred, load_hit, load_failed, load_tried, load_checked, from_memory, takes_nat, store_made, store_tried, to_memory, check_nat, check_alat, forget}
+use Rattle.ia_meaning.specs.Loads.{access_fault, loaded, forgotten, has_hit, has_entry, update_register, base_writes, is_speculative, is_check, load_alat, load_nat, deferred, load_hit, load_failed, load_tried, load_checked, from_memory, takes_nat, store_made, store_tried, to_memory, exchange_made, exchange_tried, exchange, check_nat, check_alat, forget}
 use Rattle.ia_meaning.specs.Frames.{with_sizes, has_zero_bases, allocated, cleared, call_writes, lands, marked_frame, return_fault, return_tried}
 use Rattle.ia_meaning.specs.Loops.{turn_of, turn_writes, turned}
 use Rattle.ia_meaning.specs.declared.turn.Turn.{Turn}
@@ -93,6 +93,11 @@ ActCases Q s (ToMemory size kind r3 r2 u) r m unat =
     × ((e : Spot) (base x : Cell) → spot r.frame r3 ≡ Some e → look r r3 ≡ Some base → look r r2 ≡ Some x
     → base.nat ≡ false → (x.nat ≡ false) ⊎ (takes_nat kind ≡ true) → access_fault m.bytes base.value size ≡ None
     → Q (store_made size kind base.value x m (base_writes u e base zero_cell)))
+ActCases Q s (Exchange size r1 r3 r2 inc) r m unat =
+    Fails Q m
+    × ((d : Spot) (base x : Cell) → spot r.frame r1 ≡ Some d → look r r3 ≡ Some base → look r r2 ≡ Some x
+    → base.nat ≡ false → x.nat ≡ false → access_fault m.bytes base.value size ≡ None
+    → Q (exchange_made size inc d base.value x.value m))
 ActCases Q s (CheckNat r2 disp) r m unat =
     Fails Q m
     × ((a : Cell) → look r r2 ≡ Some a → a.nat ≡ true → Q (goes [] m (target_of s.bundle disp)))
@@ -238,6 +243,24 @@ case_store Q size kind u (Some e) (Some base) (Some x) m h k =
     case_store_tried Q (access_fault m.bytes base.value size) size kind base.value x m _ h (k e base x refl refl refl n.0 n.1))
 case_store Q size kind u _ _ _ m h k = h OutOfFrame
 
+no_nats : (a b : Bool) → (a || b) ≡ false → (a ≡ false) × (b ≡ false)
+no_nats true b h = absurd (cc)
+no_nats false b h = (refl, h)
+
+case_exchange_tried : (Q : Outcome → Type 0) (o : Option FaultKind) (size : ℕ) (inc : Option ℤ) (d : Spot) (address x : ℕ) (m : Memory) → Fails Q m
+    → (o ≡ None → Q (exchange_made size inc d address x m)) → Q (exchange_tried o size inc d address x m)
+case_exchange_tried Q None size inc d address x m h k = k refl
+case_exchange_tried Q (Some cause) size inc d address x m h k = h cause
+
+case_exchange : (Q : Outcome → Type 0) (size : ℕ) (inc : Option ℤ) (o : Option Spot) (y z : Option Cell) (m : Memory) → Fails Q m
+    → ((d : Spot) (base x : Cell) → o ≡ Some d → y ≡ Some base → z ≡ Some x → base.nat ≡ false → x.nat ≡ false → access_fault m.bytes base.value size ≡ None → Q (exchange_made size inc d base.value x.value m))
+    → Q (exchange size inc o y z m)
+case_exchange Q size inc (Some d) (Some base) (Some x) m h k =
+    either Q (base.nat || x.nat) _ _ (λ _. h NatConsumed)
+    (λ t. let n = no_nats base.nat x.nat t in
+    case_exchange_tried Q (access_fault m.bytes base.value size) size inc d base.value x.value m h (k d base x refl refl refl n.0 n.1))
+case_exchange Q size inc _ _ _ m h k = h OutOfFrame
+
 case_check_nat : (Q : Outcome → Type 0) (bundle : ℕ) (x : Option Cell) (m : Memory) → Fails Q m
     → ((a : Cell) → x ≡ Some a → a.nat ≡ true → Q (goes [] m bundle)) → ((a : Cell) → x ≡ Some a → a.nat ≡ false → Q (falls [] m)) → Q (check_nat bundle x m)
 case_check_nat Q bundle (Some a) m h k l = either Q a.nat _ _ (k a refl) (l a refl)
@@ -297,6 +320,7 @@ act_cases Q s (ToBranch b1 r2) r m unat h = case_branch Q b1 (look r r2) m h.0 h
 act_cases Q s (ToApplication ar r2 w) r m unat h = case_application Q ar (moved w) (look r r2) m h.0 h.1
 act_cases Q s (FromMemory size kind r1 r3 u) r m unat h = case_load Q size kind u (spot r.frame r1) (spot r.frame r3) (look r r3) (look r (update_register u)) m unat h.0 h.1
 act_cases Q s (ToMemory size kind r3 r2 u) r m unat h = case_store Q size kind u (spot r.frame r3) (look r r3) (look r r2) m h.0 h.1
+act_cases Q s (Exchange size r1 r3 r2 inc) r m unat h = case_exchange Q size inc (spot r.frame r1) (look r r3) (look r r2) m h.0 h.1
 act_cases Q s (CheckNat r2 disp) r m unat h = case_check_nat Q (target_of s.bundle disp) (look r r2) m h.0 h.1 h.2
 act_cases Q s (CheckAlat clear r1 disp) r m unat h = case_check_alat Q clear (target_of s.bundle disp) (spot r.frame r1) m h.0 h.1 h.2
 act_cases Q s ForgetAll r m unat h = h

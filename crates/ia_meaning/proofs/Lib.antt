@@ -5,6 +5,7 @@ pub mod Inversions
 mod Examples
 pub mod Arrivals
 pub mod GoesOn
+pub mod BytesKept
 pub mod Follows
 pub mod Inside
 pub mod GroupLengths

@@ -21,7 +21,7 @@ use Rattle.ia_meaning.specs.declared.form.Condition.TheVariants as condition
 use Rattle.ia_meaning.specs.declared.form.MovedWord.{MovedWord}
 use Rattle.ia_meaning.specs.declared.form.MovedWord.TheVariants as word
 use Rattle.ia_meaning.specs.declared.form.Form.{Form}
-use Rattle.ia_meaning.specs.declared.form.Form.TheVariants.{Compute, Fetch, Test, ToPredicates, ToBranch, ToApplication, FromMemory, ToMemory, CheckNat, CheckAlat, ForgetAll, Forget, Allocate, Jump, JumpIndirect, Loop, Call, Return, ClearBases, Stop, Idle}
+use Rattle.ia_meaning.specs.declared.form.Form.TheVariants.{Compute, Fetch, Test, ToPredicates, ToBranch, ToApplication, FromMemory, ToMemory, Exchange, CheckNat, CheckAlat, ForgetAll, Forget, Allocate, Jump, JumpIndirect, Loop, Call, Return, ClearBases, Stop, Idle}
 use Rattle.ia_meaning.specs.Arithmetic.{immediate, alu, shift_add, shift, shift_pair, extract, deposit, extend, compared, bit, tested}
 use Rattle.ia_meaning.specs.Lanes.{lanes}
 
@@ -77,6 +77,8 @@ form_of (op.Ext signed size r1 r3) = Compute r1 0 r3 (function.Extend signed siz
 -- M
 form_of (op.Load size kind hint r1 r3 update) = FromMemory size kind r1 r3 update
 form_of (op.Store size kind hint r3 r2 update) = ToMemory size kind r3 r2 update
+form_of (op.Xchg size hint r1 r3 r2) = Exchange size r1 r3 r2 None
+form_of (op.FetchAdd size release hint r1 r3 inc) = Exchange size r1 r3 0 (Some inc)
 form_of (op.ChkA clear r1 disp) = CheckAlat clear r1 disp
 form_of op.Invala = ForgetAll
 form_of op.Mf = Idle M
@@ -125,6 +127,13 @@ moved (word.Immediate imm) a = immediate imm
 -- the form of an instruction
 abbrev pub insn_form : Insn → Form
 insn_form insn = form_of insn.op
+
+-- a load, a store or an exchange
+abbrev pub accesses_memory : Form → Bool
+accesses_memory (FromMemory size kind r1 r3 u) = true
+accesses_memory (ToMemory size kind r3 r2 u) = true
+accesses_memory (Exchange size r1 r3 r2 inc) = true
+accesses_memory f = false
 
 -- a branch, direct or indirect, loop branches, calls and returns among them
 abbrev pub is_branch : Form → Bool

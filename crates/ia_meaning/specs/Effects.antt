@@ -6,7 +6,7 @@ use Rattle.ia_insn.specs.Programs.{Program}
 use Rattle.ia_meaning.specs.declared.form.Goal.{Goal}
 use Rattle.ia_meaning.specs.declared.form.Goal.TheVariants.{Direct, Indirect}
 use Rattle.ia_meaning.specs.declared.form.Form.{Form}
-use Rattle.ia_meaning.specs.declared.form.Form.TheVariants.{Compute, Fetch, Test, ToPredicates, ToBranch, ToApplication, FromMemory, ToMemory, CheckNat, CheckAlat, ForgetAll, Forget, Allocate, Jump, JumpIndirect, Loop, Call, Return, ClearBases, Stop, Idle}
+use Rattle.ia_meaning.specs.declared.form.Form.TheVariants.{Compute, Fetch, Test, ToPredicates, ToBranch, ToApplication, FromMemory, ToMemory, Exchange, CheckNat, CheckAlat, ForgetAll, Forget, Allocate, Jump, JumpIndirect, Loop, Call, Return, ClearBases, Stop, Idle}
 use Rattle.ia_meaning.specs.State.{Registers, Memory}
 use Rattle.ia_meaning.specs.declared.write.Write.{Write}
 use Rattle.ia_meaning.specs.declared.write.Write.TheVariants.{SetFrame}
@@ -15,7 +15,7 @@ use Rattle.ia_meaning.specs.Names.{spot, look, holds, predicate_spot}
 use Rattle.ia_meaning.specs.Actions.{insn_form, value_of, result_of, moved}
 use Rattle.ia_meaning.specs.Outcomes.{Outcome, falls, goes, breaks}
 use Rattle.ia_meaning.specs.Moves.{computed, fetched, source_value, test_made, test_skipped, to_predicates, to_branch, to_application}
-use Rattle.ia_meaning.specs.Loads.{update_register, from_memory, to_memory, check_nat, check_alat, forget}
+use Rattle.ia_meaning.specs.Loads.{update_register, from_memory, to_memory, exchange, check_nat, check_alat, forget}
 use Rattle.ia_meaning.specs.Frames.{with_sizes, allocated, cleared, call_writes, lands, returned}
 use Rattle.ia_meaning.specs.Loops.{turn_of, turned}
 use Rattle.ia_meaning.specs.Landings.{target_of, arrival}
@@ -50,6 +50,7 @@ act s (ToApplication ar r2 w) r m unat = to_application ar (moved w) (look r r2)
 act s (FromMemory size kind r1 r3 u) r m unat =
     from_memory size kind u (spot r.frame r1) (spot r.frame r3) (look r r3) (look r (update_register u)) m unat
 act s (ToMemory size kind r3 r2 u) r m unat = to_memory size kind u (spot r.frame r3) (look r r3) (look r r2) m
+act s (Exchange size r1 r3 r2 inc) r m unat = exchange size inc (spot r.frame r1) (look r r3) (look r r2) m
 act s (CheckNat r2 disp) r m unat = check_nat (target_of s.bundle disp) (look r r2) m
 act s (CheckAlat clear r1 disp) r m unat = check_alat clear (target_of s.bundle disp) (spot r.frame r1) m
 act s ForgetAll r m unat = falls [] (record m { alat = [] })

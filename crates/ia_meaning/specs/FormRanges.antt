@@ -1,12 +1,12 @@
 -- The ranges of the numbers of a form.
 use Rattle.std.specs.Prelude.{◌*◌, ◌≤◌}
-use Rattle.ia_insn.specs.Ranges.{IsBitField, IsPartSize, IsLoadSize, IsStoreSize}
+use Rattle.ia_insn.specs.Ranges.{IsBitField, IsPartSize, IsAccessSize, IsLoadSize, IsStoreSize}
 use Rattle.ia_meaning.specs.declared.form.Function.{Function}
 use Rattle.ia_meaning.specs.declared.form.Function.TheVariants.{ShiftAdd, Lanes, ShiftPair, Extract, Deposit, DepositImmediate, Extend}
 use Rattle.ia_meaning.specs.declared.form.Condition.{Condition}
 use Rattle.ia_meaning.specs.declared.form.Condition.TheVariants.{BitIsZero}
 use Rattle.ia_meaning.specs.declared.form.Form.{Form}
-use Rattle.ia_meaning.specs.declared.form.Form.TheVariants.{Compute, Test, FromMemory, ToMemory, Allocate}
+use Rattle.ia_meaning.specs.declared.form.Form.TheVariants.{Compute, Test, FromMemory, ToMemory, Exchange, Allocate}
 
 -- counts, fields and sizes are those that its value is defined for
 abbrev pub IsFunction : Function → Type 0
@@ -29,5 +29,6 @@ HasFormRanges (Compute r1 r2 r3 f) = IsFunction f
 HasFormRanges (Test kind p1 p2 r2 r3 c) = IsCondition c
 HasFormRanges (FromMemory size kind r1 r3 update) = IsLoadSize kind size
 HasFormRanges (ToMemory size kind r3 r2 update) = IsStoreSize kind size
+HasFormRanges (Exchange size r1 r3 r2 inc) = IsAccessSize size
 HasFormRanges (Allocate r1 sof sol sor) = (sof ≤ 96) × (sol ≤ sof) × (8 * sor ≤ sof)
 HasFormRanges form = Unit {0}

@@ -1,6 +1,6 @@
--- The effects of loads, stores and checks (volume 1, chapter 4, control and data speculation, and volume 3, chapter 2,
--- `ld`, `st`, `chk` and `invala`).
-use Rattle.std.specs.Prelude.{◌≡◌, ℕ, zero, suc, ◌+◌, ◌-◌, ◌*◌, ◌/◌, ◌%◌, ◌<◌, Bool, true, false, not, ◌&&◌, ◌||◌, ◌==◌, if◌then◌else◌, List, [], ◌∷◌, ◌++◌, length, get_or, set, drop, Option, Some, None, nat_le}
+-- The effects of loads, stores, exchanges and checks (volume 1, chapter 4, control and data speculation, and volume 3,
+-- chapter 2, `ld`, `st`, `xchg`, `fetchadd`, `chk` and `invala`).
+use Rattle.std.specs.Prelude.{◌≡◌, ℕ, ℤ, zero, suc, ◌+◌, ◌-◌, ◌*◌, ◌/◌, ◌%◌, ◌<◌, Bool, true, false, not, ◌&&◌, ◌||◌, ◌==◌, if◌then◌else◌, List, [], ◌∷◌, ◌++◌, length, get_or, set, drop, Option, Some, None, nat_le}
 use Rattle.ia_insn.specs.declared.choices.LoadKind.{LoadKind}
 use Rattle.ia_insn.specs.declared.choices.LoadKind.TheVariants as load
 use Rattle.ia_insn.specs.declared.choices.StoreKind.{StoreKind}
@@ -10,6 +10,7 @@ use Rattle.ia_insn.specs.declared.choices.Update.TheVariants as update
 use Rattle.ia_insn.specs.declared.ending.FaultKind.{FaultKind}
 use Rattle.ia_insn.specs.declared.ending.FaultKind.TheVariants.{OutOfFrame, NatConsumed, Unaligned, BadAddress}
 use Rattle.ia_insn.specs.Addresses.{data_base, data_address}
+use Rattle.ia_insn.specs.NewValues.{exchanged}
 use Rattle.ia_meaning.specs.declared.limits.TheConstants.{ALAT_LIMIT}
 use Rattle.ia_meaning.specs.declared.state.Cell.{Cell}
 use Rattle.ia_meaning.specs.declared.state.AlatKey.{AlatKey as Spot}
@@ -193,6 +194,29 @@ to_memory size kind u (Some e) (Some base) (Some x) m =
     if base.nat || (x.nat && not (takes_nat kind)) then faults NatConsumed m
     else store_tried (access_fault m.bytes base.value size) size kind base.value x m (base_writes u e base zero_cell)
 to_memory size kind u _ _ _ m = faults OutOfFrame m
+
+-- An exchange: what was there goes into d, without NaT, and of the entries those that it touches go.
+abbrev pub exchange_made : ℕ → Option ℤ → Spot → ℕ → ℕ → Memory → Outcome
+exchange_made size inc d address x m = record {
+  writes = set_spot d (record { value = loaded m.bytes address size; nat = false }) [];
+  memory = record {
+    bytes = stored m.bytes address size (exchanged size inc (loaded m.bytes address size) x);
+    alat = untouched m.alat address size;
+  };
+  spills = None;
+  next = Falls;
+}
+
+abbrev pub exchange_tried : Option FaultKind → ℕ → Option ℤ → Spot → ℕ → ℕ → Memory → Outcome
+exchange_tried None size inc d address x m = exchange_made size inc d address x m
+exchange_tried (Some k) size inc d address x m = faults k m
+
+-- An exchange with x, or a sum with an increment, at the address in the base.
+abbrev pub exchange : ℕ → Option ℤ → Option Spot → Option Cell → Option Cell → Memory → Outcome
+exchange size inc (Some d) (Some base) (Some x) m =
+    if base.nat || x.nat then faults NatConsumed m
+    else exchange_tried (access_fault m.bytes base.value size) size inc d base.value x.value m
+exchange size inc _ _ _ m = faults OutOfFrame m
 
 -- `chk.s`
 abbrev pub check_nat : ℕ → Option Cell → Memory → Outcome

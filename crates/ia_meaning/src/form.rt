@@ -146,6 +146,15 @@ pub enum Form {
         r2: Gr,
         update: Update,
     },
+    /// An exchange of `size` bytes at the address in `r3`, the base, with `r2` or, where `inc` is one, with their
+    /// sum with it; what was there goes into `r1`.
+    Exchange {
+        size: u8,
+        r1: Gr,
+        r3: Gr,
+        r2: Gr,
+        inc: Option<i16>,
+    },
     /// A branch where `r2` has NaT.
     CheckNat {
         r2: Gr,
@@ -459,6 +468,32 @@ pub fn form_of(op: &Op) -> Form
             r3,
             r2,
             update,
+        },
+        Op::Xchg {
+            size,
+            r1,
+            r3,
+            r2,
+            ..
+        } => Form::Exchange {
+            size,
+            r1,
+            r3,
+            r2,
+            inc: None,
+        },
+        Op::FetchAdd {
+            size,
+            r1,
+            r3,
+            inc,
+            ..
+        } => Form::Exchange {
+            size,
+            r1,
+            r3,
+            r2: r0,
+            inc: Some(inc),
         },
         Op::ChkA { clear, r1, disp } => Form::CheckAlat { clear, r1, disp },
         Op::Invala => Form::ForgetAll,

@@ -2,7 +2,7 @@
 //! group and run, the resident range of the register stack and the printed state.
 //!
 //! The meaning stands in `specs/`, in whole numbers and lists; it speaks of no machine. Each operation
-//! is one row of a table that gives it a form, one of twenty-one, and each form has its effect once (Intel
+//! is one row of a table that gives it a form, one of twenty-two, and each form has its effect once (Intel
 //! Itanium Architecture Software Developer's Manual, volume 1, chapters 3 and 4, and volume 3, chapter 2).
 //! The code here is what the layers above share: the parts of a state, the form of an instruction, writes of
 //! registers, how a slot goes on, the turn of a loop, and laws, which are functions that do nothing.

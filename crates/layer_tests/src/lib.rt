@@ -22,6 +22,8 @@ mod predicate_rel_tests;
 #[cfg(test)]
 mod resource_sets_tests;
 #[cfg(test)]
+mod sem_ops_tests;
+#[cfg(test)]
 mod trial_maker_tests;
 #[cfg(test)]
 mod watch_seam_tests;

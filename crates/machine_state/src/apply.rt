@@ -255,6 +255,13 @@ impl MachineState {
                 update,
                 cell,
             } => self.store(r3, cell, size, spills, &update),
+            Change::Exchanged {
+                r1,
+                r3,
+                size,
+                old,
+                value,
+            } => self.exchange(r1, r3, size, old, value),
             Change::Forgotten { r1 } => self.forget(r1),
             Change::AllForgotten => self.alat.clear(),
             Change::Allocated { r1, sof, sol, sor } => self.allocate(r1, sof, sol, sor),

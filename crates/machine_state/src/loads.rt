@@ -1,13 +1,13 @@
-//! Making the changes of loads and stores, and of the ALAT.
+//! Making the changes of loads, stores and exchanges, and of the ALAT.
 
-ghost use Rattle.std.specs.Prelude.{◌≡◌, if◌then◌else◌, Some, None};
+ghost use Rattle.std.specs.Prelude.{◌≡◌, if◌then◌else◌, false, Some, None};
 ghost use Rattle.ia_meaning.specs.declared.next.Next.TheVariants.{Falls};
 ghost use Rattle.ia_meaning.specs.Writes.{apply};
 ghost use Rattle.ia_meaning.specs.Names.{spot};
 ghost use Rattle.ia_meaning.specs.Loads.{stored, untouched, unat_bit};
 ghost use Rattle.ia_meaning.specs.Steps.{spilled};
 ghost use Rattle.machine_state.specs.Contents.{left_by};
-ghost use Rattle.slot_effects.specs.declared.change.Change.TheVariants.{Stored};
+ghost use Rattle.slot_effects.specs.declared.change.Change.TheVariants.{Stored, Exchanged};
 ghost use Rattle.slot_effects.specs.Changes.{set_at, held, update_at, load_update, forgotten_at, forgotten_where, entered_at, MayStore};
 ghost use Rattle.machine_state.specs.Changes.{outcome_with};
 
@@ -117,6 +117,22 @@ impl MachineState {
             base,
             Cell {
                 value: 0,
+                nat: false,
+            },
+        );
+    }
+
+    /// Stores what an exchange leaves to the address in a base, and writes its target.
+    pub(crate) fn exchange(&mut self, r1: Gr, r3: Gr, size: u8, old: u64, value: u64)
+        requires { MayStore self.old.memory (held self.old.registers r3).value size false }
+        ensures { self.new ≡ left_by (outcome_with self.old (Exchanged r1 r3 size old value) Falls) self.old }
+    {
+        let address = self.held(r3).value;
+        self.store_at(address, size, Cell { value, nat: false }, false);
+        self.set_general(
+            r1,
+            Cell {
+                value: old,
                 nat: false,
             },
         );

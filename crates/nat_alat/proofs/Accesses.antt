@@ -3,8 +3,7 @@ use Rattle.std.proofs.Common.{◌≡◌, ℕ, ◌+◌, ◌-◌, ◌*◌, ◌%◌
 use Rattle.std.proofs.lemmas.List.{append-nil, drop_all, take_all}
 use Rattle.ia_insn.specs.Addresses.{data_base}
 use Rattle.ia_meaning.specs.Loads.{access_fault, loaded, stored, bytes_at, with_bytes}
-use Rattle.ia_meaning.proofs.DataAccesses.{is_access, length-with_bytes}
-use Rattle.nat_alat.proofs.Spelling.{other_byte, read_back}
+use Rattle.ia_meaning.proofs.DataAccesses.{is_access, length-with_bytes, other_byte}
 
 -- the place of an address
 place_of : (address at : ℕ) → address ≡ data_base + at → address - data_base ≡ at
@@ -34,15 +33,7 @@ stored_whole address at size x len bytes old shown new e is same count written =
     ∙ ap (λ l. with_bytes l at size x) (same ∙ is)
     ∙ stored_there address at size x bytes e
 
--- what is loaded is what was stored there
-pub stored_is_loaded : (bytes : List ℕ) (address size x : ℕ) → access_fault bytes address size ≡ None
-    → loaded (stored bytes address size x) address size ≡ x % 2 ^ (8 * size)
-unfolding loaded stored
-stored_is_loaded bytes address size x h =
-    let access = is_access bytes address size h in
-    read_back size (address - data_base) x bytes (omega arith)
-
--- and the other bytes stay
+-- the bytes that a store doesn't touch stay
 pub others_stay : (bytes : List ℕ) (address size x : ℕ) → access_fault bytes address size ≡ None
     → (length (stored bytes address size x) ≡ length bytes)
     × ((place : ℕ) → (data_base + place < address) ⊎ (address + size ≤ data_base + place) → get_or (stored bytes address size x) place 0 ≡ get_or bytes place 0)

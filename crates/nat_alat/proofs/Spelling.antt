@@ -70,22 +70,3 @@ pub written_8 : (size at x : ℕ) (bytes new : List ℕ) → size ≡ 8 → at +
     → new ≡ bytes_low_first 0 8 x ++ drop 8 (take (length bytes - at) (drop at bytes))
     → put_mid at (length bytes - at) bytes new ≡ with_bytes bytes at size x
 written_8 size at x bytes new e h word is = rw e (written_there 8 at x x bytes new (omega arith) (sym (mod-eq_of_lt word)) is)
-
--- a byte before or after those of the number
-pub other_byte : (n at x k : ℕ) (bytes : List ℕ) → (k < at) ⊎ (at + n ≤ k) → get_or (with_bytes bytes at n x) k 0 ≡ get_or bytes k 0
-other_byte zero at x k bytes h = refl
-other_byte (suc n) at x k bytes h =
-    let apart : (k < suc at) ⊎ (suc at + n ≤ k) = elim h [ inl l ↦ inl (omega arith) | inr r ↦ inr (omega arith) ] in
-    let other : k ≢ at = λ e. elim h [ inl l ↦ omega arith | inr r ↦ omega arith ] in
-    other_byte n (suc at) (x / 256) k (set bytes at (x % 256)) apart ∙ get_or-set_other bytes at k (x % 256) 0 other
-
--- what is read is what was written
-pub read_back : (n at x : ℕ) (bytes : List ℕ) → at + n ≤ length bytes → bytes_at (with_bytes bytes at n x) at n ≡ x % 2 ^ (8 * n)
-read_back zero at x bytes h = let e : x % 1 ≡ 0 = omega arith in sym e
-read_back (suc n) at x bytes h =
-    let l = set bytes at (x % 256) in
-    let lowest = other_byte n (suc at) (x / 256) at l (inl (omega arith)) ∙ get_or-set_same bytes at (x % 256) 0 (omega arith) in
-    let rest = read_back n (suc at) (x / 256) l (rw (length-set bytes at (x % 256)) (omega arith)) in
-    let e : 8 * suc n ≡ 8 * n + 8 = omega arith in
-    let split : x % 2 ^ (8 * suc n) ≡ x / 256 % 2 ^ (8 * n) * 256 + x % 256 = ap (λ k. x % 2 ^ k) e ∙ mod-pow-add x (8 * n) 8 in
-    omega (arith, lowest, rest, split)

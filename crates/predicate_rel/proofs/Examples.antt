@@ -1,6 +1,6 @@
 -- The rule of a pair, by examples. The qualifying predicate is p8, where nothing else is said.
 use Rattle.std.specs.Prelude.{pos}
-use Rattle.std.proofs.Common.{◌≡◌, true, refl}
+use Rattle.std.proofs.Common.{◌≡◌, true, None, refl}
 use Rattle.ia_insn.specs.declared.choices.CmpKind.TheVariants as cmp
 use Rattle.ia_insn.specs.declared.choices.BranchKind.TheVariants as branch
 use Rattle.ia_insn.specs.declared.choices.Unit.TheVariants.{B}
@@ -136,6 +136,9 @@ counted = refl
 -- any other
 idle : form_rule (form.Idle B) Falls 8 8 20 ≡ one 8 20
 idle = refl
+
+exchange : form_rule (form.Exchange 8 8 9 10 None) Falls 8 6 9 ≡ one 6 9
+exchange = refl
 
 check : form_rule (form.CheckNat 9 (pos 0)) Taken 8 8 20 ≡ one 8 20
 check = refl

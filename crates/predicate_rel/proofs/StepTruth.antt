@@ -34,7 +34,7 @@ use Rattle.ia_meaning.specs.Names.{predicate_place, holds, predicate_spot, set_s
 use Rattle.ia_meaning.specs.Outcomes.{Outcome}
 use Rattle.ia_meaning.specs.declared.form.MovedWord.{MovedWord}
 use Rattle.ia_meaning.specs.declared.form.Form.{Form}
-use Rattle.ia_meaning.specs.declared.form.Form.TheVariants.{Compute, Fetch, Test, ToPredicates, ToBranch, ToApplication, FromMemory, ToMemory, CheckNat, CheckAlat, ForgetAll, Forget, Allocate, Jump, JumpIndirect, Loop, Call, Return, ClearBases, Stop, Idle}
+use Rattle.ia_meaning.specs.declared.form.Form.TheVariants.{Compute, Fetch, Test, ToPredicates, ToBranch, ToApplication, FromMemory, ToMemory, Exchange, CheckNat, CheckAlat, ForgetAll, Forget, Allocate, Jump, JumpIndirect, Loop, Call, Return, ClearBases, Stop, Idle}
 use Rattle.ia_meaning.specs.Actions.{form_of, result_of, moved}
 use Rattle.ia_meaning.specs.Moves.{test_writes}
 use Rattle.ia_meaning.specs.Loads.{base_writes}
@@ -220,6 +220,7 @@ module _ (f : Pairs) (g : ℕ) (r : Registers) (frame : IsFrame r.frame) (long :
     },
   )
   act_keeps s (ToMemory size kind r3 r2 u) m unat n on = (λ k. tt, λ e base x _ _ _ _ _ _. plain_spilled _ _ (base_plain _ u e base zero_cell))
+  act_keeps s (Exchange size r1 r3 r2 inc) m unat n on = (λ k. tt, λ d base x _ _ _ _ _ _. plain _ (spot_plain _ d _ [] tt))
   act_keeps s (CheckNat r2 disp) m unat n on = (λ k. tt, λ b _ _ d. still, λ b _ _. still)
   act_keeps s (CheckAlat clear r1 disp) m unat n on = (λ k. tt, λ d _ _ t. still, λ d _ _ es _. still)
   act_keeps s ForgetAll m unat n on = still

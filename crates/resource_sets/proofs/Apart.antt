@@ -24,7 +24,7 @@ use Rattle.ia_meaning.specs.declared.write.FrameCause.TheVariants.{Resized, Rena
 use Rattle.ia_meaning.specs.Names.{spot, predicate_spot, predicate_place, set_spot, set_predicate}
 use Rattle.ia_meaning.specs.Arithmetic.{bit}
 use Rattle.ia_meaning.specs.Outcomes.{Outcome}
-use Rattle.ia_meaning.specs.declared.form.Form.TheVariants.{Compute, Fetch, Test, ToPredicates, ToBranch, ToApplication, FromMemory, ToMemory, CheckNat, CheckAlat, ForgetAll, Forget, Allocate, Jump, JumpIndirect, Loop, Call, Return, ClearBases, Stop, Idle}
+use Rattle.ia_meaning.specs.declared.form.Form.TheVariants.{Compute, Fetch, Test, ToPredicates, ToBranch, ToApplication, FromMemory, ToMemory, Exchange, CheckNat, CheckAlat, ForgetAll, Forget, Allocate, Jump, JumpIndirect, Loop, Call, Return, ClearBases, Stop, Idle}
 use Rattle.ia_meaning.specs.Actions.{form_of, result_of, moved}
 use Rattle.ia_meaning.specs.Moves.{test_writes, is_masked, masked_writes, predicate_writes}
 use Rattle.ia_meaning.specs.Loads.{base_writes}
@@ -161,6 +161,7 @@ act_apart s qp (FromMemory size kind r1 r3 u) v m x frame l = (
   },
 )
 act_apart s qp (ToMemory size kind r3 r2 u) v m x frame l = (λ _. tt, λ e y z _ _ _ _ _ _. base_apart u e y zero_cell)
+act_apart s qp (Exchange size r1 r3 r2 inc) v m x frame l = (λ _. tt, λ d y z _ _ _ _ _ _. one_spot d _)
 act_apart s qp (CheckNat r2 disp) v m x frame l = (λ _. tt, λ a _ _. tt, λ a _ _. tt)
 act_apart s qp (CheckAlat clear r1 disp) v m x frame l = (λ _. tt, λ d _ _. tt, λ d _ _ es _. tt)
 act_apart s qp ForgetAll v m x frame l = tt

@@ -31,7 +31,7 @@ use Rattle.ia_meaning.specs.declared.write.FrameCause.TheVariants.{Renamed}
 use Rattle.ia_meaning.specs.Names.{spot, holds, predicate_spot, predicate_place, set_spot, set_predicate}
 use Rattle.ia_meaning.specs.Arithmetic.{bit}
 use Rattle.ia_meaning.specs.Outcomes.{Outcome}
-use Rattle.ia_meaning.specs.declared.form.Form.TheVariants.{Compute, Fetch, Test, ToPredicates, ToBranch, ToApplication, FromMemory, ToMemory, CheckNat, CheckAlat, ForgetAll, Forget, Allocate, Jump, JumpIndirect, Loop, Call, Return, ClearBases, Stop, Idle}
+use Rattle.ia_meaning.specs.declared.form.Form.TheVariants.{Compute, Fetch, Test, ToPredicates, ToBranch, ToApplication, FromMemory, ToMemory, Exchange, CheckNat, CheckAlat, ForgetAll, Forget, Allocate, Jump, JumpIndirect, Loop, Call, Return, ClearBases, Stop, Idle}
 use Rattle.ia_meaning.specs.Actions.{form_of, result_of, moved}
 use Rattle.ia_meaning.specs.Moves.{test_writes, is_masked, masked_writes, predicate_writes}
 use Rattle.ia_meaning.specs.Loads.{base_writes}
@@ -367,6 +367,10 @@ act_covered s qp (ToMemory size kind r3 r2 u) v m x base g =
     let updated : is_updated u ≡ true → WritesOf (IsCovered qp form v) v.frame r3 =
     λ t w n. own_covered qp form v (Gr r3) w g (inr (inr (inl (both _ _ t n, refl)))) in
     (λ _. tt, λ e y z at_e _ _ _ _ _. each_base _ v.frame r3 u e y zero_cell at_e updated)
+act_covered s qp (Exchange size r1 r3 r2 inc) v m x base g =
+    let named : WritesOf (IsCovered qp (Exchange size r1 r3 r2 inc) v) v.frame r1 =
+    λ w n. own_covered qp _ v (Gr r1) w g (inr (inr (inl (n, refl)))) in
+    (λ _. tt, λ d y z at_d _ _ _ _ _. each_spot _ v.frame r1 d _ [] at_d named tt)
 act_covered s qp (CheckNat r2 disp) v m x base g = (λ _. tt, λ a _ _. tt, λ a _ _. tt)
 act_covered s qp (CheckAlat clear r1 disp) v m x base g = (λ _. tt, λ d _ _. tt, λ d _ _ es _. tt)
 act_covered s qp ForgetAll v m x base g = tt
@@ -442,6 +446,7 @@ act_spills s qp (ToMemory size store.Spill r3 r2 u) v m x g = (
   λ e y z _ _ _ _ _ _ b _. (in_own qp (ToMemory size store.Spill r3 r2 u) _ (inr (inr (inr (inl (refl, refl))))), g),
 )
 act_spills s qp (ToMemory size kind r3 r2 u) v m x g = (λ _. no_spill, λ e y z _ _ _ _ _ _. no_spill)
+act_spills s qp (Exchange size r1 r3 r2 inc) v m x g = (λ _. no_spill, λ d y z _ _ _ _ _ _. no_spill)
 act_spills s qp (CheckNat r2 disp) v m x g = (λ _. no_spill, λ a _ _. no_spill, λ a _ _. no_spill)
 act_spills s qp (CheckAlat clear r1 disp) v m x g = (λ _. no_spill, λ d _ _. no_spill, λ d _ _ es _. no_spill)
 act_spills s qp ForgetAll v m x g = no_spill

@@ -20,7 +20,7 @@ use Rattle.ia_meaning.specs.declared.state.AlatEntry.{AlatEntry}
 use Rattle.ia_meaning.specs.State.{Registers, Memory}
 use Rattle.ia_meaning.specs.declared.write.Write.{Write}
 use Rattle.ia_meaning.specs.Names.{is_stacked, is_rotating, spot, look, predicate_place, holds, predicate_spot}
-use Rattle.ia_meaning.specs.declared.form.Form.TheVariants.{Compute, Fetch, Test, ToPredicates, ToBranch, ToApplication, FromMemory, ToMemory, CheckNat, CheckAlat, ForgetAll, Forget, Allocate, Jump, JumpIndirect, Loop, Call, Return, ClearBases, Stop, Idle}
+use Rattle.ia_meaning.specs.declared.form.Form.TheVariants.{Compute, Fetch, Test, ToPredicates, ToBranch, ToApplication, FromMemory, ToMemory, Exchange, CheckNat, CheckAlat, ForgetAll, Forget, Allocate, Jump, JumpIndirect, Loop, Call, Return, ClearBases, Stop, Idle}
 use Rattle.ia_meaning.specs.Actions.{insn_form}
 use Rattle.ia_meaning.specs.Loads.{access_fault, load_nat, load_tried, base_writes, update_register, from_memory}
 use Rattle.ia_meaning.specs.Loops.{turn_of, turned}
@@ -210,6 +210,10 @@ act_same s qp (FromMemory size kind r1 r3 u) v w m x y g h =
     (λ e. h.reads.1.1.1.1.0 e g) in
     cc
 act_same s qp (ToMemory size kind r3 r2 u) v w m x y g h =
+    let a : look v r3 ≡ look w r3 = look_same v w r3 (λ n. h.reads.0 n g) in
+    let b : look v r2 ≡ look w r2 = look_same v w r2 (λ n. h.reads.1.0 n g) in
+    cc
+act_same s qp (Exchange size r1 r3 r2 inc) v w m x y g h =
     let a : look v r3 ≡ look w r3 = look_same v w r3 (λ n. h.reads.0 n g) in
     let b : look v r2 ≡ look w r2 = look_same v w r2 (λ n. h.reads.1.0 n g) in
     cc

@@ -1,7 +1,7 @@
 -- What single instructions access, which accesses clash, and which may write a guard (volume 3, chapter 5, resource and
 -- dependency semantics).
 use Rattle.std.proofs.Common.{◌≡◌, ℕ, zero, suc, true, false, List, [], ◌∷◌, Some, None, refl}
-use Rattle.std.specs.Prelude.{pos}
+use Rattle.std.specs.Prelude.{pos, negsuc}
 use Rattle.ia_insn.specs.declared.insn.Op.{Op}
 use Rattle.ia_insn.specs.declared.insn.Op.TheVariants as op
 use Rattle.ia_insn.specs.declared.choices.Unit.TheVariants as unit
@@ -120,6 +120,14 @@ stores :
     ≡ by 0 (Pr 6) Read ∷ by 6 (Gr 9) Read ∷ by 6 (Gr 8) Read ∷ by 6 (Gr 9) Write ∷ by 6 Unat Spill ∷ [])
 unfolding rows
 stores = (refl, refl)
+
+-- `xchg8 r8=[r9],r10`, `(p6) xchg1 r8=[r8],r8`, `fetchadd8.acq r8=[r9],-4`
+exchanges :
+    (of 0 (op.Xchg 8 0 8 9 10) ≡ by 0 (Gr 9) Read ∷ by 0 (Gr 10) Read ∷ by 0 (Gr 8) Write ∷ [])
+    × (of 6 (op.Xchg 1 0 8 8 8) ≡ by 0 (Pr 6) Read ∷ by 6 (Gr 8) Read ∷ by 6 (Gr 8) Read ∷ by 6 (Gr 8) Write ∷ [])
+    × (of 0 (op.FetchAdd 8 false 0 8 9 (negsuc 3)) ≡ by 0 (Gr 9) Read ∷ by 0 (Gr 8) Write ∷ [])
+unfolding rows
+exchanges = (refl, refl, refl)
 
 -- `chk.s.m r8,0` reads its register; `chk.a.clr r8,0` and `invala.e r8` read none, and ask for the frame where they name it
 checks :

@@ -176,6 +176,7 @@ own_facts qp (form.FromMemory size kind r1 r3 u) =
     (reads r3 refl, (reads (update_register u) refl, (writes r1, (updates u r3, (row_of tt refl, tt)))))
 own_facts qp (form.ToMemory size kind r3 r2 u) =
     (reads r3 refl, (reads r2 refl, (updates u r3, (row_of tt (refl, refl), tt))))
+own_facts qp (form.Exchange size r1 r3 r2 inc) = (reads r3 refl, (reads r2 refl, (writes r1, tt)))
 own_facts qp (form.CheckNat r2 disp) = (reads r2 refl, tt)
 own_facts qp (form.Allocate r1 sof sol sor) =
     (writes r1, (row_of tt (λ e. absurd (cc)), (row_of tt (λ e. tt), (row_of tt (refl, refl), tt))))

@@ -130,6 +130,7 @@ own_rows (form.FromMemory size kind r1 r3 u) =
     gr r3 Read ∷ gr (update_register u) Read ∷ gr r1 Write ∷ base_row u r3 ∷ unat_row (is_fill kind) Fill ∷ []
 own_rows (form.ToMemory size kind r3 r2 u) =
     gr r3 Read ∷ gr r2 Read ∷ base_row u r3 ∷ unat_row (is_spill kind) Spill ∷ []
+own_rows (form.Exchange size r1 r3 r2 inc) = gr r3 Read ∷ gr r2 Read ∷ gr r1 Write ∷ []
 own_rows (form.CheckNat r2 disp) = gr r2 Read ∷ []
 own_rows (form.CheckAlat clear r1 disp) = []
 own_rows form.ForgetAll = []

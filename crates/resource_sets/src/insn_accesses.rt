@@ -222,6 +222,11 @@ pub(crate) fn own_rows(form: &Form) -> Rows
             base_row(&update, r3),
             unat_row(kind == StoreKind::Spill, Kind::Spill),
         ]),
+        Form::Exchange { r1, r3, r2, .. } => list(&[
+            gr(r3, Kind::Read),
+            gr(r2, Kind::Read),
+            gr(r1, Kind::Write),
+        ]),
         Form::Allocate { r1, .. } => list(&[
             gr(r1, Kind::Write),
             own(Resource::Pfs, Kind::Read),

@@ -21,7 +21,7 @@ use Rattle.ia_meaning.specs.Frames.{with_sizes, cleared, call_state, call_frame,
 use Rattle.ia_meaning.specs.Loops.{turn_of, turn_writes}
 use Rattle.frame_shapes.specs.Faults.{alloc_fault}
 use Rattle.slot_effects.specs.declared.change.Change.{Change}
-use Rattle.slot_effects.specs.declared.change.Change.TheVariants.{Nothing, General, Predicates, PredicateWord, Branch, Application, Loaded, Entered, Hit, Stored, Forgotten, AllForgotten, Allocated, Turned, Called, Returned, Cleared}
+use Rattle.slot_effects.specs.declared.change.Change.TheVariants.{Nothing, General, Predicates, PredicateWord, Branch, Application, Loaded, Entered, Hit, Stored, Exchanged, Forgotten, AllForgotten, Allocated, Turned, Called, Returned, Cleared}
 
 -- the write of an application register
 abbrev pub application_write : Ar → ℕ → Write
@@ -70,6 +70,7 @@ writes_of r (Loaded r1 r3 forgets update cell) = set_at (spot r.frame r1) cell (
 writes_of r (Entered r1 r3 size update cell) = set_at (spot r.frame r1) cell (load_update r r3 update)
 writes_of r (Hit r1 r3 forgets update) = load_update r r3 update
 writes_of r (Stored r3 size spills update cell) = base_update r r3 update zero_cell
+writes_of r (Exchanged r1 r3 size old value) = set_at (spot r.frame r1) (record { value = old; nat = false }) []
 writes_of r (Forgotten r1) = []
 writes_of r AllForgotten = []
 writes_of r (Allocated r1 sof sol sor) =
@@ -105,6 +106,10 @@ memory_after r (Entered r1 r3 size update cell) m =
 memory_after r (Hit r1 r3 forgets update) m = record m { alat = forgotten_where forgets (spot r.frame r1) m.alat }
 memory_after r (Stored r3 size spills update cell) m = record {
   bytes = stored m.bytes (held r r3).value size cell.value;
+  alat = untouched m.alat (held r r3).value size;
+}
+memory_after r (Exchanged r1 r3 size old value) m = record {
+  bytes = stored m.bytes (held r r3).value size value;
   alat = untouched m.alat (held r r3).value size;
 }
 memory_after r (Forgotten r1) m = record m { alat = forgotten_at (spot r.frame r1) m.alat }
@@ -148,6 +153,7 @@ pub record MayAllocate (f : FrameShape) (sof sol sor : ℕ) : Type 0 where
 abbrev pub MayMake : Registers → Memory → Change → Type 0
 MayMake r m (Application ar value) = FitsApplication ar value
 MayMake r m (Stored r3 size spills update cell) = MayStore m (held r r3).value size spills
+MayMake r m (Exchanged r1 r3 size old value) = MayStore m (held r r3).value size false
 MayMake r m (Allocated r1 sof sol sor) = MayAllocate r.frame sof sol sor
 MayMake r m Returned = return_fault r.frame.base (marked_frame r.frame.base r.pfs) ≡ None
 MayMake r m change = Unit {0}

@@ -102,6 +102,19 @@ pub enum Change {
         /// What the register holds that is stored.
         cell: Cell,
     },
+    /// An exchange.
+    Exchanged {
+        /// The target.
+        r1: Gr,
+        /// The base, which holds the address.
+        r3: Gr,
+        /// How many bytes are exchanged.
+        size: u8,
+        /// What was there, which the target gets.
+        old: u64,
+        /// What is stored.
+        value: u64,
+    },
     /// The entry of a register leaves the ALAT.
     Forgotten {
         /// The register.

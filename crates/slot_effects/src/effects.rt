@@ -8,7 +8,7 @@ ghost use Rattle.slot_effects.specs.Outcomes.{outcome_of_effect};
 
 use crate::change::Change;
 use crate::frames::{allocate, call, land, ret};
-use crate::loads::{check_alat, check_nat, forget, load, store};
+use crate::loads::{check_alat, check_nat, exchange, forget, load, store};
 use crate::loops::turn;
 use crate::moves::{compute, fetch, skip_test, test, to_application, to_branch, to_predicates};
 use crate::sees::Sees;
@@ -57,6 +57,13 @@ fn act<S: Sees>(seen: &S, program: &Program, bundle: u32, form: &Form) -> SlotEf
             r2,
             update,
         } => store(seen, size, kind, r3, r2, update),
+        Form::Exchange {
+            size,
+            r1,
+            r3,
+            r2,
+            inc,
+        } => exchange(seen, size, r1, r3, r2, inc),
         Form::CheckNat { r2, disp } => check_nat(seen, bundle, r2, disp),
         Form::CheckAlat { clear, r1, disp } => check_alat(seen, bundle, clear, r1, disp),
         Form::ForgetAll => SlotEffect::falls(Change::AllForgotten),

@@ -1,12 +1,12 @@
-//! Loads, stores and checks (volume 1, chapter 4, control and data speculation, and volume 3, chapter 2,
-//! `ld`, `st`, `chk` and `invala`).
+//! Loads, stores, exchanges and checks (volume 1, chapter 4, control and data speculation, and volume 3, chapter 2,
+//! `ld`, `st`, `xchg`, `fetchadd`, `chk` and `invala`).
 
 ghost use Rattle.std.specs.Prelude.{◌≡◌, ◌<◌, ◌||◌, ◌&&◌, not, Some, None, IfOk, IfErr, ◌^◌};
-ghost use Rattle.ia_insn.specs.Ranges.{IsLoadSize, IsStoreSize};
+ghost use Rattle.ia_insn.specs.Ranges.{IsAccessSize, IsLoadSize, IsStoreSize};
 ghost use Rattle.ia_meaning.specs.declared.state.AlatEntry.{AlatEntry};
 ghost use Rattle.ia_meaning.specs.Names.{spot, look};
 ghost use Rattle.ia_meaning.specs.Landings.{target_of};
-ghost use Rattle.ia_meaning.specs.Loads.{access_fault, loaded, update_register, is_speculative, is_check, takes_nat, load_nat, load_made, load_hit, load_failed, load_tried, load_checked, from_memory, to_memory, check_nat, check_alat, forget};
+ghost use Rattle.ia_meaning.specs.Loads.{access_fault, loaded, update_register, is_speculative, is_check, takes_nat, load_nat, load_made, load_hit, load_failed, load_tried, load_checked, from_memory, to_memory, exchange, check_nat, check_alat, forget};
 ghost use Rattle.nat_alat.specs.Faults.{fault_of};
 ghost use Rattle.slot_effects.specs.Changes.{load_update, MayMake};
 ghost use Rattle.slot_effects.specs.Outcomes.{outcome_of_effect, IsLoadOf};
@@ -18,6 +18,7 @@ use crate::slot_effect::SlotEffect;
 use ia_insn::{FaultKind, Gr, LoadKind, StoreKind, Update};
 use ia_meaning::{AlatEntry, Cell, target_of, update_register};
 use nat_alat::MemFault;
+use sem_ops::exchanged;
 
 /// A load whose registers are in the frame.
 #[derive(Clone, Copy, Debug)]
@@ -240,6 +241,38 @@ pub(crate) fn store<S: Sees>(
         update,
         cell: found.second,
     })
+}
+
+/// An exchange with a register, or a sum with an increment.
+#[tactic(auto, using(crate::proofs::Named::exchange_missing))]
+pub(crate) fn exchange<S: Sees>(
+    seen: &S,
+    size: u8,
+    r1: Gr,
+    r3: Gr,
+    r2: Gr,
+    inc: Option<i16>,
+) -> SlotEffect
+    requires { IsAccessSize size }
+    ensures value { outcome_of_effect (S.registers seen.now) (S.memory seen.now) result ≡ exchange size inc (spot (S.registers seen.now).frame r1) (look (S.registers seen.now) r3) (look (S.registers seen.now) r2) (S.memory seen.now) }
+    ensures may { MayMake (S.registers seen.now) (S.memory seen.now) result.change }
+{
+    let Some(found) = operands(seen, r1, r3, r2) else {
+        return SlotEffect::faults(FaultKind::OutOfFrame);
+    };
+    if found.first.nat || found.second.nat {
+        return SlotEffect::faults(FaultKind::NatConsumed);
+    }
+    match seen.data().load(found.first.value, size) {
+        Err(fault) => SlotEffect::faults(fault_of(fault)),
+        Ok(old) => SlotEffect::falls(Change::Exchanged {
+            r1,
+            r3,
+            size,
+            old,
+            value: exchanged(size, inc, old, found.second.value),
+        }),
+    }
 }
 
 /// `chk.s`: a branch where the register has NaT.

@@ -91,6 +91,8 @@ pub fn class_of(op: &Op) -> SlotClass
         | Op::MovFromAr { ar: Ar::Unat, .. }
         | Op::Load { .. }
         | Op::Store { .. }
+        | Op::Xchg { .. }
+        | Op::FetchAdd { .. }
         | Op::ChkA { .. }
         | Op::Invala
         | Op::Mf

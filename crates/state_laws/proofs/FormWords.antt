@@ -10,7 +10,7 @@ use Rattle.ia_insn.specs.Ranges.{IsPartSize, IsAccessSize, IsLoadSize, HasRanges
 use Rattle.ia_meaning.specs.State.{IsWord}
 use Rattle.ia_meaning.specs.Arithmetic.{immediate}
 use Rattle.ia_meaning.specs.declared.form.Form.{Form}
-use Rattle.ia_meaning.specs.declared.form.Form.TheVariants.{Compute, ToApplication, FromMemory, Allocate}
+use Rattle.ia_meaning.specs.declared.form.Form.TheVariants.{Compute, ToApplication, FromMemory, Exchange, Allocate}
 use Rattle.ia_meaning.specs.Actions.{addition, form_of, value_of, moved}
 use Rattle.state_laws.proofs.Words.{immediate_word, alu_word, shift_add_word, lanes_word, shift_word, shift_pair_word, extract_word, deposit_word, extend_word, ones_word}
 
@@ -19,6 +19,7 @@ abbrev pub HasFormWords : Form → Type 0
 HasFormWords (Compute r1 r2 r3 f) = (a b : ℕ) → IsWord a → IsWord b → IsWord (value_of f a b)
 HasFormWords (ToApplication ar r2 w) = (a : ℕ) → IsWord a → IsWord (moved w a)
 HasFormWords (FromMemory size kind r1 r3 u) = (r1 ≢ 0) × IsAccessSize size
+HasFormWords (Exchange size r1 r3 r2 inc) = IsAccessSize size
 HasFormWords (Allocate r1 sof sol sor) = (sof ≤ 96) × (sol ≤ sof) × (8 * sor ≤ sof)
 HasFormWords form = Unit {0}
 
@@ -48,6 +49,8 @@ form_words (op.MovToAr ar r2) h = λ a i. i
 form_words (op.MovToArImm ar imm) h = λ a i. immediate_word 8 imm (omega arith) h
 form_words (op.Ext signed size r1 r3) h = λ a b i j. extend_word signed size b (ext_size size h.1)
 form_words (op.Load size kind hint r1 r3 update) h = (h.0, load_size kind size h.1)
+form_words (op.Xchg size hint r1 r3 r2) h = h.1
+form_words (op.FetchAdd size release hint r1 r3 inc) h = inr (inr h.1)
 form_words (op.Alloc r1 sof sol sor) h = (h.1, h.2, h.3)
 form_words (op.Movl r1 imm) h = λ a b i j. h.1
 form_words (op.Br Cond wh many clr disp) h = tt

@@ -41,7 +41,7 @@ use Rattle.ia_meaning.specs.Names.{spot, predicate_spot}
 use Rattle.ia_meaning.specs.Arithmetic.{immediate, bit}
 use Rattle.ia_meaning.specs.Outcomes.{Outcome, falls, goes, faults}
 use Rattle.ia_meaning.specs.declared.form.Form.{Form}
-use Rattle.ia_meaning.specs.declared.form.Form.TheVariants.{Compute, Fetch, Test, ToPredicates, ToBranch, ToApplication, FromMemory, ToMemory, CheckNat, CheckAlat, ForgetAll, Forget, Allocate, Jump, JumpIndirect, Loop, Call, Return, ClearBases, Stop, Idle}
+use Rattle.ia_meaning.specs.declared.form.Form.TheVariants.{Compute, Fetch, Test, ToPredicates, ToBranch, ToApplication, FromMemory, ToMemory, Exchange, CheckNat, CheckAlat, ForgetAll, Forget, Allocate, Jump, JumpIndirect, Loop, Call, Return, ClearBases, Stop, Idle}
 use Rattle.ia_meaning.specs.Actions.{form_of, result_of, moved}
 use Rattle.ia_meaning.specs.Moves.{test_writes, is_masked, masked_writes, predicate_writes, has_reserved_zeros}
 use Rattle.ia_meaning.specs.Loads.{base_writes, store_spills, load_alat}
@@ -205,6 +205,8 @@ module _ (p : Program) (s : Site) (r : Registers) (m : Memory) (unat : ℕ) (bel
   act_in_range (FromMemory size kind r1 r3 u) l = (failed, λ d e base more i j k n. load_in_range size kind r1 u d e base more l.0 l.1 i)
   act_in_range (ToMemory size kind r3 r2 u) l =
       (failed, λ e base x i j k n t a. record { writes = base_in_range u e base zero_cell; memory = stored_memory p m base.value size x.value mem; spills = spills_in_range kind base.value x })
+  act_in_range (Exchange size r1 r3 r2 inc) l =
+      (failed, λ d base x i j k n t a. record { writes = spot_in_range d _ [] (loaded_word m.bytes base.value size mem.bytes l) tt; memory = stored_memory p m base.value size _ mem; spills = tt })
   act_in_range (CheckNat r2 disp) l = (failed, λ a i n. went [] _ tt, λ a i n. fell [] tt)
   act_in_range (CheckAlat clear r1 disp) l = (failed, λ d i n. went [] _ tt, λ d i n es f. fell_with [] es tt (may_forget d es f))
   act_in_range ForgetAll l = fell_with [] [] tt (record { most = omega arith; entries = All-nil (IsAlatEntry (length m.bytes)); apart = λ i j d below within. absurd (omega arith) })

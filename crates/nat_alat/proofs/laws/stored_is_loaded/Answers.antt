@@ -1,4 +1,4 @@
-use Rattle.nat_alat.proofs.Accesses.{stored_is_loaded}
+use Rattle.ia_meaning.proofs.DataAccesses.{stored_is_loaded}
 use Rattle.nat_alat.proofs.laws.stored_is_loaded.Goals as goal
 
 pub returns : goal.returns

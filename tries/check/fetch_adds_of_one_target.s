@@ -1,0 +1,13 @@
+// What memory holds is written to one register twice.
+{ .mlx
+  nop.m 0
+  movl r14=word ;;
+}
+{ .mmi
+  fetchadd8.acq r8=[r14],1
+  fetchadd8.acq r8=[r14],1
+  nop.i 0 ;;
+}
+.data
+word:
+  data8 1
