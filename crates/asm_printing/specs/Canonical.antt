@@ -1,7 +1,7 @@
 -- How an instruction is printed: its form, a completer for each set of the form, and its operands, in the order of
 -- the manual's formats. Branches have their whether and prefetch hints, a move to a branch register its tag, a
 -- move to the predicates its mask.
-use Rattle.std.specs.Prelude.{ℕ, suc, ◌-◌, ◌*◌, ℤ, pos, negsuc, Bool, true, false, not, ◌==◌, if◌then◌else◌, List, [], ◌∷◌}
+use Rattle.std.specs.Prelude.{ℕ, unsigned_abs, ◌-◌, ◌*◌, ℤ, pos, negsuc, Bool, true, false, not, ◌==◌, if◌then◌else◌, List, [], ◌∷◌}
 use Rattle.asm_words.specs.declared.tokens.Token.{Token}
 use Rattle.asm_words.specs.declared.tokens.Token.TheVariants as t
 use Rattle.asm_forms.specs.declared.completer.Completer.{Completer}
@@ -98,45 +98,9 @@ ext_form true size.One = form.Sxt1
 ext_form true size.Two = form.Sxt2
 ext_form true _ = form.Sxt4
 
-abbrev pub load_form : AccessSize → Form
-load_form size.One = form.Ld1
-load_form size.Two = form.Ld2
-load_form size.Four = form.Ld4
-load_form size.Eight = form.Ld8
-
-abbrev pub load_reg_form : AccessSize → Form
-load_reg_form size.One = form.Ld1Reg
-load_reg_form size.Two = form.Ld2Reg
-load_reg_form size.Four = form.Ld4Reg
-load_reg_form size.Eight = form.Ld8Reg
-
-abbrev pub load_imm_form : AccessSize → Form
-load_imm_form size.One = form.Ld1Imm
-load_imm_form size.Two = form.Ld2Imm
-load_imm_form size.Four = form.Ld4Imm
-load_imm_form size.Eight = form.Ld8Imm
-
-abbrev pub store_form : AccessSize → Form
-store_form size.One = form.St1
-store_form size.Two = form.St2
-store_form size.Four = form.St4
-store_form size.Eight = form.St8
-
-abbrev pub store_imm_form : AccessSize → Form
-store_imm_form size.One = form.St1Imm
-store_imm_form size.Two = form.St2Imm
-store_imm_form size.Four = form.St4Imm
-store_imm_form size.Eight = form.St8Imm
-
-abbrev pub exchange_form : AccessSize → Form
-exchange_form size.One = form.Xchg1
-exchange_form size.Two = form.Xchg2
-exchange_form size.Four = form.Xchg4
-exchange_form size.Eight = form.Xchg8
-
-abbrev pub fetch_add_form : AccessSize → Form
-fetch_add_form size.Four = form.Fetchadd4
-fetch_add_form _ = form.Fetchadd8
+-- the form of so many bytes, of those of one, two, four and eight
+abbrev pub of_size : ℕ → Form → Form → Form → Form → Form
+of_size n one two four eight = if n == 1 then one else (if n == 2 then two else (if n == 4 then four else eight))
 
 abbrev pub relation_of : Rel → Relation
 relation_of rel.Eq = crel.Eq
@@ -177,13 +141,9 @@ abbrev pub negative : ℤ → Bool
 negative (pos n) = false
 negative (negsuc n) = true
 
-abbrev pub distance : ℤ → ℕ
-distance (pos n) = n
-distance (negsuc n) = suc n
-
 -- a number by sign and magnitude
 abbrev pub number : ℤ → Token
-number z = t.Number (negative z) (distance z)
+number z = t.Number (negative z) (unsigned_abs z)
 
 abbrev pub natural : ℕ → Token
 natural n = t.Number false n
@@ -244,13 +204,13 @@ syntax_of (op.MovFromAr r1 ar.Unat) = syntax form.MovFromArM (c.Unit unit.M ∷ 
 syntax_of (op.MovFromAr r1 a) = syntax form.MovFromArI (c.Unit unit.I ∷ []) (t.Gr r1 ∷ t.Ar a ∷ [])
 syntax_of (op.Ext signed n r1 r3) = syntax (ext_form signed (size_of n)) [] (t.Gr r1 ∷ t.Gr r3 ∷ [])
 -- M formats
-syntax_of (op.Load n kind h r1 r3 update.None) = syntax (load_form (size_of n)) (c.Load kind ∷ (c.Hint (cache_hint h)) ∷ []) (t.Gr r1 ∷ t.Gr r3 ∷ [])
-syntax_of (op.Load n kind h r1 r3 (update.Reg r2)) = syntax (load_reg_form (size_of n)) (c.Load kind ∷ (c.Hint (cache_hint h)) ∷ []) (t.Gr r1 ∷ t.Gr r3 ∷ t.Gr r2 ∷ [])
-syntax_of (op.Load n kind h r1 r3 (update.Imm imm)) = syntax (load_imm_form (size_of n)) (c.Load kind ∷ (c.Hint (cache_hint h)) ∷ []) (t.Gr r1 ∷ t.Gr r3 ∷ number imm ∷ [])
-syntax_of (op.Store n kind h r3 r2 (update.Imm imm)) = syntax (store_imm_form (size_of n)) (c.Store kind ∷ (c.Hint (cache_hint h)) ∷ []) (t.Gr r3 ∷ t.Gr r2 ∷ number imm ∷ [])
-syntax_of (op.Store n kind h r3 r2 _) = syntax (store_form (size_of n)) (c.Store kind ∷ (c.Hint (cache_hint h)) ∷ []) (t.Gr r3 ∷ t.Gr r2 ∷ [])
-syntax_of (op.Xchg n h r1 r3 r2) = syntax (exchange_form (size_of n)) ((c.Hint (cache_hint h)) ∷ []) (t.Gr r1 ∷ t.Gr r3 ∷ t.Gr r2 ∷ [])
-syntax_of (op.FetchAdd n release h r1 r3 inc) = syntax (fetch_add_form (size_of n)) (semaphore_type release ∷ (c.Hint (cache_hint h)) ∷ []) (t.Gr r1 ∷ t.Gr r3 ∷ number inc ∷ [])
+syntax_of (op.Load n kind h r1 r3 update.None) = syntax (of_size n form.Ld1 form.Ld2 form.Ld4 form.Ld8) (c.Load kind ∷ (c.Hint (cache_hint h)) ∷ []) (t.Gr r1 ∷ t.Gr r3 ∷ [])
+syntax_of (op.Load n kind h r1 r3 (update.Reg r2)) = syntax (of_size n form.Ld1Reg form.Ld2Reg form.Ld4Reg form.Ld8Reg) (c.Load kind ∷ (c.Hint (cache_hint h)) ∷ []) (t.Gr r1 ∷ t.Gr r3 ∷ t.Gr r2 ∷ [])
+syntax_of (op.Load n kind h r1 r3 (update.Imm imm)) = syntax (of_size n form.Ld1Imm form.Ld2Imm form.Ld4Imm form.Ld8Imm) (c.Load kind ∷ (c.Hint (cache_hint h)) ∷ []) (t.Gr r1 ∷ t.Gr r3 ∷ number imm ∷ [])
+syntax_of (op.Store n kind h r3 r2 (update.Imm imm)) = syntax (of_size n form.St1Imm form.St2Imm form.St4Imm form.St8Imm) (c.Store kind ∷ (c.Hint (cache_hint h)) ∷ []) (t.Gr r3 ∷ t.Gr r2 ∷ number imm ∷ [])
+syntax_of (op.Store n kind h r3 r2 _) = syntax (of_size n form.St1 form.St2 form.St4 form.St8) (c.Store kind ∷ (c.Hint (cache_hint h)) ∷ []) (t.Gr r3 ∷ t.Gr r2 ∷ [])
+syntax_of (op.Xchg n h r1 r3 r2) = syntax (of_size n form.Xchg1 form.Xchg2 form.Xchg4 form.Xchg8) ((c.Hint (cache_hint h)) ∷ []) (t.Gr r1 ∷ t.Gr r3 ∷ t.Gr r2 ∷ [])
+syntax_of (op.FetchAdd n release h r1 r3 inc) = syntax (if n == 4 then form.Fetchadd4 else form.Fetchadd8) (semaphore_type release ∷ (c.Hint (cache_hint h)) ∷ []) (t.Gr r1 ∷ t.Gr r3 ∷ number inc ∷ [])
 syntax_of (op.ChkA false r1 disp) = syntax form.ChkANc (c.A ∷ c.Nc ∷ []) (t.Gr r1 ∷ t.Name ∷ [])
 syntax_of (op.ChkA true r1 disp) = syntax form.ChkAClr (c.A ∷ c.Clr ∷ []) (t.Gr r1 ∷ t.Name ∷ [])
 syntax_of op.Invala = syntax form.Invala [] []

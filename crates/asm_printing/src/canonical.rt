@@ -5,7 +5,7 @@ ghost use Rattle.asm_words.specs.declared.tokens.Token.TheVariants as t;
 ghost use Rattle.asm_forms.specs.declared.completer.Completer.TheVariants as c;
 ghost use Rattle.ia_insn.specs.declared.insn.Op.TheVariants as ops;
 ghost use Rattle.ia_insn.specs.declared.choices.Unit.TheVariants as units;
-ghost use Rattle.asm_printing.specs.Canonical.{Syntax as SyntaxOf, syntax, size_of, alu_form, alu_imm_form, compare_form, compare_imm_form, lane_form, ext_form, load_form, load_reg_form, load_imm_form, store_form, store_imm_form, exchange_form, fetch_add_form, relation_of, when, unc_of, move_whether, whether, cache_hint, semaphore_type, prefetch_hint, number, natural, ones_number, compare_completers, branch_hints, syntax_of};
+ghost use Rattle.asm_printing.specs.Canonical.{Syntax as SyntaxOf, syntax, size_of, alu_form, alu_imm_form, compare_form, compare_imm_form, lane_form, ext_form, of_size, relation_of, when, unc_of, move_whether, whether, cache_hint, semaphore_type, prefetch_hint, number, natural, ones_number, compare_completers, branch_hints, syntax_of};
 
 use asm_forms::{AccessSize, CacheHint, Completer, Completers, Form, Operands, Relation, Whether};
 use asm_words::Token;
@@ -206,85 +206,15 @@ fn ext_form(signed: bool, size: AccessSize) -> Form
     }
 }
 
-/// The form of a load.
-fn load_form(size: AccessSize) -> Form
-    ensures { result ≡ load_form size }
+/// The form of so many bytes, of those of one, two, four and eight.
+fn of_size(n: u8, one: Form, two: Form, four: Form, eight: Form) -> Form
+    ensures { result ≡ of_size n one two four eight }
 {
-    match size {
-        AccessSize::One => Form::Ld1,
-        AccessSize::Two => Form::Ld2,
-        AccessSize::Four => Form::Ld4,
-        AccessSize::Eight => Form::Ld8,
-    }
-}
-
-/// The form of a load that updates its base by a register.
-fn load_reg_form(size: AccessSize) -> Form
-    ensures { result ≡ load_reg_form size }
-{
-    match size {
-        AccessSize::One => Form::Ld1Reg,
-        AccessSize::Two => Form::Ld2Reg,
-        AccessSize::Four => Form::Ld4Reg,
-        AccessSize::Eight => Form::Ld8Reg,
-    }
-}
-
-/// The form of a load that updates its base by a number.
-fn load_imm_form(size: AccessSize) -> Form
-    ensures { result ≡ load_imm_form size }
-{
-    match size {
-        AccessSize::One => Form::Ld1Imm,
-        AccessSize::Two => Form::Ld2Imm,
-        AccessSize::Four => Form::Ld4Imm,
-        AccessSize::Eight => Form::Ld8Imm,
-    }
-}
-
-/// The form of a store.
-fn store_form(size: AccessSize) -> Form
-    ensures { result ≡ store_form size }
-{
-    match size {
-        AccessSize::One => Form::St1,
-        AccessSize::Two => Form::St2,
-        AccessSize::Four => Form::St4,
-        AccessSize::Eight => Form::St8,
-    }
-}
-
-/// The form of a store that updates its base by a number.
-fn store_imm_form(size: AccessSize) -> Form
-    ensures { result ≡ store_imm_form size }
-{
-    match size {
-        AccessSize::One => Form::St1Imm,
-        AccessSize::Two => Form::St2Imm,
-        AccessSize::Four => Form::St4Imm,
-        AccessSize::Eight => Form::St8Imm,
-    }
-}
-
-/// The form of an exchange.
-fn exchange_form(size: AccessSize) -> Form
-    ensures { result ≡ exchange_form size }
-{
-    match size {
-        AccessSize::One => Form::Xchg1,
-        AccessSize::Two => Form::Xchg2,
-        AccessSize::Four => Form::Xchg4,
-        AccessSize::Eight => Form::Xchg8,
-    }
-}
-
-/// The form of a fetch-and-add.
-fn fetch_add_form(size: AccessSize) -> Form
-    ensures { result ≡ fetch_add_form size }
-{
-    match size {
-        AccessSize::Four => Form::Fetchadd4,
-        AccessSize::One | AccessSize::Two | AccessSize::Eight => Form::Fetchadd8,
+    match n {
+        1 => one,
+        2 => two,
+        4 => four,
+        _ => eight,
     }
 }
 
@@ -541,18 +471,21 @@ fn check(form: Form, first: Completer, second: Completer, register: Gr) -> Synta
 fn load(size: u8, kind: LoadKind, hint: u8, r1: Gr, r3: Gr, update: Update) -> Syntax
     ensures { result ≡ syntax_of (ops.Load size kind hint r1 r3 update) }
 {
-    let size = size_of(size);
     let completers = [Completer::Load(kind), Completer::Hint(cache_hint(hint))];
     let (value, address) = (Token::Gr(r1), Token::Gr(r3));
     match update {
-        Update::None => written(load_form(size), &completers, &[value, address]),
+        Update::None => written(
+            of_size(size, Form::Ld1, Form::Ld2, Form::Ld4, Form::Ld8),
+            &completers,
+            &[value, address],
+        ),
         Update::Reg(r2) => written(
-            load_reg_form(size),
+            of_size(size, Form::Ld1Reg, Form::Ld2Reg, Form::Ld4Reg, Form::Ld8Reg),
             &completers,
             &[value, address, Token::Gr(r2)],
         ),
         Update::Imm(imm) => written(
-            load_imm_form(size),
+            of_size(size, Form::Ld1Imm, Form::Ld2Imm, Form::Ld4Imm, Form::Ld8Imm),
             &completers,
             &[value, address, number(i64::from(imm))],
         ),
@@ -563,16 +496,19 @@ fn load(size: u8, kind: LoadKind, hint: u8, r1: Gr, r3: Gr, update: Update) -> S
 fn store(size: u8, kind: StoreKind, hint: u8, r3: Gr, r2: Gr, update: Update) -> Syntax
     ensures { result ≡ syntax_of (ops.Store size kind hint r3 r2 update) }
 {
-    let size = size_of(size);
     let completers = [Completer::Store(kind), Completer::Hint(cache_hint(hint))];
     let (address, value) = (Token::Gr(r3), Token::Gr(r2));
     match update {
         Update::Imm(imm) => written(
-            store_imm_form(size),
+            of_size(size, Form::St1Imm, Form::St2Imm, Form::St4Imm, Form::St8Imm),
             &completers,
             &[address, value, number(i64::from(imm))],
         ),
-        _ => written(store_form(size), &completers, &[address, value]),
+        _ => written(
+            of_size(size, Form::St1, Form::St2, Form::St4, Form::St8),
+            &completers,
+            &[address, value],
+        ),
     }
 }
 
@@ -581,7 +517,7 @@ fn exchange(size: u8, hint: u8, r1: Gr, r3: Gr, r2: Gr) -> Syntax
     ensures { result ≡ syntax_of (ops.Xchg size hint r1 r3 r2) }
 {
     written(
-        exchange_form(size_of(size)),
+        of_size(size, Form::Xchg1, Form::Xchg2, Form::Xchg4, Form::Xchg8),
         &[Completer::Hint(cache_hint(hint))],
         &[Token::Gr(r1), Token::Gr(r3), Token::Gr(r2)],
     )
@@ -591,8 +527,13 @@ fn exchange(size: u8, hint: u8, r1: Gr, r3: Gr, r2: Gr) -> Syntax
 fn fetch_add(size: u8, release: bool, hint: u8, r1: Gr, r3: Gr, inc: i16) -> Syntax
     ensures { result ≡ syntax_of (ops.FetchAdd size release hint r1 r3 inc) }
 {
+    let form = if size == 4 {
+        Form::Fetchadd4
+    } else {
+        Form::Fetchadd8
+    };
     written(
-        fetch_add_form(size_of(size)),
+        form,
         &[semaphore_type(release), Completer::Hint(cache_hint(hint))],
         &[Token::Gr(r1), Token::Gr(r3), number(i64::from(inc))],
     )

@@ -1,5 +1,5 @@
 -- The printed M instructions are read back.
-use Rattle.std.proofs.Common.{◌≡◌, ◌≢◌, ◌⊎◌, inl, inr, refl, ℕ, ◌+◌, ◌-◌, ◌*◌, ◌%◌, ◌/◌, ◌≤◌, ℤ, pos, Bool, true, false, cond, ltb, leb, Some, lit<, arith}
+use Rattle.std.proofs.Common.{◌≡◌, ◌≢◌, ◌⊎◌, inl, inr, refl, ℕ, ◌+◌, ◌-◌, ◌*◌, ◌%◌, ◌/◌, ◌≤◌, ℤ, pos, Bool, true, false, cond, ltb, leb, Some, unsigned_abs, lit<, arith}
 use Rattle.std.proofs.lemmas.Bool.Decides.{nat_tests}
 use Rattle.std.proofs.lemmas.Bool.{le-leb}
 use Rattle.std.proofs.Math.Nat.{mul-mod_right}
@@ -17,7 +17,7 @@ use Rattle.ia_insn.specs.Signed.{FitsSigned}
 use Rattle.ia_insn.specs.FormatsM.{IsLoadUpdate, IsStoreUpdate}
 use Rattle.ia_insn.specs.Ranges.{IsAccessSize, IsIncrement, IsLoadSize, IsStoreSize}
 use Rattle.asm_reading.specs.Operands.{signed, is_negative, magnitude}
-use Rattle.asm_printing.specs.Canonical.{distance, number}
+use Rattle.asm_printing.specs.Canonical.{number}
 use Rattle.asm_printing.proofs.FieldRanges.{is_below, is_short, has_imm9, has_increment, increment_within}
 use Rattle.asm_text.proofs.WayBack.{ReadsBack, signed_back}
 use Rattle.asm_text.proofs.CompletersBack.{hint_back, is_fill, is_spill, load_choice, fill_choice, store_choice, spill_choice, store_hint_back, exchange_choice, fetch_add_choice, release_back}
@@ -108,7 +108,7 @@ same_fetch_add n s release h g r1 r3 i inc e f x = rw (e, f, x) refl
 
 -- an increment comes back
 increment_back : (inc : ℤ) → IsIncrement inc → short (number inc) ≡ inc
-increment_back inc h = rw (is_below (distance inc) 16 32768 (increment_within inc h) (lit< tt), signed_back inc) refl
+increment_back inc h = rw (is_below (unsigned_abs inc) 16 32768 (increment_within inc h) (lit< tt), signed_back inc) refl
 
 pub fetch_add_back : (n : ℕ) (release : Bool) (h r1 r3 : ℕ) (inc : ℤ) → (n ≡ 4) ⊎ (n ≡ 8) → h ≤ 3 → h ≢ 2 → IsIncrement inc → ReadsBack (op.FetchAdd n release h r1 r3 inc)
 fetch_add_back n release h r1 r3 inc (inl e) l d v = rw e (record { choice = read_choice form.Fetchadd4 _ (fetch_add_choice release h); fits = rw (has_increment inc v) refl; label = refl; slot = refl; bare = refl; op = same_fetch_add 4 _ release _ h r1 r3 _ inc (release_back release) (hint_back h l d) (increment_back inc v) })

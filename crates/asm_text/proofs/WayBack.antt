@@ -1,5 +1,5 @@
 -- What it takes to read an instruction back.
-use Rattle.std.proofs.Common.{◌≡◌, refl, ℕ, ◌-◌, ◌%◌, ◌<◌, ℤ, pos, negsuc, true, false, Some, is_some, flat_map, arith}
+use Rattle.std.proofs.Common.{◌≡◌, refl, ℕ, ◌-◌, ◌%◌, ◌<◌, ℤ, pos, negsuc, unsigned_abs, true, false, Some, is_some, flat_map, arith}
 use Rattle.std.specs.List.{list_any}
 use Rattle.std.proofs.Math.Nat.{mod-eq_of_lt}
 use Rattle.asm_forms.specs.Completers.{text_of}
@@ -12,7 +12,7 @@ use Rattle.asm_reading.specs.Instructions.{op_of}
 use Rattle.asm_reading.specs.Lines.{is_bare}
 use Rattle.asm_reading.specs.Operands.{signed}
 use Rattle.asm_reading.specs.FaultOrder.{is_instruction}
-use Rattle.asm_printing.specs.Canonical.{negative, distance, syntax_of}
+use Rattle.asm_printing.specs.Canonical.{negative, syntax_of}
 use Rattle.asm_text.specs.ReadBack.{untargeted}
 
 -- The completers and the operands of an instruction are those of its row, and mean the instruction.
@@ -25,7 +25,7 @@ pub record ReadsBack (x : Op) : Type 0 where
   pub op : op_of (syntax_of x).form (syntax_of x).completers (syntax_of x).operands ≡ Some (untargeted x)
 
 -- a number is its sign and magnitude
-pub signed_back : (z : ℤ) → signed (negative z) (distance z) ≡ z
+pub signed_back : (z : ℤ) → signed (negative z) (unsigned_abs z) ≡ z
 signed_back (pos n) = refl
 signed_back (negsuc n) = refl
 

@@ -74,17 +74,19 @@ same_line s n m x y same a b = same_Some x y (sym a ∙ ap (line_of_item s) same
 
 pub one_fault_placing : OneLooseText → OneLooseFault → NoLooseFaultWhereRead → OnePlacingFault
 one_fault_placing one fault none text e f (inl a) (inl b) = fault text e f a b
-one_fault_placing one fault none text e f (inl a) (inr (t, reads, n, past, line, at, is)) = absurd (none text t e reads a)
-one_fault_placing one fault none text e f (inr (s, reads, n, past, line, at, is)) (inl b) = absurd (none text s f reads b)
-one_fault_placing one fault none text e f (inr (s, reads, n, past, x, at, is)) (inr (t, also, m, later, y, there, are)) =
+one_fault_placing one fault none text e f (inl a) (inr (t, reads, past)) = absurd (none text t e reads a)
+one_fault_placing one fault none text e f (inr (s, reads, past)) (inl b) = absurd (none text s f reads b)
+one_fault_placing one fault none text e f (inr (s, reads, a)) (inr (t, also, b)) =
     let same = sym (one text s t reads also) in
-    let number = one_first_past s n m past (subst (λ (u : Loose). IsFirstPast u m) same later) in
-    is ∙ ap (λ (line : ℕ). Fault line Limit) (same_line s n m x y number at (subst (λ (u : Loose). line_of_item u m ≡ Some y) same there)) ∙ sym are
+    let number = one_first_past s a.n b.n a.past (subst (λ (u : Loose). IsFirstPast u b.n) same b.past) in
+    a.is
+    ∙ ap (λ (line : ℕ). Fault line Limit) (same_line s a.n b.n a.line b.line number a.there (subst (λ (u : Loose). line_of_item u b.n ≡ Some b.line) same b.there))
+    ∙ sym b.is
 
 pub none_where_placed : OneLooseText → NoLooseFaultWhereRead → NoFaultWherePlaced
 none_where_placed one none text k e placed (inl fault) = none text placed.loose e placed.reads fault
-none_where_placed one none text k e placed (inr (s, reads, n, past, x, at, is)) =
-    none_past placed.loose placed.packing n placed.pack placed.few (subst (λ (u : Loose). IsFirstPast u n) (one text s placed.loose reads placed.reads) past)
+none_where_placed one none text k e placed (inr (s, reads, a)) =
+    none_past placed.loose placed.packing a.n placed.pack placed.few (subst (λ (u : Loose). IsFirstPast u a.n) (one text s placed.loose reads placed.reads) a.past)
 
 pub free_where_placed : ReadIsLoose → PlacedIsFree
 free_where_placed loose text k placed =

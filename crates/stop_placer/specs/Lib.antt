@@ -2,7 +2,6 @@ pub mod Packings
 pub mod Packs
 pub mod QuietCounts
 pub mod Known
-pub mod PackingFaults
 pub mod Caused
 pub mod Packed
 pub mod Placing

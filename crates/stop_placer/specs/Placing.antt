@@ -69,9 +69,14 @@ pub record IsPlaced (text : List ℕ) (k : Packed) : Type 0 where
 abbrev pub line_of_item : Loose → ℕ → Option ℕ
 line_of_item s n = option_map (λ (i : Item). i.line) (slice_get s.items n)
 
--- The first fault of a text that is to be packed: one of the loose text; or, last of all, that its packing has a bundle
--- past the limit, at the line of the instruction that begins it.
+-- The fault of a loose text whose packing has a bundle past the limit: at the line of the instruction that begins it.
+pub record IsPackingFault (s : Loose) (e : TextError) : Type 0 where
+  pub n : ℕ
+  pub past : IsFirstPast s n
+  pub line : ℕ
+  pub there : line_of_item s n ≡ Some line
+  pub is : e ≡ Fault line Limit
+
+-- The first fault of a text that is to be packed: one of the loose text; or, last of all, that of its packing.
 abbrev pub HasPlacingFault : List ℕ → TextError → Type 0
-HasPlacingFault text e =
-    HasLooseFault text e
-    ⊎ ((s : Loose) × ReadsLoose text s × (n : ℕ) × IsFirstPast s n × (line : ℕ) × (line_of_item s n ≡ Some line) × (e ≡ Fault line Limit))
+HasPlacingFault text e = HasLooseFault text e ⊎ ((s : Loose) × ReadsLoose text s × IsPackingFault s e)

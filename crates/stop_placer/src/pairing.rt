@@ -13,7 +13,7 @@ ghost use Rattle.group_checker.specs.Windows.{Describes, IsUnderWay};
 ghost use Rattle.asm_build.specs.declared.reason.TextError.TheVariants as error;
 ghost use Rattle.bundling.specs.Bundled.{row_of};
 ghost use Rattle.stop_placer.specs.Packs.{IsPack};
-ghost use Rattle.stop_placer.specs.PackingFaults.{IsPackingFault};
+ghost use Rattle.stop_placer.specs.Placing.{IsPackingFault};
 ghost use Rattle.stop_placer.specs.Known.{AreKnown};
 
 use crate::packing::Packing;
