@@ -11,12 +11,7 @@ use Rattle.ia_insn.specs.declared.insn.Op.TheVariants as op
 use Rattle.ia_insn.specs.declared.choices.Unit.{Unit as ExecutionUnit}
 use Rattle.ia_insn.specs.declared.choices.Unit.TheVariants as unit
 use Rattle.ia_insn.specs.declared.choices.BranchKind.TheVariants as branch
-use Rattle.ia_insn.specs.FormatsA.{IsListedA}
-use Rattle.ia_insn.specs.FormatsI.{IsListedI}
-use Rattle.ia_insn.specs.FormatsM.{IsListedM}
-use Rattle.ia_insn.specs.FormatsB.{IsListedB}
-use Rattle.ia_insn.specs.FormatsF.{IsListedF}
-use Rattle.ia_insn.specs.FormatsX.{IsListedX}
+use Rattle.ia_insn.specs.Listed.{IsListedA, IsListedI, IsListedM, IsListedB, IsListedF, IsListedX}
 use Rattle.ia_insn.specs.Fits.{Fits, FitsUnit, IsBranchSlot}
 use Rattle.ia_insn.specs.Signed.{FitsSigned}
 use Rattle.ia_insn.specs.Addresses.{bundle_address, data_address}
@@ -40,67 +35,67 @@ at_bundle : (count m n : ℕ) → m < count → IsBundleAt count n (pos m -ℤ p
 at_bundle count m n h = (subst (λ z. pos 0 ≤ℤ z) (sym (back m n)) (record { le = le→leb 0 m (omega arith) }), subst (λ z. z <ℤ pos count) (sym (back m n)) (record { lt = lt→ltb m count h }))
 
 stays_a : (qp : ℕ) (x : Op) (a : Address) (n : ℕ) → IsWithin a → n < reach → IsListedA (record { qp = qp; op = x }) → IfSome (addressed x a n) (λ y. IsListedA (record { qp = qp; op = y }))
-stays_a qp (op.ChkS u r2 disp) a n h k l = absurd l.range
-stays_a qp (op.ChkA clear r1 disp) a n h k l = absurd l.range
-stays_a qp (op.Br kind wh many clr disp) a n h k l = absurd l.range
-stays_a qp (op.BrCall b1 wh many clr disp) a n h k l = absurd l.range
-stays_a qp (op.Movl r1 imm) a n h k l = absurd l.range
+stays_a qp (op.ChkS u r2 disp) a n h k l = absurd l.row
+stays_a qp (op.ChkA clear r1 disp) a n h k l = absurd l.row
+stays_a qp (op.Br kind wh many clr disp) a n h k l = absurd l.row
+stays_a qp (op.BrCall b1 wh many clr disp) a n h k l = absurd l.row
+stays_a qp (op.Movl r1 imm) a n h k l = absurd l.row
 stays_a qp x a n h k l = tt
 
 stays_i : (qp : ℕ) (x : Op) (a : Address) (n : ℕ) → IsWithin a → n < reach → IsListedI (record { qp = qp; op = x }) → IfSome (addressed x a n) (λ y. IsListedI (record { qp = qp; op = y }))
 stays_i qp (op.ChkS unit.I r2 disp) (Bundle m) n h k l =
-    record { range = near m n h k; fit = (l.fit.0, (small 20 1 _, (l.fit.1.1.0, (small 7 13 _, (l.fit.1.1.1.1.0, (small 0 7 _, (l.fit.1.1.1.1.1.1.0, tt))))))) }
+    record { row = tt; ranges = (tt, near m n h k); qualifier = l.qualifier; fit = (l.fit.0, (small 20 1 _, (l.fit.1.1.0, (small 7 13 _, (l.fit.1.1.1.1.0, (small 0 7 _, (l.fit.1.1.1.1.1.1.0, tt))))))) }
 stays_i qp (op.ChkS unit.I r2 disp) (Byte at) n h k l = tt
-stays_i qp (op.ChkS u r2 disp) a n h k l = absurd l.range
-stays_i qp (op.ChkA clear r1 disp) a n h k l = absurd l.range
-stays_i qp (op.Br kind wh many clr disp) a n h k l = absurd l.range
-stays_i qp (op.BrCall b1 wh many clr disp) a n h k l = absurd l.range
-stays_i qp (op.Movl r1 imm) a n h k l = absurd l.range
+stays_i qp (op.ChkS u r2 disp) a n h k l = absurd l.row
+stays_i qp (op.ChkA clear r1 disp) a n h k l = absurd l.row
+stays_i qp (op.Br kind wh many clr disp) a n h k l = absurd l.row
+stays_i qp (op.BrCall b1 wh many clr disp) a n h k l = absurd l.row
+stays_i qp (op.Movl r1 imm) a n h k l = absurd l.row
 stays_i qp x a n h k l = tt
 
 stays_m : (qp : ℕ) (x : Op) (a : Address) (n : ℕ) → IsWithin a → n < reach → IsListedM (record { qp = qp; op = x }) → IfSome (addressed x a n) (λ y. IsListedM (record { qp = qp; op = y }))
 stays_m qp (op.ChkS unit.M r2 disp) (Bundle m) n h k l =
-    record { range = near m n h k; fit = (l.fit.0, (small 20 1 _, (l.fit.1.1.0, (small 7 13 _, (l.fit.1.1.1.1.0, (small 0 7 _, (l.fit.1.1.1.1.1.1.0, tt))))))) }
+    record { row = tt; ranges = (tt, near m n h k); qualifier = l.qualifier; fit = (l.fit.0, (small 20 1 _, (l.fit.1.1.0, (small 7 13 _, (l.fit.1.1.1.1.0, (small 0 7 _, (l.fit.1.1.1.1.1.1.0, tt))))))) }
 stays_m qp (op.ChkS unit.M r2 disp) (Byte at) n h k l = tt
-stays_m qp (op.ChkS u r2 disp) a n h k l = absurd l.range
+stays_m qp (op.ChkS u r2 disp) a n h k l = absurd l.row
 stays_m qp (op.ChkA clear r1 disp) (Bundle m) n h k l =
-    record { range = near m n h k; fit = (l.fit.0, (small 20 1 _, (l.fit.1.1.0, (small 0 20 _, (l.fit.1.1.1.1.0, (l.fit.1.1.1.1.1.0, tt)))))) }
+    record { row = tt; ranges = near m n h k; qualifier = l.qualifier; fit = (l.fit.0, (small 20 1 _, (l.fit.1.1.0, (small 0 20 _, (l.fit.1.1.1.1.0, (l.fit.1.1.1.1.1.0, tt)))))) }
 stays_m qp (op.ChkA clear r1 disp) (Byte at) n h k l = tt
-stays_m qp (op.Br kind wh many clr disp) a n h k l = absurd l.range
-stays_m qp (op.BrCall b1 wh many clr disp) a n h k l = absurd l.range
-stays_m qp (op.Movl r1 imm) a n h k l = absurd l.range
+stays_m qp (op.Br kind wh many clr disp) a n h k l = absurd l.row
+stays_m qp (op.BrCall b1 wh many clr disp) a n h k l = absurd l.row
+stays_m qp (op.Movl r1 imm) a n h k l = absurd l.row
 stays_m qp x a n h k l = tt
 
 stays_b : (qp : ℕ) (x : Op) (a : Address) (n : ℕ) → IsWithin a → n < reach → IsListedB (record { qp = qp; op = x }) → IfSome (addressed x a n) (λ y. IsListedB (record { qp = qp; op = y }))
-stays_b qp (op.ChkS u r2 disp) a n h k l = absurd l.range
-stays_b qp (op.ChkA clear r1 disp) a n h k l = absurd l.range
+stays_b qp (op.ChkS u r2 disp) a n h k l = absurd l.row
+stays_b qp (op.ChkA clear r1 disp) a n h k l = absurd l.row
 stays_b qp (op.Br kind wh many clr disp) (Bundle m) n h k l =
-    record { range = (l.range.0, near m n h k); fit = (l.fit.0, (small 20 1 _, (l.fit.1.1.0, (l.fit.1.1.1.0, (small 0 20 _, (l.fit.1.1.1.1.1.0, (l.fit.1.1.1.1.1.1.0, (l.fit.1.1.1.1.1.1.1.0, tt)))))))) }
+    record { row = tt; ranges = (l.ranges.0, near m n h k); qualifier = l.qualifier; fit = (l.fit.0, (small 20 1 _, (l.fit.1.1.0, (l.fit.1.1.1.0, (small 0 20 _, (l.fit.1.1.1.1.1.0, (l.fit.1.1.1.1.1.1.0, (l.fit.1.1.1.1.1.1.1.0, tt)))))))) }
 stays_b qp (op.Br kind wh many clr disp) (Byte at) n h k l = tt
 stays_b qp (op.BrCall b1 wh many clr disp) (Bundle m) n h k l =
-    record { range = near m n h k; fit = (l.fit.0, (small 20 1 _, (l.fit.1.1.0, (l.fit.1.1.1.0, (small 0 20 _, (l.fit.1.1.1.1.1.0, (l.fit.1.1.1.1.1.1.0, (l.fit.1.1.1.1.1.1.1.0, tt)))))))) }
+    record { row = tt; ranges = (l.ranges.0, near m n h k); qualifier = l.qualifier; fit = (l.fit.0, (small 20 1 _, (l.fit.1.1.0, (l.fit.1.1.1.0, (small 0 20 _, (l.fit.1.1.1.1.1.0, (l.fit.1.1.1.1.1.1.0, (l.fit.1.1.1.1.1.1.1.0, tt)))))))) }
 stays_b qp (op.BrCall b1 wh many clr disp) (Byte at) n h k l = tt
-stays_b qp (op.Movl r1 imm) a n h k l = absurd l.range
+stays_b qp (op.Movl r1 imm) a n h k l = absurd l.row
 stays_b qp x a n h k l = tt
 
 stays_f : (qp : ℕ) (x : Op) (a : Address) (n : ℕ) → IsWithin a → n < reach → IsListedF (record { qp = qp; op = x }) → IfSome (addressed x a n) (λ y. IsListedF (record { qp = qp; op = y }))
-stays_f qp (op.ChkS u r2 disp) a n h k l = absurd l.range
-stays_f qp (op.ChkA clear r1 disp) a n h k l = absurd l.range
-stays_f qp (op.Br kind wh many clr disp) a n h k l = absurd l.range
-stays_f qp (op.BrCall b1 wh many clr disp) a n h k l = absurd l.range
-stays_f qp (op.Movl r1 imm) a n h k l = absurd l.range
+stays_f qp (op.ChkS u r2 disp) a n h k l = absurd l.row
+stays_f qp (op.ChkA clear r1 disp) a n h k l = absurd l.row
+stays_f qp (op.Br kind wh many clr disp) a n h k l = absurd l.row
+stays_f qp (op.BrCall b1 wh many clr disp) a n h k l = absurd l.row
+stays_f qp (op.Movl r1 imm) a n h k l = absurd l.row
 stays_f qp x a n h k l = tt
 
 -- the fields of a long move, but for the number
 moved : (qp r1 imm other : ℕ) → other < 2 ^ 64 → IsListedX (record { qp = qp; op = op.Movl r1 imm }) → IsListedX (record { qp = qp; op = op.Movl r1 other })
 moved qp r1 imm other h l =
-    record { range = (l.range.0, h); fit = (l.fit.0, (small 63 1 other, (small 7 9 other, (small 16 5 other, (small 21 1 other, (l.fit.1.1.1.1.1.0, (small 0 7 other, (l.fit.1.1.1.1.1.1.1.0, (l.fit.1.1.1.1.1.1.1.1.0, tt))))))))) }
+    record { row = tt; ranges = (l.ranges.0, h); qualifier = l.qualifier; fit = (l.fit.0, (small 63 1 other, (small 7 9 other, (small 16 5 other, (small 21 1 other, (l.fit.1.1.1.1.1.0, (small 0 7 other, (l.fit.1.1.1.1.1.1.1.0, (l.fit.1.1.1.1.1.1.1.1.0, tt))))))))) }
 
 stays_x : (qp : ℕ) (x : Op) (a : Address) (n : ℕ) → IsWithin a → n < reach → IsListedX (record { qp = qp; op = x }) → IfSome (addressed x a n) (λ y. IsListedX (record { qp = qp; op = y }))
-stays_x qp (op.ChkS u r2 disp) a n h k l = absurd l.range
-stays_x qp (op.ChkA clear r1 disp) a n h k l = absurd l.range
-stays_x qp (op.Br kind wh many clr disp) a n h k l = absurd l.range
-stays_x qp (op.BrCall b1 wh many clr disp) a n h k l = absurd l.range
+stays_x qp (op.ChkS u r2 disp) a n h k l = absurd l.row
+stays_x qp (op.ChkA clear r1 disp) a n h k l = absurd l.row
+stays_x qp (op.Br kind wh many clr disp) a n h k l = absurd l.row
+stays_x qp (op.BrCall b1 wh many clr disp) a n h k l = absurd l.row
 stays_x qp (op.Movl r1 imm) (Bundle m) n h k l = moved qp r1 imm (bundle_address m) (omega (arith, h)) l
 stays_x qp (op.Movl r1 imm) (Byte at) n h k l = moved qp r1 imm (data_address at) (omega (arith, h)) l
 stays_x qp x a n h k l = tt

@@ -5,8 +5,8 @@ use Rattle.first_fault.proofs.Laws.{AreDecided}
 use Rattle.ia_insn.specs.declared.limits.TheConstants.{BUNDLE_LIMIT, DATA_LIMIT}
 use Rattle.asm_reading.specs.declared.line.Line.{Line}
 use Rattle.asm_reading.specs.declared.line.Line.TheVariants as line
-use Rattle.asm_reading.specs.declared.line.Shape.{Shape}
-use Rattle.asm_reading.specs.declared.line.Shape.TheVariants as shape
+use Rattle.asm_reading.specs.declared.line.TemplateName.{TemplateName}
+use Rattle.asm_reading.specs.declared.line.TemplateName.TheVariants as template_name
 use Rattle.asm_reading.proofs.Decided.{alike, both, is_none, some, some_and, if_some}
 use Rattle.asm_build.specs.declared.draft.SlotLines.{SlotLines}
 use Rattle.asm_build.specs.declared.draft.SlotLines.TheVariants as slots
@@ -39,7 +39,7 @@ may_stand s line.Empty = yes tt
 may_stand s (line.Relation predicates) = is_in section.Text s
 may_stand s (line.Numbers size values) = is_in section.Data s
 may_stand s (line.Skip count) = is_in section.Data s
-may_stand s (line.Open shape) = is_in section.Text s
+may_stand s (line.Open name) = is_in section.Text s
 may_stand s (line.Slot draft stop) = some s.current
 may_stand s line.Stop = some_and s.current (λ o. has_some o.slots)
 may_stand s line.Close = some s.current
@@ -49,18 +49,18 @@ pub is_new : (s : TextParts) (value : Line) → Dec (IsNew s value)
 is_new s (line.Label name) = is_none (address_of s.labels name)
 is_new s value = yes tt
 
-is_short : (s : Shape) → Dec (IsShort s)
-is_short shape.Mlx = no (λ h. h)
+is_short : (s : TemplateName) → Dec (IsShort s)
+is_short template_name.Mlx = no (λ h. h)
 is_short s = yes tt
 
-has_room_in : (s : Shape) (lines : SlotLines) → Dec (HasRoomIn s lines)
+has_room_in : (s : TemplateName) (lines : SlotLines) → Dec (HasRoomIn s lines)
 has_room_in s slots.Zero = yes tt
 has_room_in s (slots.One a) = yes tt
 has_room_in s (slots.Two a b) = is_short s
 has_room_in s (slots.Three a b c) = no (λ h. h)
 
 has_template : (s : TextParts) (value : Line) → Dec (HasTemplate s value)
-has_template s (line.Slot draft stop) = if_some s.current (λ o. has_room_in o.shape o.slots)
+has_template s (line.Slot draft stop) = if_some s.current (λ o. has_room_in o.name o.slots)
 has_template s line.Close = if_some s.current (λ o. some_and (closed o) (λ b. is_bundle b.bundle))
 has_template s value = yes tt
 
@@ -69,7 +69,7 @@ fits_slot s (line.Slot draft stop) = if_some s.current (λ o. fits (completed dr
 fits_slot s value = yes tt
 
 pub has_room : (s : TextParts) (value : Line) → Dec (HasRoom s value)
-has_room s (line.Open shape) = dec_lt (length s.bundles) BUNDLE_LIMIT
+has_room s (line.Open name) = dec_lt (length s.bundles) BUNDLE_LIMIT
 has_room s (line.Numbers size values) = dec_le (length s.bytes + length (numbers_bytes size values)) DATA_LIMIT
 has_room s (line.Skip count) = dec_le (length s.bytes + count) DATA_LIMIT
 has_room s value = yes tt

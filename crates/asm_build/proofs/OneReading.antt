@@ -11,7 +11,7 @@ use Rattle.asm_build.specs.declared.reason.TextError.TheVariants.{Fault}
 use Rattle.asm_build.specs.declared.text_parts.RelationLine.{RelationLine}
 use Rattle.asm_build.specs.Reasons.{reason_of}
 use Rattle.asm_build.specs.Relations.{related, relation_stages}
-use Rattle.asm_build.specs.TextReading.{text_lines, Says, SaysNothing, Reading, IsRefusedBy, IsTakenBy, ComesToBy, AllSayBy, HasFaultBy, found, first_of}
+use Rattle.asm_build.specs.TextReading.{text_lines, Says, SaysNothing, LineReading, IsRefusedBy, IsTakenBy, ComesToBy, AllSayBy, HasFaultBy, found, first_of}
 
 -- what is known of each line: it has one value or one fault, and not both
 pub record HaveOneAnswer : Type 0 where
@@ -20,7 +20,7 @@ pub record HaveOneAnswer : Type 0 where
   pub either : (bytes : List ℕ) → HasNoFault bytes
 
 -- what is known of what is looked for: a stage finds at most one fault, and none where it is passed
-pub record IsSoundReading {S : Type 0} (reading : Reading S) : Type 0 where
+pub record IsSoundReading {S : Type 0} (reading : LineReading S) : Type 0 where
   pub stages : (s : S) (value : Line) → AreSound (reading.stages s value)
   pub ends : (count : ℕ) (s : S) → AreSound (reading.ends count s)
 
@@ -36,7 +36,7 @@ one_nothing one line a b (inr (short, e, fault, is)) (inl (long, are)) = absurd 
 one_nothing one line a b (inr (short, e, fault, is)) (inr (also, f, other, are)) =
     is ∙ ap reason_of (one.fault line e f fault other) ∙ sym are
 
-one_refusal : {S : Type 0} → HaveOneAnswer → (reading : Reading S) → IsSoundReading reading → (s : S) (line : List ℕ) (a b : Reason) → IsRefusedBy reading s line a → IsRefusedBy reading s line b → a ≡ b
+one_refusal : {S : Type 0} → HaveOneAnswer → (reading : LineReading S) → IsSoundReading reading → (s : S) (line : List ℕ) (a b : Reason) → IsRefusedBy reading s line a → IsRefusedBy reading s line b → a ≡ b
 one_refusal one reading sound s line a b (inl nothing) (inl also) = one_nothing one line a b nothing also
 one_refusal one reading sound s line a b (inl nothing) (inr (v, says, fault)) = absurd (says_or_not one line v a says nothing)
 one_refusal one reading sound s line a b (inr (v, says, fault)) (inl nothing) = absurd (says_or_not one line v b says nothing)
@@ -45,13 +45,13 @@ one_refusal one reading sound s line a b (inr (v, says, fault)) (inr (w, also, o
     one_fault (reading.stages s v) (sound.stages s v) a b fault (rw (sym same) at other)
 
 -- a line is not taken and refused
-taken_or_refused : {S : Type 0} → HaveOneAnswer → (reading : Reading S) → IsSoundReading reading → (s : S) (line : List ℕ) (v : Line) (why : Reason) → IsTakenBy reading s line v → IsRefusedBy reading s line why → ⊥
+taken_or_refused : {S : Type 0} → HaveOneAnswer → (reading : LineReading S) → IsSoundReading reading → (s : S) (line : List ℕ) (v : Line) (why : Reason) → IsTakenBy reading s line v → IsRefusedBy reading s line why → ⊥
 taken_or_refused one reading sound s line v why (says, passed) (inl nothing) = says_or_not one line v why says nothing
 taken_or_refused one reading sound s line v why (says, passed) (inr (w, also, fault)) =
     let same : v ≡ w = one.value line v w says.reads also.reads in
     no_fault (reading.stages s v) (sound.stages s v) passed why (rw (sym same) at fault)
 
-one_outcome : {S : Type 0} → HaveOneAnswer → (reading : Reading S) → IsSoundReading reading → (s : S) (n : ℕ) (lines : List (List ℕ)) (r q : Result S TextError) → ComesToBy reading s n lines r → ComesToBy reading s n lines q → r ≡ q
+one_outcome : {S : Type 0} → HaveOneAnswer → (reading : LineReading S) → IsSoundReading reading → (s : S) (n : ℕ) (lines : List (List ℕ)) (r q : Result S TextError) → ComesToBy reading s n lines r → ComesToBy reading s n lines q → r ≡ q
 one_outcome one reading sound s n [] r q a b = a ∙ sym b
 one_outcome one reading sound s n (line ∷ lines) r q (inl (why, refused, is)) (inl (other, also, are)) =
     is ∙ ap (λ w. Err (Fault n w)) (one_refusal one reading sound s line why other refused also) ∙ sym are
@@ -74,16 +74,16 @@ not_both : {S : Type 0} (s : S) (e : TextError) (r q : Result S TextError) → r
 not_both s e r q a b same = cc
 
 -- one state, where all lines are taken
-pub one_state : {S : Type 0} → HaveOneAnswer → (reading : Reading S) → IsSoundReading reading → (text : List ℕ) (s t : S) → AllSayBy reading text s → AllSayBy reading text t → s ≡ t
+pub one_state : {S : Type 0} → HaveOneAnswer → (reading : LineReading S) → IsSoundReading reading → (text : List ℕ) (s t : S) → AllSayBy reading text s → AllSayBy reading text t → s ≡ t
 one_state one reading sound text s t a b =
     ok_same s t (Ok s) (Ok t) refl refl (one_outcome one reading sound reading.start 1 (text_lines text) (Ok s) (Ok t) a b)
 
-ok_or_err : {S : Type 0} → HaveOneAnswer → (reading : Reading S) → IsSoundReading reading → (text : List ℕ) (s : S) (e : TextError) → AllSayBy reading text s → ComesToBy reading reading.start 1 (text_lines text) (Err e) → ⊥
+ok_or_err : {S : Type 0} → HaveOneAnswer → (reading : LineReading S) → IsSoundReading reading → (text : List ℕ) (s : S) (e : TextError) → AllSayBy reading text s → ComesToBy reading reading.start 1 (text_lines text) (Err e) → ⊥
 ok_or_err one reading sound text s e a b =
     not_both s e (Ok s) (Err e) refl refl (one_outcome one reading sound reading.start 1 (text_lines text) (Ok s) (Err e) a b)
 
 -- one first fault
-pub one_fault_by : {S : Type 0} → HaveOneAnswer → (reading : Reading S) → IsSoundReading reading → (text : List ℕ) (e f : TextError) → HasFaultBy reading text e → HasFaultBy reading text f → e ≡ f
+pub one_fault_by : {S : Type 0} → HaveOneAnswer → (reading : LineReading S) → IsSoundReading reading → (text : List ℕ) (e f : TextError) → HasFaultBy reading text e → HasFaultBy reading text f → e ≡ f
 one_fault_by {S = State} one reading sound text e f (inl a) (inl b) =
     err_same {S = State} e f (Err e) (Err f) refl refl (one_outcome one reading sound reading.start 1 (text_lines text) (Err e) (Err f) a b)
 one_fault_by one reading sound text e f (inl a) (inr (s, says, fault)) = absurd (ok_or_err one reading sound text s e says a)
@@ -94,7 +94,7 @@ one_fault_by one reading sound text e f (inr (s, says, fault)) (inr (t, also, ot
     one_fault (reading.ends count s) (sound.ends count s) e f fault (rw (sym same) at other)
 
 -- none where all lines are taken and no fault comes after the last
-pub no_fault_by : {S : Type 0} → HaveOneAnswer → (reading : Reading S) → IsSoundReading reading → (text : List ℕ) (s : S) (e : TextError) → AllSayBy reading text s → ArePassed (reading.ends (length (text_lines text)) s) → HasFaultBy reading text e → ⊥
+pub no_fault_by : {S : Type 0} → HaveOneAnswer → (reading : LineReading S) → IsSoundReading reading → (text : List ℕ) (s : S) (e : TextError) → AllSayBy reading text s → ArePassed (reading.ends (length (text_lines text)) s) → HasFaultBy reading text e → ⊥
 no_fault_by one reading sound text s e says whole (inl a) = ok_or_err one reading sound text s e says a
 no_fault_by one reading sound text s e says whole (inr (t, also, fault)) =
     let same : s ≡ t = one_state one reading sound text s t says also in

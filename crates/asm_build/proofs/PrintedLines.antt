@@ -12,8 +12,8 @@ use Rattle.asm_forms.specs.Matching.{read_form}
 use Rattle.asm_words.specs.Tokens.{token_of}
 use Rattle.asm_reading.specs.declared.line.Line.{Line}
 use Rattle.asm_reading.specs.declared.line.Line.TheVariants as line
-use Rattle.asm_reading.specs.declared.line.Shape.{Shape}
-use Rattle.asm_reading.specs.declared.line.Shape.TheVariants as shape
+use Rattle.asm_reading.specs.declared.line.TemplateName.{TemplateName}
+use Rattle.asm_reading.specs.declared.line.TemplateName.TheVariants as template_name
 use Rattle.asm_reading.specs.Lines.{◌>>=◌, named, directive_value, IsListedLine, is_colon, value_of, reading_of}
 use Rattle.asm_printing.specs.SlotTexts.{label_text}
 use Rattle.asm_text.proofs.OperandTexts.{label_is_name}
@@ -73,17 +73,17 @@ says : (bytes : List ℕ) (value : Line) → length bytes ≤ LINE_LIMIT → rea
 says bytes value short reading listed = record { short = short; reads = record { reading = reading; listed = listed } }
 
 -- the beginning of a bundle
-pub head_says : (s : Shape) → Says (codes "{ ." ++ map unit_letter (units_named s)) (line.Open s)
-head_says shape.Mii = says _ _ (omega arith) refl tt
-head_says shape.Mlx = says _ _ (omega arith) refl tt
-head_says shape.Mmi = says _ _ (omega arith) refl tt
-head_says shape.Mfi = says _ _ (omega arith) refl tt
-head_says shape.Mmf = says _ _ (omega arith) refl tt
-head_says shape.Mib = says _ _ (omega arith) refl tt
-head_says shape.Mbb = says _ _ (omega arith) refl tt
-head_says shape.Bbb = says _ _ (omega arith) refl tt
-head_says shape.Mmb = says _ _ (omega arith) refl tt
-head_says shape.Mfb = says _ _ (omega arith) refl tt
+pub head_says : (s : TemplateName) → Says (codes "{ ." ++ map unit_letter (units_named s)) (line.Open s)
+head_says template_name.Mii = says _ _ (omega arith) refl tt
+head_says template_name.Mlx = says _ _ (omega arith) refl tt
+head_says template_name.Mmi = says _ _ (omega arith) refl tt
+head_says template_name.Mfi = says _ _ (omega arith) refl tt
+head_says template_name.Mmf = says _ _ (omega arith) refl tt
+head_says template_name.Mib = says _ _ (omega arith) refl tt
+head_says template_name.Mbb = says _ _ (omega arith) refl tt
+head_says template_name.Bbb = says _ _ (omega arith) refl tt
+head_says template_name.Mmb = says _ _ (omega arith) refl tt
+head_says template_name.Mfb = says _ _ (omega arith) refl tt
 
 -- its end
 pub end_says : Says (codes "}") line.Close

@@ -8,8 +8,8 @@ use Rattle.ia_insn.specs.Bundles.{IsBundle}
 use Rattle.asm_reading.specs.declared.line.Draft.{Draft}
 use Rattle.asm_reading.specs.declared.line.Line.{Line}
 use Rattle.asm_reading.specs.declared.line.Line.TheVariants as line
-use Rattle.asm_reading.specs.declared.line.Shape.{Shape}
-use Rattle.asm_reading.specs.declared.line.Shape.TheVariants as shape
+use Rattle.asm_reading.specs.declared.line.TemplateName.{TemplateName}
+use Rattle.asm_reading.specs.declared.line.TemplateName.TheVariants as template_name
 use Rattle.asm_build.specs.declared.draft.BundleLines.{BundleLines}
 use Rattle.asm_build.specs.declared.draft.SlotLine.{SlotLine}
 use Rattle.asm_build.specs.declared.draft.SlotLines.{SlotLines}
@@ -29,34 +29,34 @@ abbrev said_before : SlotLine → List Line → SlotSaid
 said_before l rest = record { insn = l.insn; target = l.target; stop = is_stopped rest || l.stop }
 
 -- the slots of an open bundle, and those on the lines that follow
-abbrev all_slots : Shape → SlotLines → List Line → List SlotSaid
+abbrev all_slots : TemplateName → SlotLines → List Line → List SlotSaid
 all_slots name slots.Zero rest = slots_in name 0 rest
 all_slots name (slots.One a) rest = said_before a rest ∷ slots_in name 1 rest
 all_slots name (slots.Two a b) rest = said a ∷ said_before b rest ∷ slots_in name 2 rest
 all_slots name (slots.Three a b c) rest = said a ∷ said b ∷ said_before c rest ∷ slots_in name 3 rest
 
 -- the bundle that is open, where there is one, and those that begin on the lines that follow
-abbrev pending : Option OpenBundle → List Line → List (List SlotSaid × Shape)
+abbrev pending : Option OpenBundle → List Line → List (List SlotSaid × TemplateName)
 pending None rest = bundles_in rest
-pending (Some o) rest = (all_slots o.shape o.slots rest, o.shape) ∷ bundles_in rest
+pending (Some o) rest = (all_slots o.name o.slots rest, o.name) ∷ bundles_in rest
 
 -- a bundle whose names are still to be put in is what its slots and its template's name say
-abbrev pub IsDrafted : List SlotSaid → Shape → BundleLines → Type 0
-IsDrafted (x ∷ y ∷ []) shape.Mlx l =
-    (template_of shape.Mlx x.stop false y.stop ≡ Some l.bundle.template)
+abbrev pub IsDrafted : List SlotSaid → TemplateName → BundleLines → Type 0
+IsDrafted (x ∷ y ∷ []) template_name.Mlx l =
+    (template_of template_name.Mlx x.stop false y.stop ≡ Some l.bundle.template)
     × (l.bundle.slots ≡ Long x.insn y.insn) × (l.first.target ≡ x.target) × (l.second.target ≡ y.target)
 IsDrafted (x ∷ y ∷ z ∷ []) name l =
     (template_of name x.stop y.stop z.stop ≡ Some l.bundle.template)
     × (l.bundle.slots ≡ Three x.insn y.insn z.insn) × (l.first.target ≡ x.target) × (l.second.target ≡ y.target) × (l.third.target ≡ z.target)
 IsDrafted slots name l = ⊥
 
-abbrev pub AreDrafted : List (List SlotSaid × Shape) → List BundleLines → Type 0
+abbrev pub AreDrafted : List (List SlotSaid × TemplateName) → List BundleLines → Type 0
 AreDrafted [] [] = ⊤
 AreDrafted (x ∷ xs) (l ∷ ls) = IsDrafted x.0 x.1 l × AreDrafted xs ls
 AreDrafted xs ls = ⊥
 
 -- Bundles are there beside those from before, and are these.
-abbrev pub Grown : List BundleLines → List BundleLines → List (List SlotSaid × Shape) → Type 0
+abbrev pub Grown : List BundleLines → List BundleLines → List (List SlotSaid × TemplateName) → Type 0
 Grown old new saids = (more : List BundleLines) × (new ≡ old ++ more) × AreDrafted saids more
 
 -- outside a bundle
@@ -65,7 +65,7 @@ outside None v vs none same = same
 outside (Some o) v vs none same = absurd cc
 
 -- a blank line
-blank_slots : (name : Shape) (lines : SlotLines) (vs : List Line) → all_slots name lines (line.Empty ∷ vs) ≡ all_slots name lines vs
+blank_slots : (name : TemplateName) (lines : SlotLines) (vs : List Line) → all_slots name lines (line.Empty ∷ vs) ≡ all_slots name lines vs
 blank_slots name slots.Zero vs = refl
 blank_slots name (slots.One a) vs = refl
 blank_slots name (slots.Two a b) vs = refl
@@ -73,16 +73,16 @@ blank_slots name (slots.Three a b c) vs = refl
 
 blank : (o : Option OpenBundle) (vs : List Line) → pending o (line.Empty ∷ vs) ≡ pending o vs
 blank None vs = refl
-blank (Some o) vs = ap (λ contents. (contents, o.shape) ∷ bundles_in vs) (blank_slots o.shape o.slots vs)
+blank (Some o) vs = ap (λ contents. (contents, o.name) ∷ bundles_in vs) (blank_slots o.name o.slots vs)
 
 -- the beginning of a bundle
-opened : (o : Option OpenBundle) (name : Shape) (vs : List Line) → o ≡ None → pending o (line.Open name ∷ vs) ≡ pending (Some (record { shape = name; slots = slots.Zero })) vs
+opened : (o : Option OpenBundle) (name : TemplateName) (vs : List Line) → o ≡ None → pending o (line.Open name ∷ vs) ≡ pending (Some (record { name = name; slots = slots.Zero })) vs
 opened None name vs none = refl
 opened (Some o) name vs none = absurd cc
 
 -- one more slot
-slot_added : (name : Shape) (lines : SlotLines) (n : ℕ) (d : Draft) (stop : Bool) (vs : List Line) → HasRoomIn name lines
-    → pending (Some (record { shape = name; slots = lines })) (line.Slot d stop ∷ vs) ≡ pending (Some (added (record { shape = name; slots = lines }) n d stop)) vs
+slot_added : (name : TemplateName) (lines : SlotLines) (n : ℕ) (d : Draft) (stop : Bool) (vs : List Line) → HasRoomIn name lines
+    → pending (Some (record { name = name; slots = lines })) (line.Slot d stop ∷ vs) ≡ pending (Some (added (record { name = name; slots = lines }) n d stop)) vs
 slot_added name slots.Zero n d stop vs room = refl
 slot_added name (slots.One a) n d stop vs room = refl
 slot_added name (slots.Two a b) n d stop vs room = refl
@@ -91,15 +91,15 @@ slot_added name (slots.Three a b c) n d stop vs room = absurd room
 slot_more : (o : Option OpenBundle) (n : ℕ) (d : Draft) (stop : Bool) (vs : List Line) → IsSome o → IfSome o HasSlotRoom
     → pending o (line.Slot d stop ∷ vs) ≡ pending (option_map (λ o. added o n d stop) o) vs
 slot_more None n d stop vs some room = absurd cc
-slot_more (Some o) n d stop vs some room = slot_added o.shape o.slots n d stop vs room
+slot_more (Some o) n d stop vs some room = slot_added o.name o.slots n d stop vs room
 
 -- a stop after the last
 or_true : (b : Bool) → true ≡ (b || true)
 or_true true = refl
 or_true false = refl
 
-last_stopped : (name : Shape) (lines : SlotLines) (vs : List Line) → HasSome lines
-    → pending (Some (record { shape = name; slots = lines })) (line.Stop ∷ vs) ≡ pending (Some (stopped (record { shape = name; slots = lines }))) vs
+last_stopped : (name : TemplateName) (lines : SlotLines) (vs : List Line) → HasSome lines
+    → pending (Some (record { name = name; slots = lines })) (line.Stop ∷ vs) ≡ pending (Some (stopped (record { name = name; slots = lines }))) vs
 last_stopped name slots.Zero vs some = absurd some
 last_stopped name (slots.One a) vs some =
     ap (λ b. (record { insn = a.insn; target = a.target; stop = b } ∷ slots_in name 1 vs, name) ∷ bundles_in vs) (or_true (is_stopped vs))
@@ -110,25 +110,25 @@ last_stopped name (slots.Three a b c) vs some =
 
 stop_more : (o : Option OpenBundle) (vs : List Line) → IsSomeAnd o HasSlot → pending o (line.Stop ∷ vs) ≡ pending (option_map stopped o) vs
 stop_more None vs some = absurd some
-stop_more (Some o) vs some = last_stopped o.shape o.slots vs some
+stop_more (Some o) vs some = last_stopped o.name o.slots vs some
 
 -- the end of a bundle
-long_drafted : (a b : SlotLine) (t : Option ℕ) → template_of shape.Mlx a.stop false b.stop ≡ t → IfSome (option_map (long a b) t) (IsDrafted (said a ∷ said b ∷ []) shape.Mlx)
+long_drafted : (a b : SlotLine) (t : Option ℕ) → template_of template_name.Mlx a.stop false b.stop ≡ t → IfSome (option_map (long a b) t) (IsDrafted (said a ∷ said b ∷ []) template_name.Mlx)
 long_drafted a b None is = tt
 long_drafted a b (Some t) is = (is, refl, refl, refl)
 
-three_drafted : (name : Shape) (a b c : SlotLine) (t : Option ℕ) → template_of name a.stop b.stop c.stop ≡ t → IfSome (option_map (three a b c) t) (IsDrafted (said a ∷ said b ∷ said c ∷ []) name)
+three_drafted : (name : TemplateName) (a b c : SlotLine) (t : Option ℕ) → template_of name a.stop b.stop c.stop ≡ t → IfSome (option_map (three a b c) t) (IsDrafted (said a ∷ said b ∷ said c ∷ []) name)
 three_drafted name a b c None is = tt
 three_drafted name a b c (Some t) is = (is, refl, refl, refl, refl)
 
-closed_drafted : (name : Shape) (lines : SlotLines) (vs : List Line) → IfSome (closed_as lines name) (IsDrafted (all_slots name lines (line.Close ∷ vs)) name)
-closed_drafted shape.Mlx (slots.Two a b) vs = long_drafted a b (template_of shape.Mlx a.stop false b.stop) refl
+closed_drafted : (name : TemplateName) (lines : SlotLines) (vs : List Line) → IfSome (closed_as lines name) (IsDrafted (all_slots name lines (line.Close ∷ vs)) name)
+closed_drafted template_name.Mlx (slots.Two a b) vs = long_drafted a b (template_of template_name.Mlx a.stop false b.stop) refl
 closed_drafted name (slots.Two a b) vs = tt
 closed_drafted name (slots.Three a b c) vs = three_drafted name a b c (template_of name a.stop b.stop c.stop) refl
 closed_drafted name slots.Zero vs = tt
 closed_drafted name (slots.One a) vs = tt
 
-some_drafted : (s : TextParts) (o : Option BundleLines) (x : List SlotSaid × Shape) (vs : List Line) (end : List BundleLines) → IsSomeAnd o (λ b. IsBundle b.bundle) → IfSome o (IsDrafted x.0 x.1)
+some_drafted : (s : TextParts) (o : Option BundleLines) (x : List SlotSaid × TemplateName) (vs : List Line) (end : List BundleLines) → IsSomeAnd o (λ b. IsBundle b.bundle) → IfSome o (IsDrafted x.0 x.1)
     → Grown (with_bundle s o).bundles end (pending (with_bundle s o).current vs) → Grown s.bundles end (x ∷ bundles_in vs)
 some_drafted s None x vs end some drafted h = absurd some
 some_drafted s (Some l) x vs end some drafted (more, grown, are) = (l ∷ more, grown ∙ append_assoc s.bundles (l ∷ []) more, (drafted, are))
@@ -137,10 +137,10 @@ close_more : (s : TextParts) (o : Option OpenBundle) (vs : List Line) (end : Lis
     → Grown (with_bundle s (closed_of o)).bundles end (pending (with_bundle s (closed_of o)).current vs) → Grown s.bundles end (pending o (line.Close ∷ vs))
 close_more s None vs end some whole h = absurd cc
 close_more s (Some o) vs end some whole h =
-    some_drafted s (closed o) (all_slots o.shape o.slots (line.Close ∷ vs), o.shape) vs end whole (closed_drafted o.shape o.slots vs) h
+    some_drafted s (closed o) (all_slots o.name o.slots (line.Close ∷ vs), o.name) vs end whole (closed_drafted o.name o.slots vs) h
 
 -- where the bundles stay and the ones that are pending are the same
-stays : (old new : List BundleLines) (xs ys : List (List SlotSaid × Shape)) → xs ≡ ys → Grown old new ys → Grown old new xs
+stays : (old new : List BundleLines) (xs ys : List (List SlotSaid × TemplateName)) → xs ≡ ys → Grown old new ys → Grown old new xs
 stays old new xs ys same h = subst (Grown old new) (sym same) h
 
 one_grown : (s : TextParts) (n : ℕ) (v : Line) (vs : List Line) (end : List BundleLines) → ArePassed (value_stages s v)

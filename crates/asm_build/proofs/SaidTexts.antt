@@ -7,8 +7,8 @@ use Rattle.ia_insn.specs.declared.insn.Op.{Op}
 use Rattle.ia_insn.specs.Programs.{Program, AreEntries, IsEntryOf}
 use Rattle.ia_insn.specs.Targets.{displacement}
 use Rattle.asm_reading.specs.declared.line.Line.{Line}
-use Rattle.asm_reading.specs.declared.line.Shape.{Shape}
-use Rattle.asm_reading.specs.declared.line.Shape.TheVariants as shape
+use Rattle.asm_reading.specs.declared.line.TemplateName.{TemplateName}
+use Rattle.asm_reading.specs.declared.line.TemplateName.TheVariants as template_name
 use Rattle.asm_build.specs.declared.address.Address.{Address}
 use Rattle.asm_build.specs.declared.address.Address.TheVariants as address
 use Rattle.asm_build.specs.declared.draft.BundleLines.{BundleLines}
@@ -71,8 +71,8 @@ none_found labels n s rest none = by (is_named labels n s) refl
         no_option m h = cc
 
 -- a bundle with the addresses of its names
-slots_of : (labels : Labels) (n : ℕ) (l : BundleLines) → unnamed_slot labels n l ≡ None → (slots : List SlotSaid) (name : Shape) (lines : List Line) → AreSaidLabels lines labels → IsDrafted slots name l → IsBundleSaid lines n slots name (bundle_named labels n l)
-slots_of labels n l none (x ∷ y ∷ []) shape.Mlx lines said (template, contents, first, second) =
+slots_of : (labels : Labels) (n : ℕ) (l : BundleLines) → unnamed_slot labels n l ≡ None → (slots : List SlotSaid) (name : TemplateName) (lines : List Line) → AreSaidLabels lines labels → IsDrafted slots name l → IsBundleSaid lines n slots name (bundle_named labels n l)
+slots_of labels n l none (x ∷ y ∷ []) template_name.Mlx lines said (template, contents, first, second) =
     let all : unnamed_among labels n ((x.insn, l.first) ∷ (y.insn, l.second) ∷ []) ≡ None = ap (λ s. unnamed_among labels n (slot_names s l)) (sym contents) ∙ none in
     let a = none_found labels n (x.insn, l.first) ((y.insn, l.second) ∷ []) all in
     let b = none_found labels n (y.insn, l.second) [] a.1 in (
@@ -103,7 +103,7 @@ both_none : (a b : Option ℕ) → or_else a b ≡ None → (a ≡ None) × (b �
 both_none None b none = (refl, none)
 both_none (Some m) b none = absurd cc
 
-bundles_said : (lines : List Line) (labels : Labels) (n : ℕ) (saids : List (List SlotSaid × Shape)) (ls : List BundleLines) → AreSaidLabels lines labels → AreDrafted saids ls → unnamed_bundle labels n ls ≡ None
+bundles_said : (lines : List Line) (labels : Labels) (n : ℕ) (saids : List (List SlotSaid × TemplateName)) (ls : List BundleLines) → AreSaidLabels lines labels → AreDrafted saids ls → unnamed_bundle labels n ls ≡ None
     → AreBundlesSaid lines n saids (bundles_named labels n ls)
 bundles_said lines labels n [] [] said drafted none = tt
 bundles_said lines labels n [] (l ∷ ls) said drafted none = absurd drafted

@@ -17,7 +17,7 @@ use Rattle.asm_build.specs.declared.reason.TextError.TheVariants.{Fault}
 use Rattle.asm_build.specs.Addresses.{IsInside}
 use Rattle.asm_build.specs.Reasons.{reason_of}
 use Rattle.asm_build.specs.TextParts.{TextParts, AreLabelsBelow}
-use Rattle.asm_build.specs.TextReading.{text_lines, Says, SaysNothing, Reading, IsRefusedBy, IsTakenBy, ComesToBy, AllSayBy, HasFaultBy, found, first_of}
+use Rattle.asm_build.specs.TextReading.{text_lines, Says, SaysNothing, LineReading, IsRefusedBy, IsTakenBy, ComesToBy, AllSayBy, HasFaultBy, found, first_of}
 use Rattle.asm_build.proofs.EndFaults.{IsOfLine}
 
 -- what is known of each line
@@ -26,7 +26,7 @@ HaveAnswers = (bytes : List ℕ) → LineOrFault bytes
 
 -- what is known of what is looked for: each stage finds a fault or is passed, and after the last line the fault is one
 -- of a line
-pub record IsDecidedReading {S : Type 0} (reading : Reading S) : Type 0 where
+pub record IsDecidedReading {S : Type 0} (reading : LineReading S) : Type 0 where
   pub stages : (s : S) (value : Line) → AreDecided (reading.stages s value)
   pub ends : (count : ℕ) (s : S) → AreDecided (reading.ends count s)
   pub lines : (count : ℕ) (s : S) (e : TextError) → IsFirstFault (reading.ends count s) e → IsOfLine e
@@ -41,7 +41,7 @@ says_or_not answers line = elim (dec_le (length line) LINE_LIMIT) [
   ]
 ]
 
-taken_or_refused : {S : Type 0} → HaveAnswers → (reading : Reading S) → IsDecidedReading reading → (s : S) (line : List ℕ) → ((value : Line) × IsTakenBy reading s line value) ⊎ ((why : Reason) × IsRefusedBy reading s line why)
+taken_or_refused : {S : Type 0} → HaveAnswers → (reading : LineReading S) → IsDecidedReading reading → (s : S) (line : List ℕ) → ((value : Line) × IsTakenBy reading s line value) ⊎ ((why : Reason) × IsRefusedBy reading s line why)
 taken_or_refused answers reading decided s line = elim (says_or_not answers line) [
   | inr (why, nothing) ↦ inr (why, inl nothing)
   | inl (value, says) ↦ elim (some_fault (reading.stages s value) (decided.stages s value)) [
@@ -51,11 +51,11 @@ taken_or_refused answers reading decided s line = elim (says_or_not answers line
 ]
 
 -- lines come to a state, or to the fault of a line
-abbrev HaveOutcome : {S : Type 0} → Reading S → S → ℕ → List (List ℕ) → Type 0
+abbrev HaveOutcome : {S : Type 0} → LineReading S → S → ℕ → List (List ℕ) → Type 0
 HaveOutcome {S} reading s n lines =
     ((t : S) × ComesToBy reading s n lines (Ok t)) ⊎ ((line : ℕ) × (why : Reason) × ComesToBy reading s n lines (Err (Fault line why)))
 
-outcome : {S : Type 0} → HaveAnswers → (reading : Reading S) → IsDecidedReading reading → (s : S) (n : ℕ) (lines : List (List ℕ)) → HaveOutcome reading s n lines
+outcome : {S : Type 0} → HaveAnswers → (reading : LineReading S) → IsDecidedReading reading → (s : S) (n : ℕ) (lines : List (List ℕ)) → HaveOutcome reading s n lines
 outcome answers reading decided s n [] = inl (s, refl)
 outcome answers reading decided s n (line ∷ lines) = elim (taken_or_refused answers reading decided s line) [
   | inr (why, refused) ↦ inr (n, why, inl (why, refused, refl))
@@ -66,11 +66,11 @@ outcome answers reading decided s n (line ∷ lines) = elim (taken_or_refused an
 ]
 
 -- All lines are taken and no fault comes after the last, or the text has the fault of a line.
-abbrev pub ReadOrFault : {S : Type 0} → Reading S → List ℕ → Type 0
+abbrev pub ReadOrFault : {S : Type 0} → LineReading S → List ℕ → Type 0
 ReadOrFault {S} reading text =
     ((s : S) × AllSayBy reading text s × ArePassed (reading.ends (length (text_lines text)) s)) ⊎ ((line : ℕ) × (why : Reason) × HasFaultBy reading text (Fault line why))
 
-all_taken : {S : Type 0} (reading : Reading S) → IsDecidedReading reading → (text : List ℕ) (s : S) → AllSayBy reading text s → ReadOrFault reading text
+all_taken : {S : Type 0} (reading : LineReading S) → IsDecidedReading reading → (text : List ℕ) (s : S) → AllSayBy reading text s → ReadOrFault reading text
 all_taken reading decided text s says = elim (some_fault (reading.ends count s) (decided.ends count s)) [
   | inr passed ↦ inl (s, says, passed)
   | inl (e, fault) ↦
@@ -81,7 +81,7 @@ all_taken reading decided text s says = elim (some_fault (reading.ends count s) 
     count : ℕ
     count = length (text_lines text)
 
-pub read_or_fault : {S : Type 0} → HaveAnswers → (reading : Reading S) → IsDecidedReading reading → (text : List ℕ) → ReadOrFault reading text
+pub read_or_fault : {S : Type 0} → HaveAnswers → (reading : LineReading S) → IsDecidedReading reading → (text : List ℕ) → ReadOrFault reading text
 read_or_fault answers reading decided text = elim (outcome answers reading decided reading.start 1 (text_lines text)) [
   | inl (s, says) ↦ all_taken reading decided text s says
   | inr (line, why, comes) ↦ inr (line, why, inl comes)

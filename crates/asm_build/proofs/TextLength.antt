@@ -15,8 +15,8 @@ use Rattle.ia_insn.specs.Bundles.{Bundle, IsBundle}
 use Rattle.ia_insn.specs.Listed.{IsListed}
 use Rattle.ia_insn.specs.declared.relations.Relation.{Relation}
 use Rattle.ia_insn.specs.Programs.{Program, IsProgram, AreBytes, relations_at}
-use Rattle.asm_reading.specs.declared.line.Shape.{Shape}
-use Rattle.asm_reading.specs.declared.line.Shape.TheVariants as shape
+use Rattle.asm_reading.specs.declared.line.TemplateName.{TemplateName}
+use Rattle.asm_reading.specs.declared.line.TemplateName.TheVariants as template_name
 use Rattle.asm_printing.specs.declared.limits.TheConstants.{SLOT_LINE_LIMIT}
 use Rattle.asm_printing.specs.SlotTexts.{label_text, slot_text}
 use Rattle.asm_printing.proofs.Short.{hex_is_short}
@@ -45,17 +45,17 @@ if_short true text n h = h
 if_short false text n h = omega arith
 
 -- `{ .mii`
-name_short : (s : Shape) → length (text_line (codes "{ ." ++ map unit_letter (units_named s))) ≤ 7
-name_short shape.Mii = omega arith
-name_short shape.Mlx = omega arith
-name_short shape.Mmi = omega arith
-name_short shape.Mfi = omega arith
-name_short shape.Mmf = omega arith
-name_short shape.Mib = omega arith
-name_short shape.Mbb = omega arith
-name_short shape.Bbb = omega arith
-name_short shape.Mmb = omega arith
-name_short shape.Mfb = omega arith
+name_short : (s : TemplateName) → length (text_line (codes "{ ." ++ map unit_letter (units_named s))) ≤ 7
+name_short template_name.Mii = omega arith
+name_short template_name.Mlx = omega arith
+name_short template_name.Mmi = omega arith
+name_short template_name.Mfi = omega arith
+name_short template_name.Mmf = omega arith
+name_short template_name.Mib = omega arith
+name_short template_name.Mbb = omega arith
+name_short template_name.Bbb = omega arith
+name_short template_name.Mmb = omega arith
+name_short template_name.Mfb = omega arith
 
 head_short : (b : Bundle) → IsBundle b → length (head_text b.template) ≤ 7
 head_short b fit =

@@ -13,8 +13,8 @@ use Rattle.ia_insn.specs.Fits.{Fits}
 use Rattle.ia_insn.specs.Listed.{IsListed}
 use Rattle.ia_insn.specs.Templates.{units_of}
 use Rattle.asm_reading.specs.declared.line.Line.TheVariants as line
-use Rattle.asm_reading.specs.declared.line.Shape.{Shape}
-use Rattle.asm_reading.specs.declared.line.Shape.TheVariants as shape
+use Rattle.asm_reading.specs.declared.line.TemplateName.{TemplateName}
+use Rattle.asm_reading.specs.declared.line.TemplateName.TheVariants as template_name
 use Rattle.asm_printing.specs.SlotTexts.{label_text, target_of, slot_text}
 use Rattle.asm_text.specs.ReadBack.{printed_line}
 use Rattle.asm_build.specs.declared.draft.BundleLines.{BundleLines}
@@ -54,8 +54,8 @@ name_in n i = option_map label_text (target_of n i.op)
 abbrev slot_line : ℕ → ℕ → Insn → Bool → SlotLine
 slot_line k n i stop = record { line = k; insn = until_named i; target = name_in n i; stop = stop }
 
-abbrev opened : Shape → SlotLines → OpenBundle
-opened s ls = record { shape = s; slots = ls }
+abbrev opened : TemplateName → SlotLines → OpenBundle
+opened s ls = record { name = s; slots = ls }
 
 -- the slots until the names of their targets are put in
 abbrev pub slots_until : Slots → Slots
@@ -73,12 +73,12 @@ pub record AreLinesOf (n : ℕ) (b : Bundle) (l : BundleLines) : Type 0 where
 
 -- one slot line
 slot_goes : SlotsSay → (bs : List BundleLines) (es : List EntryLine) (rs : List RelationLine) (ls : Labels) (k n : ℕ) (o : OpenBundle) (i : Insn) (stop : Bool) → IsListed i → n < 2 ^ 32 → HasSlotRoom o → Fits (until_named i) (next_unit o) (count_of o.slots)
-    → Goes (inside o bs es rs ls) k (text_line (slot_text i n stop)) (inside (opened o.shape (one_more o.slots (slot_line k n i stop))) bs es rs ls) (k + 1)
+    → Goes (inside o bs es rs ls) k (text_line (slot_text i n stop)) (inside (opened o.name (one_more o.slots (slot_line k n i stop))) bs es rs ls) (k + 1)
 slot_goes say bs es rs ls k n o i stop listed low room fits =
     line_goes (inside o bs es rs ls) k (slot_text i n stop) (printed_line i n stop) (say i n stop listed low) (refl, (tt, (room, (fits, (tt, tt)))))
 
 -- `{` and the template name
-head_goes : (bs : List BundleLines) (es : List EntryLine) (rs : List RelationLine) (ls : Labels) (k : ℕ) (s : Shape) (template : ℕ) → units_of template ≡ units_named s → length bs < BUNDLE_LIMIT
+head_goes : (bs : List BundleLines) (es : List EntryLine) (rs : List RelationLine) (ls : Labels) (k : ℕ) (s : TemplateName) (template : ℕ) → units_of template ≡ units_named s → length bs < BUNDLE_LIMIT
     → Goes (outside bs es rs ls) k (head_text template) (inside (opened s lines.Zero) bs es rs ls) (k + 1)
 head_goes bs es rs ls k s template units room =
     subst (λ (us : List ExecutionUnit). Goes (outside bs es rs ls) k (text_line (codes "{ ." ++ map unit_letter us)) (inside (opened s lines.Zero) bs es rs ls) (k + 1)) (sym units)
@@ -92,11 +92,11 @@ close_goes bs es rs ls k o l e is =
     subst (λ r. Goes (inside o bs es rs ls) k (text_line (codes "}")) (with_bundle (inside o bs es rs ls) r) (k + 1)) e
     (line_goes (inside o bs es rs ls) k (codes "}") line.Close end_says (refl, (tt, (whole, (tt, (tt, tt))))))
 
-unit_at : (s : Shape) (us : List ExecutionUnit) (n : ℕ) → units_named s ≡ us → slice_index_or us n X ≡ slice_index_or (units_named s) n X
+unit_at : (s : TemplateName) (us : List ExecutionUnit) (n : ℕ) → units_named s ≡ us → slice_index_or us n X ≡ slice_index_or (units_named s) n X
 unit_at s us n e = ap (λ (vs : List ExecutionUnit). slice_index_or vs n X) (sym e)
 
 -- the lines of three slots
-three_goes : SlotsSay → (bs : List BundleLines) (es : List EntryLine) (rs : List RelationLine) (ls : Labels) (k n template : ℕ) (s : Shape) (a b c : Insn) (u v w : ExecutionUnit) → units_named s ≡ u ∷ v ∷ w ∷ [] → v ≢ L
+three_goes : SlotsSay → (bs : List BundleLines) (es : List EntryLine) (rs : List RelationLine) (ls : Labels) (k n template : ℕ) (s : TemplateName) (a b c : Insn) (u v w : ExecutionUnit) → units_named s ≡ u ∷ v ∷ w ∷ [] → v ≢ L
     → Fits a u 0 → Fits b v 1 → Fits c w 2 → IsListed a → IsListed b → IsListed c → n < 2 ^ 32
     → Goes (inside (opened s lines.Zero) bs es rs ls) k (slots_text n template (slots.Three a b c))
     (inside (opened s (lines.Three (slot_line k n a (has_stop template 0)) (slot_line (k + 1) n b (has_stop template 1)) (slot_line (k + 1 + 1) n c (has_stop template 2)))) bs es rs ls) (k + 1 + 1 + 1)
@@ -116,7 +116,7 @@ three_goes say bs es rs ls k n template s a b c u v w units other f g h la lb lc
     (slot_goes say bs es rs ls (k + 1 + 1) n (opened s (lines.Two first second)) c (has_stop template 2) lc low (short_of s u v w units other) h_))
 
 -- and of a long instruction
-long_goes : SlotsSay → (bs : List BundleLines) (es : List EntryLine) (rs : List RelationLine) (ls : Labels) (k n template : ℕ) (s : Shape) (a b : Insn) (u v w : ExecutionUnit) → units_named s ≡ u ∷ v ∷ w ∷ []
+long_goes : SlotsSay → (bs : List BundleLines) (es : List EntryLine) (rs : List RelationLine) (ls : Labels) (k n template : ℕ) (s : TemplateName) (a b : Insn) (u v w : ExecutionUnit) → units_named s ≡ u ∷ v ∷ w ∷ []
     → Fits a u 0 → Fits b v 1 → IsListed a → IsListed b → n < 2 ^ 32
     → Goes (inside (opened s lines.Zero) bs es rs ls) k (slots_text n template (slots.Long a b))
     (inside (opened s (lines.Two (slot_line k n a false) (slot_line (k + 1) n b (has_stop template 2)))) bs es rs ls) (k + 1 + 1)
@@ -130,18 +130,18 @@ long_goes say bs es rs ls k n template s a b u v w units f g la lb low =
     (slot_goes say bs es rs ls k n (opened s lines.Zero) a false la low tt f_)
     (slot_goes say bs es rs ls (k + 1) n (opened s (lines.One first)) b (has_stop template 2) lb low tt g_)
 
-at_long : (template : ℕ) → IsNamedBy shape.Mlx template → template_of shape.Mlx false false (has_stop template 2) ≡ Some template
+at_long : (template : ℕ) → IsNamedBy template_name.Mlx template → template_of template_name.Mlx false false (has_stop template 2) ≡ Some template
 at_long template named =
-    ap (λ a. template_of shape.Mlx a false (has_stop template 2)) (sym named.long.0) ∙ ap (λ b. template_of shape.Mlx (has_stop template 0) b (has_stop template 2)) (sym named.long.1) ∙ same_named shape.Mlx template named
+    ap (λ a. template_of template_name.Mlx a false (has_stop template 2)) (sym named.long.0) ∙ ap (λ b. template_of template_name.Mlx (has_stop template 0) b (has_stop template 2)) (sym named.long.1) ∙ same_named template_name.Mlx template named
 
-closed_long : (s : Shape) (template : ℕ) (a b : SlotLine) → s ≡ shape.Mlx → IsNamedBy s template → a.stop ≡ false → b.stop ≡ has_stop template 2 → closed_as (lines.Two a b) s ≡ Some (long a b template)
-closed_long shape.Mlx template a b is named none last =
-    let same : template_of shape.Mlx a.stop false b.stop ≡ Some template = ap (λ x. template_of shape.Mlx x false b.stop) none ∙ ap (λ x. template_of shape.Mlx false false x) last ∙ at_long template named in
+closed_long : (s : TemplateName) (template : ℕ) (a b : SlotLine) → s ≡ template_name.Mlx → IsNamedBy s template → a.stop ≡ false → b.stop ≡ has_stop template 2 → closed_as (lines.Two a b) s ≡ Some (long a b template)
+closed_long template_name.Mlx template a b is named none last =
+    let same : template_of template_name.Mlx a.stop false b.stop ≡ Some template = ap (λ x. template_of template_name.Mlx x false b.stop) none ∙ ap (λ x. template_of template_name.Mlx false false x) last ∙ at_long template named in
     ap (option_map (long a b)) same
 closed_long s template a b is named none last = absurd cc
 
 -- the lines of the slots come to an open bundle that is closed as this one
-pub record SlotsGo (bs : List BundleLines) (es : List EntryLine) (rs : List RelationLine) (ls : Labels) (k n template : ℕ) (s : Shape) (contents : Slots) : Type 0 where
+pub record SlotsGo (bs : List BundleLines) (es : List EntryLine) (rs : List RelationLine) (ls : Labels) (k n template : ℕ) (s : TemplateName) (contents : Slots) : Type 0 where
   pub open_bundle : OpenBundle
   pub next : ℕ
   pub read : BundleLines
@@ -149,7 +149,7 @@ pub record SlotsGo (bs : List BundleLines) (es : List EntryLine) (rs : List Rela
   pub whole : closed open_bundle ≡ Some read
   pub same : AreLinesOf n (record { template = template; slots = contents }) read
 
-slots_go : SlotsSay → (bs : List BundleLines) (es : List EntryLine) (rs : List RelationLine) (ls : Labels) (k n count template : ℕ) (s : Shape) (contents : Slots) → n < 2 ^ 32 → IsNamedBy s template
+slots_go : SlotsSay → (bs : List BundleLines) (es : List EntryLine) (rs : List RelationLine) (ls : Labels) (k n count template : ℕ) (s : TemplateName) (contents : Slots) → n < 2 ^ 32 → IsNamedBy s template
     → (units : List ExecutionUnit) → units_named s ≡ units → FitUnits units contents → AreSound count n contents → SlotsGo bs es rs ls k n template s contents
 slots_go say bs es rs ls k n count template s (slots.Three a b c) low named (u ∷ v ∷ w ∷ []) e fit sound =
     let first = slot_line k n a (has_stop template 0) in

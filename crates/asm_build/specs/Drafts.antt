@@ -10,8 +10,8 @@ use Rattle.ia_insn.specs.declared.bundle.Slots.TheVariants.{Three, Long}
 use Rattle.ia_insn.specs.Bundles.{IsBundle}
 use Rattle.ia_insn.specs.Fits.{Fits}
 use Rattle.asm_reading.specs.declared.line.Draft.{Draft}
-use Rattle.asm_reading.specs.declared.line.Shape.{Shape}
-use Rattle.asm_reading.specs.declared.line.Shape.TheVariants as shape
+use Rattle.asm_reading.specs.declared.line.TemplateName.{TemplateName}
+use Rattle.asm_reading.specs.declared.line.TemplateName.TheVariants as template_name
 use Rattle.asm_build.specs.declared.draft.BundleLines.{BundleLines}
 use Rattle.asm_build.specs.declared.draft.SlotLine.{SlotLine}
 use Rattle.asm_build.specs.declared.draft.SlotLines.{SlotLines}
@@ -38,7 +38,7 @@ completed d u =
 
 -- A bundle that is not closed yet: the name of its template, and its slot lines so far.
 pub record OpenBundle : Type 0 where
-  pub shape : Shape
+  pub name : TemplateName
   pub slots : SlotLines
 
 abbrev pub count_of : SlotLines → ℕ
@@ -71,11 +71,11 @@ HasSome lines = ⊤
 abbrev pub HasSlot : OpenBundle → Type 0
 HasSlot o = HasSome o.slots
 
-abbrev pub IsShort : Shape → Type 0
-IsShort shape.Mlx = ⊥
+abbrev pub IsShort : TemplateName → Type 0
+IsShort template_name.Mlx = ⊥
 IsShort s = ⊤
 
-abbrev pub HasRoomIn : Shape → SlotLines → Type 0
+abbrev pub HasRoomIn : TemplateName → SlotLines → Type 0
 HasRoomIn s slots.Zero = ⊤
 HasRoomIn s (slots.One a) = ⊤
 HasRoomIn s (slots.Two a b) = IsShort s
@@ -83,25 +83,25 @@ HasRoomIn s (slots.Three a b c) = ⊥
 
 -- one more slot line may follow: three, or two where the second is a long one
 abbrev pub HasSlotRoom : OpenBundle → Type 0
-HasSlotRoom o = HasRoomIn o.shape o.slots
+HasSlotRoom o = HasRoomIn o.name o.slots
 
 -- the unit of a slot
-abbrev pub unit_at : Shape → ℕ → ExecutionUnit
+abbrev pub unit_at : TemplateName → ℕ → ExecutionUnit
 unit_at s slot = slice_index_or (units_named s) slot unit.X
 
 abbrev pub next_unit : OpenBundle → ExecutionUnit
-next_unit o = unit_at o.shape (count_of o.slots)
+next_unit o = unit_at o.name (count_of o.slots)
 
 -- the instruction fits the next slot
 abbrev pub FitsNext : OpenBundle → Draft → Type 0
 FitsNext o d = Fits (completed d (next_unit o)) (next_unit o) (count_of o.slots)
 
 -- the instruction of a slot line fits a slot
-abbrev pub FitsAt : Shape → ℕ → SlotLine → Type 0
+abbrev pub FitsAt : TemplateName → ℕ → SlotLine → Type 0
 FitsAt s slot l = Fits l.insn (unit_at s slot) slot
 
 -- those of the slot lines fit their slots
-abbrev pub AreFitting : Shape → SlotLines → Type 0
+abbrev pub AreFitting : TemplateName → SlotLines → Type 0
 AreFitting s slots.Zero = ⊤
 AreFitting s (slots.One a) = FitsAt s 0 a
 AreFitting s (slots.Two a b) = FitsAt s 0 a × FitsAt s 1 b
@@ -110,11 +110,11 @@ AreFitting s (slots.Three a b c) = FitsAt s 0 a × FitsAt s 1 b × FitsAt s 2 c 
 -- the bundle with one more slot line
 abbrev pub added : OpenBundle → ℕ → Draft → Bool → OpenBundle
 added o line d stop =
-    record { shape = o.shape; slots = one_more o.slots (record { line = line; insn = completed d (next_unit o); target = d.target; stop = stop }) }
+    record { name = o.name; slots = one_more o.slots (record { line = line; insn = completed d (next_unit o); target = d.target; stop = stop }) }
 
 -- the bundle with a stop after its last slot line
 abbrev pub stopped : OpenBundle → OpenBundle
-stopped o = record { shape = o.shape; slots = last_stopped o.slots }
+stopped o = record { name = o.name; slots = last_stopped o.slots }
 
 abbrev pub name_of : SlotLine → SlotName
 name_of s = record { line = s.line; target = s.target }
@@ -130,14 +130,14 @@ abbrev pub long : SlotLine → SlotLine → ℕ → BundleLines
 long a b template =
     record { bundle = record { template = template; slots = Long a.insn b.insn }; first = name_of a; second = name_of b; third = no_name b }
 
-abbrev pub closed_as : SlotLines → Shape → Option BundleLines
-closed_as (slots.Two a b) shape.Mlx = option_map (long a b) (template_of shape.Mlx a.stop false b.stop)
+abbrev pub closed_as : SlotLines → TemplateName → Option BundleLines
+closed_as (slots.Two a b) template_name.Mlx = option_map (long a b) (template_of template_name.Mlx a.stop false b.stop)
 closed_as (slots.Three a b c) s = option_map (three a b c) (template_of s a.stop b.stop c.stop)
 closed_as lines s = None
 
 -- The bundle that its lines give: the one with this template's name and these stops.
 abbrev pub closed : OpenBundle → Option BundleLines
-closed o = closed_as o.slots o.shape
+closed o = closed_as o.slots o.name
 
 -- they give one
 abbrev pub IsWhole : OpenBundle → Type 0

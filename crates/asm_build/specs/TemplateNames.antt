@@ -4,22 +4,22 @@ use Rattle.std.specs.Str.{bytes_eq}
 use Rattle.ia_insn.specs.declared.choices.Unit.{Unit as ExecutionUnit}
 use Rattle.ia_insn.specs.declared.choices.Unit.TheVariants.{M, I, F, B, L, X}
 use Rattle.ia_insn.specs.Templates.{units_of, stops_of}
-use Rattle.asm_reading.specs.declared.line.Shape.{Shape}
-use Rattle.asm_reading.specs.declared.line.Shape.TheVariants as shape
+use Rattle.asm_reading.specs.declared.line.TemplateName.{TemplateName}
+use Rattle.asm_reading.specs.declared.line.TemplateName.TheVariants as template_name
 use Rattle.asm_build.specs.CanonicalText.{unit_letter}
 
 -- the units of the three slots
-abbrev pub units_named : Shape → List ExecutionUnit
-units_named shape.Mii = M ∷ I ∷ I ∷ []
-units_named shape.Mlx = M ∷ L ∷ X ∷ []
-units_named shape.Mmi = M ∷ M ∷ I ∷ []
-units_named shape.Mfi = M ∷ F ∷ I ∷ []
-units_named shape.Mmf = M ∷ M ∷ F ∷ []
-units_named shape.Mib = M ∷ I ∷ B ∷ []
-units_named shape.Mbb = M ∷ B ∷ B ∷ []
-units_named shape.Bbb = B ∷ B ∷ B ∷ []
-units_named shape.Mmb = M ∷ M ∷ B ∷ []
-units_named shape.Mfb = M ∷ F ∷ B ∷ []
+abbrev pub units_named : TemplateName → List ExecutionUnit
+units_named template_name.Mii = M ∷ I ∷ I ∷ []
+units_named template_name.Mlx = M ∷ L ∷ X ∷ []
+units_named template_name.Mmi = M ∷ M ∷ I ∷ []
+units_named template_name.Mfi = M ∷ F ∷ I ∷ []
+units_named template_name.Mmf = M ∷ M ∷ F ∷ []
+units_named template_name.Mib = M ∷ I ∷ B ∷ []
+units_named template_name.Mbb = M ∷ B ∷ B ∷ []
+units_named template_name.Bbb = B ∷ B ∷ B ∷ []
+units_named template_name.Mmb = M ∷ M ∷ B ∷ []
+units_named template_name.Mfb = M ∷ F ∷ B ∷ []
 
 -- the slots that are marked
 abbrev pub marked_slots : Bool → Bool → Bool → List ℕ
@@ -37,6 +37,6 @@ below zero = []
 below (suc n) = n ∷ below n
 
 -- The template with this name's units and with stops after the slots that are marked, where there is one.
-unfoldable pub template_of : Shape → Bool → Bool → Bool → Option ℕ
-template_of shape first second third =
-    find (is_shaped (units_named shape) (marked_slots first second third)) (below 32)
+unfoldable pub template_of : TemplateName → Bool → Bool → Bool → Option ℕ
+template_of name first second third =
+    find (is_shaped (units_named name) (marked_slots first second third)) (below 32)

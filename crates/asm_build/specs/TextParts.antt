@@ -106,7 +106,7 @@ after_outside s next n value = s
 
 -- What the lines say after one more, the n-th. What comes next in text is a bundle.
 abbrev pub after : TextParts → ℕ → Line → TextParts
-after s n (line.Open shape) = with_open s (Some (record { shape = shape; slots = slots.Zero }))
+after s n (line.Open name) = with_open s (Some (record { name = name; slots = slots.Zero }))
 after s n (line.Slot draft stop) = with_open s (option_map (λ o. added o n draft stop) s.current)
 after s n line.Stop = with_open s (option_map stopped s.current)
 after s n line.Close = with_bundle s (closed_of s.current)
@@ -124,7 +124,7 @@ MayStand s line.Empty = ⊤
 MayStand s (line.Relation predicates) = IsIn section.Text s
 MayStand s (line.Numbers size values) = IsIn section.Data s
 MayStand s (line.Skip count) = IsIn section.Data s
-MayStand s (line.Open shape) = IsIn section.Text s
+MayStand s (line.Open name) = IsIn section.Text s
 MayStand s (line.Slot draft stop) = IsSome s.current
 MayStand s line.Stop = IsSomeAnd s.current HasSlot
 MayStand s line.Close = IsSome s.current
@@ -148,7 +148,7 @@ FitsSlot s value = ⊤
 
 -- there is room for a bundle and for data
 abbrev pub HasRoom : TextParts → Line → Type 0
-HasRoom s (line.Open shape) = length s.bundles < BUNDLE_LIMIT
+HasRoom s (line.Open name) = length s.bundles < BUNDLE_LIMIT
 HasRoom s (line.Numbers size values) = length s.bytes + length (numbers_bytes size values) ≤ DATA_LIMIT
 HasRoom s (line.Skip count) = length s.bytes + count ≤ DATA_LIMIT
 HasRoom s value = ⊤

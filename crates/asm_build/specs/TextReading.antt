@@ -36,35 +36,35 @@ SaysNothing line reason =
 
 -- A way to read texts, line by line: what no lines say, what lines say after one more, the n-th, what is looked for in
 -- what a line says after those before it, and what is looked for after the last line, where so many were read.
-pub record Reading (State : Type 0) : Type 1 where
+pub record LineReading (State : Type 0) : Type 1 where
   pub start : State
   pub after : State → ℕ → Line → State
   pub stages : State → Line → List (Stage Reason)
   pub ends : ℕ → State → List (Stage TextError)
 
 -- A line is refused after what those before it say: by itself, or for what it says.
-abbrev pub IsRefusedBy : {State : Type 0} → Reading State → State → List ℕ → Reason → Type 0
+abbrev pub IsRefusedBy : {State : Type 0} → LineReading State → State → List ℕ → Reason → Type 0
 IsRefusedBy reading s line reason =
     SaysNothing line reason ⊎ ((value : Line) × Says line value × IsFirstFault (reading.stages s value) reason)
 
 -- A line says something that may follow what those before it say.
-abbrev pub IsTakenBy : {State : Type 0} → Reading State → State → List ℕ → Line → Type 0
+abbrev pub IsTakenBy : {State : Type 0} → LineReading State → State → List ℕ → Line → Type 0
 IsTakenBy reading s line value = Says line value × ArePassed (reading.stages s value)
 
 -- What lines come to, the first of which is the n-th: what they say after those before them, or the fault of
 -- the first that is refused.
-abbrev pub ComesToBy : {State : Type 0} → Reading State → State → ℕ → List (List ℕ) → Result State TextError → Type 0
+abbrev pub ComesToBy : {State : Type 0} → LineReading State → State → ℕ → List (List ℕ) → Result State TextError → Type 0
 ComesToBy reading s n [] r = r ≡ Ok s
 ComesToBy reading s n (line ∷ lines) r =
     ((reason : Reason) × IsRefusedBy reading s line reason × (r ≡ Err (Fault n reason)))
     ⊎ ((value : Line) × IsTakenBy reading s line value × ComesToBy reading (reading.after s n value) (n + 1) lines r)
 
 -- All the lines of a text are taken, and say this.
-abbrev pub AllSayBy : {State : Type 0} → Reading State → List ℕ → State → Type 0
+abbrev pub AllSayBy : {State : Type 0} → LineReading State → List ℕ → State → Type 0
 AllSayBy reading text s = ComesToBy reading reading.start 1 (text_lines text) (Ok s)
 
 -- The first fault of a text: that of the first line that is refused, or else the first after the last line.
-abbrev pub HasFaultBy : {State : Type 0} → Reading State → List ℕ → TextError → Type 0
+abbrev pub HasFaultBy : {State : Type 0} → LineReading State → List ℕ → TextError → Type 0
 HasFaultBy {State} reading text e =
     ComesToBy reading reading.start 1 (text_lines text) (Err e)
     ⊎ ((s : State) × AllSayBy reading text s × IsFirstFault (reading.ends (length (text_lines text)) s) e)
@@ -91,7 +91,7 @@ end_stages count s =
     ∷ []
 
 -- How the text of a program is read.
-abbrev pub program_reading : Reading TextParts
+abbrev pub program_reading : LineReading TextParts
 program_reading = record { start = start; after = after; stages = value_stages; ends = end_stages }
 
 abbrev pub IsRefused : TextParts → List ℕ → Reason → Type 0

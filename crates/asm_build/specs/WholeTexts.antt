@@ -9,8 +9,8 @@ use Rattle.ia_insn.specs.declared.relations.Relation.{Relation}
 use Rattle.ia_insn.specs.Programs.{Program, AreEntries, IsEntryOf, IsRelationBefore, relation_at, relation_before}
 use Rattle.asm_reading.specs.declared.line.Line.{Line}
 use Rattle.asm_reading.specs.declared.line.Line.TheVariants as line
-use Rattle.asm_reading.specs.declared.line.Shape.{Shape}
-use Rattle.asm_reading.specs.declared.line.Shape.TheVariants as shape
+use Rattle.asm_reading.specs.declared.line.TemplateName.{TemplateName}
+use Rattle.asm_reading.specs.declared.line.TemplateName.TheVariants as template_name
 use Rattle.asm_build.specs.declared.address.Address.{Address}
 use Rattle.asm_build.specs.declared.address.Address.TheVariants as address
 use Rattle.asm_build.specs.declared.text_parts.Section.{Section}
@@ -63,7 +63,7 @@ is_stopped (line.Close ∷ rest) = false
 is_stopped (value ∷ rest) = is_stopped rest
 
 -- the slots of a bundle with this template's name, on the lines up to its `}`; the first is slot k
-abbrev pub slots_in : Shape → ℕ → List Line → List SlotSaid
+abbrev pub slots_in : TemplateName → ℕ → List Line → List SlotSaid
 slots_in name k [] = []
 slots_in name k (line.Slot draft stop ∷ rest) =
     record { insn = completed draft (unit_at name k); target = draft.target; stop = is_stopped rest || stop } ∷ slots_in name (k + 1) rest
@@ -71,7 +71,7 @@ slots_in name k (line.Close ∷ rest) = []
 slots_in name k (value ∷ rest) = slots_in name k rest
 
 -- the bundles whose `{` stands on lines, in order: the slots and the template's name of each
-abbrev pub bundles_in : List Line → List (List SlotSaid × Shape)
+abbrev pub bundles_in : List Line → List (List SlotSaid × TemplateName)
 bundles_in [] = []
 bundles_in (line.Open name ∷ rest) = (slots_in name 0 rest, name) ∷ bundles_in rest
 bundles_in (value ∷ rest) = bundles_in rest
@@ -108,9 +108,9 @@ pub record IsInsnSaid (lines : List Line) (n : ℕ) (slot : SlotSaid) (i : Insn)
   pub op : IsOpSaid lines n slot.insn.op slot.target i.op
 
 -- The n-th bundle is the one that its slots and its template's name say: three, or a short one and a long one.
-abbrev pub IsBundleSaid : List Line → ℕ → List SlotSaid → Shape → Bundle → Type 0
-IsBundleSaid lines n (x ∷ y ∷ []) shape.Mlx b =
-    (template_of shape.Mlx x.stop false y.stop ≡ Some b.template)
+abbrev pub IsBundleSaid : List Line → ℕ → List SlotSaid → TemplateName → Bundle → Type 0
+IsBundleSaid lines n (x ∷ y ∷ []) template_name.Mlx b =
+    (template_of template_name.Mlx x.stop false y.stop ≡ Some b.template)
     × (first : Insn) × (second : Insn) × (b.slots ≡ Long first second)
     × IsInsnSaid lines n x first × IsInsnSaid lines n y second
 IsBundleSaid lines n (x ∷ y ∷ z ∷ []) name b =
@@ -120,7 +120,7 @@ IsBundleSaid lines n (x ∷ y ∷ z ∷ []) name b =
 IsBundleSaid lines n slots name b = ⊥
 
 -- so is each of bundles, the first of which is the n-th
-abbrev pub AreBundlesSaid : List Line → ℕ → List (List SlotSaid × Shape) → List Bundle → Type 0
+abbrev pub AreBundlesSaid : List Line → ℕ → List (List SlotSaid × TemplateName) → List Bundle → Type 0
 AreBundlesSaid lines n [] [] = ⊤
 AreBundlesSaid lines n (said ∷ more) (b ∷ bs) = IsBundleSaid lines n said.0 said.1 b × AreBundlesSaid lines (n + 1) more bs
 AreBundlesSaid lines n more bs = ⊥

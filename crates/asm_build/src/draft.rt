@@ -2,13 +2,13 @@
 
 ghost use Rattle.std.specs.Prelude.{◌≡◌, ◌↔◌, true, Some, IfSome, MatchOption, IsTrue};
 ghost use Rattle.ia_insn.specs.Bundles.{IsBundle};
-ghost use Rattle.asm_reading.specs.declared.line.Shape.TheVariants as shape;
+ghost use Rattle.asm_reading.specs.declared.line.TemplateName.TheVariants as template_name;
 ghost use Rattle.asm_build.specs.declared.draft.SlotLines.TheVariants as slots;
 ghost use Rattle.asm_build.specs.Drafts.{OpenBundle, AreFitting, letter_of, lettered, completed, count_of, one_more, last_stopped, HasSlot, HasSlotRoom, next_unit, FitsNext, added, stopped, closed_as, closed, IsWhole};
 ghost use Rattle.asm_build.specs.Names.{slot_line};
 
 use crate::template_name::{template_of, units_named};
-use asm_text::{Draft, Shape};
+use asm_text::{Draft, TemplateName};
 use asm_words::Name;
 use ia_insn::{BundleOf, Insn, Op, Slots, Unit, fits};
 use std::marker::Model;
@@ -48,16 +48,16 @@ pub(crate) enum SlotLines {
 /// their slots.
 #[derive(Drop)]
 pub(crate) struct Open {
-    shape: Shape,
+    name: TemplateName,
     slots: SlotLines,
 }
 
 impl Model for Open {
     ghost Value = { OpenBundle };
 
-    ghost view = { λ o. record { shape = o.shape; slots = o.slots } };
+    ghost view = { λ o. record { name = o.name; slots = o.slots } };
 
-    ghost invariant = { λ o. AreFitting o.shape o.slots };
+    ghost invariant = { λ o. AreFitting o.name o.slots };
 }
 
 /// What is left to be known of an instruction in its bundle: its line, for faults, and the name of its target.
@@ -180,11 +180,11 @@ impl SlotLines {
 
 impl Open {
     /// A bundle with this template's name and no slots yet.
-    pub fn new(shape: Shape) -> Self
-        ensures { result ≡ record { shape = shape; slots = slots.Zero } }
+    pub fn new(name: TemplateName) -> Self
+        ensures { result ≡ record { name = name; slots = slots.Zero } }
     {
         Open {
-            shape,
+            name,
             slots: SlotLines::Zero,
         }
     }
@@ -202,7 +202,7 @@ impl Open {
     {
         match self.slots {
             SlotLines::Zero | SlotLines::One { .. } => true,
-            SlotLines::Two { .. } => self.shape != Shape::Mlx,
+            SlotLines::Two { .. } => self.name != TemplateName::Mlx,
             SlotLines::Three { .. } => false,
         }
     }
@@ -211,7 +211,7 @@ impl Open {
     fn next_unit(&self) -> Unit
         ensures { result ≡ next_unit self.now }
     {
-        let [first, second, third] = units_named(self.shape);
+        let [first, second, third] = units_named(self.name);
         match self.slots {
             SlotLines::Zero => first,
             SlotLines::One { .. } => second,
@@ -237,7 +237,7 @@ impl Open {
         let insn = completed(&draft, self.next_unit());
         let target = draft.target;
         Open {
-            shape: self.shape,
+            name: self.name,
             slots: self.slots.with(SlotLine {
                 line,
                 insn,
@@ -252,7 +252,7 @@ impl Open {
         ensures { result ≡ stopped self }
     {
         Open {
-            shape: self.shape,
+            name: self.name,
             slots: self.slots.stopped(),
         }
     }
@@ -261,10 +261,9 @@ impl Open {
     pub fn close(self) -> Option<BundleLines>
         ensures { MatchOption result (¬ IsWhole self) (λ b. (closed self ≡ Some b) × IsBundle b.bundle) }
     {
-        let shape = self.shape;
-        match self.slots {
-            SlotLines::Two { a, b } if shape == Shape::Mlx => BundleLines::long(a, b),
-            SlotLines::Three { a, b, c } => BundleLines::three(shape, a, b, c),
+        match (self.name, self.slots) {
+            (TemplateName::Mlx, SlotLines::Two { a, b }) => BundleLines::long(a, b),
+            (name, SlotLines::Three { a, b, c }) => BundleLines::three(name, a, b, c),
             _ => None,
         }
     }
@@ -272,12 +271,12 @@ impl Open {
 
 impl BundleLines {
     /// The bundle of three slot lines, whose instructions fit. None where no template has their stops.
-    fn three(shape: Shape, a: SlotLine, b: SlotLine, c: SlotLine) -> Option<Self>
-        requires { AreFitting shape (slots.Three a b c) }
-        ensures value { result ≡ closed_as (slots.Three a b c) shape }
+    fn three(name: TemplateName, a: SlotLine, b: SlotLine, c: SlotLine) -> Option<Self>
+        requires { AreFitting name (slots.Three a b c) }
+        ensures value { result ≡ closed_as (slots.Three a b c) name }
         ensures fit { IfSome result (λ l. IsBundle l.bundle) }
     {
-        let template = template_of(shape, a.stop, b.stop, c.stop)?;
+        let template = template_of(name, a.stop, b.stop, c.stop)?;
         let slots = Slots::Three {
             a: a.insn,
             b: b.insn,
@@ -293,11 +292,11 @@ impl BundleLines {
 
     /// The bundle of a slot line and a long one, whose instructions fit.
     fn long(first: SlotLine, long: SlotLine) -> Option<Self>
-        requires { AreFitting shape.Mlx (slots.Two first long) }
-        ensures value { result ≡ closed_as (slots.Two first long) shape.Mlx }
+        requires { AreFitting template_name.Mlx (slots.Two first long) }
+        ensures value { result ≡ closed_as (slots.Two first long) template_name.Mlx }
         ensures fit { IfSome result (λ l. IsBundle l.bundle) }
     {
-        let template = template_of(Shape::Mlx, first.stop, false, long.stop)?;
+        let template = template_of(TemplateName::Mlx, first.stop, false, long.stop)?;
         let slots = Slots::Long {
             first: first.insn,
             long: long.insn,

@@ -14,7 +14,7 @@ use crate::address::Address;
 use crate::data::padded;
 use crate::draft::{BundleLines, Open};
 use crate::reason::{Reason, TextError, fault};
-use asm_text::{Draft, Line, Predicates, Shape, Values};
+use asm_text::{Draft, Line, Predicates, TemplateName, Values};
 use asm_words::Name;
 use ia_insn::limits::{BUNDLE_LIMIT, DATA_LIMIT};
 use std::alloc::{AllocError, Global};
@@ -110,7 +110,7 @@ impl TextParts {
             Line::Ignored => self.ignored(n),
             Line::Numbers { size, values } => self.numbers(n, size, &values),
             Line::Skip { count } => self.skip(n, count),
-            Line::Open { shape } => self.begin(n, shape),
+            Line::Open { name } => self.begin(n, name),
             Line::Slot { draft, stop } => self.slot(n, draft, stop),
             Line::Stop => self.stop(n),
             Line::Close => self.close(n),
@@ -301,9 +301,9 @@ impl TextParts {
         Ok(())
     }
 
-    fn begin(&mut self, n: u32, shape: Shape) -> Result<(), TextError>
-        ensures ok { OnOk result (ArePassed (value_stages self.old (line.Open shape)) × (self.new ≡ after self.old n (line.Open shape))) }
-        ensures err { IfErr result (IsValueError self.old n (line.Open shape)) }
+    fn begin(&mut self, n: u32, name: TemplateName) -> Result<(), TextError>
+        ensures ok { OnOk result (ArePassed (value_stages self.old (line.Open name)) × (self.new ≡ after self.old n (line.Open name))) }
+        ensures err { IfErr result (IsValueError self.old n (line.Open name)) }
     {
         if !self.is_in_text() {
             return Err(fault(n, Reason::Misplaced));
@@ -311,7 +311,7 @@ impl TextParts {
         if self.bundles.len() >= BUNDLE_LIMIT {
             return Err(fault(n, Reason::Limit));
         }
-        self.current = Some(Open::new(shape));
+        self.current = Some(Open::new(name));
         Ok(())
     }
 

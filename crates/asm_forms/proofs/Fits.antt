@@ -4,8 +4,8 @@ use Rattle.std.proofs.Common.{◌≡◌, refl, ap, Bool, true, false, List, [], 
 use Rattle.std.specs.Cmp.Lexicographic.{pointwise}
 use Rattle.asm_words.specs.declared.tokens.Token.{Token}
 use Rattle.asm_words.specs.declared.tokens.Token.TheVariants as t
-use Rattle.asm_forms.specs.declared.items.Item.{Item}
-use Rattle.asm_forms.specs.declared.items.Item.TheVariants.{Is, Takes}
+use Rattle.asm_forms.specs.declared.items.FormItem.{FormItem}
+use Rattle.asm_forms.specs.declared.items.FormItem.TheVariants.{Is, Takes}
 use Rattle.asm_forms.specs.declared.items.Mark.{Mark}
 use Rattle.asm_forms.specs.declared.items.Mark.TheVariants as m
 use Rattle.asm_forms.specs.declared.items.Kind.{Kind}
@@ -23,7 +23,7 @@ takes_printed k.Label x h = cc
 takes_printed kind x h = h
 
 -- the tokens are those that the items want
-pub spelled : (is : List Item) (xs : List Token) → fits is xs ≡ true → pointwise accepts is (filled is xs) ≡ true
+pub spelled : (is : List FormItem) (xs : List Token) → fits is xs ≡ true → pointwise accepts is (filled is xs) ≡ true
 spelled [] [] h = refl
 spelled [] (x ∷ xs) h = cc
 spelled (Is mark ∷ is) xs h = rw (mark_is mark) (spelled is xs h)
@@ -31,7 +31,7 @@ spelled (Takes kind ∷ is) [] h = cc
 spelled (Takes kind ∷ is) (x ∷ xs) h = rw (takes_printed kind x (left _ _ h)) (spelled is xs (right _ _ h))
 
 -- and the operands among them are those given
-pub taken_back : (is : List Item) (xs : List Token) → fits is xs ≡ true → taken is (filled is xs) ≡ xs
+pub taken_back : (is : List FormItem) (xs : List Token) → fits is xs ≡ true → taken is (filled is xs) ≡ xs
 taken_back [] [] h = refl
 taken_back [] (x ∷ xs) h = cc
 taken_back (Is mark ∷ is) xs h = taken_back is xs h

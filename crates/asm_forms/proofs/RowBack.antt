@@ -20,8 +20,8 @@ use Rattle.asm_forms.specs.declared.choices.Relation.TheVariants as rel
 use Rattle.asm_forms.specs.declared.choices.Whether.TheVariants as wh
 use Rattle.asm_forms.specs.declared.choices.CacheHint.TheVariants as hint
 use Rattle.asm_forms.specs.declared.form.Form.{Form}
-use Rattle.asm_forms.specs.declared.items.Item.{Item}
-use Rattle.asm_forms.specs.declared.items.Item.TheVariants.{Is, Takes}
+use Rattle.asm_forms.specs.declared.items.FormItem.{FormItem}
+use Rattle.asm_forms.specs.declared.items.FormItem.TheVariants.{Is, Takes}
 use Rattle.asm_forms.specs.declared.items.Mark.{Mark}
 use Rattle.asm_forms.specs.declared.items.Mark.TheVariants as m
 use Rattle.asm_forms.specs.declared.items.Kind.{Kind}
@@ -29,14 +29,14 @@ use Rattle.asm_forms.specs.Completers.{text_of, members}
 use Rattle.asm_forms.specs.Items.{mark_token, is_mark, accepts, filled, prints, fits}
 use Rattle.asm_forms.specs.Matching.{is_spelled}
 use Rattle.asm_forms.specs.Naming.{begins, ends_part, and_more, completers_in, has_completers_if, is_named, named_forms}
-use Rattle.asm_forms.specs.Rows.{Row, rows, first_row, row_of, place}
+use Rattle.asm_forms.specs.Rows.{FormRow, rows, first_row, row_of, place}
 use Rattle.asm_forms.proofs.Bools.{left, right, both, all_take, all_both, all_found, all_flat, all_map}
 use Rattle.asm_forms.proofs.Clear.{tells, differ, products, never_named, is_clear, all_clear, is_other, words_alone, words_dotted}
 use Rattle.asm_forms.proofs.Fits.{spelled, told}
 use Rattle.asm_forms.proofs.RowFacts.{form_back, in_table, of_row}
 
 -- the row's items are the operands'
-abbrev is_read : List Token → Row → Bool
+abbrev is_read : List Token → FormRow → Bool
 is_read operands r = pointwise accepts r.items operands
 
 -- a token that is a mark is the mark's
@@ -61,7 +61,7 @@ not_the_mark k n x true e p h =
     sym s ∙ not-true _ h
 not_the_mark k n x false e p h = refl
 
-not_read : (k : Kind) (j : Item) (x : Token) → prints k x ≡ true → tells (Takes k) j ≡ true → accepts j x ≡ false
+not_read : (k : Kind) (j : FormItem) (x : Token) → prints k x ≡ true → tells (Takes k) j ≡ true → accepts j x ≡ false
 not_read k (Is n) x p h = not_the_mark k n x (is_mark n x) refl p h
 not_read k (Takes o) x p h = told k o x p h
 
@@ -71,7 +71,7 @@ either false true b c f g h = g h
 either false false b c f g h = refl
 
 -- what is printed for items that differ from others is not theirs
-pub not_spelled : (is js : List Item) (xs : List Token) → fits is xs ≡ true → differ is js ≡ true → pointwise accepts js (filled is xs) ≡ false
+pub not_spelled : (is js : List FormItem) (xs : List Token) → fits is xs ≡ true → differ is js ≡ true → pointwise accepts js (filled is xs) ≡ false
 not_spelled [] [] xs h e = cc
 not_spelled [] (j ∷ js) xs h e = refl
 not_spelled (Is n ∷ is) [] xs h e = refl
@@ -139,18 +139,18 @@ dots [] = refl
 dots (x ∷ cs) = first_dot x (flat_map text_of cs) (dots cs)
 
 -- a row's own word and completers name it
-pub named_own : (r : Row) (cs : List Completer) → completers_in r.sets (flat_map text_of cs) ≡ Some cs → is_named (r.word ++ flat_map text_of cs) r ≡ true
+pub named_own : (r : FormRow) (cs : List Completer) → completers_in r.sets (flat_map text_of cs) ≡ Some cs → is_named (r.word ++ flat_map text_of cs) r ≡ true
 named_own r cs e =
     let d : drop (length r.word) (r.word ++ flat_map text_of cs) ≡ flat_map text_of cs = past_front r.word (flat_map text_of cs) in
     rw (own_front r.word (flat_map text_of cs), d, dots cs, e) refl
 
-passed : (p : Row → Bool) (x : Row) (ys : List Row) (o : Option Row) (b a : Bool) → p x ≡ a → not (b && a) ≡ true → find p ys ≡ o → find p (cond b (x ∷ ys) ys) ≡ o
+passed : (p : FormRow → Bool) (x : FormRow) (ys : List FormRow) (o : Option FormRow) (b a : Bool) → p x ≡ a → not (b && a) ≡ true → find p ys ≡ o → find p (cond b (x ∷ ys) ys) ≡ o
 passed p x ys o true true e n m = cc
 passed p x ys o true false e n m = rw e m
 passed p x ys o false a e n m = m
 
 -- the first row that is named and spelled is found
-found_at : (p q : Row → Bool) (xs : List Row) (i : ℕ) (d : Row) → i < length xs → p (get_or xs i d) ≡ true → q (get_or xs i d) ≡ true → list_all (λ r. not (q r && p r)) (take i xs) ≡ true
+found_at : (p q : FormRow → Bool) (xs : List FormRow) (i : ℕ) (d : FormRow) → i < length xs → p (get_or xs i d) ≡ true → q (get_or xs i d) ≡ true → list_all (λ r. not (q r && p r)) (take i xs) ≡ true
     → find p (filter q xs) ≡ Some (get_or xs i d)
 found_at p q [] i d l a b n = absurd (omega (arith, l))
 found_at p q (x ∷ xs) zero d l a b n = rw (b, a) refl
@@ -167,7 +167,7 @@ not_first true sets name d h = rw h refl
 not_first false sets name d h = refl
 
 -- a row that stands before another is not read from what the other prints
-unread : (r q : Row) (cs : List Completer) (xs : List Token) → fits r.items xs ≡ true → completers_in r.sets (flat_map text_of cs) ≡ Some cs → is_clear r q ≡ true → is_other (flat_map text_of cs) r q ≡ true
+unread : (r q : FormRow) (cs : List Completer) (xs : List Token) → fits r.items xs ≡ true → completers_in r.sets (flat_map text_of cs) ≡ Some cs → is_clear r q ≡ true → is_other (flat_map text_of cs) r q ≡ true
     → not (is_named (r.word ++ flat_map text_of cs) q && is_read (filled r.items xs) q) ≡ true
 unread r q cs xs h e clear other = by_word (bytes_eq r.word q.word) refl clear other
   where
@@ -193,16 +193,16 @@ others rest (inl e) = subst (λ z. list_all (λ r. list_all (is_other z r) rows)
 others rest (inr (cs, e)) = subst (λ z. list_all (λ r. list_all (is_other z r) rows) rows ≡ true) (sym e) (words_dotted cs)
 
 -- what is found among rows is found among their forms, where a row is found by its form
-found_first : (p : Row → Bool) (row : Form → Row) (x r : Row) (us : List Row) (b a : Bool) → p x ≡ a → row x.form ≡ x → (find p us ≡ Some r → find (λ f. p (row f)) (map (λ y. y.form) us) ≡ Some r.form)
+found_first : (p : FormRow → Bool) (row : Form → FormRow) (x r : FormRow) (us : List FormRow) (b a : Bool) → p x ≡ a → row x.form ≡ x → (find p us ≡ Some r → find (λ f. p (row f)) (map (λ y. y.form) us) ≡ Some r.form)
     → find p (cond b (x ∷ us) us) ≡ Some r → find (λ f. p (row f)) (map (λ y. y.form) (cond b (x ∷ us) us)) ≡ Some r.form
 found_first p row x r us true true e i k h = let s : x ≡ r = some_same x r (rw e at h) in rw (i, e) (ap (λ y. Some y.form) s)
   where
-    some_same : (y z : Row) → Some y ≡ Some z → y ≡ z
+    some_same : (y z : FormRow) → Some y ≡ Some z → y ≡ z
     some_same y z q = cc
 found_first p row x r us true false e i k h = rw (i, e) (k (rw e at h))
 found_first p row x r us false a e i k h = k h
 
-found_form : (p q : Row → Bool) (row : Form → Row) (rs : List Row) (r : Row) → map (λ x. row x.form) rs ≡ rs → find p (filter q rs) ≡ Some r → find (λ f. p (row f)) (map (λ x. x.form) (filter q rs)) ≡ Some r.form
+found_form : (p q : FormRow → Bool) (row : Form → FormRow) (rs : List FormRow) (r : FormRow) → map (λ x. row x.form) rs ≡ rs → find p (filter q rs) ≡ Some r → find (λ f. p (row f)) (map (λ x. x.form) (filter q rs)) ≡ Some r.form
 found_form p q row [] r e h = cc
 found_form p q row (x ∷ xs) r e h = found_first p row x r (filter q xs) (q x) (p x) refl (cc) (λ k. found_form p q row xs r (cc) k) h
 
@@ -225,7 +225,7 @@ row_back f cs xs e h =
     found_form (is_read (filled (row_of f).items xs)) (is_named ((row_of f).word ++ rest)) row_of rows (row_of f) rows_back first ∙ ap Some (form_back f)
 
 -- all rows that the name of a row names have the row's word
-alike : (r q : Row) (rest : List ℕ) → is_other rest r q ≡ true → (not (is_named (r.word ++ rest) q) || bytes_eq r.word q.word) ≡ true
+alike : (r q : FormRow) (rest : List ℕ) → is_other rest r q ≡ true → (not (is_named (r.word ++ rest) q) || bytes_eq r.word q.word) ≡ true
 alike r q rest o = by_word (bytes_eq r.word q.word) o
   where
     by_word : (b : Bool) → (b || not (begins (r.word ++ rest) q.word)) ≡ true → (not (is_named (r.word ++ rest) q) || b) ≡ true

@@ -5,7 +5,7 @@ use Rattle.std.proofs.lemmas.Bool.{leb-true}
 use Rattle.asm_forms.specs.declared.form.Form.{Form}
 use Rattle.asm_forms.specs.declared.form.Form.TheVariants as form
 use Rattle.asm_forms.specs.Items.{operand_count}
-use Rattle.asm_forms.specs.Rows.{Row, rows, first_row, row_of, place}
+use Rattle.asm_forms.specs.Rows.{FormRow, rows, first_row, row_of, place}
 use Rattle.asm_forms.proofs.Bools.{all_at}
 
 -- the forms stand in the order of their rows
@@ -18,7 +18,7 @@ in_table form.Data = lit< tt
 in_table f = lit< tt
 
 -- what holds of each row holds of that of a form
-pub of_row : (p : Row → Bool) (f : Form) → list_all p rows ≡ true → p (row_of f) ≡ true
+pub of_row : (p : FormRow → Bool) (f : Form) → list_all p rows ≡ true → p (row_of f) ≡ true
 of_row p f h = all_at p rows (place f) first_row (in_table f) h
 
 sets_few : list_all (λ r. leb (length r.sets) 4) rows ≡ true

@@ -10,21 +10,21 @@ use Rattle.asm_forms.specs.declared.form.Form.TheVariants as form
 use Rattle.asm_forms.specs.Items.{accepts}
 use Rattle.asm_forms.specs.Matching.{is_spelled}
 use Rattle.asm_forms.specs.Naming.{is_named}
-use Rattle.asm_forms.specs.Rows.{Row, Seen, seen, row_of}
+use Rattle.asm_forms.specs.Rows.{FormRow, Seen, seen, row_of}
 
 -- the first form of these rows that the name and the operands spell
-abbrev pub spelled : List ℕ → List Token → List Row → Option Form
+abbrev pub spelled : List ℕ → List Token → List FormRow → Option Form
 spelled name operands rs = find (is_spelled operands) (map (λ r. r.form) (filter (is_named name) rs))
 
 -- the first row of a table whose rows are those of their forms
-first_own : (r : Row) (rs : List Row) → map (λ q. row_of q.form) (r ∷ rs) ≡ r ∷ rs → row_of r.form ≡ r
+first_own : (r : FormRow) (rs : List FormRow) → map (λ q. row_of q.form) (r ∷ rs) ≡ r ∷ rs → row_of r.form ≡ r
 first_own r rs h = cc
 
-others_own : (r : Row) (rs : List Row) → map (λ q. row_of q.form) (r ∷ rs) ≡ r ∷ rs → map (λ q. row_of q.form) rs ≡ rs
+others_own : (r : FormRow) (rs : List FormRow) → map (λ q. row_of q.form) (r ∷ rs) ≡ r ∷ rs → map (λ q. row_of q.form) rs ≡ rs
 others_own r rs h = cc
 
 -- the row's own form is found
-here : (name : List ℕ) (operands : List Token) (r : Row) (rs : List Row) → row_of r.form ≡ r → (is_named name r && pointwise accepts r.items operands) ≡ true → spelled name operands (r ∷ rs) ≡ Some r.form
+here : (name : List ℕ) (operands : List Token) (r : FormRow) (rs : List FormRow) → row_of r.form ≡ r → (is_named name r && pointwise accepts r.items operands) ≡ true → spelled name operands (r ∷ rs) ≡ Some r.form
 here name operands r rs own h = here_by (is_named name r) own h
   where
     here_by : (b : Bool) → row_of r.form ≡ r → (b && pointwise accepts r.items operands) ≡ true → find (is_spelled operands) (map (λ q. q.form) (cond b (r ∷ filter (is_named name) rs) (filter (is_named name) rs))) ≡ Some r.form
@@ -32,7 +32,7 @@ here name operands r rs own h = here_by (is_named name r) own h
     here_by false own h = cc
 
 -- where it isn't, the others are looked through
-past : (name : List ℕ) (operands : List Token) (r : Row) (rs : List Row) → row_of r.form ≡ r → (is_named name r && pointwise accepts r.items operands) ≡ false → spelled name operands (r ∷ rs) ≡ spelled name operands rs
+past : (name : List ℕ) (operands : List Token) (r : FormRow) (rs : List FormRow) → row_of r.form ≡ r → (is_named name r && pointwise accepts r.items operands) ≡ false → spelled name operands (r ∷ rs) ≡ spelled name operands rs
 past name operands r rs own h = past_by (is_named name r) own h
   where
     past_by : (b : Bool) → row_of r.form ≡ r → (b && pointwise accepts r.items operands) ≡ false → find (is_spelled operands) (map (λ q. q.form) (cond b (r ∷ filter (is_named name) rs) (filter (is_named name) rs))) ≡ spelled name operands rs

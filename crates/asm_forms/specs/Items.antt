@@ -2,8 +2,8 @@
 use Rattle.std.specs.Prelude.{ℕ, ◌+◌, ◌%◌, Bool, true, false, ◌&&◌, ◌||◌, nat_le, ◌==◌, if◌then◌else◌, List, [], ◌∷◌}
 use Rattle.asm_words.specs.declared.tokens.Token.{Token}
 use Rattle.asm_words.specs.declared.tokens.Token.TheVariants as t
-use Rattle.asm_forms.specs.declared.items.Item.{Item}
-use Rattle.asm_forms.specs.declared.items.Item.TheVariants.{Is, Takes}
+use Rattle.asm_forms.specs.declared.items.FormItem.{FormItem}
+use Rattle.asm_forms.specs.declared.items.FormItem.TheVariants.{Is, Takes}
 use Rattle.asm_forms.specs.declared.items.Mark.{Mark}
 use Rattle.asm_forms.specs.declared.items.Mark.TheVariants as m
 use Rattle.asm_forms.specs.declared.items.Kind.{Kind}
@@ -18,30 +18,30 @@ abbrev pub within : Bool → ℕ → ℕ → ℕ → Bool
 within negative magnitude below above = if negative then nat_le magnitude below else nat_le magnitude above
 
 -- the numbers that a field has room for, by sign and magnitude
-abbrev pub holds : NumberField → Bool → ℕ → Bool
-holds Imm8 s m = within s m 128 127
-holds Less8 s m = within s m 127 128
-holds Imm9 s m = within s m 256 255
-holds Imm14 s m = within s m 8192 8191
-holds Imm22 s m = within s m 2097152 2097151
-holds Imm21 s m = within s m 0 2097151
-holds Imm62 s m = within s m 0 4611686018427387903
-holds Imm64 s m = within s m 9223372036854775808 18446744073709551615
-holds Count s m = within s m 0 4 && nat_le 1 m
-holds Position s m = within s m 0 63
-holds Length s m = within s m 0 64 && nat_le 1 m
-holds Length16 s m = within s m 0 16 && nat_le 1 m
-holds ZeroOrMinusOne s m = within s m 1 0
-holds Frame s m = within s m 0 96
-holds Rotating s m = within s m 0 96 && (m % 8 == 0)
-holds Tag s m = within s m 256 255
-holds Mask s m = within s m 65536 131071
-holds RotatingMask s m = within s m 8796093022208 8796093022207 && (m % 65536 == 0)
-holds Increment s m = (m == 1) || (m == 4) || (m == 8) || (m == 16)
-holds Skip s m = within s m 0 DATA_LIMIT
-holds Data1 s m = within s m 128 255
-holds Data2 s m = within s m 32768 65535
-holds Data4 s m = within s m 2147483648 4294967295
+abbrev pub has_room : NumberField → Bool → ℕ → Bool
+has_room Imm8 s m = within s m 128 127
+has_room Less8 s m = within s m 127 128
+has_room Imm9 s m = within s m 256 255
+has_room Imm14 s m = within s m 8192 8191
+has_room Imm22 s m = within s m 2097152 2097151
+has_room Imm21 s m = within s m 0 2097151
+has_room Imm62 s m = within s m 0 4611686018427387903
+has_room Imm64 s m = within s m 9223372036854775808 18446744073709551615
+has_room Count s m = within s m 0 4 && nat_le 1 m
+has_room Position s m = within s m 0 63
+has_room Length s m = within s m 0 64 && nat_le 1 m
+has_room Length16 s m = within s m 0 16 && nat_le 1 m
+has_room ZeroOrMinusOne s m = within s m 1 0
+has_room Frame s m = within s m 0 96
+has_room Rotating s m = within s m 0 96 && (m % 8 == 0)
+has_room Tag s m = within s m 256 255
+has_room Mask s m = within s m 65536 131071
+has_room RotatingMask s m = within s m 8796093022208 8796093022207 && (m % 65536 == 0)
+has_room Increment s m = (m == 1) || (m == 4) || (m == 8) || (m == 16)
+has_room Skip s m = within s m 0 DATA_LIMIT
+has_room Data1 s m = within s m 128 255
+has_room Data2 s m = within s m 32768 65535
+has_room Data4 s m = within s m 2147483648 4294967295
 
 -- the token that a mark is
 abbrev pub mark_token : Mark → Token
@@ -91,30 +91,30 @@ takes k.Gr (t.Gr _) = true
 takes k.Pr (t.Pr _) = true
 takes k.Br (t.Br _) = true
 takes k.Ar (t.Ar _) = true
-takes (k.Number f) (t.Number s m) = holds f s m
+takes (k.Number f) (t.Number s m) = has_room f s m
 takes k.Label x = is_label x
 takes _ _ = false
 
 -- an item is read from the token
-abbrev pub accepts : Item → Token → Bool
+abbrev pub accepts : FormItem → Token → Bool
 accepts (Is mark) x = is_mark mark x
 accepts (Takes kind) x = takes kind x
 
 -- how many operands the items take
-abbrev pub operand_count : List Item → ℕ
+abbrev pub operand_count : List FormItem → ℕ
 operand_count [] = 0
 operand_count (Is mark ∷ is) = operand_count is
 operand_count (Takes kind ∷ is) = operand_count is + 1
 
 -- the operands among the tokens of the items
-abbrev pub taken : List Item → List Token → List Token
+abbrev pub taken : List FormItem → List Token → List Token
 taken [] xs = []
 taken (i ∷ is) [] = []
 taken (Is mark ∷ is) (x ∷ xs) = taken is xs
 taken (Takes kind ∷ is) (x ∷ xs) = x ∷ taken is xs
 
 -- the tokens of the items with these operands
-abbrev pub filled : List Item → List Token → List Token
+abbrev pub filled : List FormItem → List Token → List Token
 filled [] xs = []
 filled (Is mark ∷ is) xs = mark_token mark ∷ filled is xs
 filled (Takes kind ∷ is) [] = []
@@ -127,14 +127,14 @@ prints k.Label _ = false
 prints kind x = takes kind x
 
 -- the operands are of the kinds that the items take, one by one, as they are printed
-abbrev pub fits : List Item → List Token → Bool
+abbrev pub fits : List FormItem → List Token → Bool
 fits [] [] = true
 fits [] (x ∷ xs) = false
 fits (Is mark ∷ is) xs = fits is xs
 fits (Takes kind ∷ is) [] = false
 fits (Takes kind ∷ is) (x ∷ xs) = prints kind x && fits is xs
 
-abbrev pub is_register : Item → Bool
+abbrev pub is_register : FormItem → Bool
 is_register (Takes k.Gr) = true
 is_register (Takes k.Pr) = true
 is_register (Takes k.Br) = true
@@ -147,12 +147,12 @@ is_register (Is m.RotatingPredicates) = true
 is_register (Is m.Ip) = true
 is_register _ = false
 
-abbrev pub is_number : Item → Bool
+abbrev pub is_number : FormItem → Bool
 is_number (Takes (k.Number _)) = true
 is_number (Is m.One) = true
 is_number _ = false
 
-abbrev pub is_label_item : Item → Bool
+abbrev pub is_label_item : FormItem → Bool
 is_label_item (Takes k.Label) = true
 is_label_item _ = false
 

@@ -7,7 +7,7 @@ use Rattle.asm_words.specs.declared.tokens.Token.{Token}
 use Rattle.asm_words.specs.declared.tokens.Token.TheVariants as t
 use Rattle.asm_words.specs.declared.fault.LineFault.{LineFault}
 use Rattle.asm_words.specs.declared.fault.LineFault.TheVariants as fault
-use Rattle.asm_forms.specs.declared.items.Item.{Item}
+use Rattle.asm_forms.specs.declared.items.FormItem.{FormItem}
 use Rattle.asm_forms.specs.declared.form.Form.{Form}
 use Rattle.asm_forms.specs.declared.matching.Class.{Class}
 use Rattle.asm_forms.specs.declared.matching.Class.TheVariants as class
@@ -23,13 +23,13 @@ is_stop_next [] = false
 is_stop_next (x ∷ xs) = is_stop x
 
 -- on how many tokens at the front the items agree
-abbrev pub agreed_items : List Item → List Token → ℕ
+abbrev pub agreed_items : List FormItem → List Token → ℕ
 agreed_items [] tokens = 0
 agreed_items (i ∷ is) [] = 0
 agreed_items (i ∷ is) (x ∷ xs) = if accepts i x then agreed_items is xs + 1 else 0
 
 -- and on a stop too where it stands after all of them
-unfoldable pub agreed : List Item → List Token → ℕ
+unfoldable pub agreed : List FormItem → List Token → ℕ
 agreed items tokens =
     let at = agreed_items items tokens in
     if (at == length items) && is_stop_next (drop at tokens) then at + 1 else at
@@ -39,17 +39,17 @@ abbrev pub reach : List Form → List Token → ℕ
 reach [] tokens = 0
 reach (f ∷ fs) tokens = max (agreed (row_of f).items tokens) (reach fs tokens)
 
-abbrev is_in : Class → Item → Bool
+abbrev is_in : Class → FormItem → Bool
 is_in class.Register i = is_register i
 is_in class.Number i = is_number i
 is_in class.Label i = is_label_item i
 
-abbrev pub is_of : Class → Option Item → Bool
+abbrev pub is_of : Class → Option FormItem → Bool
 is_of c None = false
 is_of c (Some i) = is_in c i
 
 -- the items agree so far, and one of the class is next
-abbrev pub wants_next : Class → List Item → List Token → ℕ → Bool
+abbrev pub wants_next : Class → List FormItem → List Token → ℕ → Bool
 wants_next c items tokens at = (agreed items tokens == at) && is_of c (slice_get items at)
 
 abbrev pub wants : Class → List Form → List Token → ℕ → Bool

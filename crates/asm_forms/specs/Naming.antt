@@ -8,7 +8,7 @@ use Rattle.asm_forms.specs.declared.completer.Completer.{Completer}
 use Rattle.asm_forms.specs.declared.completer.CompleterSet.{CompleterSet}
 use Rattle.asm_forms.specs.declared.form.Form.{Form}
 use Rattle.asm_forms.specs.Completers.{text_of, members}
-use Rattle.asm_forms.specs.Rows.{Row, rows, row_of}
+use Rattle.asm_forms.specs.Rows.{FormRow, rows, row_of}
 
 -- a dot or nothing follows
 abbrev pub ends_part : List ℕ → Bool
@@ -38,7 +38,7 @@ has_completers_if false sets name = false
 has_completers_if true sets name = is_some (completers_in sets name)
 
 -- the name is the row's word and completers
-abbrev pub is_named : List ℕ → Row → Bool
+abbrev pub is_named : List ℕ → FormRow → Bool
 is_named name r = has_completers_if (begins name r.word) r.sets (drop (length r.word) name)
 
 -- the forms whose words and completers this name is, in their order

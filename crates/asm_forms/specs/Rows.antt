@@ -7,48 +7,48 @@ use Rattle.asm_forms.specs.declared.form.Form.{Form}
 use Rattle.asm_forms.specs.declared.form.Form.TheVariants as form
 use Rattle.asm_forms.specs.declared.rows.TheConstants.{ROWS_TO_B, ROWS_C_TO_I, ROWS_L_TO_N, ROWS_O_TO_R, ROWS_FROM_S}
 use Rattle.asm_forms.specs.declared.completer.CompleterSet.{CompleterSet}
-use Rattle.asm_forms.specs.declared.items.Item.{Item}
+use Rattle.asm_forms.specs.declared.items.FormItem.{FormItem}
 
 -- a form, the word that leads a line of the form, the sets of the word's completers, and what stands after it
-pub record Row : Type 0 where
+pub record FormRow : Type 0 where
   pub form : Form
   pub word : List ℕ
   pub sets : List CompleterSet
-  pub items : List Item
+  pub items : List FormItem
 
 -- a row as a function has it
 abbrev pub Seen : Type 0
-Seen = Form × Bor (List ℕ) × Bor (List CompleterSet) × Bor (List Item)
+Seen = Form × Bor (List ℕ) × Bor (List CompleterSet) × Bor (List FormItem)
 
-abbrev pub seen : Seen → Row
+abbrev pub seen : Seen → FormRow
 seen r = record { form = r.0; word = r.1.now; sets = r.2.now; items = r.3.now }
 
 -- the rows by the first letters of their words
-abbrev pub rows_to_b : List Row
+abbrev pub rows_to_b : List FormRow
 rows_to_b = map (λ r. record { form = r.0; word = r.1.now; sets = r.2.now; items = r.3.now }) ROWS_TO_B
 
-abbrev pub rows_c_to_i : List Row
+abbrev pub rows_c_to_i : List FormRow
 rows_c_to_i = map (λ r. record { form = r.0; word = r.1.now; sets = r.2.now; items = r.3.now }) ROWS_C_TO_I
 
-abbrev pub rows_l_to_n : List Row
+abbrev pub rows_l_to_n : List FormRow
 rows_l_to_n = map (λ r. record { form = r.0; word = r.1.now; sets = r.2.now; items = r.3.now }) ROWS_L_TO_N
 
-abbrev pub rows_o_to_r : List Row
+abbrev pub rows_o_to_r : List FormRow
 rows_o_to_r = map (λ r. record { form = r.0; word = r.1.now; sets = r.2.now; items = r.3.now }) ROWS_O_TO_R
 
-abbrev pub rows_from_s : List Row
+abbrev pub rows_from_s : List FormRow
 rows_from_s = map (λ r. record { form = r.0; word = r.1.now; sets = r.2.now; items = r.3.now }) ROWS_FROM_S
 
 -- all rows
-abbrev pub rows : List Row
+abbrev pub rows : List FormRow
 rows = rows_to_b ++ rows_c_to_i ++ rows_l_to_n ++ rows_o_to_r ++ rows_from_s
 
-abbrev pub first_row : Row
+abbrev pub first_row : FormRow
 first_row = record { form = form.Data; word = []; sets = []; items = [] }
 
 -- a form's place among the forms is that of its row among the rows
 abbrev pub place : Form → ℕ
 place f = tag_of the_type f
 
-abbrev pub row_of : Form → Row
+abbrev pub row_of : Form → FormRow
 row_of f = slice_index_or rows (place f) first_row

@@ -1,7 +1,7 @@
 //! What a form wants at one place of its operands.
 
 ghost use Rattle.std.specs.Prelude.{◌≡◌};
-ghost use Rattle.asm_forms.specs.Items.{mark_token, is_mark, takes, accepts, holds, within, is_label, is_register, is_number, is_label_item, begins_with_letter, is_long_name, is_stop};
+ghost use Rattle.asm_forms.specs.Items.{mark_token, is_mark, takes, accepts, has_room, within, is_label, is_register, is_number, is_label_item, begins_with_letter, is_long_name, is_stop};
 
 use asm_words::Token;
 use ia_insn::limits::DATA_LIMIT;
@@ -104,7 +104,7 @@ pub enum Kind {
 
 /// What a form wants at one place.
 #[derive(Clone, Copy, Debug, PartialEq, Eq)]
-pub enum Item {
+pub enum FormItem {
     /// This mark.
     Is(Mark),
     /// An operand of this kind.
@@ -123,8 +123,8 @@ fn within(negative: bool, magnitude: u64, below: u64, above: u64) -> bool
 }
 
 /// Whether the field has room for the number of this sign and magnitude.
-pub fn holds(field: NumberField, negative: bool, magnitude: u64) -> bool
-    ensures { result ≡ holds field negative magnitude }
+pub fn has_room(field: NumberField, negative: bool, magnitude: u64) -> bool
+    ensures { result ≡ has_room field negative magnitude }
 {
     match field {
         NumberField::Imm8 => within(negative, magnitude, 128, 127),
@@ -242,7 +242,7 @@ fn takes(kind: Kind, token: Token) -> bool
             Token::Number {
                 negative,
                 magnitude,
-            } => holds(field, negative, magnitude),
+            } => has_room(field, negative, magnitude),
             _ => false,
         },
         Kind::Label => is_label(token),
@@ -250,23 +250,23 @@ fn takes(kind: Kind, token: Token) -> bool
 }
 
 /// Whether the item is read from the token.
-pub fn accepts(item: Item, token: Token) -> bool
+pub fn accepts(item: FormItem, token: Token) -> bool
     ensures { result ≡ accepts item token }
 {
     match item {
-        Item::Is(mark) => is_mark(mark, token),
-        Item::Takes(kind) => takes(kind, token),
+        FormItem::Is(mark) => is_mark(mark, token),
+        FormItem::Takes(kind) => takes(kind, token),
     }
 }
 
 /// Whether the item is a register.
-pub(crate) fn is_register(item: Item) -> bool
+pub(crate) fn is_register(item: FormItem) -> bool
     ensures { result ≡ is_register item }
 {
     matches!(
         item,
-        Item::Takes(Kind::Gr | Kind::Pr | Kind::Br | Kind::Ar)
-            | Item::Is(
+        FormItem::Takes(Kind::Gr | Kind::Pr | Kind::Br | Kind::Ar)
+            | FormItem::Is(
                 Mark::Unat
                     | Mark::Pfs
                     | Mark::R0
@@ -278,17 +278,20 @@ pub(crate) fn is_register(item: Item) -> bool
 }
 
 /// Whether the item is a number.
-pub(crate) fn is_number(item: Item) -> bool
+pub(crate) fn is_number(item: FormItem) -> bool
     ensures { result ≡ is_number item }
 {
-    matches!(item, Item::Takes(Kind::Number(_)) | Item::Is(Mark::One))
+    matches!(
+        item,
+        FormItem::Takes(Kind::Number(_)) | FormItem::Is(Mark::One)
+    )
 }
 
 /// Whether the item is a label.
-pub(crate) fn is_label_item(item: Item) -> bool
+pub(crate) fn is_label_item(item: FormItem) -> bool
     ensures { result ≡ is_label_item item }
 {
-    matches!(item, Item::Takes(Kind::Label))
+    matches!(item, FormItem::Takes(Kind::Label))
 }
 
 /// Whether the token is a name that begins with a letter.

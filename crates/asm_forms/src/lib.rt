@@ -23,7 +23,7 @@ mod spelling;
 pub use choices::{AccessSize, CacheHint, Relation, Whether};
 pub use completer::{Completer, CompleterSet, members, text};
 pub use form::Form;
-pub use items::{Item, Kind, Mark, NumberField, accepts, holds, mark_token};
+pub use items::{FormItem, Kind, Mark, NumberField, accepts, has_room, mark_token};
 pub use laws::forms_are_read_back;
 pub use matching::{fault_at, read_form};
 pub use naming::{Completers, Named, completers, named};

@@ -9,7 +9,8 @@ ghost use Rattle.asm_forms.specs.Matching.{agreed, agreed_items, is_stop_next, i
 
 use crate::form::Form;
 use crate::items::{
-    Item, accepts, begins_with_letter, is_label_item, is_long_name, is_number, is_register, is_stop,
+    FormItem, accepts, begins_with_letter, is_label_item, is_long_name, is_number, is_register,
+    is_stop,
 };
 use asm_words::{LineFault, Token};
 
@@ -21,7 +22,7 @@ enum Class {
     Label,
 }
 
-fn is_of(class: Class, item: Option<Item>) -> bool
+fn is_of(class: Class, item: Option<FormItem>) -> bool
     ensures { result ≡ is_of class item }
 {
     match (item, class) {
@@ -33,7 +34,7 @@ fn is_of(class: Class, item: Option<Item>) -> bool
 }
 
 /// Whether the operands are the items, one by one.
-pub(crate) fn are_accepted(items: &[Item], operands: &[Token]) -> bool
+pub(crate) fn are_accepted(items: &[FormItem], operands: &[Token]) -> bool
     ensures { result ≡ pointwise accepts items.now operands.now }
 {
     if items.len() != operands.len() {
@@ -48,7 +49,7 @@ pub(crate) fn are_accepted(items: &[Item], operands: &[Token]) -> bool
 }
 
 /// On how many tokens at the front the items agree.
-fn agreed_items(items: &[Item], tokens: &[Token]) -> usize
+fn agreed_items(items: &[FormItem], tokens: &[Token]) -> usize
     ensures value { result ≡ agreed_items items.now tokens.now }
     ensures bound { result ≤ length tokens.now }
 {
@@ -73,7 +74,7 @@ fn is_stop_at(tokens: &[Token], at: usize) -> bool
 /// On how many tokens at the front a form with these items agrees: on a stop too where it stands after
 /// all of them.
 #[tactic(auto, unfolding(crate::specs::Matching::agreed))]
-fn agreed(items: &[Item], tokens: &[Token]) -> usize
+fn agreed(items: &[FormItem], tokens: &[Token]) -> usize
     ensures value { result ≡ agreed items.now tokens.now }
     ensures bound { result ≤ length tokens.now }
 {
@@ -110,7 +111,7 @@ fn wants(class: Class, forms: &[Form], tokens: &[Token], at: usize) -> bool
 }
 
 /// Whether the items agree so far, and one of the class is next.
-fn wants_next(class: Class, items: &[Item], tokens: &[Token], at: usize) -> bool
+fn wants_next(class: Class, items: &[FormItem], tokens: &[Token], at: usize) -> bool
     ensures { result ≡ wants_next class items.now tokens.now at }
 {
     agreed(items, tokens) == at && is_of(class, items.get(at).copied())

@@ -8,7 +8,7 @@ ghost use Rattle.asm_forms.specs.Rows.{seen, row_of};
 
 use crate::completer::{Completer, CompleterSet, members, text};
 use crate::form::Form;
-use crate::rows::{Row, rows_c_to_i, rows_from_s, rows_l_to_n, rows_o_to_r, rows_to_b};
+use crate::rows::{FormRow, rows_c_to_i, rows_from_s, rows_l_to_n, rows_o_to_r, rows_to_b};
 use arrayvec::ArrayVec;
 
 /// The completers of a form, place by place.
@@ -74,14 +74,14 @@ fn has_completers(sets: &[CompleterSet], name: &[u8]) -> bool
 }
 
 /// Whether the name is the row's word and completers.
-fn is_named(name: &[u8], row: &Row) -> bool
+fn is_named(name: &[u8], row: &FormRow) -> bool
     ensures { result ≡ is_named name.now (seen row.now) }
 {
     begins(name, row.1) && has_completers(row.2, &name[row.1.len()..])
 }
 
 /// The rows among which those of the name's word are.
-pub(crate) fn rows_by_letter(name: &[u8]) -> &'static [Row]
+pub(crate) fn rows_by_letter(name: &[u8]) -> &'static [FormRow]
     ensures value { map (λ r. r.form) (filter (is_named name.now) (map seen result.now)) ≡ named_forms name.now }
     ensures listed { map (λ r. row_of r.form) (map seen result.now) ≡ map seen result.now }
     ensures few { length result.now ≤ 36 }
@@ -111,7 +111,7 @@ pub fn named(name: &[u8]) -> Named
     named_among(rows_by_letter(name), name)
 }
 
-fn named_among(rows: &[Row], name: &[u8]) -> Named
+fn named_among(rows: &[FormRow], name: &[u8]) -> Named
     requires { length rows.now ≤ 36 }
     ensures { result.items ≡ map (λ r. r.form) (filter (is_named name.now) (map seen rows.now)) }
 {

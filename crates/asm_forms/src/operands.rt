@@ -4,7 +4,7 @@ ghost use Rattle.std.specs.Prelude.{◌≡◌, ◌≤◌, ◌+◌, ◌++◌};
 ghost use Rattle.arrayvec.specs.ArrayVec.{array_vec_len};
 ghost use Rattle.asm_forms.specs.Items.{operand_count, taken};
 
-use crate::items::Item;
+use crate::items::FormItem;
 use arrayvec::ArrayVec;
 use asm_words::Token;
 
@@ -12,7 +12,7 @@ use asm_words::Token;
 pub type Operands = ArrayVec<Token, 5>;
 
 /// The operands among the tokens of the items.
-pub fn taken(items: &[Item], tokens: &[Token]) -> Operands
+pub fn taken(items: &[FormItem], tokens: &[Token]) -> Operands
     requires { operand_count items.now ≤ 5 }
     ensures { result.items ≡ taken items.now tokens.now }
 {
@@ -22,16 +22,16 @@ pub fn taken(items: &[Item], tokens: &[Token]) -> Operands
 }
 
 /// Appends the operands among the tokens of the items.
-fn take_into(items: &[Item], tokens: &[Token], operands: &mut Operands)
+fn take_into(items: &[FormItem], tokens: &[Token], operands: &mut Operands)
     requires { array_vec_len operands.old + operand_count items.now ≤ 5 }
     ensures { operands.new.items ≡ operands.old.items ++ taken items.now tokens.now }
 {
     match (items, tokens) {
-        ([Item::Takes(_), items @ ..], [token, tokens @ ..]) => {
+        ([FormItem::Takes(_), items @ ..], [token, tokens @ ..]) => {
             operands.push(*token);
             take_into(items, tokens, operands);
         }
-        ([Item::Is(_), items @ ..], [_, tokens @ ..]) => take_into(items, tokens, operands),
+        ([FormItem::Is(_), items @ ..], [_, tokens @ ..]) => take_into(items, tokens, operands),
         _ => {}
     }
 }

@@ -6,18 +6,18 @@ ghost use Rattle.asm_forms.specs.Rows.{rows_to_b, rows_c_to_i, rows_l_to_n, rows
 
 use crate::completer::CompleterSet;
 use crate::form::Form;
-use crate::items::Item::{Is, Takes};
-use crate::items::{Item, Kind, Mark, NumberField};
+use crate::items::FormItem::{Is, Takes};
+use crate::items::{FormItem, Kind, Mark, NumberField};
 
 /// A form, the word that leads a line of the form, the sets of the word's completers, and what stands after it.
 ///
 /// The rows stand as in an index, in the order of the first letters of their words, and those of one word
 /// together. The first that the operands have is read: a branch register before a label.
-pub(crate) type Row = (
+pub(crate) type FormRow = (
     Form,
     &'static [u8],
     &'static [CompleterSet],
-    &'static [Item],
+    &'static [FormItem],
 );
 
 macro_rules! item {
@@ -56,7 +56,7 @@ macro_rules! row {
 }
 
 /// The rows of the forms with a word that begins with a dot, `a` or `b`.
-pub(crate) static ROWS_TO_B: [Row; 29] = [
+pub(crate) static ROWS_TO_B: [FormRow; 29] = [
     row!(Data, b".data", []),
     row!(Endp, b".endp", [], Label),
     row!(Entry, b".entry", [], Label),
@@ -99,7 +99,7 @@ pub(crate) static ROWS_TO_B: [Row; 29] = [
 ];
 
 /// The rows of the forms with a word that begins with `c` to `i`.
-pub(crate) static ROWS_C_TO_I: [Row; 32] = [
+pub(crate) static ROWS_C_TO_I: [FormRow; 32] = [
     row!(ChkS, b"chk", [S, CheckUnit], Gr, Label),
     row!(ChkANc, b"chk", [A, Nc], Gr, Label),
     row!(ChkAClr, b"chk", [A, Clr], Gr, Label),
@@ -176,7 +176,7 @@ pub(crate) static ROWS_C_TO_I: [Row; 32] = [
 ];
 
 /// The rows of the forms with a word that begins with `l` to `n`.
-pub(crate) static ROWS_L_TO_N: [Row; 36] = [
+pub(crate) static ROWS_L_TO_N: [FormRow; 36] = [
     row!(Ld1, b"ld1", [LoadType, LoadHint], Gr = [Gr]),
     row!(Ld1Reg, b"ld1", [LoadType, LoadHint], Gr = [Gr], Gr),
     row!(Ld1Imm, b"ld1", [LoadType, LoadHint], Gr = [Gr], Imm9),
@@ -216,7 +216,7 @@ pub(crate) static ROWS_L_TO_N: [Row; 36] = [
 ];
 
 /// The rows of the forms with a word that begins with `o` to `r`.
-pub(crate) static ROWS_O_TO_R: [Row; 12] = [
+pub(crate) static ROWS_O_TO_R: [FormRow; 12] = [
     row!(Or, b"or", [], Gr = Gr, Gr),
     row!(OrImm, b"or", [], Gr = Imm8, Gr),
     row!(Padd1, b"padd1", [], Gr = Gr, Gr),
@@ -232,7 +232,7 @@ pub(crate) static ROWS_O_TO_R: [Row; 12] = [
 ];
 
 /// The rows of the forms with a word that begins with `s` or a later letter.
-pub(crate) static ROWS_FROM_S: [Row; 34] = [
+pub(crate) static ROWS_FROM_S: [FormRow; 34] = [
     row!(Shl, b"shl", [], Gr = Gr, Gr),
     row!(ShlNumber, b"shl", [], Gr = Gr, Position),
     row!(Shladd, b"shladd", [], Gr = Gr, Count, Gr),
@@ -269,35 +269,35 @@ pub(crate) static ROWS_FROM_S: [Row; 34] = [
     row!(Zxt4, b"zxt4", [], Gr = Gr),
 ];
 
-pub(crate) fn rows_to_b() -> &'static [Row]
+pub(crate) fn rows_to_b() -> &'static [FormRow]
     ensures value { map seen result.now ≡ rows_to_b }
     ensures count { length result.now ≡ 29 }
 {
     &ROWS_TO_B
 }
 
-pub(crate) fn rows_c_to_i() -> &'static [Row]
+pub(crate) fn rows_c_to_i() -> &'static [FormRow]
     ensures value { map seen result.now ≡ rows_c_to_i }
     ensures count { length result.now ≡ 32 }
 {
     &ROWS_C_TO_I
 }
 
-pub(crate) fn rows_l_to_n() -> &'static [Row]
+pub(crate) fn rows_l_to_n() -> &'static [FormRow]
     ensures value { map seen result.now ≡ rows_l_to_n }
     ensures count { length result.now ≡ 36 }
 {
     &ROWS_L_TO_N
 }
 
-pub(crate) fn rows_o_to_r() -> &'static [Row]
+pub(crate) fn rows_o_to_r() -> &'static [FormRow]
     ensures value { map seen result.now ≡ rows_o_to_r }
     ensures count { length result.now ≡ 12 }
 {
     &ROWS_O_TO_R
 }
 
-pub(crate) fn rows_from_s() -> &'static [Row]
+pub(crate) fn rows_from_s() -> &'static [FormRow]
     ensures value { map seen result.now ≡ rows_from_s }
     ensures count { length result.now ≡ 34 }
 {
@@ -305,7 +305,7 @@ pub(crate) fn rows_from_s() -> &'static [Row]
 }
 
 /// The row at a place of the table.
-fn row_at(at: usize) -> Row
+fn row_at(at: usize) -> FormRow
     requires { at < 143 }
     ensures { seen result ≡ slice_index_or rows at first_row }
 {
@@ -322,7 +322,7 @@ fn row_at(at: usize) -> Row
     }
 }
 
-fn row(form: Form) -> Row
+fn row(form: Form) -> FormRow
     ensures { seen result ≡ row_of form }
 {
     row_at(form as usize)
@@ -345,7 +345,7 @@ impl Form {
     }
 
     /// What stands after the word: marks, and operands of which there are at most 5.
-    pub fn items(self) -> &'static [Item]
+    pub fn items(self) -> &'static [FormItem]
         ensures value { result.now ≡ (row_of self).items }
         ensures few { operand_count result.now ≤ 5 }
     {

@@ -11,7 +11,7 @@ ghost use Rattle.asm_forms.specs.Rows.{row_of, seen};
 use crate::form::Form;
 use crate::matching::are_accepted;
 use crate::naming::{Completers, begins, completers_of, rows_by_letter};
-use crate::rows::Row;
+use crate::rows::FormRow;
 use asm_words::Token;
 
 /// A form, and the completers that a mnemonic of it has.
@@ -21,7 +21,7 @@ pub struct Spelled {
 }
 
 /// The completers of the mnemonic, where it is the row's word with completers and the operands are the row's.
-fn spelled_by(row: &Row, name: &[u8], operands: &[Token]) -> Option<Completers>
+fn spelled_by(row: &FormRow, name: &[u8], operands: &[Token]) -> Option<Completers>
     requires { row_of row.now.0 ≡ seen row.now }
     ensures { MatchOption result ((is_named name.now (seen row.now) && pointwise accepts row.now.3.now operands.now) ≡ false)
         (λ cs. ((is_named name.now (seen row.now) && pointwise accepts row.now.3.now operands.now) ≡ true) × (completers row.now.0 name.now ≡ Some cs.items)) }

@@ -5,7 +5,7 @@ use Rattle.ia_insn.specs.declared.insn.Op.{Op}
 use Rattle.ia_insn.specs.declared.insn.Op.TheVariants as op
 use Rattle.ia_insn.specs.declared.choices.BranchKind.TheVariants as branch
 use Rattle.ia_insn.specs.declared.choices.Unit.TheVariants as unit
-use Rattle.ia_insn.specs.FormatsB.{IsListedB}
+use Rattle.ia_insn.specs.Listed.{IsListedB}
 use Rattle.asm_printing.proofs.Written.{operands_of, IsPrinted}
 
 pub printed_b : (qp : ℕ) (x : Op) → IsListedB (record { qp = qp; op = x }) → (qp < 64) × AllByRecursion IsPrinted (operands_of x)
@@ -17,7 +17,7 @@ printed_b qp (op.BrRet b2 wh many clr) l = (l.fit.1.1.1.1.1.1.1.0, (l.fit.1.1.1.
 printed_b qp (op.BrCallInd b1 b2 wh many clr) l = (l.fit.1.1.1.1.1.1.1.0, (l.fit.1.1.1.1.1.1.0, (l.fit.1.1.1.1.0, tt)))
 printed_b qp (op.Clrrrb false) l = (l.fit.1.1.0, tt)
 printed_b qp (op.Clrrrb true) l = (l.fit.1.1.0, tt)
-printed_b qp (op.Break unit.B imm) l = (l.fit.1.1.1.1.0, (omega (arith, l.range), tt))
-printed_b qp (op.Nop unit.B imm) l = (l.fit.1.1.1.1.0, (omega (arith, l.range), tt))
-printed_b qp (op.Hint unit.B imm) l = (l.fit.1.1.1.1.0, (omega (arith, l.range), tt))
-printed_b qp x l = absurd l.range
+printed_b qp (op.Break unit.B imm) l = (l.fit.1.1.1.1.0, (omega (arith, l.ranges), tt))
+printed_b qp (op.Nop unit.B imm) l = (l.fit.1.1.1.1.0, (omega (arith, l.ranges), tt))
+printed_b qp (op.Hint unit.B imm) l = (l.fit.1.1.1.1.0, (omega (arith, l.ranges), tt))
+printed_b qp x l = absurd l.row

@@ -4,10 +4,10 @@ use Rattle.std.specs.List.{AllByRecursion}
 use Rattle.ia_insn.specs.declared.insn.Op.{Op}
 use Rattle.ia_insn.specs.declared.insn.Op.TheVariants as op
 use Rattle.ia_insn.specs.declared.choices.Unit.TheVariants as unit
-use Rattle.ia_insn.specs.FormatsF.{IsListedF}
+use Rattle.ia_insn.specs.Listed.{IsListedF}
 use Rattle.asm_printing.proofs.Written.{operands_of, IsPrinted}
 
 pub printed_f : (qp : ℕ) (x : Op) → IsListedF (record { qp = qp; op = x }) → (qp < 64) × AllByRecursion IsPrinted (operands_of x)
-printed_f qp (op.Break unit.F imm) l = (l.fit.1.1.1.1.1.0, (omega (arith, l.range), tt))
-printed_f qp (op.Nop unit.F imm) l = (l.fit.1.1.1.1.1.1.0, (omega (arith, l.range), tt))
-printed_f qp x l = absurd l.range
+printed_f qp (op.Break unit.F imm) l = (l.fit.1.1.1.1.1.0, (omega (arith, l.ranges), tt))
+printed_f qp (op.Nop unit.F imm) l = (l.fit.1.1.1.1.1.1.0, (omega (arith, l.ranges), tt))
+printed_f qp x l = absurd l.row

@@ -15,8 +15,8 @@ use Rattle.asm_words.specs.declared.tokens.Token.TheVariants as t
 use Rattle.asm_words.proofs.HexDigits.{hex_one, hex_step}
 use Rattle.asm_forms.specs.declared.completer.Completer.{Completer}
 use Rattle.asm_forms.specs.declared.form.Form.{Form}
-use Rattle.asm_forms.specs.declared.items.Item.{Item}
-use Rattle.asm_forms.specs.declared.items.Item.TheVariants.{Is, Takes}
+use Rattle.asm_forms.specs.declared.items.FormItem.{FormItem}
+use Rattle.asm_forms.specs.declared.items.FormItem.TheVariants.{Is, Takes}
 use Rattle.asm_forms.specs.declared.items.Kind.{Kind}
 use Rattle.asm_forms.specs.declared.items.Kind.TheVariants as k
 use Rattle.asm_forms.specs.Completers.{text_of}
@@ -53,7 +53,7 @@ kind_room k.Ar = 7
 kind_room k.Label = 12
 kind_room (k.Number field) = 21
 
-abbrev items_room : List Item → ℕ
+abbrev items_room : List FormItem → ℕ
 items_room [] = 0
 items_room (Is mark ∷ is) = token_room (mark_token mark) + items_room is
 items_room (Takes kind ∷ is) = kind_room kind + items_room is
@@ -122,7 +122,7 @@ token_is_short target hex t.CloseBracket l p = omega arith
 token_is_short target hex x l p = absurd p
 
 -- The text of operands fits in their room.
-operands_are_short : (target : ℕ) (is : List Item) (xs : List Token) → target < 2 ^ 34 → fits is xs ≡ true → AllByRecursion IsPrinted (filled is xs) → length (operands_text target is xs) ≤ items_room is
+operands_are_short : (target : ℕ) (is : List FormItem) (xs : List Token) → target < 2 ^ 34 → fits is xs ≡ true → AllByRecursion IsPrinted (filled is xs) → length (operands_text target is xs) ≤ items_room is
 operands_are_short target [] xs l h p = omega arith
 operands_are_short target (Is mark ∷ is) xs l h p =
     let one = token_is_short target false (mark_token mark) l p.0 in

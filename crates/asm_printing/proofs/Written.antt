@@ -4,7 +4,7 @@ use Rattle.asm_words.specs.declared.tokens.Token.{Token}
 use Rattle.asm_words.specs.declared.tokens.Token.TheVariants as t
 use Rattle.asm_forms.specs.declared.completer.Completer.{Completer}
 use Rattle.asm_forms.specs.declared.form.Form.{Form}
-use Rattle.asm_forms.specs.declared.items.Item.{Item}
+use Rattle.asm_forms.specs.declared.items.FormItem.{FormItem}
 use Rattle.asm_forms.specs.Items.{filled}
 use Rattle.asm_forms.specs.Rows.{row_of}
 use Rattle.ia_insn.specs.declared.insn.Op.{Op}
@@ -20,7 +20,7 @@ completers_of x = (syntax_of x).completers
 abbrev pub operands_of : Op → List Token
 operands_of x = (syntax_of x).operands
 
-abbrev pub items_of : Op → List Item
+abbrev pub items_of : Op → List FormItem
 items_of x = (row_of (form_of x)).items
 
 -- marks and operands

@@ -5,8 +5,8 @@ use Rattle.std.specs.Option.{option_map}
 use Rattle.std.specs.Fmt.{digits}
 use Rattle.asm_words.specs.declared.tokens.Token.{Token}
 use Rattle.asm_words.specs.declared.tokens.Token.TheVariants as t
-use Rattle.asm_forms.specs.declared.items.Item.{Item}
-use Rattle.asm_forms.specs.declared.items.Item.TheVariants.{Is, Takes}
+use Rattle.asm_forms.specs.declared.items.FormItem.{FormItem}
+use Rattle.asm_forms.specs.declared.items.FormItem.TheVariants.{Is, Takes}
 use Rattle.asm_forms.specs.declared.items.Kind.{Kind}
 use Rattle.asm_forms.specs.declared.items.Kind.TheVariants as takes
 use Rattle.asm_forms.specs.declared.items.NumberField.{NumberField}
@@ -69,7 +69,7 @@ token_text target hex t.CloseBracket = codes "]"
 token_text target hex _ = []
 
 -- the marks and the operands of a form, item by item
-abbrev pub operands_text : ℕ → List Item → List Token → List ℕ
+abbrev pub operands_text : ℕ → List FormItem → List Token → List ℕ
 operands_text target [] xs = []
 operands_text target (Is mark ∷ is) xs = token_text target false (mark_token mark) ++ operands_text target is xs
 operands_text target (Takes kind ∷ is) [] = []

@@ -9,7 +9,7 @@ ghost use Rattle.asm_printing.specs.SlotTexts.{is_hex, ar_text, number_text, lab
 
 use crate::canonical::{Syntax, syntax_of};
 use crate::numerals::{push_bytes, push_decimal, push_hex};
-use asm_forms::{Completer, Form, Item, Kind, NumberField, mark_token, text};
+use asm_forms::{Completer, Form, FormItem, Kind, NumberField, mark_token, text};
 use asm_words::Token;
 use ia_insn::{Ar, Insn, Op, Place, Pr};
 use std::alloc::AllocError;
@@ -101,7 +101,7 @@ fn is_hex(kind: Kind) -> bool
 fn push_items(
     out: &mut Vec<u8>,
     target: u64,
-    items: &[Item],
+    items: &[FormItem],
     operands: &[Token],
 ) -> Result<(), AllocError>
     ensures ok { OnOk result (out.new.items ≡ out.old.items ++ operands_text target items.now operands.now) }
@@ -109,11 +109,11 @@ fn push_items(
 {
     match items {
         [] => Ok(()),
-        [Item::Is(mark), items @ ..] => {
+        [FormItem::Is(mark), items @ ..] => {
             push_token(out, target, false, mark_token(*mark))?;
             push_items(out, target, items, operands)
         }
-        [Item::Takes(kind), items @ ..] => match operands {
+        [FormItem::Takes(kind), items @ ..] => match operands {
             [] => Ok(()),
             [operand, operands @ ..] => {
                 push_token(out, target, is_hex(*kind), *operand)?;
@@ -177,7 +177,7 @@ fn push_predicate(out: &mut Vec<u8>, qp: Pr) -> Result<(), AllocError>
 fn push_operands(
     out: &mut Vec<u8>,
     target: u64,
-    items: &[Item],
+    items: &[FormItem],
     operands: &[Token],
 ) -> Result<(), AllocError>
     ensures ok { OnOk result (out.new.items ≡ out.old.items ++ spaced (operands_text target items.now operands.now)) }

@@ -23,10 +23,10 @@ use Rattle.asm_forms.specs.Naming.{named_forms}
 use Rattle.asm_forms.specs.Rows.{row_of}
 use Rattle.asm_reading.specs.declared.line.Line.{Line}
 use Rattle.asm_reading.specs.declared.line.Line.TheVariants as line
-use Rattle.asm_reading.specs.declared.line.Shape.{Shape}
+use Rattle.asm_reading.specs.declared.line.TemplateName.{TemplateName}
 use Rattle.asm_reading.specs.Instructions.{op_of}
 use Rattle.asm_reading.specs.Relations.{named_predicates, agreed_relation, relation_of}
-use Rattle.asm_reading.specs.Lines.{◌>>=◌, or_fault, KindAndText, tokens, label_name, name_of, lead_at, without_stop, predicate_of, completers_or_none, slot_under, slot_of, data_field, agreed_data, data_of, named, directive_value, directive_of, alone, formed, among, marked, shape_of, opened_as, mark_led, led_by, led_at, led, is_name_word, is_colon, label_of, value_of}
+use Rattle.asm_reading.specs.Lines.{◌>>=◌, or_fault, KindAndText, tokens, label_name, name_of, lead_at, without_stop, predicate_of, completers_or_none, slot_under, slot_of, data_field, agreed_data, data_of, named, directive_value, directive_of, alone, formed, among, marked, template_name_of, opened_as, mark_led, led_by, led_at, led, is_name_word, is_colon, label_of, value_of}
 use Rattle.asm_reading.specs.FaultOrder.{Beside, beside, beside_name, beside_mark, beside_word, beside_at, beside_lead, beside_of, name_instruction, fault_in, predicate_fault, fault_before, Operands, Numbers, Predicates, OfForms, operands_of, right_count, fault_among, before_stage, after_stage}
 use Rattle.asm_words.proofs.Bools.{left}
 use Rattle.asm_reading.proofs.FaultOrderFronts.{right_within, fault_front, first_wrong, spelled_all, spelled_with_stop, found_all}
@@ -228,7 +228,7 @@ marked_found value [] [] = (refl, (refl, tt))
 marked_found value [] (w ∷ ws) = beside_none w ws
 marked_found value (b ∷ bs) after = inl (inl (fault.Form, refl, refl))
 
-opened_as_answers : (o : Option Shape) (before after : List KindAndText) → Answers (option_map (λ s. beside [] before after) o) (opened_as o before after)
+opened_as_answers : (o : Option TemplateName) (before after : List KindAndText) → Answers (option_map (λ s. beside [] before after) o) (opened_as o before after)
 opened_as_answers None before after = refl
 opened_as_answers (Some s) before after = marked_found (line.Open s) before after
 
@@ -236,7 +236,7 @@ mark_led_answers : (x : Token) (before after : List KindAndText) → Answers (be
 mark_led_answers t.Stop before after = marked_found line.Stop before after
 mark_led_answers t.CloseBrace before after = marked_found line.Close before after
 mark_led_answers t.OpenBrace before [] = refl
-mark_led_answers t.OpenBrace before (w ∷ after) = opened_as_answers (shape_of w.1) before after
+mark_led_answers t.OpenBrace before (w ∷ after) = opened_as_answers (template_name_of w.1) before after
 mark_led_answers _ before after = refl
 
 -- lines by their leading words, and by the places of these

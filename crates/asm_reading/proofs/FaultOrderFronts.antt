@@ -10,7 +10,7 @@ use Rattle.std.proofs.lemmas.Option.{slice_get_within}
 use Rattle.asm_words.specs.declared.tokens.Token.{Token}
 use Rattle.asm_words.proofs.Bools.{left, right}
 use Rattle.asm_forms.specs.declared.form.Form.{Form}
-use Rattle.asm_forms.specs.declared.items.Item.{Item}
+use Rattle.asm_forms.specs.declared.items.FormItem.{FormItem}
 use Rattle.asm_forms.specs.declared.items.NumberField.{NumberField}
 use Rattle.asm_forms.specs.Items.{accepts, is_stop}
 use Rattle.asm_forms.specs.Matching.{is_spelled, agreed_items, is_stop_next, agreed, reach, fault_at, fault_of}
@@ -20,7 +20,7 @@ use Rattle.asm_reading.specs.Relations.{may_follow, agreed_relation, relation_fa
 use Rattle.asm_reading.specs.FaultOrder.{Operands, Numbers, Predicates, OfForms, operands_of, right_count, fault_among, IsFirstWrong}
 
 -- on how many tokens items agree, token by token
-abbrev walked : List Item → List Token → ℕ
+abbrev walked : List FormItem → List Token → ℕ
 walked [] [] = 0
 walked [] (x ∷ xs) = if is_stop x then 1 else 0
 walked (i ∷ is) [] = 0
@@ -45,7 +45,7 @@ none_yet : (l : ℕ) (s : Bool) → (if (0 == suc l) && s then 0 + 1 else 0) ≡
 none_yet l s = rw (eqb-zero-suc l) refl
 
 -- one item and one token
-one_walked : (i : Item) (is : List Item) (x : Token) (xs : List Token) → agreed is xs ≡ walked is xs → agreed (i ∷ is) (x ∷ xs) ≡ walked (i ∷ is) (x ∷ xs)
+one_walked : (i : FormItem) (is : List FormItem) (x : Token) (xs : List Token) → agreed is xs ≡ walked is xs → agreed (i ∷ is) (x ∷ xs) ≡ walked (i ∷ is) (x ∷ xs)
 unfolding agreed
 one_walked i is x xs h = elim (accepts i x) as (λ b.
     (if ((if b then agreed_items is xs + 1 else 0) == suc (length is)) && is_stop_next (drop (if b then agreed_items is xs + 1 else 0) (x ∷ xs))
@@ -55,7 +55,7 @@ one_walked i is x xs h = elim (accepts i x) as (λ b.
       | false ↦ none_yet (length is) (is_stop_next (x ∷ xs))
     ]
 
-agreed_walked : (items : List Item) (xs : List Token) → agreed items xs ≡ walked items xs
+agreed_walked : (items : List FormItem) (xs : List Token) → agreed items xs ≡ walked items xs
 unfolding agreed
 agreed_walked [] [] = refl
 agreed_walked [] (x ∷ xs) = refl
@@ -74,11 +74,11 @@ min_none n false = omega arith
 none_min : (m : ℕ) → 0 ≡ min 0 m
 none_min m = omega arith
 
-walked_none : (items : List Item) → walked items [] ≡ 0
+walked_none : (items : List FormItem) → walked items [] ≡ 0
 walked_none [] = refl
 walked_none (i ∷ is) = refl
 
-walked_front : (items : List Item) (n : ℕ) (xs : List Token) → walked items (take n xs) ≡ min n (walked items xs)
+walked_front : (items : List FormItem) (n : ℕ) (xs : List Token) → walked items (take n xs) ≡ min n (walked items xs)
 walked_front items zero xs = walked_none items ∙ none_min (walked items xs)
 walked_front [] (suc n) [] = omega arith
 walked_front [] (suc n) (x ∷ xs) = min_none n (is_stop x)
@@ -93,17 +93,17 @@ more_at_most : (b : Bool) (k n : ℕ) → k ≤ n → (if b then k + 1 else 0) �
 more_at_most true k n h = omega (arith, h)
 more_at_most false k n h = omega arith
 
-walked_within : (items : List Item) (xs : List Token) → walked items xs ≤ length xs
+walked_within : (items : List FormItem) (xs : List Token) → walked items xs ≤ length xs
 walked_within [] [] = omega arith
 walked_within [] (x ∷ xs) = one_at_most (is_stop x) (length xs)
 walked_within (i ∷ is) [] = omega arith
 walked_within (i ∷ is) (x ∷ xs) = more_at_most (accepts i x) (walked is xs) (length xs) (walked_within is xs)
 
 -- the items of one form
-agreed_front : (items : List Item) (n : ℕ) (xs : List Token) → agreed items (take n xs) ≡ min n (agreed items xs)
+agreed_front : (items : List FormItem) (n : ℕ) (xs : List Token) → agreed items (take n xs) ≡ min n (agreed items xs)
 agreed_front items n xs = rw (agreed_walked items (take n xs), agreed_walked items xs) (walked_front items n xs)
 
-agreed_within : (items : List Item) (xs : List Token) → agreed items xs ≤ length xs
+agreed_within : (items : List FormItem) (xs : List Token) → agreed items xs ≤ length xs
 agreed_within items xs = rw (agreed_walked items xs) (walked_within items xs)
 
 -- the forms of a word
@@ -147,7 +147,7 @@ right_within Predicates forms xs = relation_within [] xs
 right_within OfForms forms xs = reach_within forms xs
 
 -- Where no form goes further, the forms want on a front that goes further what they want on all the tokens.
-wants_one : (items : List Item) (n at : ℕ) (xs : List Token) (p : Bool) → at < n → agreed items xs ≤ at
+wants_one : (items : List FormItem) (n at : ℕ) (xs : List Token) (p : Bool) → at < n → agreed items xs ≤ at
     → ((agreed items (take n xs) == at) && p) ≡ ((agreed items xs == at) && p)
 wants_one items n at xs p less h =
     let same : agreed items (take n xs) ≡ agreed items xs = omega (arith, agreed_front items n xs, less, h) in
@@ -214,7 +214,7 @@ first_wrong forms xs at is inside = record {
 }
 
 -- Operands that a form has are right, and a stop after them.
-spelled_within : (items : List Item) (xs : List Token) → pointwise accepts items xs ≡ true → length xs ≤ walked items xs
+spelled_within : (items : List FormItem) (xs : List Token) → pointwise accepts items xs ≡ true → length xs ≤ walked items xs
 spelled_within [] [] h = omega arith
 spelled_within [] (x ∷ xs) h = cc
 spelled_within (i ∷ is) [] h = cc
@@ -226,7 +226,7 @@ spelled_within (i ∷ is) (x ∷ xs) h =
 is_stop_some : (x y : Token) → Some x ≡ Some y → is_stop y ≡ true → is_stop x ≡ true
 is_stop_some x y e h = cc
 
-stopped_within : (items : List Item) (xs : List Token) (n : ℕ) (x : Token) → n + 1 ≡ length xs → slice_get xs n ≡ Some x → is_stop x ≡ true
+stopped_within : (items : List FormItem) (xs : List Token) (n : ℕ) (x : Token) → n + 1 ≡ length xs → slice_get xs n ≡ Some x → is_stop x ≡ true
     → pointwise accepts items (take n xs) ≡ true → length xs ≤ walked items xs
 stopped_within items [] n x few is stop h = absurd (omega (arith, few))
 stopped_within [] (y ∷ []) zero x few is stop h = rw (is_stop_some y x is stop) (omega arith)
@@ -239,14 +239,14 @@ stopped_within (i ∷ is) (y ∷ xs) (suc n) x few is_x stop h =
     rw first (omega (arith, rest))
 
 -- the token before the stop is the last operand
-stop_at_end : (items : List Item) (xs : List Token) (o : Option Token) → slice_get xs (length xs - 1) ≡ o → is_some_stop o ≡ true
+stop_at_end : (items : List FormItem) (xs : List Token) (o : Option Token) → slice_get xs (length xs - 1) ≡ o → is_some_stop o ≡ true
     → pointwise accepts items (take (length xs - 1) xs) ≡ true → length xs ≤ walked items xs
 stop_at_end items xs None is stop h = cc
 stop_at_end items xs (Some x) is stop h =
     let inside : length xs - 1 < length xs = slice_get_within xs (length xs - 1) x is in
     stopped_within items xs (length xs - 1) x (omega (arith, inside)) is stop h
 
-or_stop : (items : List Item) (xs : List Token) (b : Bool) → ends_in_stop xs ≡ b → pointwise accepts items (if b then take (length xs - 1) xs else xs) ≡ true → length xs ≤ walked items xs
+or_stop : (items : List FormItem) (xs : List Token) (b : Bool) → ends_in_stop xs ≡ b → pointwise accepts items (if b then take (length xs - 1) xs else xs) ≡ true → length xs ≤ walked items xs
 or_stop items xs true is h = stop_at_end items xs (slice_get xs (length xs - 1)) refl is h
 or_stop items xs false is h = spelled_within items xs h
 

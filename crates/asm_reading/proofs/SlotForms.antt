@@ -13,7 +13,7 @@ use Rattle.asm_forms.specs.declared.form.Form.TheVariants as form
 use Rattle.asm_forms.specs.Items.{taken}
 use Rattle.asm_forms.specs.Matching.{is_spelled, read_form}
 use Rattle.asm_forms.specs.Naming.{is_named, begins, has_completers_if, named_forms, completers}
-use Rattle.asm_forms.specs.Rows.{Row, rows, row_of}
+use Rattle.asm_forms.specs.Rows.{FormRow, rows, row_of}
 use Rattle.asm_forms.proofs.Bools.{left, right, both}
 use Rattle.asm_reading.specs.declared.line.Line.{Line}
 use Rattle.ia_insn.specs.declared.insn.Op.{Op}
@@ -65,14 +65,14 @@ named_begins : (b : Bool) (sets : List CompleterSet) (rest : List ℕ) → has_c
 named_begins true sets rest h = refl
 named_begins false sets rest h = h
 
-one_slot : (name : List ℕ) (r : Row) → is_directive_name name ≡ false → (is_directive_name r.word || is_instruction r.form) ≡ true → is_named name r ≡ true → is_instruction r.form ≡ true
+one_slot : (name : List ℕ) (r : FormRow) → is_directive_name name ≡ false → (is_directive_name r.word || is_instruction r.form) ≡ true → is_named name r ≡ true → is_instruction r.form ≡ true
 one_slot name r plain known named = other (is_directive_name r.word) refl known
   where
     other : (b : Bool) → b ≡ is_directive_name r.word → (b || is_instruction r.form) ≡ true → is_instruction r.form ≡ true
     other false e k = k
     other true e k = let so : is_directive_name name ≡ true = directive_so name r.word (left _ _ (named_begins (begins name r.word) r.sets _ named)) (sym e) in cc
 
-kept_slots : (name : List ℕ) (rs : List Row) → is_directive_name name ≡ false → list_all (λ r. is_directive_name r.word || is_instruction r.form) rs ≡ true → list_all is_instruction (map (λ r. r.form) (filter (is_named name) rs)) ≡ true
+kept_slots : (name : List ℕ) (rs : List FormRow) → is_directive_name name ≡ false → list_all (λ r. is_directive_name r.word || is_instruction r.form) rs ≡ true → list_all is_instruction (map (λ r. r.form) (filter (is_named name) rs)) ≡ true
 kept_slots name [] plain known = refl
 kept_slots name (r ∷ rs) plain known = kept_one (is_named name r) refl (kept_slots name rs plain (right _ _ known))
   where

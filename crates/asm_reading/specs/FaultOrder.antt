@@ -19,7 +19,7 @@ use Rattle.asm_forms.specs.Matching.{reach, fault_of}
 use Rattle.asm_forms.specs.Naming.{named_forms}
 use Rattle.asm_reading.specs.declared.line.Line.{Line}
 use Rattle.asm_reading.specs.Relations.{agreed_relation, relation_fault}
-use Rattle.asm_reading.specs.Lines.{KindAndText, texts, tokens, lead_at, predicate_of, data_field, agreed_data, data_fault, shape_of, is_name_word, is_colon, LineOf}
+use Rattle.asm_reading.specs.Lines.{KindAndText, texts, tokens, lead_at, predicate_of, data_field, agreed_data, data_fault, template_name_of, is_name_word, is_colon, LineOf}
 
 abbrev pub words_of : List ℕ → List KindAndText
 words_of bytes = texts bytes (words_from 0 0 bytes)
@@ -46,7 +46,7 @@ beside_name (f ∷ fs) before after = Some (beside (f ∷ fs) before after)
 abbrev pub beside_mark : Token → List KindAndText → List KindAndText → Option Beside
 beside_mark t.Stop before after = Some (beside [] before after)
 beside_mark t.CloseBrace before after = Some (beside [] before after)
-beside_mark t.OpenBrace before (w ∷ after) = option_map (λ s. beside [] before after) (shape_of w.1)
+beside_mark t.OpenBrace before (w ∷ after) = option_map (λ s. beside [] before after) (template_name_of w.1)
 beside_mark _ before after = None
 
 abbrev pub beside_word : KindAndText → List KindAndText → List KindAndText → Option Beside

@@ -8,7 +8,7 @@ use Rattle.asm_forms.specs.declared.choices.Relation.TheVariants as crel
 use Rattle.asm_forms.specs.declared.form.Form.{Form}
 use Rattle.asm_forms.specs.declared.form.Form.TheVariants as form
 use Rattle.asm_forms.specs.declared.items.NumberField.TheVariants.{Imm14}
-use Rattle.asm_forms.specs.Items.{holds}
+use Rattle.asm_forms.specs.Items.{has_room}
 use Rattle.asm_reading.specs.Operands.{gr_at, pr_at, br_at, ar_at, magnitude_at, is_negative_at, small_at, left_at, signed_at, short_at, wrapped_at, mask_at, is_present_at, relation_at, compare_at, is_unc_at, shift_right_at, load_kind_at, store_kind_at, is_release_at, hint_at, whether_at, move_whether_at, is_many_at, loop_kind_at, unit_at}
 use Rattle.ia_insn.specs.declared.insn.Op.{Op}
 use Rattle.ia_insn.specs.declared.insn.Op.TheVariants as op
@@ -82,7 +82,7 @@ parallel_imm four (Some r) kind p q n b = Some (op.CmpImm four r kind p q n b)
 
 -- `adds` where its field has room for the number, and `addl` otherwise
 abbrev pub sum : Bool → ℕ → ℕ → ℤ → ℕ → Op
-sum negative magnitude r1 n r3 = if holds Imm14 negative magnitude then op.AddImm14 false r1 n r3 else op.AddImm22 r1 n r3
+sum negative magnitude r1 n r3 = if has_room Imm14 negative magnitude then op.AddImm14 false r1 n r3 else op.AddImm22 r1 n r3
 
 -- a move of an application register, where I slots move it
 abbrev pub of_i_slot : Ar → Op → Option Op

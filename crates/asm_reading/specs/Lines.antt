@@ -22,8 +22,8 @@ use Rattle.asm_forms.specs.declared.choices.AccessSize.TheVariants as size
 use Rattle.asm_forms.specs.declared.completer.Completer.{Completer}
 use Rattle.asm_forms.specs.declared.form.Form.{Form}
 use Rattle.asm_forms.specs.declared.form.Form.TheVariants as form
-use Rattle.asm_forms.specs.declared.items.Item.{Item}
-use Rattle.asm_forms.specs.declared.items.Item.TheVariants.{Is, Takes}
+use Rattle.asm_forms.specs.declared.items.FormItem.{FormItem}
+use Rattle.asm_forms.specs.declared.items.FormItem.TheVariants.{Is, Takes}
 use Rattle.asm_forms.specs.declared.items.Mark.TheVariants as mark
 use Rattle.asm_forms.specs.declared.items.Kind.TheVariants as takes
 use Rattle.asm_forms.specs.declared.items.NumberField.{NumberField}
@@ -37,8 +37,8 @@ use Rattle.ia_insn.specs.Listed.{IsListed}
 use Rattle.asm_reading.specs.declared.line.Line.{Line}
 use Rattle.asm_reading.specs.declared.line.Line.TheVariants as line
 use Rattle.asm_reading.specs.declared.line.Draft.{Draft}
-use Rattle.asm_reading.specs.declared.line.Shape.{Shape}
-use Rattle.asm_reading.specs.declared.line.Shape.TheVariants as shape
+use Rattle.asm_reading.specs.declared.line.TemplateName.{TemplateName}
+use Rattle.asm_reading.specs.declared.line.TemplateName.TheVariants as template
 use Rattle.asm_reading.specs.Instructions.{op_of}
 use Rattle.asm_reading.specs.Relations.{relation_of}
 use Rattle.asm_reading.specs.Operands.{u32_at, magnitude, is_negative, wrapped, bytes, completer_at, is_present}
@@ -72,7 +72,7 @@ abbrev pub name_of : List ℕ → Option (List ℕ)
 name_of text = if nat_le 1 (length text) && nat_le (length text) NAME_LIMIT then Some text else None
 
 -- the name at the place of the label among these items
-abbrev pub label_name : List Item → List KindAndText → Option (List ℕ)
+abbrev pub label_name : List FormItem → List KindAndText → Option (List ℕ)
 label_name [] ws = None
 label_name (i ∷ is) [] = None
 label_name (i ∷ is) (w ∷ ws) = if is_label_item i then name_of w.1 else label_name is ws
@@ -151,7 +151,7 @@ data_field size.Two = field.Data2
 data_field size.Four = field.Data4
 data_field size.Eight = field.Imm64
 
-abbrev pub data_item : NumberField → ℕ → Item
+abbrev pub data_item : NumberField → ℕ → FormItem
 data_item f at = if at % 2 == 0 then Takes (takes.Number f) else Is mark.Comma
 
 -- on how many tokens from the place on there are numbers and commas in turn
@@ -229,34 +229,34 @@ abbrev pub marked : Line → List KindAndText → List KindAndText → Result Li
 marked value [] [] = Ok value
 marked value before after = Err fault.Form
 
-abbrev pub shape_text : Shape → List ℕ
-shape_text shape.Mii = codes ".mii"
-shape_text shape.Mlx = codes ".mlx"
-shape_text shape.Mmi = codes ".mmi"
-shape_text shape.Mfi = codes ".mfi"
-shape_text shape.Mmf = codes ".mmf"
-shape_text shape.Mib = codes ".mib"
-shape_text shape.Mbb = codes ".mbb"
-shape_text shape.Bbb = codes ".bbb"
-shape_text shape.Mmb = codes ".mmb"
-shape_text shape.Mfb = codes ".mfb"
+abbrev pub template_name_text : TemplateName → List ℕ
+template_name_text template.Mii = codes ".mii"
+template_name_text template.Mlx = codes ".mlx"
+template_name_text template.Mmi = codes ".mmi"
+template_name_text template.Mfi = codes ".mfi"
+template_name_text template.Mmf = codes ".mmf"
+template_name_text template.Mib = codes ".mib"
+template_name_text template.Mbb = codes ".mbb"
+template_name_text template.Bbb = codes ".bbb"
+template_name_text template.Mmb = codes ".mmb"
+template_name_text template.Mfb = codes ".mfb"
 
-abbrev pub all_shapes : List Shape
-all_shapes =
-    shape.Mii ∷ shape.Mlx ∷ shape.Mmi ∷ shape.Mfi ∷ shape.Mmf ∷ shape.Mib ∷ shape.Mbb ∷ shape.Bbb ∷ shape.Mmb ∷ shape.Mfb ∷ []
+abbrev pub all_template_names : List TemplateName
+all_template_names =
+    template.Mii ∷ template.Mlx ∷ template.Mmi ∷ template.Mfi ∷ template.Mmf ∷ template.Mib ∷ template.Mbb ∷ template.Bbb ∷ template.Mmb ∷ template.Mfb ∷ []
 
 -- the template name that a word is
-abbrev pub shape_of : List ℕ → Option Shape
-shape_of text = find (λ s. bytes_eq (shape_text s) text) all_shapes
+abbrev pub template_name_of : List ℕ → Option TemplateName
+template_name_of text = find (λ s. bytes_eq (template_name_text s) text) all_template_names
 
-abbrev pub opened_as : Option Shape → List KindAndText → List KindAndText → Result Line LineFault
+abbrev pub opened_as : Option TemplateName → List KindAndText → List KindAndText → Result Line LineFault
 opened_as None before after = Err fault.Name
 opened_as (Some s) before after = marked (line.Open s) before after
 
 -- `{` and a template name
 abbrev pub opened : List KindAndText → List KindAndText → Result Line LineFault
 opened before [] = Err fault.Name
-opened before (w ∷ after) = opened_as (shape_of w.1) before after
+opened before (w ∷ after) = opened_as (template_name_of w.1) before after
 
 -- a line that a mark leads
 abbrev pub mark_led : Token → List KindAndText → List KindAndText → Result Line LineFault

@@ -7,7 +7,7 @@ ghost use Rattle.asm_reading.specs.Operands.{wrapped, bytes, is_negative, magnit
 use crate::line::{Line, Values};
 use crate::operands::{bytes, wrapped_below};
 use arrayvec::ArrayVec;
-use asm_forms::{AccessSize, Item, Kind, Mark, NumberField, accepts, fault_at};
+use asm_forms::{AccessSize, FormItem, Kind, Mark, NumberField, accepts, fault_at};
 use asm_words::{LineFault, Token};
 
 /// The field of a number of this size.
@@ -23,13 +23,13 @@ fn data_field(size: AccessSize) -> NumberField
 }
 
 /// What is wanted at a place: numbers in turn with commas.
-fn data_item(field: NumberField, at: usize) -> Item
+fn data_item(field: NumberField, at: usize) -> FormItem
     ensures { result ≡ data_item field at }
 {
     if at % 2 == 0 {
-        Item::Takes(Kind::Number(field))
+        FormItem::Takes(Kind::Number(field))
     } else {
-        Item::Is(Mark::Comma)
+        FormItem::Is(Mark::Comma)
     }
 }
 

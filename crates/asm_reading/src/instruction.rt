@@ -9,7 +9,7 @@ use crate::operands::{
     move_whether_at, pr_at, relation_at, shift_right_at, short_at, signed_at, small_at,
     store_kind_at, unit_at, whether_at, wrapped_at,
 };
-use asm_forms::{Completer, Form, NumberField, Relation, holds};
+use asm_forms::{Completer, Form, NumberField, Relation, has_room};
 use asm_words::Token;
 use ia_insn::{AluFn, Ar, BranchKind, CmpKind, Gr, LaneFn, Op, Pr, Rel, ShiftFn, Unit, Update};
 
@@ -180,7 +180,7 @@ fn parallel_imm(
 fn sum(negative: bool, magnitude: u64, r1: Gr, imm: i64, r3: Gr) -> Op
     ensures { result ≡ sum negative magnitude r1 imm r3 }
 {
-    if holds(NumberField::Imm14, negative, magnitude) {
+    if has_room(NumberField::Imm14, negative, magnitude) {
         Op::AddImm14 {
             p4: false,
             r1,

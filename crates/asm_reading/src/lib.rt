@@ -14,12 +14,12 @@ mod line;
 mod operands;
 mod reading;
 mod relation;
-mod shape;
+mod template_name;
 
 pub use buffers::LineBuffers;
 pub use laws::{
     a_line_has_one_answer, a_line_is_read_by_its_words, char_comes_first, faults_in_order,
     form_comes_last, line_or_fault, name_comes_next, the_first_wrong_token_decides,
 };
-pub use line::{Draft, Line, Predicates, Shape, Values};
+pub use line::{Draft, Line, Predicates, TemplateName, Values};
 pub use reading::{read_line, read_line_with};

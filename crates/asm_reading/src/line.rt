@@ -50,7 +50,7 @@ pub enum Line {
     /// `{` and a template name, which open a bundle.
     Open {
         /// The template name.
-        shape: Shape,
+        name: TemplateName,
     },
     /// An instruction.
     Slot {
@@ -67,7 +67,7 @@ pub enum Line {
 
 /// The name of a template without its stops (volume 3, chapter 4, bundle formats).
 #[derive(Clone, Copy, Debug, PartialEq, Eq)]
-pub enum Shape {
+pub enum TemplateName {
     /// `.mii`
     Mii,
     /// `.mlx`

@@ -4,7 +4,7 @@ ghost use Rattle.std.specs.Prelude.{◌≡◌, ◌≤◌, ◌<◌, ◌+◌, ◌-
 ghost use Rattle.asm_words.specs.declared.limits.TheConstants.{LINE_LIMIT};
 ghost use Rattle.asm_words.specs.Tokens.{token_of};
 ghost use Rattle.asm_words.specs.Words.{pick};
-ghost use Rattle.asm_reading.specs.Lines.{AreParts, texts, tokens, name_of, label_name, lead_at, past_parenthesis, ends_in_stop, without_stop, predicate_of, is_bare, completers_or_none, slot_under, slot_of, directive_value, directive_of, alone, data_of, among, worded, marked, shape_of, opened, mark_led, led_by, led, led_at, is_colon, is_open, is_close, label_of, value_of, reading_of, IsListedLine, LineOf, FaultOf};
+ghost use Rattle.asm_reading.specs.Lines.{AreParts, texts, tokens, name_of, label_name, lead_at, past_parenthesis, ends_in_stop, without_stop, predicate_of, is_bare, completers_or_none, slot_under, slot_of, directive_value, directive_of, alone, data_of, among, worded, marked, template_name_of, opened, mark_led, led_by, led, led_at, is_colon, is_open, is_close, label_of, value_of, reading_of, IsListedLine, LineOf, FaultOf};
 ghost use Rattle.asm_reading.specs.Relations.{relation_of};
 ghost use Rattle.asm_reading.specs.SlotReading.{slot_line, is_directive_name};
 
@@ -14,10 +14,10 @@ use crate::instruction::op_of;
 use crate::line::{Draft, Line};
 use crate::operands::{is_present_at, u32_at};
 use crate::relation::relation_of;
-use crate::shape::shape_of;
+use crate::template_name::template_name_of;
 use asm_forms::{
-    AccessSize, Completer, Completers, Form, Item, Kind, Spelled, completers, find_spelled, named,
-    read_form, taken,
+    AccessSize, Completer, Completers, Form, FormItem, Kind, Spelled, completers, find_spelled,
+    named, read_form, taken,
 };
 use asm_words::limits::LINE_LIMIT;
 use asm_words::{LineFault, Name, Token, Word, WordKind, numbered_register, token, words_into};
@@ -157,12 +157,12 @@ fn name_of(text: &[u8]) -> Option<Name>
 }
 
 /// The name at the place of the label among these items.
-fn label_name(line: &[u8], items: &[Item], words: &[Word]) -> Option<Name>
+fn label_name(line: &[u8], items: &[FormItem], words: &[Word]) -> Option<Name>
     requires { AreParts line.now words.now }
     ensures { result ≡ label_name items.now (texts line.now words.now) }
 {
     match (items, words) {
-        ([Item::Takes(Kind::Label), ..], [word, ..]) => name_of(word.text(line)),
+        ([FormItem::Takes(Kind::Label), ..], [word, ..]) => name_of(word.text(line)),
         ([_, items @ ..], [_, words @ ..]) => label_name(line, items, words),
         _ => None,
     }
@@ -431,8 +431,8 @@ fn opened(line: &[u8], before: &[Word], after: &[Word]) -> Result<Line, LineFaul
     ensures { result ≡ opened (texts line.now before.now) (texts line.now after.now) }
 {
     match after {
-        [word, rest @ ..] => match shape_of(word.text(line)) {
-            Some(shape) => marked(Line::Open { shape }, line, before, rest),
+        [word, rest @ ..] => match template_name_of(word.text(line)) {
+            Some(name) => marked(Line::Open { name }, line, before, rest),
             None => Err(LineFault::Name),
         },
         [] => Err(LineFault::Name),

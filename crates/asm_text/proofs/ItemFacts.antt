@@ -7,8 +7,8 @@ use Rattle.std.specs.List.{AllByRecursion, list_all, list_any}
 use Rattle.asm_words.specs.declared.tokens.Token.{Token}
 use Rattle.asm_words.specs.declared.tokens.Token.TheVariants as t
 use Rattle.asm_forms.specs.declared.form.Form.{Form}
-use Rattle.asm_forms.specs.declared.items.Item.{Item}
-use Rattle.asm_forms.specs.declared.items.Item.TheVariants.{Is, Takes}
+use Rattle.asm_forms.specs.declared.items.FormItem.{FormItem}
+use Rattle.asm_forms.specs.declared.items.FormItem.TheVariants.{Is, Takes}
 use Rattle.asm_forms.specs.declared.items.Kind.TheVariants as k
 use Rattle.asm_forms.specs.declared.items.Mark.{Mark}
 use Rattle.asm_forms.specs.declared.items.Mark.TheVariants as m
@@ -20,18 +20,18 @@ use Rattle.asm_printing.proofs.Written.{IsPrinted}
 use Rattle.asm_text.proofs.OperandTexts.{is_wordlike, are_apart, label_token}
 
 -- a token for each item
-pub as_many : (is : List Item) (xs : List Token) → fits is xs ≡ true → length is ≡ length (filled is xs)
+pub as_many : (is : List FormItem) (xs : List Token) → fits is xs ≡ true → length is ≡ length (filled is xs)
 as_many [] xs h = refl
 as_many (Is mark ∷ is) xs h = rw (as_many is xs h) refl
 as_many (Takes kind ∷ is) [] h = cc
 as_many (Takes kind ∷ is) (x ∷ xs) h = rw (as_many is xs (right (prints kind x) _ h)) refl
 
 -- no two words next to one another
-abbrev pub is_run : Item → Bool
+abbrev pub is_run : FormItem → Bool
 is_run (Is mark) = is_wordlike (mark_token mark)
 is_run (Takes kind) = true
 
-abbrev pub items_apart : List Item → Bool
+abbrev pub items_apart : List FormItem → Bool
 items_apart [] = true
 items_apart (i ∷ []) = true
 items_apart (i ∷ j ∷ is) = not (is_run i && is_run j) && items_apart (j ∷ is)
@@ -47,7 +47,7 @@ second_of_two : (a b : Bool) → not (true && b) ≡ true → not (a && b) ≡ t
 second_of_two true b h = h
 second_of_two false b h = refl
 
-apart : (is : List Item) (xs : List Token) → fits is xs ≡ true → items_apart is ≡ true → are_apart (filled is xs) ≡ true
+apart : (is : List FormItem) (xs : List Token) → fits is xs ≡ true → items_apart is ≡ true → are_apart (filled is xs) ≡ true
 apart [] xs h e = refl
 apart (Is a ∷ []) xs h e = refl
 apart (Takes kind ∷ []) [] h e = cc
@@ -67,7 +67,7 @@ label_printed : (x : Token) → prints k.Label x ≡ true → x ≡ t.Name
 label_printed t.Name h = refl
 label_printed x h = cc
 
-label_at : (is : List Item) (xs : List Token) → fits is xs ≡ true → label_token is (filled is xs) ≡ cond (list_any is_label_item is) (Some t.Name) None
+label_at : (is : List FormItem) (xs : List Token) → fits is xs ≡ true → label_token is (filled is xs) ≡ cond (list_any is_label_item is) (Some t.Name) None
 label_at [] xs h = refl
 label_at (Is mark ∷ is) xs h = label_at is xs h
 label_at (Takes kind ∷ is) [] h = cc
@@ -88,7 +88,7 @@ mark_printed m.R0 = lit< tt
 mark_printed m.One = lit< tt
 mark_printed mark = tt
 
-pub all_printed : (is : List Item) (xs : List Token) → AllByRecursion IsPrinted xs → AllByRecursion IsPrinted (filled is xs)
+pub all_printed : (is : List FormItem) (xs : List Token) → AllByRecursion IsPrinted xs → AllByRecursion IsPrinted (filled is xs)
 all_printed [] xs h = tt
 all_printed (Is mark ∷ is) xs h = (mark_printed mark, all_printed is xs h)
 all_printed (Takes kind ∷ is) [] h = tt

@@ -18,41 +18,41 @@ use Rattle.asm_words.specs.Tokens.{token_of}
 use Rattle.asm_words.proofs.Bools.{left, right}
 use Rattle.asm_words.proofs.Lexing.{name_lexed}
 use Rattle.asm_words.proofs.Readings.{gr_reads, pr_reads, br_reads, decimal_reads, minus_reads, hex_reads, minus_hex_reads, decimal_is_name_bytes, decimal_is_plain, hex_is_plain, both_plain, decimal_lexed, minus_decimal_lexed, hex_lexed, minus_hex_lexed}
-use Rattle.asm_forms.specs.declared.items.Item.{Item}
-use Rattle.asm_forms.specs.declared.items.Item.TheVariants.{Is, Takes}
+use Rattle.asm_forms.specs.declared.items.FormItem.{FormItem}
+use Rattle.asm_forms.specs.declared.items.FormItem.TheVariants.{Is, Takes}
 use Rattle.asm_forms.specs.Items.{mark_token, filled, is_label_item}
 use Rattle.asm_reading.specs.Lines.{KindAndText, tokens, name_of, label_name}
 use Rattle.asm_printing.proofs.Written.{IsPrinted}
 use Rattle.asm_printing.specs.SlotTexts.{is_hex, label_text, token_text, operands_text}
 
 -- marks and operands in turn, as they are printed
-abbrev pub item_hex : Item → Bool
+abbrev pub item_hex : FormItem → Bool
 item_hex (Is mark) = false
 item_hex (Takes kind) = is_hex kind
 
-abbrev pub tokens_text : ℕ → List Item → List Token → List ℕ
+abbrev pub tokens_text : ℕ → List FormItem → List Token → List ℕ
 tokens_text target [] ts = []
 tokens_text target (i ∷ is) [] = []
 tokens_text target (i ∷ is) (x ∷ xs) = token_text target (item_hex i) x ++ tokens_text target is xs
 
-pub filled_text : (target : ℕ) (is : List Item) (xs : List Token) → operands_text target is xs ≡ tokens_text target is (filled is xs)
+pub filled_text : (target : ℕ) (is : List FormItem) (xs : List Token) → operands_text target is xs ≡ tokens_text target is (filled is xs)
 filled_text target [] xs = refl
 filled_text target (Is mark ∷ is) xs = ap (λ cs. token_text target false (mark_token mark) ++ cs) (filled_text target is xs)
 filled_text target (Takes kind ∷ is) [] = refl
 filled_text target (Takes kind ∷ is) (x ∷ xs) = ap (λ cs. token_text target (is_hex kind) x ++ cs) (filled_text target is xs)
 
 -- the kind of the word that an operand is printed as
-abbrev pub kind_of : Token → WordKind
-kind_of (t.Gr n) = kind.Name
-kind_of (t.Pr n) = kind.Name
-kind_of (t.Br n) = kind.Name
-kind_of (t.Ar a) = kind.Name
-kind_of t.Predicates = kind.Name
-kind_of t.RotatingPredicates = kind.Name
-kind_of t.Ip = kind.Name
-kind_of t.Name = kind.Name
-kind_of (t.Number s m) = kind.Number
-kind_of _ = kind.Mark
+abbrev pub word_kind_of : Token → WordKind
+word_kind_of (t.Gr n) = kind.Name
+word_kind_of (t.Pr n) = kind.Name
+word_kind_of (t.Br n) = kind.Name
+word_kind_of (t.Ar a) = kind.Name
+word_kind_of t.Predicates = kind.Name
+word_kind_of t.RotatingPredicates = kind.Name
+word_kind_of t.Ip = kind.Name
+word_kind_of t.Name = kind.Name
+word_kind_of (t.Number s m) = kind.Number
+word_kind_of _ = kind.Mark
 
 -- a name or a number, which runs on where another one follows
 abbrev pub is_wordlike : Token → Bool
@@ -74,13 +74,13 @@ are_apart (x ∷ []) = true
 are_apart (x ∷ y ∷ xs) = not (is_wordlike x && is_wordlike y) && are_apart (y ∷ xs)
 
 -- the words that operands are printed as
-abbrev pub words_of : ℕ → List Item → List Token → List KindAndText
+abbrev pub words_of : ℕ → List FormItem → List Token → List KindAndText
 words_of target [] xs = []
 words_of target (i ∷ is) [] = []
-words_of target (i ∷ is) (x ∷ xs) = (kind_of x, token_text target (item_hex i) x) ∷ words_of target is xs
+words_of target (i ∷ is) (x ∷ xs) = (word_kind_of x, token_text target (item_hex i) x) ∷ words_of target is xs
 
 -- the operand at the place of the first label
-abbrev pub label_token : List Item → List Token → Option Token
+abbrev pub label_token : List FormItem → List Token → Option Token
 label_token [] xs = None
 label_token (i ∷ is) [] = None
 label_token (i ∷ is) (x ∷ xs) = if is_label_item i then Some x else label_token is xs
@@ -104,7 +104,7 @@ numbered c n cs a d l e = name_lexed c (decimal n) cs a d (decimal_is_name_bytes
 
 -- An operand's text before anything, or before an end where it would run on, is one word.
 one_lexed : (target : ℕ) (hex : Bool) (x : Token) (cs : List ℕ) → target < 2 ^ 34 → IsPrinted x → (is_wordlike x ≡ true → is_end cs ≡ true)
-    → lexed 0 (token_text target hex x ++ cs) ≡ (kind_of x, token_text target hex x) ∷ lexed 0 cs
+    → lexed 0 (token_text target hex x ++ cs) ≡ (word_kind_of x, token_text target hex x) ∷ lexed 0 cs
 one_lexed target hex (t.Gr n) cs l p e = numbered 114 n cs refl refl (omega arith) (e refl)
 one_lexed target hex (t.Pr n) cs l p e = numbered 112 n cs refl refl (omega arith) (e refl)
 one_lexed target hex (t.Br n) cs l p e = numbered 98 n cs refl refl (omega arith) (e refl)
@@ -127,7 +127,7 @@ one_lexed target hex t.CloseBracket cs l p e = refl
 one_lexed target hex x cs l p e = absurd p
 
 -- and that word may be read as the operand
-one_reads : (target : ℕ) (hex : Bool) (x : Token) → target < 2 ^ 34 → IsPrinted x → token_of (kind_of x) (token_text target hex x) ≡ x
+one_reads : (target : ℕ) (hex : Bool) (x : Token) → target < 2 ^ 34 → IsPrinted x → token_of (word_kind_of x) (token_text target hex x) ≡ x
 one_reads target hex (t.Gr n) l p = gr_reads n p
 one_reads target hex (t.Pr n) l p = pr_reads n p
 one_reads target hex (t.Br n) l p = br_reads n p
@@ -165,7 +165,7 @@ one_plain target true (t.Number false m) l p = hex_is_plain m p
 one_plain target true (t.Number true m) l p = hex_is_plain m p
 one_plain target hex x l p = refl
 
-pub operands_plain : (target : ℕ) (is : List Item) (xs : List Token) → target < 2 ^ 34 → AllByRecursion IsPrinted xs → has_only_plain (tokens_text target is xs) ≡ true
+pub operands_plain : (target : ℕ) (is : List FormItem) (xs : List Token) → target < 2 ^ 34 → AllByRecursion IsPrinted xs → has_only_plain (tokens_text target is xs) ≡ true
 operands_plain target [] xs l p = refl
 operands_plain target (i ∷ is) [] l p = refl
 operands_plain target (i ∷ is) (x ∷ xs) l p = both_plain (token_text target (item_hex i) x) (tokens_text target is xs) (one_plain target (item_hex i) x l p.0) (operands_plain target is xs l p.1)
@@ -192,7 +192,7 @@ second true true e h = sym h
 second true false e h = refl
 second false b e h = cc
 
-end_after : (target : ℕ) (is : List Item) (x : Token) (xs : List Token) (cs : List ℕ) → length is ≡ length xs → AllByRecursion IsPrinted xs → are_apart (x ∷ xs) ≡ true → is_wordlike x ≡ true → is_end cs ≡ true
+end_after : (target : ℕ) (is : List FormItem) (x : Token) (xs : List Token) (cs : List ℕ) → length is ≡ length xs → AllByRecursion IsPrinted xs → are_apart (x ∷ xs) ≡ true → is_wordlike x ≡ true → is_end cs ≡ true
     → is_end (tokens_text target is xs ++ cs) ≡ true
 end_after target [] x [] cs n p a w e = e
 end_after target [] x (y ∷ ys) cs n p a w e = cc
@@ -208,7 +208,7 @@ same_tail : (m n : ℕ) → suc m ≡ suc n → m ≡ n
 same_tail m n h = cc
 
 -- The text of the operands before an end is cut into a word for each operand.
-pub operands_lexed : (target : ℕ) (is : List Item) (xs : List Token) (cs : List ℕ) → target < 2 ^ 34 → length is ≡ length xs → AllByRecursion IsPrinted xs → are_apart xs ≡ true → is_end cs ≡ true
+pub operands_lexed : (target : ℕ) (is : List FormItem) (xs : List Token) (cs : List ℕ) → target < 2 ^ 34 → length is ≡ length xs → AllByRecursion IsPrinted xs → are_apart xs ≡ true → is_end cs ≡ true
     → lexed 0 (tokens_text target is xs ++ cs) ≡ words_of target is xs ++ lexed 0 cs
 operands_lexed target [] [] cs l n p a e = refl
 operands_lexed target [] (x ∷ xs) cs l n p a e = cc
@@ -217,10 +217,10 @@ operands_lexed target (i ∷ is) (x ∷ xs) cs l n p a e =
     let m : length is ≡ length xs = same_tail _ _ n in
     rw (append_assoc (token_text target (item_hex i) x) (tokens_text target is xs) cs)
     (one_lexed target (item_hex i) x (tokens_text target is xs ++ cs) l p.0 (λ w. end_after target is x xs cs m p.1 a w e)
-    ∙ ap (λ ws. (kind_of x, token_text target (item_hex i) x) ∷ ws) (operands_lexed target is xs cs l m p.1 (apart_tail x xs a) e))
+    ∙ ap (λ ws. (word_kind_of x, token_text target (item_hex i) x) ∷ ws) (operands_lexed target is xs cs l m p.1 (apart_tail x xs a) e))
 
 -- what these words may be read as
-pub words_read : (target : ℕ) (is : List Item) (xs : List Token) (ws : List KindAndText) → target < 2 ^ 34 → length is ≡ length xs → AllByRecursion IsPrinted xs → tokens (words_of target is xs ++ ws) ≡ xs ++ tokens ws
+pub words_read : (target : ℕ) (is : List FormItem) (xs : List Token) (ws : List KindAndText) → target < 2 ^ 34 → length is ≡ length xs → AllByRecursion IsPrinted xs → tokens (words_of target is xs ++ ws) ≡ xs ++ tokens ws
 words_read target [] [] ws l n p = refl
 words_read target [] (x ∷ xs) ws l n p = cc
 words_read target (i ∷ is) [] ws l n p = cc
@@ -228,7 +228,7 @@ words_read target (i ∷ is) (x ∷ xs) ws l n p =
     ap (λ y. y ∷ tokens (words_of target is xs ++ ws)) (one_reads target (item_hex i) x l p.0) ∙ ap (λ ys. x ∷ ys) (words_read target is xs ws l (same_tail _ _ n) p.1)
 
 -- The text of the operands before an end may be read as those operands.
-pub operands_back : (target : ℕ) (is : List Item) (xs : List Token) (cs : List ℕ) → target < 2 ^ 34 → length is ≡ length xs → AllByRecursion IsPrinted xs → are_apart xs ≡ true → is_end cs ≡ true
+pub operands_back : (target : ℕ) (is : List FormItem) (xs : List Token) (cs : List ℕ) → target < 2 ^ 34 → length is ≡ length xs → AllByRecursion IsPrinted xs → are_apart xs ≡ true → is_end cs ≡ true
     → tokens (lexed 0 (tokens_text target is xs ++ cs)) ≡ xs ++ tokens (lexed 0 cs)
 operands_back target is xs cs l n p a e = ap tokens (operands_lexed target is xs cs l n p a e) ∙ words_read target is xs (lexed 0 cs) l n p
 
@@ -238,7 +238,7 @@ some_same x y h = cc
 name_at : (target : ℕ) (hex : Bool) (x : Token) → target < 2 ^ 34 → x ≡ t.Name → name_of (token_text target hex x) ≡ Some (label_text target)
 name_at target hex x l e = rw e (label_is_name target l)
 
-words_name : (target : ℕ) (is : List Item) (xs : List Token) (ws : List KindAndText) → target < 2 ^ 34 → label_token is xs ≡ Some t.Name → label_name is (words_of target is xs ++ ws) ≡ Some (label_text target)
+words_name : (target : ℕ) (is : List FormItem) (xs : List Token) (ws : List KindAndText) → target < 2 ^ 34 → label_token is xs ≡ Some t.Name → label_name is (words_of target is xs ++ ws) ≡ Some (label_text target)
 words_name target [] xs ws l h = cc
 words_name target (i ∷ is) [] ws l h = cc
 words_name target (i ∷ is) (x ∷ xs) ws l h =
@@ -247,7 +247,7 @@ words_name target (i ∷ is) (x ∷ xs) ws l h =
       | false ↦ λ k. words_name target is xs ws l k
     ] h
 
-words_no_name : (target : ℕ) (is : List Item) (xs : List Token) (ws : List KindAndText) → length is ≡ length xs → label_token is xs ≡ None → label_name is (words_of target is xs ++ ws) ≡ None
+words_no_name : (target : ℕ) (is : List FormItem) (xs : List Token) (ws : List KindAndText) → length is ≡ length xs → label_token is xs ≡ None → label_name is (words_of target is xs ++ ws) ≡ None
 words_no_name target [] xs ws n h = refl
 words_no_name target (i ∷ is) [] ws n h = cc
 words_no_name target (i ∷ is) (x ∷ xs) ws n h =
@@ -257,11 +257,11 @@ words_no_name target (i ∷ is) (x ∷ xs) ws n h =
     ] h
 
 -- Where a name is printed at the place of the label, the name of the line is the label of the target.
-pub label_found : (target : ℕ) (is : List Item) (xs : List Token) (cs : List ℕ) → target < 2 ^ 34 → length is ≡ length xs → AllByRecursion IsPrinted xs → are_apart xs ≡ true → is_end cs ≡ true → label_token is xs ≡ Some t.Name
+pub label_found : (target : ℕ) (is : List FormItem) (xs : List Token) (cs : List ℕ) → target < 2 ^ 34 → length is ≡ length xs → AllByRecursion IsPrinted xs → are_apart xs ≡ true → is_end cs ≡ true → label_token is xs ≡ Some t.Name
     → label_name is (lexed 0 (tokens_text target is xs ++ cs)) ≡ Some (label_text target)
 label_found target is xs cs l n p a e h = ap (label_name is) (operands_lexed target is xs cs l n p a e) ∙ words_name target is xs (lexed 0 cs) l h
 
 -- Where there is no place of a label, the line has no name.
-pub label_missing : (target : ℕ) (is : List Item) (xs : List Token) (cs : List ℕ) → target < 2 ^ 34 → length is ≡ length xs → AllByRecursion IsPrinted xs → are_apart xs ≡ true → is_end cs ≡ true → label_token is xs ≡ None
+pub label_missing : (target : ℕ) (is : List FormItem) (xs : List Token) (cs : List ℕ) → target < 2 ^ 34 → length is ≡ length xs → AllByRecursion IsPrinted xs → are_apart xs ≡ true → is_end cs ≡ true → label_token is xs ≡ None
     → label_name is (lexed 0 (tokens_text target is xs ++ cs)) ≡ None
 label_missing target is xs cs l n p a e h = ap (label_name is) (operands_lexed target is xs cs l n p a e) ∙ words_no_name target is xs (lexed 0 cs) n h

@@ -14,7 +14,7 @@ use Rattle.ia_insn.specs.declared.choices.StoreKind.TheVariants as store
 use Rattle.ia_insn.specs.declared.choices.Update.{Update}
 use Rattle.ia_insn.specs.declared.choices.Update.TheVariants as update
 use Rattle.ia_insn.specs.Signed.{FitsSigned}
-use Rattle.ia_insn.specs.FormatsM.{IsLoadUpdate, IsStoreUpdate}
+use Rattle.ia_insn.specs.Ranges.{IsLoadUpdate, IsStoreUpdate}
 use Rattle.ia_insn.specs.Ranges.{IsAccessSize, IsIncrement, IsLoadSize, IsStoreSize}
 use Rattle.asm_reading.specs.Operands.{signed, is_negative, magnitude}
 use Rattle.asm_printing.specs.Canonical.{number}

@@ -18,7 +18,7 @@ use Rattle.asm_words.proofs.Bridge.{words_lexed}
 use Rattle.asm_words.proofs.Lexing.{name_lexed}
 use Rattle.asm_words.proofs.Readings.{pr_reads, decimal_is_name_bytes, decimal_is_plain, name_bytes_are_plain, both_plain}
 use Rattle.asm_forms.specs.declared.form.Form.{Form}
-use Rattle.asm_forms.specs.declared.items.Item.{Item}
+use Rattle.asm_forms.specs.declared.items.FormItem.{FormItem}
 use Rattle.asm_forms.specs.Items.{is_stop, taken}
 use Rattle.asm_forms.specs.declared.completer.Completer.{Completer}
 use Rattle.asm_forms.specs.Completers.{text_of}
@@ -241,7 +241,7 @@ small_target None h = omega arith
 small_target (Some n) h = h
 
 -- the name of the line is the label of the target, where there is one
-label_back : (is : List Item) (xs : List Token) (cs : List ℕ) (target : Option ℕ) → IfSome target (λ n. n < 2 ^ 34) → length is ≡ length xs → AllByRecursion IsPrinted xs → are_apart xs ≡ true → is_end cs ≡ true
+label_back : (is : List FormItem) (xs : List Token) (cs : List ℕ) (target : Option ℕ) → IfSome target (λ n. n < 2 ^ 34) → length is ≡ length xs → AllByRecursion IsPrinted xs → are_apart xs ≡ true → is_end cs ≡ true
     → label_token is xs ≡ option_map (λ n. t.Name) target → label_name is (lexed 0 (tokens_text (or_zero target) is xs ++ cs)) ≡ option_map label_text target
 label_back is xs cs None l n p a e h = label_missing 0 is xs cs (small_target None tt) n p a e h
 label_back is xs cs (Some m) l n p a e h = label_found m is xs cs l n p a e h

@@ -4,62 +4,56 @@ use Rattle.ia_insn.specs.declared.insn.Insn.{Insn}
 use Rattle.ia_insn.specs.declared.insn.Op.{Op}
 use Rattle.ia_insn.specs.declared.insn.Op.TheVariants as op
 use Rattle.ia_insn.specs.declared.choices.Unit.TheVariants as unit
-use Rattle.ia_insn.specs.FormatsA.{IsListedA}
-use Rattle.ia_insn.specs.FormatsI.{IsListedI}
-use Rattle.ia_insn.specs.FormatsM.{IsListedM}
-use Rattle.ia_insn.specs.FormatsB.{IsListedB}
-use Rattle.ia_insn.specs.FormatsF.{IsListedF}
-use Rattle.ia_insn.specs.FormatsX.{IsListedX}
-use Rattle.ia_insn.specs.Listed.{IsListed}
+use Rattle.ia_insn.specs.Listed.{IsListedA, IsListedI, IsListedM, IsListedB, IsListedF, IsListedX, IsListed}
 use Rattle.asm_text.specs.ReadBack.{untargeted}
 
 pub still_a : (qp : ℕ) (x : Op) → IsListedA (record { qp = qp; op = x }) → IsListedA (record { qp = qp; op = untargeted x })
-still_a qp (op.ChkS u r2 disp) l = absurd l.range
-still_a qp (op.ChkA clear r1 disp) l = absurd l.range
-still_a qp (op.Br kind wh many clr disp) l = absurd l.range
-still_a qp (op.BrCall b1 wh many clr disp) l = absurd l.range
+still_a qp (op.ChkS u r2 disp) l = absurd l.row
+still_a qp (op.ChkA clear r1 disp) l = absurd l.row
+still_a qp (op.Br kind wh many clr disp) l = absurd l.row
+still_a qp (op.BrCall b1 wh many clr disp) l = absurd l.row
 still_a qp x l = l
 
 pub still_i : (qp : ℕ) (x : Op) → IsListedI (record { qp = qp; op = x }) → IsListedI (record { qp = qp; op = untargeted x })
 still_i qp (op.ChkS unit.I r2 disp) l =
-    record { range = lit< tt; fit = (l.fit.0, (lit< tt, (l.fit.1.1.0, (lit< tt, (l.fit.1.1.1.1.0, (lit< tt, (l.fit.1.1.1.1.1.1.0, tt))))))) }
-still_i qp (op.ChkS u r2 disp) l = absurd l.range
-still_i qp (op.ChkA clear r1 disp) l = absurd l.range
-still_i qp (op.Br kind wh many clr disp) l = absurd l.range
-still_i qp (op.BrCall b1 wh many clr disp) l = absurd l.range
+    record { row = tt; ranges = (tt, lit< tt); qualifier = l.qualifier; fit = (l.fit.0, (lit< tt, (l.fit.1.1.0, (lit< tt, (l.fit.1.1.1.1.0, (lit< tt, (l.fit.1.1.1.1.1.1.0, tt))))))) }
+still_i qp (op.ChkS u r2 disp) l = absurd l.row
+still_i qp (op.ChkA clear r1 disp) l = absurd l.row
+still_i qp (op.Br kind wh many clr disp) l = absurd l.row
+still_i qp (op.BrCall b1 wh many clr disp) l = absurd l.row
 still_i qp x l = l
 
 pub still_m : (qp : ℕ) (x : Op) → IsListedM (record { qp = qp; op = x }) → IsListedM (record { qp = qp; op = untargeted x })
 still_m qp (op.ChkS unit.M r2 disp) l =
-    record { range = lit< tt; fit = (l.fit.0, (lit< tt, (l.fit.1.1.0, (lit< tt, (l.fit.1.1.1.1.0, (lit< tt, (l.fit.1.1.1.1.1.1.0, tt))))))) }
-still_m qp (op.ChkS u r2 disp) l = absurd l.range
+    record { row = tt; ranges = (tt, lit< tt); qualifier = l.qualifier; fit = (l.fit.0, (lit< tt, (l.fit.1.1.0, (lit< tt, (l.fit.1.1.1.1.0, (lit< tt, (l.fit.1.1.1.1.1.1.0, tt))))))) }
+still_m qp (op.ChkS u r2 disp) l = absurd l.row
 still_m qp (op.ChkA clear r1 disp) l =
-    record { range = lit< tt; fit = (l.fit.0, (lit< tt, (l.fit.1.1.0, (lit< tt, (l.fit.1.1.1.1.0, (l.fit.1.1.1.1.1.0, tt)))))) }
-still_m qp (op.Br kind wh many clr disp) l = absurd l.range
-still_m qp (op.BrCall b1 wh many clr disp) l = absurd l.range
+    record { row = tt; ranges = lit< tt; qualifier = l.qualifier; fit = (l.fit.0, (lit< tt, (l.fit.1.1.0, (lit< tt, (l.fit.1.1.1.1.0, (l.fit.1.1.1.1.1.0, tt)))))) }
+still_m qp (op.Br kind wh many clr disp) l = absurd l.row
+still_m qp (op.BrCall b1 wh many clr disp) l = absurd l.row
 still_m qp x l = l
 
 pub still_b : (qp : ℕ) (x : Op) → IsListedB (record { qp = qp; op = x }) → IsListedB (record { qp = qp; op = untargeted x })
-still_b qp (op.ChkS u r2 disp) l = absurd l.range
-still_b qp (op.ChkA clear r1 disp) l = absurd l.range
+still_b qp (op.ChkS u r2 disp) l = absurd l.row
+still_b qp (op.ChkA clear r1 disp) l = absurd l.row
 still_b qp (op.Br kind wh many clr disp) l =
-    record { range = (l.range.0, lit< tt); fit = (l.fit.0, (lit< tt, (l.fit.1.1.0, (l.fit.1.1.1.0, (lit< tt, (l.fit.1.1.1.1.1.0, (l.fit.1.1.1.1.1.1.0, (l.fit.1.1.1.1.1.1.1.0, tt)))))))) }
+    record { row = tt; ranges = (l.ranges.0, lit< tt); qualifier = l.qualifier; fit = (l.fit.0, (lit< tt, (l.fit.1.1.0, (l.fit.1.1.1.0, (lit< tt, (l.fit.1.1.1.1.1.0, (l.fit.1.1.1.1.1.1.0, (l.fit.1.1.1.1.1.1.1.0, tt)))))))) }
 still_b qp (op.BrCall b1 wh many clr disp) l =
-    record { range = lit< tt; fit = (l.fit.0, (lit< tt, (l.fit.1.1.0, (l.fit.1.1.1.0, (lit< tt, (l.fit.1.1.1.1.1.0, (l.fit.1.1.1.1.1.1.0, (l.fit.1.1.1.1.1.1.1.0, tt)))))))) }
+    record { row = tt; ranges = (l.ranges.0, lit< tt); qualifier = l.qualifier; fit = (l.fit.0, (lit< tt, (l.fit.1.1.0, (l.fit.1.1.1.0, (lit< tt, (l.fit.1.1.1.1.1.0, (l.fit.1.1.1.1.1.1.0, (l.fit.1.1.1.1.1.1.1.0, tt)))))))) }
 still_b qp x l = l
 
 pub still_f : (qp : ℕ) (x : Op) → IsListedF (record { qp = qp; op = x }) → IsListedF (record { qp = qp; op = untargeted x })
-still_f qp (op.ChkS u r2 disp) l = absurd l.range
-still_f qp (op.ChkA clear r1 disp) l = absurd l.range
-still_f qp (op.Br kind wh many clr disp) l = absurd l.range
-still_f qp (op.BrCall b1 wh many clr disp) l = absurd l.range
+still_f qp (op.ChkS u r2 disp) l = absurd l.row
+still_f qp (op.ChkA clear r1 disp) l = absurd l.row
+still_f qp (op.Br kind wh many clr disp) l = absurd l.row
+still_f qp (op.BrCall b1 wh many clr disp) l = absurd l.row
 still_f qp x l = l
 
 pub still_x : (qp : ℕ) (x : Op) → IsListedX (record { qp = qp; op = x }) → IsListedX (record { qp = qp; op = untargeted x })
-still_x qp (op.ChkS u r2 disp) l = absurd l.range
-still_x qp (op.ChkA clear r1 disp) l = absurd l.range
-still_x qp (op.Br kind wh many clr disp) l = absurd l.range
-still_x qp (op.BrCall b1 wh many clr disp) l = absurd l.range
+still_x qp (op.ChkS u r2 disp) l = absurd l.row
+still_x qp (op.ChkA clear r1 disp) l = absurd l.row
+still_x qp (op.Br kind wh many clr disp) l = absurd l.row
+still_x qp (op.BrCall b1 wh many clr disp) l = absurd l.row
 still_x qp x l = l
 
 -- a displacement of 0 has room in its field

@@ -5,7 +5,7 @@ use Rattle.std.proofs.lemmas.Option.{same_Some, slice_get_within}
 use Rattle.ia_insn.specs.declared.insn.Insn.{Insn}
 use Rattle.ia_insn.specs.declared.place.Place.{Place}
 use Rattle.ia_insn.specs.Places.{insn_at}
-use Rattle.ia_meaning.specs.Actions.{form_of}
+use Rattle.ia_meaning.specs.Actions.{action_of}
 use Rattle.ia_meaning.specs.Sequence.{first_of}
 use Rattle.ia_meaning.proofs.Inside.{first_is_place}
 use Rattle.predicate_rel.specs.declared.edge.Edge.TheVariants.{Taken}
@@ -33,7 +33,7 @@ row_there : (s : Loose) (n : ℕ) → IsLoose s → n < length s.items → IsSom
 unfolding row_insn
 row_there s n loose less = subst IsSome (sym ((item_at s n loose less).put_in itself)) refl
 
-row_leads : (s : Loose) (n : ℕ) (it : IsItemAt s n) → row_end_of (targeted itself s) (first_of n) (row_insn (targeted itself s) (first_of n)) Taken ≡ target_at n (displacement_of (form_of (put_in itself n it.item.insn.op it.target)))
+row_leads : (s : Loose) (n : ℕ) (it : IsItemAt s n) → row_end_of (targeted itself s) (first_of n) (row_insn (targeted itself s) (first_of n)) Taken ≡ target_at n (displacement_of (action_of (put_in itself n it.item.insn.op it.target)))
 unfolding row_insn
 row_leads s n it = ap (λ (o : Option Insn). row_end_of (targeted itself s) (first_of n) o Taken) (it.put_in itself)
 
@@ -51,7 +51,7 @@ program_there : AreLayouts → (s : Loose) (cs : List Chunk) → IsLoose s → A
 program_there laws s cs loose are n it less = has_instructions laws s cs (bundle_of cs) n loose are less ∙ it.put_in (bundle_of cs)
 
 program_leads : AreLayouts → (s : Loose) (cs : List Chunk) → IsLoose s → AreChunks cs s.items → (n : ℕ) (it : IsItemAt s n) → n < length s.items
-    → edge_end (bundles_of s cs) (place_of cs n) Taken ≡ target_at (bundle_of cs n) (displacement_of (form_of (put_in (bundle_of cs) (bundle_of cs n) it.item.insn.op it.target)))
+    → edge_end (bundles_of s cs) (place_of cs n) Taken ≡ target_at (bundle_of cs n) (displacement_of (action_of (put_in (bundle_of cs) (bundle_of cs n) it.item.insn.op it.target)))
 unfolding edge_end
 program_leads laws s cs loose are n it less = ap (λ (o : Option Insn). edge_of (bundles_of s cs) (place_of cs n) o Taken) (program_there laws s cs loose are n it less)
 

@@ -6,36 +6,36 @@ use Rattle.ia_insn.specs.declared.insn.Insn.{Insn}
 use Rattle.ia_insn.specs.declared.insn.Op.{Op}
 use Rattle.ia_insn.specs.declared.insn.Op.TheVariants as op
 use Rattle.ia_insn.specs.declared.choices.BranchKind.TheVariants as branch
-use Rattle.ia_meaning.specs.declared.form.Form.TheVariants as form
-use Rattle.ia_meaning.specs.declared.form.Goal.{Goal}
-use Rattle.ia_meaning.specs.declared.form.Goal.TheVariants as goal
-use Rattle.ia_meaning.specs.Actions.{form_of, is_alloc}
+use Rattle.ia_meaning.specs.declared.action.Action.TheVariants as action
+use Rattle.ia_meaning.specs.declared.action.Goal.{Goal}
+use Rattle.ia_meaning.specs.declared.action.Goal.TheVariants as goal
+use Rattle.ia_meaning.specs.Actions.{action_of, is_alloc}
 use Rattle.resource_sets.specs.Rows.{listed}
 use Rattle.resource_sets.specs.Accesses.{rows}
 use Rattle.predicate_rel.specs.declared.edge.Edge.{Edge}
 use Rattle.predicate_rel.specs.declared.edge.Edge.TheVariants.{Falls, Taken}
 use Rattle.predicate_rel.specs.Pairs.{Pairs, in_range}
-use Rattle.predicate_rel.specs.Rules.{is_met, form_rule, rule_of, pairs_after}
+use Rattle.predicate_rel.specs.Rules.{is_met, action_rule, rule_of, pairs_after}
 use Rattle.predicate_rel.specs.Edges.{leaves}
 use Rattle.group_checker.specs.Violations.{clears}
 use Rattle.row_laws.specs.Spreads.{DoesLike}
 use Rattle.asm_build.specs.declared.address.Address.{Address}
 use Rattle.asm_build.specs.declared.address.Address.TheVariants.{Bundle, Byte}
 use Rattle.asm_build.specs.Addresses.{addressed}
-use Rattle.bundling.specs.Bundled.{moved, put_in}
+use Rattle.bundling.specs.Bundled.{relocated, put_in}
 
 abbrev under : ℕ → Op → Insn
 under qp x = record { qp = qp; op = x }
 
 abbrev SameRules : Op → Op → Type 0
-SameRules x y = (e : Edge) (g p q : ℕ) → form_rule (form_of x) e g p q ≡ form_rule (form_of y) e g p q
+SameRules x y = (e : Edge) (g p q : ℕ) → action_rule (action_of x) e g p q ≡ action_rule (action_of y) e g p q
 
 same_pairs : (qp : ℕ) (x y : Op) → SameRules x y → (f : Pairs) (e : Edge) → pairs_after f (under qp x) e ≡ pairs_after f (under qp y) e
 unfolding pairs_after rule_of
 same_pairs qp x y same f e = fun_ext (λ p. fun_ext (λ q. ap (λ r. in_range p q && is_met r f) (same e qp p q)))
 
-alike : (qp : ℕ) (x y : Op) → rows qp (form_of x) ≡ rows qp (form_of y) → leaves (form_of x) ≡ leaves (form_of y) → SameRules x y
-    → is_alloc (form_of x) ≡ is_alloc (form_of y) → clears (form_of x) ≡ clears (form_of y) → DoesLike (under qp x) (under qp y)
+alike : (qp : ℕ) (x y : Op) → rows qp (action_of x) ≡ rows qp (action_of y) → leaves (action_of x) ≡ leaves (action_of y) → SameRules x y
+    → is_alloc (action_of x) ≡ is_alloc (action_of y) → clears (action_of x) ≡ clears (action_of y) → DoesLike (under qp x) (under qp y)
 alike qp x y same_rows same_leaves same_rules same_alloc same_clears = record {
   accesses = ap (listed qp) same_rows;
   falls = ap (λ b. not ((qp == 0) && b)) same_leaves;
@@ -56,11 +56,11 @@ like_both i j k one two = record {
   clears = sym one.clears ∙ two.clears;
 }
 
-jump_rule : (a b : ℤ) (e : Edge) (g p q : ℕ) → form_rule (form.Jump a) e g p q ≡ form_rule (form.Jump b) e g p q
+jump_rule : (a b : ℤ) (e : Edge) (g p q : ℕ) → action_rule (action.Jump a) e g p q ≡ action_rule (action.Jump b) e g p q
 jump_rule a b Falls g p q = refl
 jump_rule a b Taken g p q = refl
 
-call_rule : (b1 : ℕ) (a b : Goal) (e : Edge) (g p q : ℕ) → form_rule (form.Call b1 a) e g p q ≡ form_rule (form.Call b1 b) e g p q
+call_rule : (b1 : ℕ) (a b : Goal) (e : Edge) (g p q : ℕ) → action_rule (action.Call b1 a) e g p q ≡ action_rule (action.Call b1 b) e g p q
 call_rule b1 a b Falls g p q = refl
 call_rule b1 a b Taken g p q = refl
 
@@ -77,7 +77,7 @@ like_addressed qp x a n = like_itself (under qp x)
 
 like_put : (f : ℕ → ℕ) (own : ℕ) (i : Insn) (target : Option Address) → DoesLike i (under i.qp (put_in f own i.op target))
 like_put f own i None = like_itself i
-like_put f own i (Some a) = like_addressed i.qp i.op (moved f a) own
+like_put f own i (Some a) = like_addressed i.qp i.op (relocated f a) own
 
 -- So it does with its target put in by one counting and by another.
 pub like_puts : (f g : ℕ → ℕ) (own other : ℕ) (i : Insn) (target : Option Address)
@@ -85,8 +85,8 @@ pub like_puts : (f g : ℕ → ℕ) (own other : ℕ) (i : Insn) (target : Optio
 like_puts f g own other i target = like_both i _ _ (like_put f own i target) (like_put g other i target)
 
 -- and so it allocates or clears exactly where its item does
-pub allocates_put : (f : ℕ → ℕ) (own : ℕ) (i : Insn) (target : Option Address) → is_alloc (form_of (put_in f own i.op target)) ≡ is_alloc (form_of i.op)
+pub allocates_put : (f : ℕ → ℕ) (own : ℕ) (i : Insn) (target : Option Address) → is_alloc (action_of (put_in f own i.op target)) ≡ is_alloc (action_of i.op)
 allocates_put f own i target = sym (like_put f own i target).allocates
 
-pub clears_put : (f : ℕ → ℕ) (own : ℕ) (i : Insn) (target : Option Address) → clears (form_of (put_in f own i.op target)) ≡ clears (form_of i.op)
+pub clears_put : (f : ℕ → ℕ) (own : ℕ) (i : Insn) (target : Option Address) → clears (action_of (put_in f own i.op target)) ≡ clears (action_of i.op)
 clears_put f own i target = sym (like_put f own i target).clears

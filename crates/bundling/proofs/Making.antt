@@ -22,7 +22,7 @@ use Rattle.loose_text.specs.declared.item.Item.{Item}
 use Rattle.loose_text.specs.LooseTexts.{Loose, IsLoose, IsTargetOf}
 use Rattle.bundling.specs.Chunk.{Chunk}
 use Rattle.bundling.specs.Chunks.{AreChunks}
-use Rattle.bundling.specs.Bundled.{moved, targeted, layout_of, places_of, place_of, bundle_of, bundle_in, bundles_from, relation_moved, program_of}
+use Rattle.bundling.specs.Bundled.{relocated, targeted, layout_of, places_of, place_of, bundle_of, bundle_in, bundles_from, relation_moved, program_of}
 use Rattle.bundling.proofs.Lists.{slice_get-append_right}
 use Rattle.bundling.proofs.Targeting.{item_at}
 use Rattle.bundling.proofs.Locating.{breaks_inside, AreLayouts, put_at, spot, bundle_there, length-places}
@@ -72,7 +72,7 @@ target_within s n loose less =
     let is = item_at s n loose less in
     subst (λ (t : Option Address). IfSome t IsWithin) (sym (get_or_from_slice_get s.targets n is.target None is.aim)) (aimed_within s.items is.item.insn.op is.target loose.few is.aimed)
 
-pub moved_within : (f : ℕ → ℕ) (target : Option Address) → ((n : ℕ) → f n < BUNDLE_LIMIT) → IfSome target IsWithin → IfSome (option_map (moved f) target) IsWithin
+pub moved_within : (f : ℕ → ℕ) (target : Option Address) → ((n : ℕ) → f n < BUNDLE_LIMIT) → IfSome target IsWithin → IfSome (option_map (relocated f) target) IsWithin
 moved_within f None near within = tt
 moved_within f (Some (BundleAddress m)) near within = let less = near m in omega (arith, less)
 moved_within f (Some (Byte at)) near within = within

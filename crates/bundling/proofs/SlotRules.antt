@@ -9,7 +9,7 @@ use Rattle.ia_insn.specs.declared.place.Place.{Place}
 use Rattle.ia_insn.specs.Bundles.{Bundle, last_slot}
 use Rattle.ia_insn.specs.Places.{IsBefore, IsNext}
 use Rattle.ia_insn.proofs.InOrder.{next_slot, next_bundle, no_next}
-use Rattle.ia_meaning.specs.Actions.{insn_form, form_of, is_alloc, allocates}
+use Rattle.ia_meaning.specs.Actions.{insn_action, action_of, is_alloc, allocates}
 use Rattle.ia_meaning.specs.Sequence.{first_of, next_of, is_stopped}
 use Rattle.ia_meaning.proofs.Sequences.{next_same}
 use Rattle.flow_facts.specs.Graphs.{over_row, row_insn}
@@ -41,13 +41,13 @@ pub record ArePlaceLaws : Type 0 where
   pub next : NextStandsRightBehindB
 
 -- the classes of the two
-alloc_is_m : (x : Op) → is_alloc (form_of x) ≡ true → class_of x ≡ M
+alloc_is_m : (x : Op) → is_alloc (action_of x) ≡ true → class_of x ≡ M
 alloc_is_m (op.Alloc r1 sof sol sor) h = refl
 alloc_is_m (op.Br branch.Cond wh many clr disp) h = absurd (cc)
 alloc_is_m (op.Br kind wh many clr disp) h = absurd (cc)
 alloc_is_m x h = absurd (cc)
 
-clear_is_b : (x : Op) → clears (form_of x) ≡ true → class_of x ≡ B
+clear_is_b : (x : Op) → clears (action_of x) ≡ true → class_of x ≡ B
 clear_is_b (op.Clrrrb pred_only) h = refl
 clear_is_b (op.Br branch.Cond wh many clr disp) h = absurd (cc)
 clear_is_b (op.Br kind wh many clr disp) h = absurd (cc)
@@ -74,12 +74,12 @@ of_class s n class test loose none some here = of (slice_get (targeted itself s)
 allocates_here : (s : Loose) (n : ℕ) → IsLoose s → allocates_at (over_row (row_of s)) (first_of n) ≡ true → IsOfClass s n M
 unfolding allocates_at row_insn
 allocates_here s n loose here = of_class s n M allocates loose refl (λ it i is h. alloc_is_m it.item.insn.op
-    (sym (allocates_put itself n it.item.insn it.target) ∙ ap (λ (i : Insn). is_alloc (insn_form i)) (same_Some _ i (sym (it.put_in itself) ∙ is)) ∙ h)) here
+    (sym (allocates_put itself n it.item.insn it.target) ∙ ap (λ (i : Insn). is_alloc (insn_action i)) (same_Some _ i (sym (it.put_in itself) ∙ is)) ∙ h)) here
 
 clears_here : (s : Loose) (n : ℕ) → IsLoose s → clears_at (over_row (row_of s)) (first_of n) ≡ true → IsOfClass s n B
 unfolding clears_at row_insn
 clears_here s n loose here = of_class s n B clears_in loose refl (λ it i is h. clear_is_b it.item.insn.op
-    (sym (clears_put itself n it.item.insn it.target) ∙ ap (λ (i : Insn). clears (insn_form i)) (same_Some _ i (sym (it.put_in itself) ∙ is)) ∙ h)) here
+    (sym (clears_put itself n it.item.insn it.target) ∙ ap (λ (i : Insn). clears (insn_action i)) (same_Some _ i (sym (it.put_in itself) ∙ is)) ∙ h)) here
 
 -- what its chunk wants at it
 pub record WantsClass (c : Chunk) (j : ℕ) (class : SlotClass) : Type 0 where

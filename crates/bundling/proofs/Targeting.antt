@@ -12,7 +12,7 @@ use Rattle.ia_insn.specs.Bundles.{slot_insn}
 use Rattle.ia_insn.specs.Places.{bundle_insn, insn_at}
 use Rattle.ia_insn.specs.Listed.{IsListed}
 use Rattle.ia_insn.specs.Programs.{IsCall}
-use Rattle.ia_meaning.specs.Actions.{form_of}
+use Rattle.ia_meaning.specs.Actions.{action_of}
 use Rattle.ia_meaning.specs.Sequence.{first_of}
 use Rattle.predicate_rel.specs.Edges.{displacement_of, target_at}
 use Rattle.predicate_rel.proofs.EdgeEnds.{same_displacement}
@@ -24,7 +24,7 @@ use Rattle.loose_text.specs.declared.item.Item.{Item}
 use Rattle.loose_text.specs.LooseTexts.{Loose, IsLoose, IsTargetOf, BreaksAt}
 use Rattle.bundling.specs.Chunk.{Chunk}
 use Rattle.bundling.specs.Chunks.{AreChunks}
-use Rattle.bundling.specs.Bundled.{moved, put_in, targeted_from, targeted, layout_of, place_of, bundles_from}
+use Rattle.bundling.specs.Bundled.{relocated, put_in, targeted_from, targeted, layout_of, place_of, bundles_from}
 use Rattle.bundling.proofs.Lists.{element}
 use Rattle.bundling.proofs.Locating.{AreLayouts, part_of, IsAt, put_at, spot, bundle_at, in_bundle, placed, part_there}
 
@@ -118,21 +118,21 @@ call_addressed x a n = ((λ h. h), (λ h. h))
 
 pub call_put : (f : ℕ → ℕ) (own : ℕ) (x : Op) (target : Option Address) → IsCall x ↔ IsCall (put_in f own x target)
 call_put f own x None = ((λ h. h), (λ h. h))
-call_put f own x (Some a) = call_addressed x (moved f a) own
+call_put f own x (Some a) = call_addressed x (relocated f a) own
 
 -- A target leads to an instruction that begins a bundle, by whatever it counts.
 pub record LeadsTo (items : List Item) (x : Op) (target : Option Address) : Type 0 where
   pub number : ℕ
   pub begins : BreaksAt items number
-  pub leads : (f : ℕ → ℕ) (own : ℕ) → target_at own (displacement_of (form_of (put_in f own x target))) ≡ Some (first_of (f number))
+  pub leads : (f : ℕ → ℕ) (own : ℕ) → target_at own (displacement_of (action_of (put_in f own x target))) ≡ Some (first_of (f number))
 
 leads_back : (m own : ℕ) → target_at own (Some (pos m -ℤ pos own)) ≡ Some (first_of m)
 leads_back m own =
     let back : pos own +ℤ (pos m -ℤ pos own) ≡ pos m = +ℤ_comm (pos own) (pos m -ℤ pos own) ∙ -ℤ-+ℤ_cancel (pos m) (pos own) in
     ap (λ (z : ℤ). Some (first_of (nat_abs z))) back
 
-leads_on : (x : Op) (m own named by : ℕ) (place : Place) → is_some (addressed x (Bundle named) by) ≡ true → target_at own (displacement_of (form_of (unwrap_or (addressed x (Bundle m) own) x))) ≡ Some place
-    → (n other : ℕ) → target_at other (displacement_of (form_of (unwrap_or (addressed x (Bundle n) other) x))) ≡ Some (first_of n)
+leads_on : (x : Op) (m own named by : ℕ) (place : Place) → is_some (addressed x (Bundle named) by) ≡ true → target_at own (displacement_of (action_of (unwrap_or (addressed x (Bundle m) own) x))) ≡ Some place
+    → (n other : ℕ) → target_at other (displacement_of (action_of (unwrap_or (addressed x (Bundle n) other) x))) ≡ Some (first_of n)
 leads_on (op.ChkS unit r2 disp) m own named by place some leads n other = leads_back n other
 leads_on (op.ChkA clear r1 disp) m own named by place some leads n other = leads_back n other
 leads_on (op.Br branch.Cond wh many clr disp) m own named by place some leads n other = leads_back n other
@@ -141,14 +141,14 @@ leads_on (op.BrCall b1 wh many clr disp) m own named by place some leads n other
 leads_on (op.Movl r1 imm) m own named by place some leads n other = absurd (cc)
 leads_on x m own named by place some leads n other = absurd (cc)
 
-leads_nowhere : (x : Op) (at own : ℕ) (place : Place) → is_some (addressed x (Byte at) own) ≡ true → target_at own (displacement_of (form_of (unwrap_or (addressed x (Byte at) own) x))) ≢ Some place
+leads_nowhere : (x : Op) (at own : ℕ) (place : Place) → is_some (addressed x (Byte at) own) ≡ true → target_at own (displacement_of (action_of (unwrap_or (addressed x (Byte at) own) x))) ≢ Some place
 leads_nowhere (op.Movl r1 imm) at own place some leads = cc
 leads_nowhere x at own place some leads = cc
 
 pub leads_to : (items : List Item) (x : Op) (target : Option Address) (f : ℕ → ℕ) (own : ℕ) (place : Place) → IsTargetOf items x target
-    → target_at own (displacement_of (form_of (put_in f own x target))) ≡ Some place → LeadsTo items x target
+    → target_at own (displacement_of (action_of (put_in f own x target))) ≡ Some place → LeadsTo items x target
 leads_to items x None f own place aimed leads =
-    let none : displacement_of (form_of x) ≡ None = same_displacement x ∙ aimed in
+    let none : displacement_of (action_of x) ≡ None = same_displacement x ∙ aimed in
     let nowhere : target_at own None ≡ Some place = subst (λ o. target_at own o ≡ Some place) none leads in absurd (cc)
 leads_to items x (Some (Bundle m)) f own place (some, begins) leads =
     record { number = m; begins = begins; leads = λ g other. leads_on x (f m) own m own place (some own) leads (g m) other }

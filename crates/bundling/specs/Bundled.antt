@@ -7,7 +7,7 @@ use Rattle.ia_insn.specs.declared.relations.Relation.{Relation}
 use Rattle.ia_insn.specs.Bundles.{Bundle}
 use Rattle.ia_insn.specs.Programs.{Program}
 use Rattle.ia_meaning.specs.Sequence.{first_of}
-use Rattle.flow_facts.specs.Graphs.{Row}
+use Rattle.flow_facts.specs.Graphs.{InsnRow}
 use Rattle.slot_layouts.specs.Layouts.{laid_out}
 use Rattle.slot_layouts.specs.Filled.{filled}
 use Rattle.asm_build.specs.declared.address.Address.{Address}
@@ -18,14 +18,14 @@ use Rattle.loose_text.specs.LooseTexts.{Loose}
 use Rattle.bundling.specs.Chunk.{Chunk}
 
 -- an address of which the bundle counts otherwise
-abbrev pub moved : (ℕ → ℕ) → Address → Address
-moved f (address.Bundle n) = address.Bundle (f n)
-moved f (address.Byte at) = address.Byte at
+abbrev pub relocated : (ℕ → ℕ) → Address → Address
+relocated f (address.Bundle n) = address.Bundle (f n)
+relocated f (address.Byte at) = address.Byte at
 
 -- the operation of an instruction that counts as `own`, with what its target names put in
 abbrev pub put_in : (ℕ → ℕ) → ℕ → Op → Option Address → Op
 put_in f own op None = op
-put_in f own op (Some a) = unwrap_or (addressed op (moved f a) own) op
+put_in f own op (Some a) = unwrap_or (addressed op (relocated f a) own) op
 
 -- instructions with their targets put in, where the n-th counts as f n; the first of these is the n-th
 abbrev pub targeted_from : (ℕ → ℕ) → ℕ → List Item → List (Option Address) → List Insn
@@ -38,7 +38,7 @@ abbrev pub targeted : (ℕ → ℕ) → Loose → List Insn
 targeted f s = targeted_from f 0 s.items s.targets
 
 -- The row: each instruction is a place of its own, and targets, entries and relations count instructions.
-abbrev pub row_of : Loose → Row
+abbrev pub row_of : Loose → InsnRow
 row_of s = record { insns = targeted (λ n. n) s; entries = s.entries; relations = s.relations }
 
 -- the slots of a bundle's layout, and the code of its template

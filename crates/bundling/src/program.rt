@@ -14,7 +14,7 @@ ghost use Rattle.slot_layouts.specs.Layouts.{laid_out};
 ghost use Rattle.slot_layouts.specs.Filled.{slot_content, contents, filled};
 ghost use Rattle.asm_build.specs.Addresses.{IsWithin, reach};
 ghost use Rattle.bundling.specs.Chunks.{AreChunksOf};
-ghost use Rattle.bundling.specs.Bundled.{moved, put_in, targeted, row_of, layout_of, places_of, bundle_in, bundles_from, relation_moved, program_of};
+ghost use Rattle.bundling.specs.Bundled.{relocated, put_in, targeted, row_of, layout_of, places_of, bundle_in, bundles_from, relation_moved, program_of};
 
 use crate::chunk::Chunk;
 use crate::laws::bundled_is_program;
@@ -84,8 +84,8 @@ fn bundle_in(places: &[Place], n: u32) -> u32
 }
 
 /// What a target names: a bundle where it names an instruction.
-fn moved(places: &[Place], target: Option<Address>) -> Option<Address>
-    ensures { result ≡ option_map (moved (bundle_in places.now)) target }
+fn relocated(places: &[Place], target: Option<Address>) -> Option<Address>
+    ensures { result ≡ option_map (relocated (bundle_in places.now)) target }
 {
     match target {
         Some(Address::Bundle { n }) => Some(Address::Bundle {
@@ -135,7 +135,7 @@ fn bundle_insns(alloc: Global, text: &LooseText, places: &[Place]) -> Result<Vec
     let mut insns = Vec::with_capacity(alloc, items.len())?;
     let mut n = 0;
     while n < items.len() {
-        let target = moved(places, targets[n]);
+        let target = relocated(places, targets[n]);
         insns.push(put_in(&items[n].insn, target, bundle_in(places, n as u32)))?;
         n += 1;
     }
@@ -212,13 +212,13 @@ fn bundles(
 
 /// The bundles of the instructions that are entries.
 fn entries(alloc: Global, entries: &[u32], places: &[Place]) -> Result<Vec<u32>, AllocError>
-    ensures { IfOk result (λ moved. moved.items ≡ map (bundle_in places.now) entries.now) }
+    ensures { IfOk result (λ relocated. relocated.items ≡ map (bundle_in places.now) entries.now) }
 {
-    let mut moved = Vec::with_capacity(alloc, entries.len())?;
+    let mut relocated = Vec::with_capacity(alloc, entries.len())?;
     for entry in entries {
-        moved.push(bundle_in(places, *entry))?;
+        relocated.push(bundle_in(places, *entry))?;
     }
-    Ok(moved)
+    Ok(relocated)
 }
 
 /// The relations of the bundles that have the instructions.
@@ -227,17 +227,17 @@ fn relations(
     relations: &[Relation],
     places: &[Place],
 ) -> Result<Vec<Relation>, AllocError>
-    ensures { IfOk result (λ moved. moved.items ≡ map (relation_moved (bundle_in places.now)) relations.now) }
+    ensures { IfOk result (λ relocated. relocated.items ≡ map (relation_moved (bundle_in places.now)) relations.now) }
 {
-    let mut moved = Vec::with_capacity(alloc, relations.len())?;
+    let mut relocated = Vec::with_capacity(alloc, relations.len())?;
     for relation in relations {
-        moved.push(Relation {
+        relocated.push(Relation {
             bundle: bundle_in(places, relation.bundle),
             p: relation.p,
             q: relation.q,
         })?;
     }
-    Ok(moved)
+    Ok(relocated)
 }
 
 /// The program that has a text's instructions in bundles, in the order of the text, and where they stand: what each

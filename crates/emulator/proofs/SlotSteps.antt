@@ -1,20 +1,15 @@
 -- A step of the machine at a place of its program.
-use Rattle.std.proofs.Common.{◌≡◌, ℕ, List, refl, sym, subst, arith}
-use Rattle.std.specs.Prelude.{Option, Some, None, IsSome, option_map}
+use Rattle.std.proofs.Common.{◌≡◌, ℕ, refl, subst}
+use Rattle.std.specs.Prelude.{Option, Some, None}
 use Rattle.ia_insn.specs.declared.insn.Insn.{Insn}
 use Rattle.ia_insn.specs.declared.place.Place.{Place}
-use Rattle.ia_insn.specs.Bundles.{Bundle}
-use Rattle.ia_insn.specs.Places.{insn_at, IsPlaceOf}
+use Rattle.ia_insn.specs.Places.{insn_at}
 use Rattle.ia_insn.specs.Programs.{Program, IsProgram}
-use Rattle.ia_insn.proofs.InOrder.{bundle_small}
-use Rattle.ia_insn.proofs.OperandRanges.{ranges_of_listed}
-use Rattle.ia_insn.proofs.ListedSlots.{listed_at}
 use Rattle.ia_meaning.specs.State.{State}
 use Rattle.ia_meaning.specs.declared.next.Next.TheVariants.{Falls, Goes}
 use Rattle.ia_meaning.specs.Sequence.{first_of, next_of, is_stopped}
 use Rattle.ia_meaning.specs.Steps.{how_falling}
 use Rattle.ia_meaning.specs.Progress.{slots_after, stepped}
-use Rattle.ia_meaning.proofs.FormRanges.{form_ranges}
 use Rattle.ia_meaning.proofs.StepHere.{step_here as step_at}
 use Rattle.slot_effects.specs.declared.slot_effect.SlotEffect.{SlotEffect}
 use Rattle.machine_state.specs.Changes.{outcome_with}

@@ -6,7 +6,7 @@ use Rattle.ia_meaning.specs.State.{State}
 use Rattle.ia_meaning.specs.Writes.{frame_changes}
 use Rattle.ia_meaning.specs.Outcomes.{Outcome}
 use Rattle.ia_meaning.specs.Effects.{site, guarded}
-use Rattle.ia_meaning.specs.FormRanges.{HasFormRanges}
+use Rattle.ia_meaning.specs.ActionRanges.{HasActionRanges}
 use Rattle.ia_meaning.specs.Sequence.{next_of, is_stopped}
 use Rattle.ia_meaning.specs.Steps.{Step, settled, step_by, registers_after, seq_step}
 use Rattle.ia_meaning.specs.ResidentRange.{range_of}
@@ -40,7 +40,7 @@ arrived m o place slots = record m {
 -- At the place of a state stands the slot of an instruction of the program.
 pub record IsHere (p : Program) (s : State) (slot : Slot) : Type 0 where
   pub bundle : s.place.bundle < 2 ^ 31
-  pub ranges : HasFormRanges slot.form
+  pub ranges : HasActionRanges slot.action
   pub next : slot.next ≡ next_of p.bundles s.place
   pub stop : slot.stop ≡ is_stopped p.bundles s.place
-  pub step : seq_step p s ≡ settled_step p s slot.next (guarded (site p s.place.bundle) slot.qp slot.form s.registers s.memory s.registers.unat)
+  pub step : seq_step p s ≡ settled_step p s slot.next (guarded (site p s.place.bundle) slot.qp slot.action s.registers s.memory s.registers.unat)

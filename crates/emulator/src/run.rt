@@ -184,7 +184,7 @@ impl Run {
             table.program(),
             self.place.bundle,
             slot.qp,
-            &slot.form,
+            &slot.action,
         );
         self.go_on(table, slot, &effect)
     }

@@ -12,7 +12,7 @@ use Rattle.ia_meaning.specs.Sequence.{first_of}
 use Rattle.predicate_rel.specs.declared.edge.Edge.{Edge}
 use Rattle.predicate_rel.specs.declared.edge.Edge.TheVariants.{Falls, Taken}
 use Rattle.predicate_rel.specs.Pairs.{Table, Pairs, pairs_of, IsWithin}
-use Rattle.predicate_rel.specs.Rules.{form_rule, pairs_by}
+use Rattle.predicate_rel.specs.Rules.{action_rule, pairs_by}
 use Rattle.predicate_rel.proofs.RuleLaws.{WhyMissing, whatever, since, why_missing, pairs_after-within}
 use Rattle.predicate_rel.specs.Edges.{HasEdge, pairs_past, pairs_past_insn}
 use Rattle.slot_table.specs.declared.slot.Slot.{Slot}
@@ -110,7 +110,7 @@ pub edge_number : (p : Program) (from : Place) (e : Edge) (to : Place) (n : ℕ)
 edge_number p from e to n edge number = (ap place_at number ∙ place_at-number to (slot_small p.bundles to edge.lands), omega (arith, number, number_below p (place_count p) to refl edge.lands))
 
 -- by the slot
-pub comes_along : (p : Program) (from : Place) (e : Edge) (to : Place) (n : ℕ) (slot : Slot) (t t' : List Known) (before : Pairs) → slot_at p.bundles from ≡ Some slot → HasEdge p from e to → n ≡ place_number to → Joined t t' (place_at n) (pairs_by before (form_rule slot.form e slot.qp)) → ComesAlong p from e n t t' before
+pub comes_along : (p : Program) (from : Place) (e : Edge) (to : Place) (n : ℕ) (slot : Slot) (t t' : List Known) (before : Pairs) → slot_at p.bundles from ≡ Some slot → HasEdge p from e to → n ≡ place_number to → Joined t t' (place_at n) (pairs_by before (action_rule slot.action e slot.qp)) → ComesAlong p from e n t t' before
 comes_along p from e to n slot t t' before here edge number joined =
     let there = edge_number p from e to n edge number in
     record {
@@ -120,9 +120,9 @@ comes_along p from e to n slot t t' before here edge number joined =
     }
 
 -- and what has come earlier has come past the slot
-pub come_by_slot : (p : Program) (from : Place) (e : Edge) (to : Place) (n : ℕ) (slot : Slot) (t : List Known) (w : ℕ) (now : Known) → slot_at p.bundles from ≡ Some slot → place_at n ≡ to → HasCome t to (pairs_past p from e) w now → HasCome t (place_at n) (λ f. pairs_by f (form_rule slot.form e slot.qp)) w now
+pub come_by_slot : (p : Program) (from : Place) (e : Edge) (to : Place) (n : ℕ) (slot : Slot) (t : List Known) (w : ℕ) (now : Known) → slot_at p.bundles from ≡ Some slot → place_at n ≡ to → HasCome t to (pairs_past p from e) w now → HasCome t (place_at n) (λ f. pairs_by f (action_rule slot.action e slot.qp)) w now
 come_by_slot p from e to n slot t w now here there come =
-    let same : pairs_past p from e ≡ (λ f. pairs_by f (form_rule slot.form e slot.qp)) = fun_ext (λ f. sym (pairs_by-slot p from slot e f here)) in
+    let same : pairs_past p from e ≡ (λ f. pairs_by f (action_rule slot.action e slot.qp)) = fun_ext (λ f. sym (pairs_by-slot p from slot e f here)) in
     subst (λ (past : Pairs → Pairs). HasCome t (place_at n) past w now) same (subst (λ (q : Place). HasCome t q (pairs_past p from e) w now) (sym there) come)
 
 -- nothing comes where there is no edge of this sort

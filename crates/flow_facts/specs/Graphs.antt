@@ -6,7 +6,7 @@ use Rattle.ia_insn.specs.declared.place.Place.{Place}
 use Rattle.ia_insn.specs.declared.relations.Relation.{Relation}
 use Rattle.ia_insn.specs.Places.{insn_at}
 use Rattle.ia_insn.specs.Programs.{Program, IsCall, IsEntry, relations_at}
-use Rattle.ia_meaning.specs.Actions.{insn_form}
+use Rattle.ia_meaning.specs.Actions.{insn_action}
 use Rattle.ia_meaning.specs.Sequence.{first_of, next_of}
 use Rattle.predicate_rel.specs.declared.edge.Edge.{Edge}
 use Rattle.predicate_rel.specs.declared.edge.Edge.TheVariants.{Falls, Taken}
@@ -15,14 +15,14 @@ use Rattle.predicate_rel.specs.Edges.{HasEdge, may_fall, displacement_of, target
 
 -- Instructions without bundles: the n-th stands at slot 0 of what counts as bundle n, and a displacement counts
 -- instructions. Declared entries and relations are of instructions, by their numbers.
-pub record Row : Type 0 where
+pub record InsnRow : Type 0 where
   pub insns : List Insn
   pub entries : List ℕ
   pub relations : List Relation
 
 pub data Graph : Type 0 where
   over_program : Program → Graph
-  over_row : Row → Graph
+  over_row : InsnRow → Graph
 
 -- the instruction of a row at a place
 unfoldable pub row_insn : List Insn → Place → Option Insn
@@ -33,7 +33,7 @@ unfoldable pub row_next : List Insn → Place → Option Place
 row_next insns place = if nat_lt (place.bundle + 1) (length insns) then Some (first_of (place.bundle + 1)) else None
 
 -- An entry of a row: the first instruction, a declared one, or the one behind a call, which comes back to it.
-pub record IsRowEntry (row : Row) (n : ℕ) : Type 0 where
+pub record IsRowEntry (row : InsnRow) (n : ℕ) : Type 0 where
   pub inside : n < length row.insns
   pub kind : (n ≡ 0) ⊎ (Contains row.entries n ⊎ ((1 ≤ n) × IsSomeAnd (slice_get row.insns (n - 1)) (λ i. IsCall i.op)))
 
@@ -41,11 +41,11 @@ pub record IsRowEntry (row : Row) (n : ℕ) : Type 0 where
 abbrev pub row_end_of : List Insn → Place → Option Insn → Edge → Option Place
 row_end_of insns from None e = None
 row_end_of insns from (Some insn) Falls = if may_fall insn then row_next insns from else None
-row_end_of insns from (Some insn) Taken = target_at from.bundle (displacement_of (insn_form insn))
+row_end_of insns from (Some insn) Taken = target_at from.bundle (displacement_of (insn_action insn))
 
 -- An edge leads from a place of the row to a place of it: a fall to the next one, a taken direct branch or check to its
 -- target.
-pub record HasRowEdge (row : Row) (from : Place) (e : Edge) (to : Place) : Type 0 where
+pub record HasRowEdge (row : InsnRow) (from : Place) (e : Edge) (to : Place) : Type 0 where
   pub inside : IsSome (row_insn row.insns from)
   pub leads : row_end_of row.insns from (row_insn row.insns from) e ≡ Some to
   pub lands : IsSome (row_insn row.insns to)

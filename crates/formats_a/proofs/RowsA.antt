@@ -4,7 +4,10 @@ use Rattle.std.proofs.lemmas.Bool.{leb-true}
 use Rattle.std.specs.Prelude.{IsSome, unwrap_or}
 use Rattle.bundle_bits.specs.Words.{is_layout, the}
 use Rattle.ia_insn.specs.Signed.{flag}
-use Rattle.ia_insn.specs.FormatsA.{x4_of, x2b_of, imm8_codes, compare, parallel_op, zero_codes, lane_size_codes, lane_codes, fields, IsInRange, IsListedA, word_a, CodeA}
+use Rattle.ia_insn.specs.FormatsA.{x4_of, x2b_of, imm8_codes, compare, parallel_op, zero_codes, lane_size_codes, lane_codes, fields}
+use Rattle.ia_insn.specs.Ranges.{IsPartSize, HasRanges}
+use Rattle.ia_insn.specs.Listed.{HasFields, IsListedA}
+use Rattle.ia_insn.specs.Codes.{word_a, CodeA, OneInstruction}
 use Rattle.bundle_bits.proofs.Words.{value_in, row, word-fits, least_of, word-reaches}
 use Rattle.ia_insn.proofs.Parts.{imm8-back, imm14-back, imm22-back}
 use Rattle.ia_insn.specs.declared.insn.Insn.{Insn}
@@ -18,7 +21,7 @@ use Rattle.ia_insn.specs.declared.choices.Rel.{Rel}
 use Rattle.ia_insn.specs.declared.choices.Rel.TheVariants.{Eq, Ne, Lt, Ltu, Gt, Ge, Le}
 use Rattle.ia_insn.specs.declared.choices.CmpKind.{CmpKind}
 use Rattle.ia_insn.specs.declared.choices.CmpKind.TheVariants as kinds
-use Rattle.formats_a.specs.Reading.{alu_of, imm8_of, lane_size_of, lane_fn_of, parallel_kind_of, rel_of, kind_of, zero_rel_of, integer_in, add_imm22_in, compare_in, op_in, candidate}
+use Rattle.formats_a.specs.Reading.{alu_of, imm8_of, lane_size_of, lane_fn_of, parallel_kind_of, rel_of, compare_kind_of, zero_rel_of, integer_in, add_imm22_in, compare_in, op_in, candidate}
 
 -- Each table of codes read backwards, and what of the codes tells formats apart.
 
@@ -43,7 +46,7 @@ imm8_fn-back Or listed = (refl, refl, refl)
 imm8_fn-back Xor listed = (refl, refl, refl)
 imm8_fn-back f listed = absurd cc
 
-compare-back : (kind : CmpKind) (rel : Rel) → IsSome (compare kind rel) → (let x = unwrap_or (compare kind rel) (0, 0, 0) in (rel_of x.0 x.1 x.2 ≡ rel) × (kind_of x.0 x.1 x.2 ≡ kind) × (eqb x.0 8 ≡ false) × (eqb x.0 9 ≡ false))
+compare-back : (kind : CmpKind) (rel : Rel) → IsSome (compare kind rel) → (let x = unwrap_or (compare kind rel) (0, 0, 0) in (rel_of x.0 x.1 x.2 ≡ rel) × (compare_kind_of x.0 x.1 x.2 ≡ kind) × (eqb x.0 8 ≡ false) × (eqb x.0 9 ≡ false))
 compare-back kinds.Normal Lt listed = (refl, refl, refl, refl)
 compare-back kinds.Normal Ltu listed = (refl, refl, refl, refl)
 compare-back kinds.Normal Eq listed = (refl, refl, refl, refl)
@@ -71,7 +74,7 @@ zero-back Ge listed = refl
 zero-back Lt listed = refl
 zero-back rel listed = absurd cc
 
-lane_size-back : (size : ℕ) → IsSome (lane_size_codes size) → (let z = unwrap_or (lane_size_codes size) (0, 0) in lane_size_of z.0 z.1) ≡ size
+lane_size-back : (size : ℕ) → IsPartSize size → (let z = lane_size_codes size in lane_size_of z.0 z.1) ≡ size
 lane_size-back size listed = grind arith
 
 lane_fn-back : (f : LaneFn) → (let x = lane_codes f in lane_fn_of x.0 x.1) ≡ f
@@ -96,38 +99,38 @@ layout qp (Alu f r1 r2 r3) = refl
 layout qp op = refl
 
 -- What is read of the fields of an instruction is the instruction.
-back : (w qp : ℕ) (op : Op) → IsInRange qp op → candidate (value_in w (fields qp op)) ≡ record { qp = qp; op = op }
+back : (w qp : ℕ) (op : Op) → HasFields (fields qp op) → HasRanges op → candidate (value_in w (fields qp op)) ≡ record { qp = qp; op = op }
 unfolding integer_in add_imm22_in compare_in op_in candidate
-back w qp (Alu f r1 r2 r3) range = simp (alu-low f, alu-back f) refl
-back w qp (ShlAdd p4 r1 r2 count r3) range =
+back w qp (Alu f r1 r2 r3) own range = simp (alu-low f, alu-back f) refl
+back w qp (ShlAdd p4 r1 r2 count r3) own range =
     let t = shl_add-back p4 in
     let count-back : count - 1 + 1 ≡ count = omega (arith, range.1) in
     simp (t.0, t.1, t.2, count-back) refl
-back w qp (AluImm8 f r1 imm r3) range =
+back w qp (AluImm8 f r1 imm r3) own range =
     let t = imm8_fn-back f range.2 in
     simp (t.0, t.1, t.2, imm8-back imm range.1) refl
-back w qp (AddImm14 p4 r1 imm r3) range =
+back w qp (AddImm14 p4 r1 imm r3) own range =
     let x2a = high-flag p4 in
     simp (x2a.0, x2a.1, imm14-back imm range.1) refl
-back w qp (AddImm22 r1 imm r3) range = simp (imm22-back imm range.1) refl
-back w qp (Cmp four rel kind p1 p2 r2 r3) range =
+back w qp (AddImm22 r1 imm r3) own range = simp (imm22-back imm range.1) refl
+back w qp (Cmp four rel kind p1 p2 r2 r3) own range =
     let t = compare-back kind rel range.1 in
     let x2 = low-flag four in
     simp (t.0, t.1, t.2, t.3, x2.0, x2.1) refl
-back w qp (CmpZero four rel kind p1 p2 r3) range =
+back w qp (CmpZero four rel kind p1 p2 r3) own range =
     let t = parallel-back kind range.1 in
     let x2 = low-flag four in
     simp (t.0, t.1, t.2, x2.0, x2.1, zero-back rel range.2) refl
-back w qp (CmpImm four rel kind p1 p2 imm r3) range =
+back w qp (CmpImm four rel kind p1 p2 imm r3) own range =
     let t = compare-back kind rel range.2 in
     let x2 = high-flag four in
     simp (t.0, t.1, t.2, t.3, x2.0, x2.1, imm8-back imm range.1) refl
-back w qp (Lane f size r1 r2 r3) range = simp (lane_fn-back f, lane_size-back size range.1) refl
-back w qp op range = absurd range
+back w qp (Lane f size r1 r2 r3) own range = simp (lane_fn-back f, lane_size-back size range.1) refl
+back w qp op own range = absurd own
 
 -- The candidate of an instruction's word is the instruction.
 pub read_back : (i : Insn) (w : ℕ) → CodeA i w → candidate (the w) ≡ i
-read_back i w code = ap candidate (row (fields i.qp i.op) 41 (layout i.qp i.op) code.listed.fit w code.sum) ∙ back w i.qp i.op code.listed.range
+read_back i w code = ap candidate (row (fields i.qp i.op) 41 (layout i.qp i.op) code.listed.fit w code.sum) ∙ back w i.qp i.op code.listed.row code.listed.ranges
 
 -- A word has 41 bits.
 pub word_is_below : (i : Insn) → IsListedA i → word_a i < 2 ^ 41
@@ -158,21 +161,21 @@ parallel-high kinds.Or listed = refl
 parallel-high kinds.OrAndcm listed = refl
 parallel-high kind listed = absurd cc
 
-high-opcode : (qp : ℕ) (op : Op) → IsInRange qp op → leb (2 ^ 40) (least_of (fields qp op)) ≡ true
-high-opcode qp (Alu f r1 r2 r3) range = refl
-high-opcode qp (ShlAdd p4 r1 r2 count r3) range = refl
-high-opcode qp (AluImm8 f r1 imm r3) range = refl
-high-opcode qp (AddImm14 p4 r1 imm r3) range = refl
-high-opcode qp (AddImm22 r1 imm r3) range = refl
-high-opcode qp (Cmp four rel kind p1 p2 r2 r3) range = compare-high kind rel range.1
-high-opcode qp (CmpZero four rel kind p1 p2 r3) range = parallel-high kind range.1
-high-opcode qp (CmpImm four rel kind p1 p2 imm r3) range = compare-high kind rel range.2
-high-opcode qp (Lane f size r1 r2 r3) range = refl
-high-opcode qp op range = absurd range
+high-opcode : (qp : ℕ) (op : Op) → HasFields (fields qp op) → HasRanges op → leb (2 ^ 40) (least_of (fields qp op)) ≡ true
+high-opcode qp (Alu f r1 r2 r3) own range = refl
+high-opcode qp (ShlAdd p4 r1 r2 count r3) own range = refl
+high-opcode qp (AluImm8 f r1 imm r3) own range = refl
+high-opcode qp (AddImm14 p4 r1 imm r3) own range = refl
+high-opcode qp (AddImm22 r1 imm r3) own range = refl
+high-opcode qp (Cmp four rel kind p1 p2 r2 r3) own range = compare-high kind rel range.1
+high-opcode qp (CmpZero four rel kind p1 p2 r3) own range = parallel-high kind range.1
+high-opcode qp (CmpImm four rel kind p1 p2 imm r3) own range = compare-high kind rel range.2
+high-opcode qp (Lane f size r1 r2 r3) own range = refl
+high-opcode qp op own range = absurd own
 
 pub opcode_is_high : (i : Insn) (w : ℕ) → CodeA i w → 2 ^ 40 ≤ w
-opcode_is_high i w code = omega (arith, code.sum, word-reaches (fields i.qp i.op), leb-true _ _ (high-opcode i.qp i.op code.listed.range))
+opcode_is_high i w code = omega (arith, code.sum, word-reaches (fields i.qp i.op), leb-true _ _ (high-opcode i.qp i.op code.listed.row code.listed.ranges))
 
 -- A word is that of at most one instruction.
-pub only_instruction : (w : ℕ) (i j : Insn) → CodeA i w → CodeA j w → i ≡ j
+pub only_instruction : OneInstruction CodeA
 only_instruction w i j of_i of_j = sym (read_back i w of_i) ∙ read_back j w of_j

@@ -44,8 +44,8 @@ rel_of major ta c =
     else if c == 0 then Eq
     else Ne
 
-abbrev pub kind_of : ℕ → ℕ → ℕ → CmpKind
-kind_of major ta c = if ta == 0 then (if c == 0 then kinds.Normal else kinds.Unc) else parallel_kind_of major
+abbrev pub compare_kind_of : ℕ → ℕ → ℕ → CmpKind
+compare_kind_of major ta c = if ta == 0 then (if c == 0 then kinds.Normal else kinds.Unc) else parallel_kind_of major
 
 -- the relation of a compare of r0 and a register with this ta and c
 abbrev pub zero_rel_of : ℕ → ℕ → Rel
@@ -76,7 +76,7 @@ add_imm22_in the = AddImm22 (the R1) (imm22_in the) (the R3A5)
 unfoldable pub compare_in : ((ℕ → Part) → ℕ) → Op
 compare_in the =
     let rel = rel_of (the Major) (the Ta) (the C) in
-    let kind = kind_of (the Major) (the Ta) (the C) in
+    let kind = compare_kind_of (the Major) (the Ta) (the C) in
     if nat_lt 1 (the X2) then CmpImm (the X2 == 3) rel kind (the P1) (the P2) (imm8_in the) (the R3)
     else if the Tb == 0 then Cmp (the X2 == 1) rel kind (the P1) (the P2) (the R2) (the R3)
     else CmpZero (the X2 == 1) (zero_rel_of (the Ta) (the C)) (parallel_kind_of (the Major)) (the P1) (the P2) (the R3)

@@ -13,9 +13,9 @@
 
 ghost use Rattle.std.specs.Prelude.{◌≡◌, ◌<◌, ◌≤◌, ◌^◌, ◌↔◌, IsTrue, IsNone, IfSome, Some, SomeIff};
 ghost use Rattle.std.specs.Option.{SomeIff};
-ghost use Rattle.ia_insn.specs.FormatsA.{CodeA, IsListedA, word_a};
+ghost use Rattle.ia_insn.specs.Listed.{IsListedA};
+ghost use Rattle.ia_insn.specs.Codes.{CodeA, word_a, OneInstruction, OneWord, OpcodeIsHigh};
 ghost use Rattle.ia_insn.specs.declared.insn.Insn.{Insn};
-ghost use Rattle.formats_a.specs.Laws.{OneInstruction, OneWord, OpcodeIsHigh};
 
 mod reading;
 mod writing;
@@ -72,15 +72,15 @@ pub fn encode_a(insn: &Insn) -> Option<u64>
 
 /// The law that a word is that of at most one A instruction. It does nothing.
 pub fn one_instruction()
-    ensures { OneInstruction }
+    ensures { OneInstruction CodeA }
 {}
 
 /// The law that an A instruction has at most one word. It does nothing.
 pub fn one_word()
-    ensures { OneWord }
+    ensures { OneWord CodeA }
 {}
 
 /// The law that the major opcode of an A instruction's word is 8 or more. It does nothing.
 pub fn opcode_is_high()
-    ensures { OpcodeIsHigh }
+    ensures { OpcodeIsHigh CodeA }
 {}

@@ -5,7 +5,7 @@
 
 ghost use Rattle.std.specs.Prelude.{◌≡◌};
 ghost use Rattle.bundle_bits.specs.Words.{the};
-ghost use Rattle.formats_a.specs.Reading.{logic_of, alu_of, imm8_of, parallel_kind_of, rel_of, kind_of, zero_rel_of, lane_size_of, lane_fn_of, integer_in, add_imm22_in, compare_in, op_in, candidate};
+ghost use Rattle.formats_a.specs.Reading.{logic_of, alu_of, imm8_of, parallel_kind_of, rel_of, compare_kind_of, zero_rel_of, lane_size_of, lane_fn_of, integer_in, add_imm22_in, compare_in, op_in, candidate};
 
 use ia_insn::fields::{
     C, Ct2d, Major, P1, P2, Qp, R1, R2, R3, R3A5, Ta, Tb, X2, X2a, X2b, X4, Za, Zb,
@@ -72,7 +72,7 @@ fn read_rel(major: u64, ta: u64, c: u64) -> Rel
 
 /// The type of a compare of two operands (ctype), by the major opcode, ta and c.
 fn read_kind(major: u64, ta: u64, c: u64) -> CmpKind
-    ensures { result ≡ kind_of major ta c }
+    ensures { result ≡ compare_kind_of major ta c }
 {
     match (ta, c) {
         (0, 0) => CmpKind::Normal,

@@ -2,7 +2,10 @@
 //! format.
 
 ghost use Rattle.std.specs.Prelude.{◌≡◌, IsSome, unwrap_or};
-ghost use Rattle.ia_insn.specs.FormatsA.{x4_of, x2b_of, imm8_codes, compare, parallel_op, zero_codes, lane_size_codes, lane_codes, IsListedA, word_a};
+ghost use Rattle.ia_insn.specs.FormatsA.{x4_of, x2b_of, imm8_codes, compare, parallel_op, zero_codes, lane_size_codes, lane_codes};
+ghost use Rattle.ia_insn.specs.Ranges.{IsPartSize};
+ghost use Rattle.ia_insn.specs.Listed.{IsListedA};
+ghost use Rattle.ia_insn.specs.Codes.{word_a};
 
 use bundle_bits::{Field, word_of_parts};
 use ia_insn::fields::{
@@ -94,8 +97,8 @@ fn codes_of_zero(rel: Rel) -> (u64, u64)
 
 /// za and zb of lanes of a size in bytes.
 fn codes_of_lane_size(size: u8) -> (u64, u64)
-    requires { IsSome (lane_size_codes size) }
-    ensures { result ≡ unwrap_or (lane_size_codes size) (0, 0) }
+    requires { IsPartSize size }
+    ensures { result ≡ lane_size_codes size }
 {
     match size {
         1 => (0, 0),

@@ -2,4 +2,3 @@ pub mod Numbered
 pub mod ReadingB
 pub mod ReadingF
 pub mod ReadingX
-pub mod Laws

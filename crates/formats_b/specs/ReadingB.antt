@@ -13,8 +13,8 @@ use Rattle.ia_insn.specs.declared.choices.BranchKind.TheVariants.{Cond, Wexit, W
 use Rattle.ia_insn.specs.declared.choices.Unit.TheVariants as units
 
 -- the kind of a direct branch with this btype
-abbrev pub kind_of : ℕ → BranchKind
-kind_of btype =
+abbrev pub branch_kind_of : ℕ → BranchKind
+branch_kind_of btype =
     if btype == 0 then Cond
     else if btype == 2 then Wexit
     else if btype == 3 then Wtop
@@ -41,7 +41,7 @@ op_in the =
     if the Major == 0 then indirect_in the
     else if the Major == 1 then BrCallInd (the B1) (the B2) (the Wh) (the P == 1) (the D == 1)
     else if the Major == 2 then nop_or_hint_in the
-    else if the Major == 4 then Br (kind_of (the Btype)) (the Wh) (the P == 1) (the D == 1) (branch_displacement_in the)
+    else if the Major == 4 then Br (branch_kind_of (the Btype)) (the Wh) (the P == 1) (the D == 1) (branch_displacement_in the)
     else BrCall (the B1) (the Wh) (the P == 1) (the D == 1) (branch_displacement_in the)
 
 unfoldable pub candidate : ((ℕ → Part) → ℕ) → Insn

@@ -2,9 +2,9 @@
 
 ghost use Rattle.std.specs.Prelude.{◌≡◌, ◌<◌, ◌≤◌, ◌^◌, ◌↔◌, IsTrue, IsNone, IfSome, Some, SomeIff};
 ghost use Rattle.std.specs.Option.{SomeIff};
-ghost use Rattle.ia_insn.specs.FormatsB.{CodeB, IsListedB, word_b};
+ghost use Rattle.ia_insn.specs.Listed.{IsListedB};
+ghost use Rattle.ia_insn.specs.Codes.{CodeB, word_b, OneInstruction, OneWord};
 ghost use Rattle.ia_insn.specs.declared.insn.Insn.{Insn};
-ghost use Rattle.formats_b.specs.Laws.{OneInstructionB, OneWordB};
 
 mod reading;
 mod writing;
@@ -57,10 +57,10 @@ pub fn encode_b(insn: &Insn) -> Option<u64>
 
 /// The law that a word is that of at most one B instruction. It does nothing.
 pub fn one_instruction_b()
-    ensures { OneInstructionB }
+    ensures { OneInstruction CodeB }
 {}
 
 /// The law that a B instruction has at most one word. It does nothing.
 pub fn one_word_b()
-    ensures { OneWordB }
+    ensures { OneWord CodeB }
 {}

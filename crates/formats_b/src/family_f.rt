@@ -2,9 +2,9 @@
 
 ghost use Rattle.std.specs.Prelude.{◌≡◌, ◌<◌, ◌≤◌, ◌^◌, ◌↔◌, IsTrue, IsNone, IfSome, Some, SomeIff};
 ghost use Rattle.std.specs.Option.{SomeIff};
-ghost use Rattle.ia_insn.specs.FormatsF.{CodeF, IsListedF, word_f};
+ghost use Rattle.ia_insn.specs.Listed.{IsListedF};
+ghost use Rattle.ia_insn.specs.Codes.{CodeF, word_f, OneInstruction, OneWord};
 ghost use Rattle.ia_insn.specs.declared.insn.Insn.{Insn};
-ghost use Rattle.formats_b.specs.Laws.{OneInstructionF, OneWordF};
 
 mod reading;
 mod writing;
@@ -58,10 +58,10 @@ pub fn encode_f(insn: &Insn) -> Option<u64>
 
 /// The law that a word is that of at most one F instruction. It does nothing.
 pub fn one_instruction_f()
-    ensures { OneInstructionF }
+    ensures { OneInstruction CodeF }
 {}
 
 /// The law that an F instruction has at most one word. It does nothing.
 pub fn one_word_f()
-    ensures { OneWordF }
+    ensures { OneWord CodeF }
 {}

@@ -2,9 +2,9 @@
 //! formats, X1, X2 and X5).
 
 ghost use Rattle.std.specs.Prelude.{◌≡◌, ◌<◌, ◌≤◌, ◌^◌, ◌↔◌, IsTrue, IsSome, IsNone, IfSome, Some};
-ghost use Rattle.ia_insn.specs.FormatsX.{CodeX, IsListedX};
+ghost use Rattle.ia_insn.specs.Listed.{IsListedX};
+ghost use Rattle.ia_insn.specs.Codes.{CodeX, OneLongInstruction, OneLongWord};
 ghost use Rattle.ia_insn.specs.declared.insn.Insn.{Insn};
-ghost use Rattle.formats_b.specs.Laws.{OneInstructionX, OneLongWord};
 
 mod reading;
 mod writing;
@@ -77,7 +77,7 @@ pub fn encode_x(insn: &Insn) -> Option<LongWord>
 
 /// The law that two words are those of at most one long instruction. It does nothing.
 pub fn one_instruction_x()
-    ensures { OneInstructionX }
+    ensures { OneLongInstruction }
 {}
 
 /// The law that a long instruction has at most one word in each of its slots. It does nothing.

@@ -5,6 +5,7 @@ use Rattle.std.specs.Prelude.{ℕ, ◌+◌, ◌-◌, ◌*◌, ◌^◌, ◌==◌,
 use Rattle.bundle_bits.specs.Words.{Part}
 use Rattle.ia_insn.specs.Fields.{Major, Qp, X2, X3, X, X2c, X2bI5, X6, Y, YI11, C, P2, R3, Ar3, R2, B2, R1, P1, B1, S, Timm9c, Mask8c, Imm27a, Mask7a, Count6d, Cpos6d, Cpos6c, Cpos6b, Pos6b, Len6d, Len4d, Ih, XI21, WhI21}
 use Rattle.ia_insn.specs.Immediates.{imm8_in, check_displacement_in, imm21_in}
+use Rattle.ia_insn.specs.Sizes.{size_of_code}
 use Rattle.ia_insn.specs.Signed.{signed_of}
 use Rattle.ia_insn.specs.declared.insn.Insn.{Insn}
 use Rattle.ia_insn.specs.declared.insn.Op.{Op}
@@ -18,13 +19,6 @@ use Rattle.ia_insn.specs.declared.choices.Unit.TheVariants as units
 abbrev pub ar_of : ℕ → Ar
 ar_of number = if number == 64 then Pfs else if number == 65 then Lc else if number == 66 then Ec else Unat
 
--- how many bytes a zero or sign extension with this x6 has
-abbrev pub size_of : ℕ → ℕ
-size_of x6 =
-    if x6 == 0x10 then 1 else if x6 == 0x14 then 1
-    else if x6 == 0x11 then 2 else if x6 == 0x15 then 2
-    else 4
-
 -- I18, I19, I22 and I25 to I29: major opcode 0 with x3 0, by x6 and y
 unfoldable pub misc_in : ((ℕ → Part) → ℕ) → Op
 misc_in the =
@@ -36,7 +30,7 @@ misc_in the =
     else if the X6 == 0x31 then MovFromBr (the R1) (the B2)
     else if the X6 == 0x32 then MovFromAr (the R1) (ar_of (the Ar3))
     else if the X6 == 0x33 then MovFromPr (the R1)
-    else Ext (nat_le 0x14 (the X6)) (size_of (the X6)) (the R1) (the R3)
+    else Ext (nat_le 0x14 (the X6)) (size_of_code (the X6)) (the R1) (the R3)
 
 -- I20, I21, I23 and I24, and those with x3 0: major opcode 0, by x3
 unfoldable pub misc_by_x3_in : ((ℕ → Part) → ℕ) → Op

@@ -12,9 +12,9 @@
 
 ghost use Rattle.std.specs.Prelude.{◌≡◌, ◌<◌, ◌≤◌, ◌^◌, ◌↔◌, IsTrue, IsNone, IfSome, Some, SomeIff};
 ghost use Rattle.std.specs.Option.{SomeIff};
-ghost use Rattle.ia_insn.specs.FormatsI.{CodeI, IsListedI, word_i};
+ghost use Rattle.ia_insn.specs.Listed.{IsListedI};
+ghost use Rattle.ia_insn.specs.Codes.{CodeI, word_i, OneInstruction, OneWord, OpcodeIsLow};
 ghost use Rattle.ia_insn.specs.declared.insn.Insn.{Insn};
-ghost use Rattle.formats_i.specs.Laws.{OneInstruction, OneWord, OpcodeIsLow};
 
 mod reading;
 mod writing;
@@ -68,15 +68,15 @@ pub fn encode_i(insn: &Insn) -> Option<u64>
 
 /// The law that a word is that of at most one I instruction. It does nothing.
 pub fn one_instruction()
-    ensures { OneInstruction }
+    ensures { OneInstruction CodeI }
 {}
 
 /// The law that an I instruction has at most one word. It does nothing.
 pub fn one_word()
-    ensures { OneWord }
+    ensures { OneWord CodeI }
 {}
 
 /// The law that the major opcode of an I instruction's word is below 8. It does nothing.
 pub fn opcode_is_low()
-    ensures { OpcodeIsLow }
+    ensures { OpcodeIsLow CodeI }
 {}

@@ -5,7 +5,7 @@
 
 ghost use Rattle.std.specs.Prelude.{◌≡◌};
 ghost use Rattle.bundle_bits.specs.Words.{the};
-ghost use Rattle.formats_i.specs.Reading.{ar_of, size_of, misc_in, misc_by_x3_in, bit_field_in, shift_in, op_in, candidate};
+ghost use Rattle.formats_i.specs.Reading.{ar_of, misc_in, misc_by_x3_in, bit_field_in, shift_in, op_in, candidate};
 
 use ia_insn::fields::{
     Ar3, B1, B2, C, Count6d, Cpos6b, Cpos6c, Cpos6d, Ih, Imm27a, Len4d, Len6d, Major, Mask7a,
@@ -13,7 +13,7 @@ use ia_insn::fields::{
     YI11,
 };
 use ia_insn::immediates::{check_displacement, imm8, imm21};
-use ia_insn::{Ar, Br, Gr, Insn, Op, Pr, ShiftFn, Unit, sign_extended};
+use ia_insn::{Ar, Br, Gr, Insn, Op, Pr, ShiftFn, Unit, sign_extended, size_of_code};
 
 /// The application register with this number.
 fn read_ar(number: u64) -> Ar
@@ -24,17 +24,6 @@ fn read_ar(number: u64) -> Ar
         65 => Ar::Lc,
         66 => Ar::Ec,
         _ => Ar::Unat,
-    }
-}
-
-/// How many bytes a zero or sign extension with this x6 has.
-fn read_size(x6: u64) -> u8
-    ensures { result ≡ size_of x6 }
-{
-    match x6 {
-        0x10 | 0x14 => 1,
-        0x11 | 0x15 => 2,
-        _ => 4,
     }
 }
 
@@ -68,7 +57,7 @@ fn read_misc(word: u64) -> Op
         0x33 => Op::MovFromPr { r1 },
         x6 => Op::Ext {
             signed: x6 >= 0x14,
-            size: read_size(x6),
+            size: size_of_code(x6),
             r1,
             r3: Gr::of_field(R3::get(word)),
         },

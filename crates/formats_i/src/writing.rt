@@ -1,7 +1,8 @@
 //! The word of an instruction: a row for each format, with its fields from the top down.
 
-ghost use Rattle.std.specs.Prelude.{◌≡◌, ◌<◌, IsSome, unwrap_or};
-ghost use Rattle.ia_insn.specs.FormatsI.{ar_number, ext_code, IsListedI, word_i};
+ghost use Rattle.std.specs.Prelude.{◌≡◌, ◌<◌};
+ghost use Rattle.ia_insn.specs.Listed.{IsListedI};
+ghost use Rattle.ia_insn.specs.Codes.{word_i};
 ghost use Rattle.formats_i.specs.Writing.{IsMisc};
 
 use bundle_bits::{Field, word_of_parts};
@@ -10,36 +11,7 @@ use ia_insn::fields::{
     Len4d, Len6d, Major, Mask7a, Mask8c, P1, P2, Pos6b, Qp, R1, R2, R3, S, Ta, Tb, Timm9c, VeI5,
     WhI21, X, X2, X2a, X2bI5, X2c, X3, X6, XI21, Y, YI11, Za, Zb,
 };
-use ia_insn::{Ar, Insn, Op, ShiftFn, Unit, twos_complement};
-
-/// The number of an application register (volume 1, chapter 3, application registers).
-fn number_of_ar(ar: Ar) -> u64
-    ensures value { result ≡ ar_number ar }
-    ensures within { result < 128 }
-{
-    match ar {
-        Ar::Unat => 36,
-        Ar::Pfs => 64,
-        Ar::Lc => 65,
-        Ar::Ec => 66,
-    }
-}
-
-/// x6 of a zero or sign extension.
-fn code_of_ext(signed: bool, size: u8) -> u64
-    requires { IsSome (ext_code signed size) }
-    ensures { result ≡ unwrap_or (ext_code signed size) 0 }
-{
-    match (signed, size) {
-        (false, 1) => 0x10,
-        (false, 2) => 0x11,
-        (false, 4) => 0x12,
-        (true, 1) => 0x14,
-        (true, 2) => 0x15,
-        (true, 4) => 0x16,
-        _ => unreachable!(),
-    }
-}
+use ia_insn::{Insn, Op, ShiftFn, Unit, code_of_size, twos_complement};
 
 /// I5 to I29: the word of an instruction whose operands are in their ranges.
 pub(crate) fn write(insn: &Insn) -> u64
@@ -362,7 +334,7 @@ fn write_misc(insn: &Insn) -> u64
             Major::of(0),
             X3::of(0),
             X6::of(0x2a),
-            Ar3::of(number_of_ar(ar)),
+            Ar3::of(ar.number()),
             R2::of(u64::from(r2.number())),
             qp,
         ]),
@@ -374,7 +346,7 @@ fn write_misc(insn: &Insn) -> u64
                 S::of(Field::<7, 1>::get(bits)),
                 X3::of(0),
                 X6::of(0x0a),
-                Ar3::of(number_of_ar(ar)),
+                Ar3::of(ar.number()),
                 Imm7b::of(Field::<0, 7>::get(bits)),
                 qp,
             ])
@@ -384,7 +356,7 @@ fn write_misc(insn: &Insn) -> u64
             Major::of(0),
             X3::of(0),
             X6::of(0x32),
-            Ar3::of(number_of_ar(ar)),
+            Ar3::of(ar.number()),
             R1::of(u64::from(r1.number())),
             qp,
         ]),
@@ -397,7 +369,7 @@ fn write_misc(insn: &Insn) -> u64
         } => word_of_parts(&[
             Major::of(0),
             X3::of(0),
-            X6::of(code_of_ext(signed, size)),
+            X6::of(0x10 + 4 * u64::from(signed) + code_of_size(size)),
             R3::of(u64::from(r3.number())),
             R1::of(u64::from(r1.number())),
             qp,

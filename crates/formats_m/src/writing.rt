@@ -1,34 +1,19 @@
 //! The word of an instruction: the opcode extensions of a load or a store, and a row of fields for
 //! each format but M16 and M17.
 
-ghost use Rattle.std.specs.Prelude.{◌≡◌, ◌<◌, ◌≤◌, IsSome, unwrap_or};
-ghost use Rattle.ia_insn.specs.FormatsM.{log2_of, load_base, load_code, store_code, IsListedM, word_m};
+ghost use Rattle.std.specs.Prelude.{◌≡◌, ◌<◌, ◌≤◌};
+ghost use Rattle.ia_insn.specs.FormatsM.{load_base, load_code, store_code};
+ghost use Rattle.ia_insn.specs.Ranges.{IsLoadSize, IsStoreSize};
+ghost use Rattle.ia_insn.specs.Listed.{IsListedM};
+ghost use Rattle.ia_insn.specs.Codes.{word_m};
 
 use bundle_bits::{Field, word_of_parts};
 use ia_insn::fields::{
     Ar3, HintM1, I, IM3, Imm7a, Imm7b, Imm13c, Imm20a, Imm20b, M, Major, Qp, R1, R2, R3, S, Sof,
     Sol, Sor, X2M24, X3, X4M24, X6, X6M1, XM1, Y,
 };
-use ia_insn::{Ar, Insn, LoadKind, Op, StoreKind, Unit, Update, twos_complement};
+use ia_insn::{Ar, Insn, LoadKind, Op, StoreKind, Unit, Update, code_of_size, twos_complement};
 use sem_ops::encode_sem;
-
-/// The number of `ar.unat` (volume 1, chapter 3, application registers).
-const UNAT: u64 = 36;
-
-/// The low bits of x6 of a load or a store of this many bytes.
-fn log2(size: u8) -> u64
-    requires { IsSome (log2_of size) }
-    ensures value { result ≡ unwrap_or (log2_of size) 0 }
-    ensures within { result < 4 }
-{
-    match size {
-        1 => 0,
-        2 => 1,
-        4 => 2,
-        8 => 3,
-        _ => unreachable!(),
-    }
-}
 
 /// x6 of a load of one byte, by its type (ldtype), and 0 for a fill, which has 8 bytes.
 fn base_of_load(kind: LoadKind) -> u64
@@ -51,23 +36,23 @@ fn base_of_load(kind: LoadKind) -> u64
 
 /// x6 of a load, by its type (ldtype) and size.
 fn code_of_load(kind: LoadKind, size: u8) -> u64
-    requires { IsSome (load_code kind size) }
-    ensures { result ≡ unwrap_or (load_code kind size) 0 }
+    requires { IsLoadSize kind size }
+    ensures { result ≡ load_code kind size }
 {
     match kind {
         LoadKind::Fill => 0x1b,
-        _ => base_of_load(kind) + log2(size),
+        _ => base_of_load(kind) + code_of_size(size),
     }
 }
 
 /// x6 of a store, by its type (sttype) and size.
 fn code_of_store(kind: StoreKind, size: u8) -> u64
-    requires { IsSome (store_code kind size) }
-    ensures { result ≡ unwrap_or (store_code kind size) 0 }
+    requires { IsStoreSize kind size }
+    ensures { result ≡ store_code kind size }
 {
     match kind {
-        StoreKind::Plain => 0x30 + log2(size),
-        StoreKind::Rel => 0x34 + log2(size),
+        StoreKind::Plain => 0x30 + code_of_size(size),
+        StoreKind::Rel => 0x34 + code_of_size(size),
         StoreKind::Spill => 0x3b,
     }
 }
@@ -231,7 +216,7 @@ pub(crate) fn write(insn: &Insn) -> u64
             Major::of(1),
             X3::of(0),
             X6::of(0x2a),
-            Ar3::of(UNAT),
+            Ar3::of(Ar::Unat.number()),
             R2::of(u64::from(r2.number())),
             qp,
         ]),
@@ -244,7 +229,7 @@ pub(crate) fn write(insn: &Insn) -> u64
                 X3::of(0),
                 X2M24::of(2),
                 X4M24::of(8),
-                Ar3::of(UNAT),
+                Ar3::of(Ar::Unat.number()),
                 Imm7b::of(Field::<0, 7>::get(bits)),
                 qp,
             ])
@@ -254,7 +239,7 @@ pub(crate) fn write(insn: &Insn) -> u64
             Major::of(1),
             X3::of(0),
             X6::of(0x22),
-            Ar3::of(UNAT),
+            Ar3::of(Ar::Unat.number()),
             R1::of(u64::from(r1.number())),
             qp,
         ]),

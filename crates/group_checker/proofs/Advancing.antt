@@ -23,7 +23,7 @@ use Rattle.resource_sets.specs.declared.access.Access.{Access}
 use Rattle.resource_sets.specs.Accesses.{accesses}
 use Rattle.resource_sets.specs.Clashes.{may_write_guard}
 use Rattle.resource_sets.specs.AccessLaws.{Location, StaticAt, CellAt, PredicateAt, BranchAt, TheUnat, ThePfs, TheLc, TheEc, TheFrame, location, location_of, naming_frame, writes_registers, MayPut, HasAccess, IsCovered}
-use Rattle.ia_meaning.specs.Actions.{is_alloc, insn_form}
+use Rattle.ia_meaning.specs.Actions.{is_alloc, insn_action}
 use Rattle.resource_sets.specs.Regularity.{IsInRange, IsExcepted}
 use Rattle.ia_meaning.proofs.PredicatePlaces.{holds_zero}
 use Rattle.resource_sets.proofs.Dependence.{place_same}
@@ -110,10 +110,10 @@ fit_append : (ws vs : List RegisterWrite) → FitTogether ws → FitTogether vs 
 fit_append [] vs h k f = k
 fit_append (w ∷ ws) vs h k f = (each_append (Fits w) ws vs h.0 (fit_each w vs (λ v m. f w v (inl refl) m)), fit_append ws vs h.1 k (λ x v m n. f x v (inr m) n))
 
-no_alloc_write : (j : Insn) (a : Access) → HasAccess j a → is_alloc (insn_form j) ≡ false → a.kind ≡ AllocWrite → ⊥
+no_alloc_write : (j : Insn) (a : Access) → HasAccess j a → is_alloc (insn_action j) ≡ false → a.kind ≡ AllocWrite → ⊥
 no_alloc_write j a h na k = let of = alloc_writes j a h k in true≢false (sym of.0 ∙ na)
 
-pub plain_of : (j : Insn) (a : Access) → HasAccess j a → is_alloc (insn_form j) ≡ false → writes_registers a.kind ≡ true → IsPlain a.kind
+pub plain_of : (j : Insn) (a : Access) → HasAccess j a → is_alloc (insn_action j) ≡ false → writes_registers a.kind ≡ true → IsPlain a.kind
 plain_of j a h na w = go a.kind refl w
   where
     go : (k : Kind) → a.kind ≡ k → writes_registers k ≡ true → IsPlain k
@@ -141,13 +141,13 @@ rotating_fits h = h.rotating
 
 -- what the laws of accesses say of an outcome, at a view whose qualifying predicate is the state's
 pub record IsLawful (j : Insn) (base s v : Registers) (o : Outcome) : Type 0 where
-  pub frame : naming_frame (insn_form j) v.frame ≡ base.frame
-  pub covered : Each (IsCovered j.qp (insn_form j) v) o.writes
+  pub frame : naming_frame (insn_action j) v.frame ≡ base.frame
+  pub covered : Each (IsCovered j.qp (insn_action j) v) o.writes
   pub apart : FitTogether o.writes
   pub spills : (x : ℕ × Bool) → o.spills ≡ Some x → HasAccess j (access_to Unat Spill j.qp) × (holds v j.qp ≡ true)
   pub guard : holds v j.qp ≡ holds s j.qp
 
-module _ (p : Program) (past : List Place) (base : Registers) (ws : List RegisterWrite) (u : ℕ) (j : Insn) (way : IsGathering p past base ws u) (clean : ClashesWithNone p past j (joined base ws u)) (listed : IsListed j) (na : is_alloc (insn_form j) ≡ false)
+module _ (p : Program) (past : List Place) (base : Registers) (ws : List RegisterWrite) (u : ℕ) (j : Insn) (way : IsGathering p past base ws u) (clean : ClashesWithNone p past j (joined base ws u)) (listed : IsListed j) (na : is_alloc (insn_action j) ≡ false)
     (here : Place) (at : insn_at p.bundles here ≡ Some j) (later : (i : Place) → Mem i past → IsBefore i here) (v : Registers) (o : Outcome) (law : IsLawful j base (joined base ws u) v o) where
   abbrev S : Registers
   S = joined base ws u
@@ -156,7 +156,7 @@ module _ (p : Program) (past : List Place) (base : Registers) (ws : List Registe
   S' = joined base (ws ++ o.writes) (unat_after o.spills u)
 
   abbrev Covered : RegisterWrite → Type 0
-  Covered w = IsCovered j.qp (insn_form j) v w
+  Covered w = IsCovered j.qp (insn_action j) v w
 
   guard_now : (g : ℕ) → (g ≡ 0) ⊎ (g ≡ j.qp) → holds v g ≡ true → holds S g ≡ true
   guard_now g (inl e) h = rw e (holds_zero S)
@@ -307,7 +307,7 @@ module _ (p : Program) (past : List Place) (base : Registers) (ws : List Registe
 
   inside_new : (w : RegisterWrite) → Covered w → IsInside (length base.cells) w
   inside_new (SetCell n c) h =
-      let i = cells_inside j.qp (insn_form j) v (SetCell n c) n h (subst (λ f. 8 * f.sor ≤ f.sof) (sym law.frame) (rotating_fits way.frame)) refl in
+      let i = cells_inside j.qp (insn_action j) v (SetCell n c) n h (subst (λ f. 8 * f.sor ≤ f.sof) (sym law.frame) (rotating_fits way.frame)) refl in
       subst (λ k. n < k) (sym way.cells) (subst (λ f. n < f.base + f.sof) law.frame i.1)
   inside_new w h = tt
 

@@ -14,7 +14,7 @@ use Rattle.ia_meaning.specs.Outcomes.{Outcome}
 use Rattle.ia_meaning.specs.Sequence.{next_of, is_stopped}
 use Rattle.ia_meaning.specs.Steps.{place_after, outcome_of, Step, step_by, seq_step}
 use Rattle.resource_sets.specs.AccessLaws.{TheUnat, location}
-use Rattle.ia_meaning.specs.Actions.{is_alloc, insn_form, allocates}
+use Rattle.ia_meaning.specs.Actions.{is_alloc, insn_action, allocates}
 use Rattle.flow_facts.specs.Walks.{Walk, earlier_in_group}
 use Rattle.group_checker.specs.Reports.{IsFree}
 use Rattle.group_checker.proofs.Members.{in_head, in_tail}
@@ -87,7 +87,7 @@ From p n begins g x = if_some (on_by p (begins && allocates x) g (slot_outcome p
 module _ (p : Program) (program : IsProgram p) (free : IsFree p) where
   same_here : (g : Gathered) (past : List Place) (w : Walk) → IsGroupOnWalk p g past w → (i : Place) → Contains (earlier_in_group p w) i → (j : Insn) → insn_at p.bundles g.place ≡ Some j → slot_outcome p g (Some j) ≡ outcome_of p (state_of g) j
   same_here g past w on i c j at =
-      plain_same p program free g past w on j at (by_test (is_alloc (insn_form j)) (no_alloc p free (state_of g) w on.known j at i c))
+      plain_same p program free g past w on j at (by_test (is_alloc (insn_action j)) (no_alloc p free (state_of g) w on.known j at i c))
 
   rest_agrees : (n : ℕ) → RestAgrees p n
   rest_agrees zero g past w h on i c e =
@@ -97,18 +97,18 @@ module _ (p : Program) (program : IsProgram p) (free : IsFree p) where
     where
       go : RestAgrees p n → (j : Insn) × (insn_at p.bundles g.place ≡ Some j) → Agrees p h (steps_on (suc n) p (state_of g))
       go rest (j, at) =
-          let na : is_alloc (insn_form j) ≡ false = by_test (is_alloc (insn_form j)) (no_alloc p free (state_of g) w on.known j at i c) in
+          let na : is_alloc (insn_action j) ≡ false = by_test (is_alloc (insn_action j)) (no_alloc p free (state_of g) w on.known j at i c) in
           slot_agrees p program n rest false g past w h on (slot_outcome p g (Some j))
           (plain_step p program free g past w on j at na) (plain_joins p program free g past w on j at na)
           (sym (ap (From p n false g) at) ∙ e)
 
   -- the first slot may be an `alloc`
   first_same : (s : State) (w : Walk) → IsKnown p s w → (j : Insn) → insn_at p.bundles s.place ≡ Some j → slot_outcome p (gathered_from s) (Some j) ≡ outcome_of p s j
-  first_same s w known j at = by_form (is_alloc (insn_form j)) refl
+  first_same s w known j at = by_action (is_alloc (insn_action j)) refl
     where
-      by_form : (b : Bool) → is_alloc (insn_form j) ≡ b → slot_outcome p (gathered_from s) (Some j) ≡ outcome_of p s j
-      by_form true al = alloc_outcome p program s w known j at al
-      by_form false na = plain_same p program free (gathered_from s) [] w (begun_on p s w known) j at na
+      by_action : (b : Bool) → is_alloc (insn_action j) ≡ b → slot_outcome p (gathered_from s) (Some j) ≡ outcome_of p s j
+      by_action true al = alloc_outcome p program s w known j at al
+      by_action false na = plain_same p program free (gathered_from s) [] w (begun_on p s w known) j at na
 
   first_agrees : (n : ℕ) (s : State) (w : Walk) (h : Gathered) → IsKnown p s w → slots_on n p true (gathered_from s) ≡ Some h → Agrees p h (steps_on n p s)
   first_agrees zero s w h known e =
@@ -117,17 +117,17 @@ module _ (p : Program) (program : IsProgram p) (free : IsFree p) where
   first_agrees (suc n) s w h known e = go (insn_here p s known.state.place)
     where
       go : (j : Insn) × (insn_at p.bundles s.place ≡ Some j) → Agrees p h (steps_on (suc n) p s)
-      go (j, at) = by_form (is_alloc (insn_form j)) refl
+      go (j, at) = by_action (is_alloc (insn_action j)) refl
         where
           here : From p n true (gathered_from s) (Some j) ≡ Some h
           here = sym (ap (From p n true (gathered_from s)) at) ∙ e
 
-          by_form : (b : Bool) → is_alloc (insn_form j) ≡ b → Agrees p h (steps_on (suc n) p s)
-          by_form false na =
+          by_action : (b : Bool) → is_alloc (insn_action j) ≡ b → Agrees p h (steps_on (suc n) p s)
+          by_action false na =
               slot_agrees p program n (rest_agrees n) false (gathered_from s) [] w h (begun_on p s w known) (slot_outcome p (gathered_from s) (Some j))
               (plain_step p program free (gathered_from s) [] w (begun_on p s w known) j at na) (plain_joins p program free (gathered_from s) [] w (begun_on p s w known) j at na)
               (sym (ap (λ b. if_some (on_by p b (gathered_from s) (slot_outcome p (gathered_from s) (Some j)) (slot_outcome p (gathered_from s) (Some j)).next) (slots_on n p false)) na) ∙ here)
-          by_form true al =
+          by_action true al =
               slot_agrees p program n (rest_agrees n) true (gathered_from s) [] w h (begun_on p s w known) (outcome_of p s j)
               (alloc_step p program s w known j at al) (alloc_joins p program s w known j at al)
               (sym (ap (λ (o : Outcome). if_some (on_by p true (gathered_from s) o o.next) (slots_on n p false)) (alloc_outcome p program s w known j at al))

@@ -16,7 +16,7 @@ use Rattle.predicate_rel.specs.declared.edge.Edge.{Edge}
 use Rattle.predicate_rel.specs.declared.edge.Edge.TheVariants.{Falls, Taken}
 use Rattle.predicate_rel.specs.Pairs.{Pairs}
 use Rattle.predicate_rel.specs.Edges.{HasEdge, edge_of, edge_end, may_fall, pairs_past, pairs_past_insn}
-use Rattle.flow_facts.specs.Graphs.{Graph, over_program, over_row, Row, HasRowEdge, row_insn, row_next, row_end_of, row_past, insn_in, next_in, IsPlaceIn, IsEdgeIn, pairs_past_in}
+use Rattle.flow_facts.specs.Graphs.{Graph, over_program, over_row, InsnRow, HasRowEdge, row_insn, row_next, row_end_of, row_past, insn_in, next_in, IsPlaceIn, IsEdgeIn, pairs_past_in}
 use Rattle.flow_facts.specs.Walks.{Walk, begins, goes_on, IsWalkIn, end_of, facts_in, group_since}
 use Rattle.group_checker.proofs.Members.{not_in_none, cases_in}
 
@@ -82,7 +82,7 @@ program_fall p i j e = of (insn_at p.bundles i) refl e.leads
     of None here h = absurd cc
     of (Some insn) here h = let c = chosen (may_fall insn) (next_of p.bundles i) j h in record { insn = insn; here = here; may = c.0; next = c.1 }
 
-row_fall : (row : Row) (i j : Place) → HasRowEdge row i Falls j → IsFall (over_row row) i j
+row_fall : (row : InsnRow) (i j : Place) → HasRowEdge row i Falls j → IsFall (over_row row) i j
 row_fall row i j e = of (row_insn row.insns i) refl e.leads
   where
     of : (o : Option Insn) → row_insn row.insns i ≡ o → row_end_of row.insns i o Falls ≡ Some j → IsFall (over_row row) i j

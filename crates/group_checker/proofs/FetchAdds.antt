@@ -10,14 +10,14 @@ use Rattle.ia_insn.specs.NewValues.{exchanged}
 use Rattle.ia_insn.specs.Signed.{twos}
 use Rattle.ia_insn.specs.Places.{insn_at}
 use Rattle.ia_insn.specs.Programs.{Program}
-use Rattle.ia_meaning.specs.declared.form.Form.TheVariants.{Exchange}
+use Rattle.ia_meaning.specs.declared.action.Action.TheVariants.{Exchange}
 use Rattle.ia_meaning.specs.declared.next.Next.TheVariants.{Faults}
 use Rattle.ia_meaning.specs.declared.state.Cell.{Cell}
 use Rattle.ia_meaning.specs.declared.state.FrameShape.{FrameShape}
 use Rattle.ia_meaning.specs.declared.state.AlatKey.{AlatKey as Spot}
 use Rattle.ia_meaning.specs.State.{Registers, Memory}
 use Rattle.ia_meaning.specs.Names.{spot, look, holds, set_spot}
-use Rattle.ia_meaning.specs.Actions.{allocates, insn_form, is_alloc, is_branch}
+use Rattle.ia_meaning.specs.Actions.{allocates, insn_action, is_alloc, is_branch}
 use Rattle.ia_meaning.specs.Outcomes.{Outcome, faults}
 use Rattle.ia_meaning.specs.Effects.{Site, site, effect}
 use Rattle.ia_meaning.specs.Loads.{access_fault, loaded, stored, untouched, exchange_made}
@@ -52,7 +52,7 @@ sum_fits : (size : ℕ) (inc : ℤ) (old x : ℕ) → exchanged size (Some inc) 
 sum_fits size inc old x = mod-eq_of_lt (mod_below (old + twos 64 inc) (2 ^ (8 * size)) (pow_pos (8 * size)))
 
 module _ (s : Site) (insn : Insn) (r : Registers) (m : Memory) (unat size address : ℕ) (inc : ℤ) (r1 r3 : ℕ) (base : Cell)
-    (form : insn_form insn ≡ Exchange size r1 r3 0 (Some inc)) (guard : insn.qp ≡ 0) (looked : look r r3 ≡ Some base) (here : base.value ≡ address) where
+    (action : insn_action insn ≡ Exchange size r1 r3 0 (Some inc)) (guard : insn.qp ≡ 0) (looked : look r r3 ≡ Some base) (here : base.value ≡ address) where
   abbrev Q : Outcome → Type 0
   Q o = (next : Option Place) → IsOn (settled next m o.next o).next → Added size address inc r.frame r1 m (settled next m o.next o)
 
@@ -68,8 +68,8 @@ module _ (s : Site) (insn : Insn) (r : Registers) (m : Memory) (unat size addres
 
   added_by : Q (effect s insn r m unat)
   added_by =
-      guarded_cases Q s insn.qp (insn_form insn) r m unat
-      (λ _. subst (λ f. ActCases Q s f r m unat) (sym form) (λ kind next on. absurd (never kind next m on), λ d b x names is _ _ _ access. made d b x names is access))
+      guarded_cases Q s insn.qp (insn_action insn) r m unat
+      (λ _. subst (λ f. ActCases Q s f r m unat) (sym action) (λ kind next on. absurd (never kind next m on), λ d b x names is _ _ _ access. made d b x names is access))
       (λ off. absurd (true≢false (sym (holds_zero r) ∙ ap (holds r) (sym guard) ∙ off)))
 
 -- a slot that is one
@@ -78,11 +78,11 @@ slot_adds : (p : Program) (x : GatheredSlot) (size address : ℕ) (inc : ℤ) (a
 slot_adds p x size address inc add on =
     let g = x.before in
     let next = next_of p.bundles g.place in
-    let plain : is_branch (insn_form x.insn) ≡ false = ap is_branch add.form in
+    let plain : is_branch (insn_action x.insn) ≡ false = ap is_branch add.action in
     let of = λ (v : Registers). outcome_from p g.place x.insn v g.memory g.unat in
     let same : view x.insn (now_of g) g.base ≡ g.base = view_plain x.insn (now_of g) g.base plain in
     subst (λ o. Added size address inc g.base.frame add.r1 g.memory o) (sym (ap of same))
-    (added_by (site p g.place.bundle) x.insn g.base g.memory g.unat size address inc add.r1 add.r3 add.base add.form add.guard add.looked add.there next
+    (added_by (site p g.place.bundle) x.insn g.base g.memory g.unat size address inc add.r1 add.r3 add.base add.action add.guard add.looked add.there next
     (subst (λ (o : Outcome). IsOn o.next) (ap of same) on))
 
 slot_keeps : (p : Program) (x : GatheredSlot) → IsNoAccess x → (done_by p x).memory.bytes ≡ x.before.memory.bytes
@@ -180,14 +180,14 @@ adds_are_summed p code s size address incs h = by_slots p (LeavesSum p size addr
 -- What they give their targets is there.
 
 pub adds_stand : FetchAddTargetsStand
-adds_stand p code s w size address inc xs ys x program free known e add = targets_stand p code s w xs ys x program free known e (ap is_alloc add.form)
+adds_stand p code s w size address inc xs ys x program free known e add = targets_stand p code s w xs ys x program free known e (ap is_alloc add.action)
 
 pub two_are_added : TwoFetchAdds
 unfolding look spot holds next_of insn_at is_stopped access_fault loaded stored untouched
 two_are_added = (
   (inr (
-    record { r1 = 4; r3 = 3; base = cell 0x100000; form = refl; guard = refl; looked = refl; there = refl },
-    inr (record { r1 = 5; r3 = 3; base = cell 0x100000; form = refl; guard = refl; looked = refl; there = refl }, (λ _. refl, refl)),
+    record { r1 = 4; r3 = 3; base = cell 0x100000; action = refl; guard = refl; looked = refl; there = refl },
+    inr (record { r1 = 5; r3 = 3; base = cell 0x100000; action = refl; guard = refl; looked = refl; there = refl }, (λ _. refl, refl)),
   )),
   refl,
   refl,

@@ -12,15 +12,15 @@ use Rattle.ia_meaning.specs.declared.state.Cell.{Cell}
 use Rattle.ia_meaning.specs.declared.state.FrameShape.{FrameShape}
 use Rattle.ia_meaning.specs.declared.state.AlatKey.{AlatKey as Spot}
 use Rattle.ia_meaning.specs.declared.state.AlatKey.TheVariants.{Static, Stacked}
-use Rattle.ia_meaning.specs.declared.form.Form.{Form}
-use Rattle.ia_meaning.specs.declared.form.Form.TheVariants as form
+use Rattle.ia_meaning.specs.declared.action.Action.{Action}
+use Rattle.ia_meaning.specs.declared.action.Action.TheVariants as action
 use Rattle.ia_meaning.specs.State.{Registers, Memory, State, IsFrame}
 use Rattle.ia_meaning.specs.declared.write.Write.{Write as RegisterWrite}
 use Rattle.ia_meaning.specs.declared.write.Write.TheVariants.{SetStatic, SetCell, SetFrame}
 use Rattle.ia_meaning.specs.declared.write.FrameCause.TheVariants.{Resized}
 use Rattle.ia_meaning.specs.Writes.{put, apply, frame_changes}
 use Rattle.ia_meaning.specs.Names.{set_spot, holds, predicate_place}
-use Rattle.ia_meaning.specs.Actions.{is_branch, is_alloc, insn_form}
+use Rattle.ia_meaning.specs.Actions.{is_branch, is_alloc, insn_action}
 use Rattle.ia_meaning.specs.Outcomes.{Outcome}
 use Rattle.ia_meaning.specs.Effects.{site, effect}
 use Rattle.ia_meaning.specs.Sequence.{next_of}
@@ -65,12 +65,12 @@ settled_allocated new None m next.Falls o h = record { spills = refl; ways = inl
 settled_allocated new n m way o h = h
 
 -- the new frame has the rename bases of the old one, and its base
-new_pr : (f : Form) (old : FrameShape) → (naming_frame f old).rrbs.pr ≡ old.rrbs.pr
-new_pr (form.Allocate r1 sof sol sor) old = refl
+new_pr : (f : Action) (old : FrameShape) → (naming_frame f old).rrbs.pr ≡ old.rrbs.pr
+new_pr (action.Allocate r1 sof sol sor) old = refl
 new_pr f old = refl
 
-no_branch : (f : Form) → is_alloc f ≡ true → is_branch f ≡ false
-no_branch (form.Allocate r1 sof sol sor) e = refl
+no_branch : (f : Action) → is_alloc f ≡ true → is_branch f ≡ false
+no_branch (action.Allocate r1 sof sol sor) e = refl
 no_branch f e = absurd (true≢false (sym e))
 
 -- a write of a register leaves the frame and the predicates
@@ -106,7 +106,7 @@ each_from_mem P Q [] h f = tt
 each_from_mem P Q (x ∷ xs) h f = (f x (inl refl) h.0, each_from_mem P Q xs h.1 (λ y m k. f y (inr m) k))
 
 -- an `alloc` in first place
-module _ (p : Program) (program : IsProgram p) (s : State) (w : Walk) (known : IsKnown p s w) (j : Insn) (at : insn_at p.bundles s.place ≡ Some j) (al : is_alloc (insn_form j) ≡ true) where
+module _ (p : Program) (program : IsProgram p) (s : State) (w : Walk) (known : IsKnown p s w) (j : Insn) (at : insn_at p.bundles s.place ≡ Some j) (al : is_alloc (insn_action j) ≡ true) where
   abbrev R : Registers
   R = s.registers
 
@@ -114,7 +114,7 @@ module _ (p : Program) (program : IsProgram p) (s : State) (w : Walk) (known : I
   O = outcome_of p s j
 
   abbrev New : FrameShape
-  New = naming_frame (insn_form j) R.frame
+  New = naming_frame (insn_action j) R.frame
 
   abbrev Base : Registers
   Base = put (SetFrame Resized New) R
@@ -130,15 +130,15 @@ module _ (p : Program) (program : IsProgram p) (s : State) (w : Walk) (known : I
   pub alloc_step : seq_step p s ≡ step_by p s O O.next
   alloc_step = step_here p s j at
 
-  settled_covers : (n : Option Place) (m : Memory) (way : NextWay) (o : Outcome) → Each (IsCovered j.qp (insn_form j) R) o.writes → Each (IsCovered j.qp (insn_form j) R) (settled n m way o).writes
+  settled_covers : (n : Option Place) (m : Memory) (way : NextWay) (o : Outcome) → Each (IsCovered j.qp (insn_action j) R) o.writes → Each (IsCovered j.qp (insn_action j) R) (settled n m way o).writes
   settled_covers None m next.Falls o h = tt
   settled_covers n m way o h = h
 
-  covers : Each (IsCovered j.qp (insn_form j) R) O.writes
+  covers : Each (IsCovered j.qp (insn_action j) R) O.writes
   covers =
       let e = effect (site p s.place.bundle) j R s.memory R.unat in
       let f = known.state.registers.frame in
-      settled_covers (next_of p.bundles s.place) s.memory e.next e (each_of (IsCovered j.qp (insn_form j) R) e.writes (covered (site p s.place.bundle) j R s.memory R.unat f.predicates))
+      settled_covers (next_of p.bundles s.place) s.memory e.next e (each_of (IsCovered j.qp (insn_action j) R) e.writes (covered (site p s.place.bundle) j R s.memory R.unat f.predicates))
 
   module _ (d : Spot) (c : Cell) (writes : O.writes ≡ SetFrame Resized New ∷ set_spot d c []) (falls : O.next ≡ next.Falls) where
     abbrev Ws : List RegisterWrite
@@ -158,7 +158,7 @@ module _ (p : Program) (program : IsProgram p) (s : State) (w : Walk) (known : I
     now_holds : (g : ℕ) → holds After g ≡ holds R g
     now_holds g =
         holds_by R After g (set_spot_predicates d c Base)
-        (ap (λ (f : FrameShape). f.rrbs.pr) (set_spot_frame d c Base) ∙ new_pr (insn_form j) R.frame)
+        (ap (λ (f : FrameShape). f.rrbs.pr) (set_spot_frame d c Base) ∙ new_pr (insn_action j) R.frame)
 
     alive : (g : ℕ) → (g ≡ 0) ⊎ (g ≡ j.qp) → holds R g ≡ true → IsStillOne Base After g
     alive g k h = record { on = now_holds g ∙ h; named = λ _. set_spot_frame d c Base; range = range k }
@@ -167,7 +167,7 @@ module _ (p : Program) (program : IsProgram p) (s : State) (w : Walk) (known : I
         range (inl e) = inl e
         range (inr e) = subst (λ x. (x ≡ 0) ⊎ IsInRange (Pr x)) (sym e) (guards_in_range j listed)
 
-    plain : (x : RegisterWrite) → Mem x Ws → (k : IsCovered j.qp (insn_form j) R x) → IsPlain k.access.kind
+    plain : (x : RegisterWrite) → Mem x Ws → (k : IsCovered j.qp (insn_action j) R x) → IsPlain k.access.kind
     plain x m k = go k.access.kind refl k.writing
       where
         frame : k.access.kind ≡ AllocWrite → ⊥
@@ -187,7 +187,7 @@ module _ (p : Program) (program : IsProgram p) (s : State) (w : Walk) (known : I
         go Spill e h = absurd (true≢false (sym h))
         go Fill e h = absurd (true≢false (sym h))
 
-    origin : (x : RegisterWrite) → Mem x Ws → IsCovered j.qp (insn_form j) R x → EarlierWrite p (s.place ∷ []) Base After x
+    origin : (x : RegisterWrite) → Mem x Ws → IsCovered j.qp (insn_action j) R x → EarlierWrite p (s.place ∷ []) Base After x
     origin x m k = record {
       access = k.access;
       trace = record {
@@ -202,22 +202,22 @@ module _ (p : Program) (program : IsProgram p) (s : State) (w : Walk) (known : I
       puts = k.puts;
     }
 
-    cell_in : (x : RegisterWrite) → Mem x Ws → IsCovered j.qp (insn_form j) R x → IsInside (length Base.cells) x
+    cell_in : (x : RegisterWrite) → Mem x Ws → IsCovered j.qp (insn_action j) R x → IsInside (length Base.cells) x
     cell_in (SetCell n v) m k =
-        let i = cells_inside j.qp (insn_form j) R (SetCell n v) n k (rotating_fits new_frame) refl in
+        let i = cells_inside j.qp (insn_action j) R (SetCell n v) n k (rotating_fits new_frame) refl in
         subst (λ z. n < z) (sym (length-resized (New.base + New.sof) R.cells)) i.1
     cell_in x m k = tt
 
-    here : Each (IsCovered j.qp (insn_form j) R) Ws
-    here = let h = subst (Each (IsCovered j.qp (insn_form j) R)) writes covers in h.1
+    here : Each (IsCovered j.qp (insn_action j) R) Ws
+    here = let h = subst (Each (IsCovered j.qp (insn_action j) R)) writes covers in h.1
 
     resized_way : IsGathering p (s.place ∷ []) Base Ws R.unat
     resized_way = record {
       frame = new_frame;
       cells = length-resized (New.base + New.sof) R.cells;
-      origins = each_from_mem (IsCovered j.qp (insn_form j) R) (EarlierWrite p (s.place ∷ []) Base After) Ws here origin;
+      origins = each_from_mem (IsCovered j.qp (insn_action j) R) (EarlierWrite p (s.place ∷ []) Base After) Ws here origin;
       fits = one_fits d c;
-      inside = each_from_mem (IsCovered j.qp (insn_form j) R) (IsInside (length Base.cells)) Ws here cell_in;
+      inside = each_from_mem (IsCovered j.qp (insn_action j) R) (IsInside (length Base.cells)) Ws here cell_in;
       unat = inl refl;
     }
 
@@ -262,24 +262,24 @@ module _ (p : Program) (program : IsProgram p) (s : State) (w : Walk) (known : I
   pub alloc_outcome : slot_outcome p (gathered_from s) (Some j) ≡ O
   alloc_outcome =
       ap (λ v. let e = effect (site p s.place.bundle) j v s.memory R.unat in settled (next_of p.bundles s.place) s.memory e.next e)
-      (view_plain j R R (no_branch (insn_form j) al))
+      (view_plain j R R (no_branch (insn_action j) al))
 
 -- A whole group from its start.
 pub whole : (p : Program) → IsProgram p → IsFree p → (code : List ℕ) (most : ℕ) (s : State) (w : Walk) → IsKnown p s w → ordered code (gathered_within (suc most) p true (gathered_from s)) ≡ group_within (suc most) p s
 whole p program free code most s w known = go (insn_here p s known.state.place)
   where
     go : (j : Insn) × (insn_at p.bundles s.place ≡ Some j) → ordered code (gathered_within (suc most) p true (gathered_from s)) ≡ group_within (suc most) p s
-    go (j, at) = ap (From p code most true (gathered_from s)) at ∙ by_form (is_alloc (insn_form j)) refl
+    go (j, at) = ap (From p code most true (gathered_from s)) at ∙ by_action (is_alloc (insn_action j)) refl
       where
-        by_form : (b : Bool) → is_alloc (insn_form j) ≡ b → From p code most true (gathered_from s) (Some j) ≡ added [] (group_within (suc most) p s)
-        by_form false e =
+        by_action : (b : Bool) → is_alloc (insn_action j) ≡ b → From p code most true (gathered_from s) (Some j) ≡ added [] (group_within (suc most) p s)
+        by_action false e =
             ap (λ b. At b (slot_outcome p (gathered_from s) (Some j))) e
             ∙ slot_is p program code most (rest_is p program free code most) false (gathered_from s) [] w (begun_on p s w known) (slot_outcome p (gathered_from s) (Some j))
             (plain_step p program free (gathered_from s) [] w (begun_on p s w known) j at e) (plain_joins p program free (gathered_from s) [] w (begun_on p s w known) j at e)
           where
             At : Bool → Outcome → Group
             At b o = ordered code (gathered_by p b (gathered_from s) o o.next (gathered_within most p false (gathers b (gathered_from s) o (place_after s.place (next_of p.bundles s.place)))))
-        by_form true e =
+        by_action true e =
             ap (λ b. At b (slot_outcome p (gathered_from s) (Some j))) e
             ∙ ap (At true) (alloc_outcome p program s w known j at e)
             ∙ slot_is p program code most (rest_is p program free code most) true (gathered_from s) [] w (begun_on p s w known) (outcome_of p s j)

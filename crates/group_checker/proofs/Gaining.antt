@@ -89,7 +89,7 @@ apart_clash firsts seconds a b rule apart of_first of_second broken =
     true≢false (sym (any_holds (λ x. list_any (λ y. is_some (clash x y)) seconds) firsts a of_first second) ∙ apart)
 
 -- what is noted of the rules on slots
-pub slots_found : (e : EarlierSlot) (s : Slot) (first : Bool) → first ≡ is_alloc s.form → (old mid new : Broken)
+pub slots_found : (e : EarlierSlot) (s : Slot) (first : Bool) → first ≡ is_alloc s.action → (old mid new : Broken)
     → Gains old mid (λ v. (first ≡ true) × (v.rule ≡ AllocFirst) × (v.resource ≡ Cfm)) → Gains mid new (λ v. (e.clears ≡ true) × (v.rule ≡ ClearLast) × (v.resource ≡ Cfm)) → Gains old new (IsSlotRule e s)
 slots_found e s first is old mid new a b =
     gains_both old mid new (λ v. (first ≡ true) × (v.rule ≡ AllocFirst) × (v.resource ≡ Cfm)) (λ v. (e.clears ≡ true) × (v.rule ≡ ClearLast) × (v.resource ≡ Cfm)) (IsSlotRule e s)

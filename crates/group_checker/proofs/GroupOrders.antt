@@ -22,7 +22,7 @@ use Rattle.ia_meaning.specs.Effects.{site, effect}
 use Rattle.ia_meaning.specs.Sequence.{first_of, next_of, is_stopped}
 use Rattle.ia_meaning.specs.Steps.{settled, outcome_of, registers_after, how_falling, place_after, Step, step_by, seq_step, Group, group_by, group_within}
 use Rattle.resource_sets.specs.AccessLaws.{IsCovered}
-use Rattle.ia_meaning.specs.Actions.{is_alloc, insn_form, allocates}
+use Rattle.ia_meaning.specs.Actions.{is_alloc, insn_action, allocates}
 use Rattle.resource_sets.proofs.Coverage.{covered, spills}
 use Rattle.resource_sets.proofs.Apart.{apart}
 use Rattle.resource_sets.proofs.Regularity.{named_as_found}
@@ -196,7 +196,7 @@ law_settled j base s v None m next.Falls o h = record { frame = h.frame; covered
 law_settled j base s v n m way o h = h
 
 -- a slot that is no `alloc` of a group under way
-module _ (p : Program) (program : IsProgram p) (free : IsFree p) (g : Gathered) (past : List Place) (w : Walk) (on : IsGroupOnWalk p g past w) (j : Insn) (at : insn_at p.bundles g.place ≡ Some j) (na : is_alloc (insn_form j) ≡ false) where
+module _ (p : Program) (program : IsProgram p) (free : IsFree p) (g : Gathered) (past : List Place) (w : Walk) (on : IsGroupOnWalk p g past w) (j : Insn) (at : insn_at p.bundles g.place ≡ Some j) (na : is_alloc (insn_action j) ≡ false) where
   abbrev G : State
   G = state_of g
 
@@ -219,8 +219,8 @@ module _ (p : Program) (program : IsProgram p) (free : IsFree p) (g : Gathered) 
   law_effect =
       let is : IsFrame V.frame = on.way.frame in
       record {
-        frame = named_as_found (insn_form j) V.frame na;
-        covered = each_of (IsCovered j.qp (insn_form j) V) (effect (site p g.place.bundle) j V g.memory g.unat).writes (covered (site p g.place.bundle) j V g.memory g.unat is.predicates);
+        frame = named_as_found (insn_action j) V.frame na;
+        covered = each_of (IsCovered j.qp (insn_action j) V) (effect (site p g.place.bundle) j V g.memory g.unat).writes (covered (site p g.place.bundle) j V g.memory g.unat is.predicates);
         apart = fit_of (effect (site p g.place.bundle) j V g.memory g.unat).writes (apart (site p g.place.bundle) j V g.memory g.unat listed is);
         spills = λ x e. spills (site p g.place.bundle) j V g.memory g.unat x e;
         guard = qp_same p past g.base g.writes g.unat j on.way clean listed na;
@@ -260,7 +260,7 @@ rest_is p program free code (suc most) g past w on i c = go (rest_is p program f
   where
     go : RestIs p code most → (j : Insn) × (insn_at p.bundles g.place ≡ Some j) → ordered code (gathered_within (suc most) p false g) ≡ added (frames_of g) (group_within (suc most) p (state_of g))
     go rest (j, at) =
-        let na : is_alloc (insn_form j) ≡ false = by_test (is_alloc (insn_form j)) (no_alloc p free (state_of g) w on.known j at i c) in
+        let na : is_alloc (insn_action j) ≡ false = by_test (is_alloc (insn_action j)) (no_alloc p free (state_of g) w on.known j at i c) in
         ap (From p code most false g) at
         ∙ slot_is p program code most rest false g past w on (slot_outcome p g (Some j))
         (plain_step p program free g past w on j at na) (plain_joins p program free g past w on j at na)

@@ -15,7 +15,7 @@ use Rattle.resource_sets.specs.declared.clashes.Rule.{Rule}
 use Rattle.resource_sets.specs.declared.clashes.Rule.TheVariants.{Raw, Waw, AllocFirst}
 use Rattle.resource_sets.specs.Clashes.{clash}
 use Rattle.resource_sets.specs.AccessLaws.{HasAccess}
-use Rattle.ia_meaning.specs.Actions.{is_alloc, allocates, insn_form}
+use Rattle.ia_meaning.specs.Actions.{is_alloc, allocates, insn_action}
 use Rattle.resource_sets.specs.Regularity.{IsExcepted}
 use Rattle.resource_sets.proofs.Regularity.{changes_clash}
 use Rattle.flow_facts.specs.Graphs.{over_program}
@@ -69,7 +69,7 @@ module _ (p : Program) (free : IsFree p) (s : State) (w : Walk) (known : IsKnown
       go (inr (inl c)) = violates i a b Waw (inside i m) ha hb e c (inr refl) (unexcused past i a b inside on alt)
       go (inr (inr x)) = strict x
 
-  pub no_alloc : (i : Place) → Contains (earlier_in_group p w) i → is_alloc (insn_form j) ≡ true → ⊥
+  pub no_alloc : (i : Place) → Contains (earlier_in_group p w) i → is_alloc (insn_action j) ≡ true → ⊥
   unfolding allocates_at
   no_alloc i c al = go (earlier_in_group p w) refl
     where

@@ -262,7 +262,7 @@ violation_found g has_stop es j s n e v win here_at at is x = let b = broken_on 
     by_rule w through ClearLast same b = inr (is_last g has_stop es j n e w win at through b.1, inr (record { rule = same; clears = (win.carried n e at).clears ∙ b.0; resource = b.2 }))
 
 -- no rule on slots is broken where the second is no `alloc` and the first no `clrrrb`
-pub no_slot_rule : (e : EarlierSlot) (s : Slot) (v : Violation) → e.clears ≡ false → is_alloc s.form ≡ false → ¬ IsSlotRule e s v
+pub no_slot_rule : (e : EarlierSlot) (s : Slot) (v : Violation) → e.clears ≡ false → is_alloc s.action ≡ false → ¬ IsSlotRule e s v
 no_slot_rule e s v clears allocates (inl r) = true≢false (sym r.allocates ∙ allocates)
 no_slot_rule e s v clears allocates (inr r) = true≢false (sym r.clears ∙ clears)
 

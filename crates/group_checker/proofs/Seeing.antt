@@ -8,9 +8,9 @@ use Rattle.ia_insn.specs.declared.insn.Insn.{Insn}
 use Rattle.ia_insn.specs.declared.place.Place.{Place}
 use Rattle.ia_insn.specs.Listed.{IsListed}
 use Rattle.ia_insn.specs.Programs.{Program}
-use Rattle.ia_meaning.specs.declared.form.Form.{Form}
-use Rattle.ia_meaning.specs.declared.form.Form.TheVariants as form
-use Rattle.ia_meaning.specs.declared.form.Goal.TheVariants.{Direct, Indirect}
+use Rattle.ia_meaning.specs.declared.action.Action.{Action}
+use Rattle.ia_meaning.specs.declared.action.Action.TheVariants as action
+use Rattle.ia_meaning.specs.declared.action.Goal.TheVariants.{Direct, Indirect}
 use Rattle.ia_meaning.specs.State.{Registers, Memory}
 use Rattle.ia_meaning.specs.declared.write.Write.{Write as RegisterWrite}
 use Rattle.ia_meaning.specs.declared.write.Write.TheVariants.{SetStatic, SetUnat}
@@ -23,7 +23,7 @@ use Rattle.resource_sets.specs.declared.access.Kind.{Kind}
 use Rattle.resource_sets.specs.declared.access.Kind.TheVariants.{Read, BranchRead, Write, AllocWrite, LoopWrite, OrWrite, AndWrite, Spill, Fill}
 use Rattle.resource_sets.specs.declared.access.Access.{Access}
 use Rattle.resource_sets.specs.AccessLaws.{PredicateAt, location, location_of, SameIn, AgreesOn, Agree, HasAccess}
-use Rattle.ia_meaning.specs.Actions.{is_branch, is_indirect, is_alloc, insn_form}
+use Rattle.ia_meaning.specs.Actions.{is_branch, is_indirect, is_alloc, insn_action}
 use Rattle.resource_sets.specs.Regularity.{HasNamedAccess, IsPredicate, IsCountOrFrame, GoesBy, IsRegular, IsInRange}
 use Rattle.ia_meaning.proofs.PredicatePlaces.{holds_zero, place_some}
 use Rattle.ia_meaning.proofs.Views.{seen_at, length_seen, view_plain}
@@ -83,8 +83,8 @@ all_see_the_start insn now base = record {
   cells = refl;
   frame = refl;
   predicates = λ n e k. seen_other (sees_predicate insn base.frame) 0 n base.predicates now.predicates false
-      (from_start (sees_predicate insn base.frame) n (other_place (is_branch (insn_form insn)) (sees_static (insn_form insn) n) n (predicate_place base.frame insn.qp) e k));
-  branches = λ n e. seen_other (sees_branch (insn_form insn)) 0 n base.branches now.branches 0 (from_start (sees_branch (insn_form insn)) n e);
+      (from_start (sees_predicate insn base.frame) n (other_place (is_branch (insn_action insn)) (sees_static (insn_action insn) n) n (predicate_place base.frame insn.qp) e k));
+  branches = λ n e. seen_other (sees_branch (insn_action insn)) 0 n base.branches now.branches 0 (from_start (sees_branch (insn_action insn)) n e);
   unat = refl;
   pfs = λ e. ap (λ b. if b then now.pfs else base.pfs) e;
   lc = refl;
@@ -92,14 +92,14 @@ all_see_the_start insn now base = record {
 }
 
 -- the qualifying predicate of a branch is as earlier slots left it
-branch_holds : (insn : Insn) (now base s : Registers) → is_branch (insn_form insn) ≡ true → length now.predicates ≡ length base.predicates → now.predicates ≡ s.predicates
+branch_holds : (insn : Insn) (now base s : Registers) → is_branch (insn_action insn) ≡ true → length now.predicates ≡ length base.predicates → now.predicates ≡ s.predicates
     → (is_rotating insn.qp ≡ true → base.frame ≡ s.frame) → (q : ℕ) → insn.qp ≡ q → holds (view insn now base) q ≡ holds s q
 unfolding holds
 branch_holds insn now base s b l m f zero is = refl
 branch_holds insn now base s b l m f (suc n) is =
     let place = predicate_place base.frame (suc n) in
     let guard : sees_guard insn base.frame place ≡ true = ap (λ t. t && (place == predicate_place base.frame insn.qp)) b ∙ ap (λ q. place == predicate_place base.frame q) is ∙ sees_itself place in
-    let sees : sees_predicate insn base.frame place ≡ true = or_left (sees_guard insn base.frame place) (sees_static (insn_form insn) place) guard in
+    let sees : sees_predicate insn base.frame place ≡ true = or_left (sees_guard insn base.frame place) (sees_static (insn_action insn) place) guard in
     seen_here (sees_predicate insn base.frame) place base.predicates now.predicates false l sees
     ∙ ap (λ (t : List Bool). get_or t place false) m
     ∙ ap (λ t. get_or s.predicates t false) (place_same base.frame s.frame (suc n) (λ r. f (ap is_rotating is ∙ r)))
@@ -128,7 +128,7 @@ agrees_by v w x y AndWrite q r b f c = tt
 agrees_by v w x y Spill Cfm r b f c = c tt refl
 agrees_by v w x y Spill q r b f c = tt
 
-module _ (p : Program) (past : List Place) (base : Registers) (ws : List RegisterWrite) (u : ℕ) (j : Insn) (way : IsGathering p past base ws u) (clean : ClashesWithNone p past j (joined base ws u)) (listed : IsListed j) (na : is_alloc (insn_form j) ≡ false) where
+module _ (p : Program) (past : List Place) (base : Registers) (ws : List RegisterWrite) (u : ℕ) (j : Insn) (way : IsGathering p past base ws u) (clean : ClashesWithNone p past j (joined base ws u)) (listed : IsListed j) (na : is_alloc (insn_action j) ≡ false) where
   abbrev S : Registers
   S = joined base ws u
 
@@ -153,7 +153,7 @@ module _ (p : Program) (past : List Place) (base : Registers) (ws : List Registe
   qp_frame : is_rotating j.qp ≡ true → base.frame ≡ S.frame
   qp_frame r = let g = guards j in sym (frame_same p past base ws u j way clean Read 0 (acc _ (g.framed r)) tt (holds_zero S))
 
-  plain_qp : is_branch (insn_form j) ≡ false → (q : ℕ) → j.qp ≡ q → holds base q ≡ holds S q
+  plain_qp : is_branch (insn_action j) ≡ false → (q : ℕ) → j.qp ≡ q → holds base q ≡ holds S q
   plain_qp b zero e = holds_zero base ∙ sym (holds_zero S)
   plain_qp b (suc q) e =
       let g = guards j in
@@ -162,9 +162,9 @@ module _ (p : Program) (past : List Place) (base : Registers) (ws : List Registe
       (pr_same p past base ws u j way clean j.qp 0 (acc _ h) (range _ h) (holds_zero S) (λ r. acc _ (g.framed r)))
 
   pub qp_same : holds V j.qp ≡ holds S j.qp
-  qp_same = go (is_branch (insn_form j)) refl
+  qp_same = go (is_branch (insn_action j)) refl
     where
-      go : (b : Bool) → is_branch (insn_form j) ≡ b → holds V j.qp ≡ holds S j.qp
+      go : (b : Bool) → is_branch (insn_action j) ≡ b → holds V j.qp ≡ holds S j.qp
       go false e = ap (λ (v : Registers). holds v j.qp) (view_plain j N base e) ∙ plain_qp e j.qp refl
       go true e =
           branch_holds j N base S e (length_predicates ws base) (sym (ap (λ (r : Registers). r.predicates) apart)) qp_frame j.qp refl
@@ -185,22 +185,22 @@ module _ (p : Program) (past : List Place) (base : Registers) (ws : List Registe
   counts Cfm c h = h
   counts q c h = absurd c
 
-  branch_now : (b : ℕ) → sees_branch (insn_form j) b ≡ true → get_or V.branches b 0 ≡ get_or S.branches b 0
-  branch_now b e = seen_here (sees_branch (insn_form j)) b base.branches N.branches 0 (length_branches ws base) e ∙ sym (ap (λ (r : Registers). get_or r.branches b 0) apart)
+  branch_now : (b : ℕ) → sees_branch (insn_action j) b ≡ true → get_or V.branches b 0 ≡ get_or S.branches b 0
+  branch_now b e = seen_here (sees_branch (insn_action j)) b base.branches N.branches 0 (length_branches ws base) e ∙ sym (ap (λ (r : Registers). get_or r.branches b 0) apart)
 
-  pfs_now : sees_pfs (insn_form j) ≡ true → V.pfs ≡ S.pfs
+  pfs_now : sees_pfs (insn_action j) ≡ true → V.pfs ≡ S.pfs
   pfs_now e = ap (λ b. if b then N.pfs else base.pfs) e ∙ sym (ap (λ (r : Registers). r.pfs) apart)
 
   -- what a branch goes by
-  goes_by : (f : Form) (q : Resource) → insn_form j ≡ f → GoesBy f q → SameIn q V S
-  goes_by (form.JumpIndirect b2) q is e = rw e (branch_now b2 (ap (λ f. sees_branch f b2) is ∙ sees_itself b2))
-  goes_by (form.Call b1 (Indirect b2)) q is e = rw e (branch_now b2 (ap (λ f. sees_branch f b2) is ∙ sees_itself b2))
-  goes_by (form.Return b2) q is (inl e) = rw e (branch_now b2 (ap (λ f. sees_branch f b2) is ∙ sees_itself b2))
-  goes_by (form.Return b2) q is (inr e) = rw e (pfs_now (ap sees_pfs is))
-  goes_by (form.Call b1 (Direct disp)) q is e = absurd e
+  goes_by : (f : Action) (q : Resource) → insn_action j ≡ f → GoesBy f q → SameIn q V S
+  goes_by (action.JumpIndirect b2) q is e = rw e (branch_now b2 (ap (λ f. sees_branch f b2) is ∙ sees_itself b2))
+  goes_by (action.Call b1 (Indirect b2)) q is e = rw e (branch_now b2 (ap (λ f. sees_branch f b2) is ∙ sees_itself b2))
+  goes_by (action.Return b2) q is (inl e) = rw e (branch_now b2 (ap (λ f. sees_branch f b2) is ∙ sees_itself b2))
+  goes_by (action.Return b2) q is (inr e) = rw e (pfs_now (ap sees_pfs is))
+  goes_by (action.Call b1 (Direct disp)) q is e = absurd e
   goes_by f q is e = absurd e
 
-  plain_view : is_branch (insn_form j) ≡ false → (q : Resource) → SameIn q base S → SameIn q V S
+  plain_view : is_branch (insn_action j) ≡ false → (q : Resource) → SameIn q base S → SameIn q V S
   plain_view e q h = subst (λ v. SameIn q v S) (sym (view_plain j N base e)) h
 
   module _ (a : Access) (h : HasNamedAccess j a) (on : holds V a.guard ≡ true) where
@@ -208,20 +208,20 @@ module _ (p : Program) (past : List Place) (base : Registers) (ws : List Registe
     on_now = let r = reg a h in guard_now a.guard r.guard on
 
     by_read : a.kind ≡ Read → SameIn a.resource V S
-    by_read k = go (is_branch (insn_form j)) refl
+    by_read k = go (is_branch (insn_action j)) refl
       where
-        go : (b : Bool) → is_branch (insn_form j) ≡ b → SameIn a.resource V S
+        go : (b : Bool) → is_branch (insn_action j) ≡ b → SameIn a.resource V S
         go false e = plain_view e a.resource (reads a h k on_now)
         go true e = let r = reg a h in counts a.resource (r.branch_read e k) (reads a h k on_now)
 
     by_branch_read : a.kind ≡ BranchRead → SameIn a.resource V S
-    by_branch_read k = go (is_branch (insn_form j)) refl
+    by_branch_read k = go (is_branch (insn_action j)) refl
       where
-        way_of : (a.resource ≡ Pr j.qp) ⊎ GoesBy (insn_form j) a.resource → SameIn a.resource V S
+        way_of : (a.resource ≡ Pr j.qp) ⊎ GoesBy (insn_action j) a.resource → SameIn a.resource V S
         way_of (inl e) = rw e qp_same
-        way_of (inr e) = goes_by (insn_form j) a.resource refl e
+        way_of (inr e) = goes_by (insn_action j) a.resource refl e
 
-        go : (b : Bool) → is_branch (insn_form j) ≡ b → SameIn a.resource V S
+        go : (b : Bool) → is_branch (insn_action j) ≡ b → SameIn a.resource V S
         go false e = let r = reg a h in plain_view e a.resource (reads (record a { kind = Read }) (r.reads_too e k) refl on_now)
         go true e = let r = reg a h in way_of (r.branch_goes e k)
 
@@ -281,7 +281,7 @@ module _ (p : Program) (past : List Place) (base : Registers) (ws : List Registe
       go (inr x) = x
 
   -- an indirect branch sees the first sixteen predicates as earlier slots left them
-  statics_now : is_indirect (insn_form j) ≡ true → take 16 V.predicates ≡ take 16 S.predicates
+  statics_now : is_indirect (insn_action j) ≡ true → take 16 V.predicates ≡ take 16 S.predicates
   statics_now e = take_same false 16 V.predicates S.predicates (length_seen (sees_predicate j base.frame) 0 base.predicates N.predicates ∙ sym (length_predicates ws (record base { unat = u }))) each
     where
       left : (n : ℕ) → get_or N.predicates n false ≡ get_or S.predicates n false
@@ -292,8 +292,8 @@ module _ (p : Program) (past : List Place) (base : Registers) (ws : List Registe
           seen_at (sees_predicate j base.frame) 0 0 base.predicates N.predicates false (length_predicates ws base)
           ∙ same_choices (sees_predicate j base.frame 0) _ _ _ (left 0) (sym first_kept)
       each (suc n) h =
-          let sees : sees_static (insn_form j) (suc n) ≡ true = rw e (grind (arith, nat_tests)) in
-          seen_here (sees_predicate j base.frame) (suc n) base.predicates N.predicates false (length_predicates ws base) (or_right (sees_guard j base.frame (suc n)) (sees_static (insn_form j) (suc n)) sees)
+          let sees : sees_static (insn_action j) (suc n) ≡ true = rw e (grind (arith, nat_tests)) in
+          seen_here (sees_predicate j base.frame) (suc n) base.predicates N.predicates false (length_predicates ws base) (or_right (sees_guard j base.frame (suc n)) (sees_static (insn_action j) (suc n)) sees)
           ∙ left (suc n)
 
   pub agree : Agree j V S u S.unat

@@ -5,14 +5,14 @@ use Rattle.std.proofs.lemmas.Bool.{and_parts, not-true, true≢false}
 use Rattle.ia_insn.specs.declared.insn.Insn.{Insn}
 use Rattle.ia_insn.specs.declared.place.Place.{Place}
 use Rattle.ia_insn.specs.Programs.{Program}
-use Rattle.ia_meaning.specs.declared.form.Form.{Form}
+use Rattle.ia_meaning.specs.declared.action.Action.{Action}
 use Rattle.ia_meaning.specs.Actions.{is_alloc, allocates}
 use Rattle.ia_meaning.specs.Sequence.{next_of, is_stopped}
 use Rattle.resource_sets.specs.declared.access.Access.{Access}
 use Rattle.resource_sets.specs.Accesses.{accesses_of}
 use Rattle.predicate_rel.specs.declared.edge.Edge.TheVariants.{Falls}
 use Rattle.predicate_rel.specs.Pairs.{Pairs}
-use Rattle.predicate_rel.specs.Rules.{form_rule, pairs_by, rule_of, pairs_after}
+use Rattle.predicate_rel.specs.Rules.{action_rule, pairs_by, rule_of, pairs_after}
 use Rattle.predicate_rel.specs.Edges.{may_fall, pairs_past_insn}
 use Rattle.slot_table.specs.declared.slot.Slot.{Slot}
 use Rattle.slot_table.specs.Slots.{slot_at}
@@ -26,26 +26,26 @@ use Rattle.group_checker.proofs.Falling.{past_is, fall_is, fall_edge}
 use Rattle.group_checker.proofs.Windowing.{Joins}
 
 module _ (g : Graph) (has_stop : Place → Bool) (j : Place) (s : Slot) (d : Describes g has_stop j s) where
-  pub slot_accesses : accesses_at g j ≡ accesses_of s.qp s.form
+  pub slot_accesses : accesses_at g j ≡ accesses_of s.qp s.action
   unfolding accesses_at
-  slot_accesses = ap accesses_in d.here ∙ (λ i. accesses_of (sym d.qp i) (sym d.form i))
+  slot_accesses = ap accesses_in d.here ∙ (λ i. accesses_of (sym d.qp i) (sym d.action i))
 
-  pub slot_allocates : allocates_at g j ≡ is_alloc s.form
+  pub slot_allocates : allocates_at g j ≡ is_alloc s.action
   unfolding allocates_at
-  slot_allocates = ap allocates d.here ∙ ap (λ (form : Form). is_alloc form) (sym d.form)
+  slot_allocates = ap allocates d.here ∙ ap (λ (action : Action). is_alloc action) (sym d.action)
 
-  pub slot_clears : clears_at g j ≡ clears s.form
+  pub slot_clears : clears_at g j ≡ clears s.action
   unfolding clears_at
-  slot_clears = ap clears_in d.here ∙ ap (λ (form : Form). clears form) (sym d.form)
+  slot_clears = ap clears_in d.here ∙ ap (λ (action : Action). clears action) (sym d.action)
 
   pub slot_place : IsPlaceIn g j
   slot_place = subst IsSome (sym d.here) refl
 
   -- what is known past the slot is what is known past its place
-  pub slot_past : (f : Pairs) → pairs_by f (form_rule s.form Falls s.qp) ≡ pairs_past_in g j Falls f
+  pub slot_past : (f : Pairs) → pairs_by f (action_rule s.action Falls s.qp) ≡ pairs_past_in g j Falls f
   unfolding pairs_after rule_of
   slot_past f =
-      (λ i. pairs_by f (form_rule (d.form i) Falls (d.qp i)))
+      (λ i. pairs_by f (action_rule (d.action i) Falls (d.qp i)))
       ∙ ap (λ o. pairs_past_insn o Falls f) (sym d.here)
       ∙ sym (past_is g j Falls f)
 
@@ -80,7 +80,7 @@ module _ (p : Program) (j : Place) (s : Slot) (at : slot_at p.bundles j ≡ Some
       record {
         insn = i.insn;
         here = i.here;
-        form = ap (λ (q : Slot). q.form) (sym i.is);
+        action = ap (λ (q : Slot). q.action) (sym i.is);
         qp = ap (λ (q : Slot). q.qp) (sym i.is);
         falls = ap (λ (q : Slot). q.falls) (sym i.is);
         stop = ap (λ (q : Slot). q.stop) (sym i.is);
@@ -90,7 +90,7 @@ module _ (p : Program) (j : Place) (s : Slot) (at : slot_at p.bundles j ≡ Some
   slot_next = let i = slot_is p.bundles j s at in ap (λ (q : Slot). q.next) (sym i.is)
 
   -- the slot is under way with its accesses
-  pub under_way : (es : List EarlierSlot) (seconds : List Access) → seconds ≡ accesses_of s.qp s.form → IsWindow (over_program p) (is_stopped p.bundles) es j → IsUnderWay (over_program p) (is_stopped p.bundles) es j s seconds
+  pub under_way : (es : List EarlierSlot) (seconds : List Access) → seconds ≡ accesses_of s.qp s.action → IsWindow (over_program p) (is_stopped p.bundles) es j → IsUnderWay (over_program p) (is_stopped p.bundles) es j s seconds
   under_way es seconds is win = record {
     slot = slot_describes;
     accesses = is ∙ sym (slot_accesses (over_program p) (is_stopped p.bundles) j s slot_describes);

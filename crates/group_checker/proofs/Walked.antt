@@ -9,14 +9,14 @@ use Rattle.ia_insn.specs.declared.insn.Insn.{Insn}
 use Rattle.ia_insn.specs.declared.place.Place.{Place}
 use Rattle.ia_insn.specs.Places.{insn_at}
 use Rattle.ia_insn.specs.Programs.{Program, IsProgram}
-use Rattle.ia_meaning.specs.declared.form.Form.{Form}
-use Rattle.ia_meaning.specs.declared.form.Form.TheVariants.{JumpIndirect, Call, Return}
-use Rattle.ia_meaning.specs.declared.form.Goal.TheVariants.{Indirect}
+use Rattle.ia_meaning.specs.declared.action.Action.{Action}
+use Rattle.ia_meaning.specs.declared.action.Action.TheVariants.{JumpIndirect, Call, Return}
+use Rattle.ia_meaning.specs.declared.action.Goal.TheVariants.{Indirect}
 use Rattle.ia_meaning.specs.declared.next.Next.{Next}
 use Rattle.ia_meaning.specs.declared.next.Next.TheVariants as next
 use Rattle.ia_meaning.specs.State.{Registers, State, IsState, IsStart}
 use Rattle.ia_meaning.specs.Outcomes.{Outcome}
-use Rattle.ia_meaning.specs.Actions.{insn_form, is_indirect}
+use Rattle.ia_meaning.specs.Actions.{insn_action, is_indirect}
 use Rattle.ia_meaning.specs.Sequence.{first_of, is_stopped}
 use Rattle.ia_meaning.specs.Steps.{Step, outcome_of, how_falling, step_by, step_of, seq_step, Group, group_by, group_within, seq_group, event_of, Run, run_by, run_from}
 use Rattle.ia_meaning.proofs.WholeRuns.{step_goes_on}
@@ -34,7 +34,7 @@ use Rattle.predicate_rel.proofs.StepTruth.{keeps_apart}
 use Rattle.group_checker.proofs.Promised.{promised_apart}
 
 -- an indirect branch has no taken edge
-no_target : (f : Form) (bundle : ℕ) (to : Place) → is_indirect f ≡ true → target_at bundle (displacement_of f) ≡ Some to → ⊥
+no_target : (f : Action) (bundle : ℕ) (to : Place) → is_indirect f ≡ true → target_at bundle (displacement_of f) ≡ Some to → ⊥
 no_target (JumpIndirect b2) bundle to h e = cc
 no_target (Call b1 (Indirect b2)) bundle to h e = cc
 no_target (Return b2) bundle to h e = cc
@@ -49,7 +49,7 @@ landed p from to (Some insn) (Some how.Falls) here l edge = cc
 landed p from to (Some insn) (Some how.Ends) here l edge = cc
 landed p from to (Some insn) (Some how.Taken) here l edge =
     let leads : edge_of p.bundles from (Some insn) Taken ≡ Some to = sym (ap (λ (o : Option Insn). edge_of p.bundles from o Taken) here) ∙ edge.leads in
-    no_target (insn_form insn) from.bundle to l leads
+    no_target (insn_action insn) from.bundle to l leads
 
 -- one that lands on an entry is found to land
 lands_by : (o : Option Insn) (h : Option How) → IsSomeAnd o IsIndirect → h ≡ Some how.Taken → is_landing o h ≡ true

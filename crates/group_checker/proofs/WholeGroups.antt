@@ -11,7 +11,7 @@ use Rattle.ia_meaning.specs.State.{Registers, State}
 use Rattle.ia_meaning.specs.declared.write.Write.{Write}
 use Rattle.ia_meaning.specs.declared.write.Write.TheVariants.{SetFrame}
 use Rattle.ia_meaning.specs.Writes.{apply}
-use Rattle.ia_meaning.specs.Actions.{is_alloc, insn_form, allocates}
+use Rattle.ia_meaning.specs.Actions.{is_alloc, insn_action, allocates}
 use Rattle.ia_meaning.specs.Outcomes.{Outcome}
 use Rattle.ia_meaning.specs.Sequence.{first_of, next_of, is_stopped}
 use Rattle.ia_meaning.specs.Steps.{outcome_of, place_after, step_by, seq_step}
@@ -77,7 +77,7 @@ rest_gathered p program free (suc most) g past w on i c = go (rest_gathered p pr
   where
     go : RestIsGathered p most → (j : Insn) × (insn_at p.bundles g.place ≡ Some j) → IsGathered p (gathered_within (suc most) p false g).all
     go rest (j, at) =
-        let na : is_alloc (insn_form j) ≡ false = by_test (is_alloc (insn_form j)) (no_alloc p free (state_of g) w on.known j at i c) in
+        let na : is_alloc (insn_action j) ≡ false = by_test (is_alloc (insn_action j)) (no_alloc p free (state_of g) w on.known j at i c) in
         subst (λ x. IsGathered p (From p most false g x).all) (sym at)
         (slot_gathered p program most rest false g past w on (slot_outcome p g (Some j)) (plain_step p program free g past w on j at na) (plain_joins p program free g past w on j at na))
 
@@ -92,16 +92,16 @@ group_gathered p program free most s w known = go (insn_here p s known.state.pla
     on = begun_on p s w known
 
     go : (j : Insn) × (insn_at p.bundles s.place ≡ Some j) → IsGathered p (gathered_within (suc most) p true g).all
-    go (j, at) = subst (λ x. IsGathered p (From p most true g x).all) (sym at) (by_form (is_alloc (insn_form j)) refl)
+    go (j, at) = subst (λ x. IsGathered p (From p most true g x).all) (sym at) (by_action (is_alloc (insn_action j)) refl)
       where
         At : Bool → Outcome → GatheredGroup
         At b o = gathered_by p b g o o.next (gathered_within most p false (gathers b g o (place_after s.place (next_of p.bundles s.place))))
 
-        by_form : (b : Bool) → is_alloc (insn_form j) ≡ b → IsGathered p (From p most true g (Some j)).all
-        by_form false na =
+        by_action : (b : Bool) → is_alloc (insn_action j) ≡ b → IsGathered p (From p most true g (Some j)).all
+        by_action false na =
             subst (λ b. IsGathered p (At b (slot_outcome p g (Some j))).all) (sym na)
             (slot_gathered p program most (rest_gathered p program free most) false g [] w on (slot_outcome p g (Some j)) (plain_step p program free g [] w on j at na) (plain_joins p program free g [] w on j at na))
-        by_form true al =
+        by_action true al =
             subst (λ b. IsGathered p (At b (slot_outcome p g (Some j))).all) (sym al)
             (subst (λ o. IsGathered p (At true o).all) (sym (alloc_outcome p program s w known j at al))
             (slot_gathered p program most (rest_gathered p program free most) true g [] w on (outcome_of p s j) (alloc_step p program s w known j at al) (alloc_joins p program s w known j at al)))
@@ -140,7 +140,7 @@ and_false false b h = refl
 plain_writes : (b : Bool) (g : Gathered) (o : Outcome) (to : Place) → b ≡ false → (gathers b g o to).writes ≡ g.writes ++ o.writes
 plain_writes b g o to h = subst (λ c. (gathers c g o to).writes ≡ g.writes ++ o.writes) (sym h) refl
 
-module _ (p : Program) (ys : List GatheredSlot) (x : GatheredSlot) (plain : is_alloc (insn_form x.insn) ≡ false) (v : Write) (m : Mem v (done_by p x).writes) where
+module _ (p : Program) (ys : List GatheredSlot) (x : GatheredSlot) (plain : is_alloc (insn_action x.insn) ≡ false) (v : Write) (m : Mem v (done_by p x).writes) where
   -- The writes so far stay, behind the group's first slot, and what the slot writes is among those of the whole.
   abbrev IsWritten : Bool → Gathered → List GatheredSlot → Gathered → Type 0
   IsWritten begins g slots all =

@@ -17,13 +17,13 @@ use Rattle.flow_facts.specs.Walks.{Walk}
 use Rattle.group_checker.specs.Reports.{IsFree}
 use Rattle.group_checker.specs.Traces.{IsKnown}
 use Rattle.ia_meaning.specs.Names.{predicate_place}
-use Rattle.ia_meaning.specs.Actions.{insn_form, is_branch, allocates}
+use Rattle.ia_meaning.specs.Actions.{insn_action, is_branch, allocates}
 use Rattle.ia_meaning.specs.Views.{sees_static, sees_branch, sees_pfs, view}
 use Rattle.ia_meaning.specs.ParallelGroups.{Gathered, gathered_from, slot_outcome, gathers}
 
 -- An instruction that is no branch sees the registers of the group's start.
 abbrev pub OthersSeeTheStart : Type 0
-OthersSeeTheStart = (insn : Insn) (now base : Registers) → is_branch (insn_form insn) ≡ false → view insn now base ≡ base
+OthersSeeTheStart = (insn : Insn) (now base : Registers) → is_branch (insn_action insn) ≡ false → view insn now base ≡ base
 
 -- What is seen of the group's start, also by a branch: all but the place of the qualifying predicate, p1 to p15 where the
 -- branch is indirect, the branch register that holds the target, and what a return reads of the previous function state.
@@ -31,11 +31,11 @@ pub record SeesTheStart (insn : Insn) (seen base : Registers) : Type 0 where
   pub statics : seen.statics ≡ base.statics
   pub cells : seen.cells ≡ base.cells
   pub frame : seen.frame ≡ base.frame
-  pub predicates : (n : ℕ) → n ≢ predicate_place base.frame insn.qp → sees_static (insn_form insn) n ≡ false
+  pub predicates : (n : ℕ) → n ≢ predicate_place base.frame insn.qp → sees_static (insn_action insn) n ≡ false
       → get_or seen.predicates n false ≡ get_or base.predicates n false
-  pub branches : (n : ℕ) → sees_branch (insn_form insn) n ≡ false → get_or seen.branches n 0 ≡ get_or base.branches n 0
+  pub branches : (n : ℕ) → sees_branch (insn_action insn) n ≡ false → get_or seen.branches n 0 ≡ get_or base.branches n 0
   pub unat : seen.unat ≡ base.unat
-  pub pfs : sees_pfs (insn_form insn) ≡ false → seen.pfs ≡ base.pfs
+  pub pfs : sees_pfs (insn_action insn) ≡ false → seen.pfs ≡ base.pfs
   pub lc : seen.lc ≡ base.lc
   pub ec : seen.ec ≡ base.ec
 

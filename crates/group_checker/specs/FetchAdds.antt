@@ -4,12 +4,12 @@ use Rattle.std.specs.List.{AllByRecursion as Each}
 use Rattle.ia_insn.specs.declared.insn.Op.TheVariants as op
 use Rattle.ia_insn.specs.NewValues.{exchanged}
 use Rattle.ia_insn.specs.Programs.{Program, IsProgram}
-use Rattle.ia_meaning.specs.declared.form.Form.TheVariants.{Exchange}
+use Rattle.ia_meaning.specs.declared.action.Action.TheVariants.{Exchange}
 use Rattle.ia_meaning.specs.declared.state.AlatKey.{AlatKey as Spot}
 use Rattle.ia_meaning.specs.declared.state.Cell.{Cell}
 use Rattle.ia_meaning.specs.State.{State}
 use Rattle.ia_meaning.specs.Names.{spot, look, holds, set_spot}
-use Rattle.ia_meaning.specs.Actions.{accesses_memory, insn_form}
+use Rattle.ia_meaning.specs.Actions.{accesses_memory, insn_action}
 use Rattle.ia_meaning.specs.Loads.{loaded}
 use Rattle.ia_meaning.specs.Views.{view}
 use Rattle.ia_meaning.specs.ParallelGroups.{now_of, par_group}
@@ -25,14 +25,14 @@ pub record IsFetchAdd (size address : ℕ) (inc : ℤ) (x : GatheredSlot) : Type
   pub r1 : ℕ
   pub r3 : ℕ
   pub base : Cell
-  pub form : insn_form x.insn ≡ Exchange size r1 r3 0 (Some inc)
+  pub action : insn_action x.insn ≡ Exchange size r1 r3 0 (Some inc)
   pub guard : x.insn.qp ≡ 0
   pub looked : look x.before.base r3 ≡ Some base
   pub there : base.value ≡ address
 
--- a slot that accesses no memory, by its form, or since its qualifying predicate is 0 for it
+-- a slot that accesses no memory, by its action, or since its qualifying predicate is 0 for it
 abbrev pub IsNoAccess : GatheredSlot → Type 0
-IsNoAccess x = holds (view x.insn (now_of x.before) x.before.base) x.insn.qp ≡ true → accesses_memory (insn_form x.insn) ≡ false
+IsNoAccess x = holds (view x.insn (now_of x.before) x.before.base) x.insn.qp ≡ true → accesses_memory (insn_action x.insn) ≡ false
 
 -- Of the slots none accesses memory but such fetch-and-adds, with these increments in order.
 abbrev pub AreFetchAdds : ℕ → ℕ → List ℤ → List GatheredSlot → Type 0

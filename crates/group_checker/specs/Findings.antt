@@ -74,7 +74,7 @@ pub record AreBroken (g : Graph) (has_stop : Place → Bool) (window : List Earl
 -- An `alloc` comes just after another slot of its group.
 pub record IsAllocRule (slot : Slot) (v : Violation) : Type 0 where
   pub rule : v.rule ≡ AllocFirst
-  pub allocates : is_alloc slot.form ≡ true
+  pub allocates : is_alloc slot.action ≡ true
   pub resource : v.resource ≡ Cfm
 
 -- A slot of the group comes just after a `clrrrb`.

@@ -98,8 +98,8 @@ TwoOrders =
     × (static_of 14 (registers_of two_writes (1 ∷ []) (zero_state two_writes)) ≡ cell 1)
 
 -- r1 is moved to a register, then r2: violations. The registers after it under a code, where r1 is 7 and r2 is 1.
-abbrev pub moved : Program → List ℕ → Registers
-moved p code = registers_of p code (start p (cell 7))
+abbrev pub registers_after_moves : Program → List ℕ → Registers
+registers_after_moves p code = registers_of p code (start p (cell 7))
 
 abbrev pub two_branch_moves : Program
 two_branch_moves = mii (plain (op.Nop M 0)) (plain (op.MovToBr 1 1 false false 0 (pos 0))) (plain (op.MovToBr 1 2 false false 0 (pos 0)))
@@ -113,12 +113,12 @@ two_unat_moves = mmi (plain (op.MovToAr Unat 1)) (plain (op.MovToAr Unat 2)) idl
 -- The writes of these registers too may come in either order.
 abbrev pub TwoMoves : Type 0
 TwoMoves =
-    ((moved two_branch_moves []).branches ≡ 0x10000 ∷ 1 ∷ replicate 6 0)
-    × ((moved two_branch_moves (1 ∷ [])).branches ≡ 0x10000 ∷ 7 ∷ replicate 6 0)
-    × ((moved (two_moves Pfs) []).pfs ≡ 1) × ((moved (two_moves Pfs) (1 ∷ [])).pfs ≡ 7)
-    × ((moved (two_moves Lc) []).lc ≡ 1) × ((moved (two_moves Lc) (1 ∷ [])).lc ≡ 7)
-    × ((moved (two_moves Ec) []).ec ≡ 1) × ((moved (two_moves Ec) (1 ∷ [])).ec ≡ 7)
-    × ((moved two_unat_moves []).unat ≡ 1) × ((moved two_unat_moves (1 ∷ [])).unat ≡ 7)
+    ((registers_after_moves two_branch_moves []).branches ≡ 0x10000 ∷ 1 ∷ replicate 6 0)
+    × ((registers_after_moves two_branch_moves (1 ∷ [])).branches ≡ 0x10000 ∷ 7 ∷ replicate 6 0)
+    × ((registers_after_moves (two_moves Pfs) []).pfs ≡ 1) × ((registers_after_moves (two_moves Pfs) (1 ∷ [])).pfs ≡ 7)
+    × ((registers_after_moves (two_moves Lc) []).lc ≡ 1) × ((registers_after_moves (two_moves Lc) (1 ∷ [])).lc ≡ 7)
+    × ((registers_after_moves (two_moves Ec) []).ec ≡ 1) × ((registers_after_moves (two_moves Ec) (1 ∷ [])).ec ≡ 7)
+    × ((registers_after_moves two_unat_moves []).unat ≡ 1) × ((registers_after_moves two_unat_moves (1 ∷ [])).unat ≡ 7)
 
 -- An `alloc` of two registers, and r32 becomes 5.
 abbrev pub first_alloc : Program

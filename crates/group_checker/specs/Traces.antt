@@ -8,7 +8,7 @@ use Rattle.ia_insn.specs.declared.place.Place.{Place}
 use Rattle.ia_insn.specs.Places.{insn_at}
 use Rattle.ia_insn.specs.Programs.{Program, IsProgram}
 use Rattle.ia_meaning.specs.State.{State, IsState, IsStart}
-use Rattle.ia_meaning.specs.Actions.{insn_form, is_indirect}
+use Rattle.ia_meaning.specs.Actions.{insn_action, is_indirect}
 use Rattle.ia_meaning.specs.Steps.{Step, seq_step, seq_run}
 use Rattle.predicate_rel.specs.Pairs.{Table, pairs_of}
 use Rattle.predicate_rel.specs.Truth.{AreNeverBothOne}
@@ -20,7 +20,7 @@ abbrev pub is_landing : Option Insn → Option How → Bool
 is_landing None h = false
 is_landing (Some insn) None = false
 is_landing (Some insn) (Some how.Falls) = false
-is_landing (Some insn) (Some how.Taken) = is_indirect (insn_form insn)
+is_landing (Some insn) (Some how.Taken) = is_indirect (insn_action insn)
 is_landing (Some insn) (Some how.Ends) = false
 
 -- The walk after a step from a state: it goes on along the edge of the step, and where an indirect branch is taken it

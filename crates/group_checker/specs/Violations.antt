@@ -4,9 +4,9 @@ use Rattle.std.specs.Prelude.{◌≡◌, Bool, true, false, Option, None, Some, 
 use Rattle.ia_insn.specs.declared.insn.Insn.{Insn}
 use Rattle.ia_insn.specs.declared.place.Place.{Place}
 use Rattle.ia_insn.specs.Programs.{Program}
-use Rattle.ia_meaning.specs.declared.form.Form.{Form}
-use Rattle.ia_meaning.specs.declared.form.Form.TheVariants.{ClearBases}
-use Rattle.ia_meaning.specs.Actions.{insn_form, allocates}
+use Rattle.ia_meaning.specs.declared.action.Action.{Action}
+use Rattle.ia_meaning.specs.declared.action.Action.TheVariants.{ClearBases}
+use Rattle.ia_meaning.specs.Actions.{insn_action, allocates}
 use Rattle.ia_meaning.specs.Sequence.{is_stopped}
 use Rattle.resource_sets.specs.declared.access.Resource.{Resource}
 use Rattle.resource_sets.specs.declared.access.Resource.TheVariants.{Cfm}
@@ -35,13 +35,13 @@ pub record ClashesUnexcused (g : Graph) (has_stop : Place → Bool) (w : Walk) (
   pub stays : ¬ IsExcused g has_stop w i clashes.first.guard clashes.second.guard
 
 -- `clrrrb` and `clrrrb.pr`
-abbrev pub clears : Form → Bool
+abbrev pub clears : Action → Bool
 clears (ClearBases pred_only) = true
-clears form = false
+clears action = false
 
 abbrev pub clears_in : Option Insn → Bool
 clears_in None = false
-clears_in (Some insn) = clears (insn_form insn)
+clears_in (Some insn) = clears (insn_action insn)
 
 -- the place holds an `alloc`
 unfoldable pub allocates_at : Graph → Place → Bool

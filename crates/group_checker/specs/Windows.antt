@@ -3,7 +3,7 @@ use Rattle.std.specs.Prelude.{◌≡◌, ◌<◌, ◌≤◌, ℕ, ◌+◌, Bool,
 use Rattle.ia_insn.specs.declared.place.Place.{Place}
 use Rattle.ia_insn.specs.Places.{place_number, IsBefore}
 use Rattle.ia_insn.specs.declared.insn.Insn.{Insn}
-use Rattle.ia_meaning.specs.Actions.{insn_form}
+use Rattle.ia_meaning.specs.Actions.{insn_action}
 use Rattle.resource_sets.specs.declared.access.Access.{Access}
 use Rattle.resource_sets.specs.Clashes.{may_write_guard}
 use Rattle.predicate_rel.specs.declared.edge.Edge.TheVariants.{Falls}
@@ -71,12 +71,12 @@ pub record IsWindow (g : Graph) (has_stop : Place → Bool) (window : List Earli
   pub last : (m : ℕ) (a : EarlierSlot) → IsAt window m a → m + 1 ≡ length window → IsEdgeIn g a.place Falls j
   pub all : (w : Walk) → EndsIn g j w → (i : Place) → Contains (group_since has_stop w) i → HasPlace window i
 
--- The slot says what stands at a place: the form of the instruction, its qualifying predicate, whether control may fall
+-- The slot says what stands at a place: the action of the instruction, its qualifying predicate, whether control may fall
 -- through, and whether a stop follows.
 pub record Describes (g : Graph) (has_stop : Place → Bool) (place : Place) (slot : Slot) : Type 0 where
   pub insn : Insn
   pub here : insn_in g place ≡ Some insn
-  pub form : slot.form ≡ insn_form insn
+  pub action : slot.action ≡ insn_action insn
   pub qp : slot.qp ≡ insn.qp
   pub falls : slot.falls ≡ may_fall insn
   pub stop : slot.stop ≡ has_stop place

@@ -91,7 +91,7 @@ fn check_slots(alloc: Global, table: &SlotTable) -> Result<Verdict, AllocError>
         let Some(slot) = table.at(second) else {
             unreachable!();
         };
-        let seconds = masks_of(slot.qp, &slot.form);
+        let seconds = masks_of(slot.qp, &slot.action);
         check_second(window.earlier_slots(), second, slot, &seconds, &mut report)?;
         window.move_on(facts.at(second), second, slot, seconds)?;
         let Some(after) = slot.next else {

@@ -16,15 +16,15 @@ use crate::broken::Broken;
 use crate::violation::Violation;
 use crate::window::EarlierSlot;
 use ia_insn::{Place, Pr};
-use ia_meaning::Form;
+use ia_meaning::Action;
 use resource_sets::{AccessSet, Masks, Rule, clash_of, may_clash};
 use slot_table::Slot;
 
 /// Whether it is an `alloc`.
-fn is_alloc(form: &Form) -> bool
-    ensures { result ≡ is_alloc form.now }
+fn is_alloc(action: &Action) -> bool
+    ensures { result ≡ is_alloc action.now }
 {
-    matches!(form, Form::Allocate { .. })
+    matches!(action, Action::Allocate { .. })
 }
 
 /// Whether accesses that break the rule may be excused. A write after a branch's read may not, as the rule
@@ -87,7 +87,7 @@ fn clashes(first: &EarlierSlot, firsts: &[AccessSet], seconds: &[AccessSet], bro
 fn slot_rules(first: &EarlierSlot, slot: &Slot, broken: &mut Broken)
     ensures { Gains broken.old broken.new (IsSlotRule first.now slot.now) }
 {
-    broken.add_frame_if(is_alloc(&slot.form), Rule::AllocFirst);
+    broken.add_frame_if(is_alloc(&slot.action), Rule::AllocFirst);
     broken.add_frame_if(first.clears, Rule::ClearLast);
 }
 
@@ -95,7 +95,7 @@ fn slot_rules(first: &EarlierSlot, slot: &Slot, broken: &mut Broken)
 fn may_break_slot_rule(first: &EarlierSlot, slot: &Slot) -> bool
     ensures { result ≡ false → (v : Violation) → ¬ IsSlotRule first.now slot.now v }
 {
-    first.clears || is_alloc(&slot.form)
+    first.clears || is_alloc(&slot.action)
 }
 
 /// Whether no access of the n-th slot of the window clashes with one of the slot under way, and no rule on slots is

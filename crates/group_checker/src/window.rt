@@ -130,8 +130,8 @@ impl Window {
         advance(&mut self.slots, slot, written);
         self.slots.push(EarlierSlot {
             place,
-            clears: clears(&slot.form),
-            known: here.after_form(&slot.form, slot.qp, Edge::Falls),
+            clears: clears(&slot.action),
+            known: here.after_action(&slot.action, slot.qp, Edge::Falls),
             written,
             masks,
         })?;

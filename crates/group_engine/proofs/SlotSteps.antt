@@ -8,7 +8,7 @@ use Rattle.ia_insn.specs.declared.place.Place.{Place}
 use Rattle.ia_insn.specs.Places.{insn_at, IsPlaceOf}
 use Rattle.ia_insn.specs.Programs.{Program, IsProgram}
 use Rattle.ia_meaning.specs.declared.next.Next.TheVariants.{Falls, Goes, Breaks, Faults}
-use Rattle.ia_meaning.specs.Actions.{insn_form, is_alloc}
+use Rattle.ia_meaning.specs.Actions.{insn_action, is_alloc}
 use Rattle.ia_meaning.specs.Outcomes.{Outcome}
 use Rattle.ia_meaning.specs.Sequence.{first_of}
 use Rattle.ia_meaning.specs.Views.{view}
@@ -47,19 +47,19 @@ pub branches_inside : (p : Program) (g : Gathered) (slot : Slot) (e : SlotEffect
 branches_inside p g slot e pfs bundle h program is taken =
     goes_inside p g.place h.of.insn (view h.of.insn (now_of g) g.base) g.memory g.unat bundle program is h.of.here (ap (λ (o : Outcome). o.next) (sym h.does.value) ∙ taken)
 
-module _ (p : Program) (begins first : Bool) (g next : Gathered) (slot : Slot) (e : SlotEffect) (pfs : ℕ) (h : ComesNext p g slot e pfs) (flag : first ≡ (begins && is_alloc slot.form)) where
+module _ (p : Program) (begins first : Bool) (g next : Gathered) (slot : Slot) (e : SlotEffect) (pfs : ℕ) (h : ComesNext p g slot e pfs) (flag : first ≡ (begins && is_alloc slot.action)) where
   abbrev does : Outcome
   does = outcome_of_effect (view h.of.insn (now_of g) g.base) g.memory e
 
   abbrev Takes : Place → Type 0
   Takes place = next ≡ gathers first g (outcome_making (record g.base { pfs = pfs }) g.memory e.change Falls) place
 
-  same_flag : first ≡ (begins && is_alloc (insn_form h.of.insn))
-  same_flag = flag ∙ ap (λ (s : Slot). begins && is_alloc s.form) (sym h.of.is)
+  same_flag : first ≡ (begins && is_alloc (insn_action h.of.insn))
+  same_flag = flag ∙ ap (λ (s : Slot). begins && is_alloc s.action) (sym h.of.is)
 
-  takes_in : (place : Place) → Takes place → gathers (begins && is_alloc (insn_form h.of.insn)) g does place ≡ next
+  takes_in : (place : Place) → Takes place → gathers (begins && is_alloc (insn_action h.of.insn)) g does place ≡ next
   takes_in place took =
-      gathers_with p g h.of.insn e pfs h.does (begins && is_alloc (insn_form h.of.insn)) place ∙ rw (← same_flag) (sym took)
+      gathers_with p g h.of.insn e pfs h.does (begins && is_alloc (insn_action h.of.insn)) place ∙ rw (← same_flag) (sym took)
 
   -- It falls where there is no place.
   pub fell_off : e.next ≡ Falls → slot.next ≡ None → (most : ℕ) → IsOver (rest_of (suc most) p begins g) g (Some (Fault FellOff g.place))

@@ -8,7 +8,7 @@ use Rattle.ia_insn.specs.declared.place.Place.{Place}
 use Rattle.ia_insn.specs.Places.{insn_at}
 use Rattle.ia_insn.specs.Programs.{Program}
 use Rattle.ia_meaning.specs.declared.next.Next.TheVariants.{Falls, Goes, Breaks, Faults}
-use Rattle.ia_meaning.specs.Actions.{insn_form, is_alloc}
+use Rattle.ia_meaning.specs.Actions.{insn_action, is_alloc}
 use Rattle.ia_meaning.specs.Outcomes.{Outcome}
 use Rattle.ia_meaning.specs.Effects.{site, effect}
 use Rattle.ia_meaning.specs.Sequence.{first_of, next_of, is_stopped}
@@ -19,7 +19,7 @@ use Rattle.group_engine.specs.Groups.{rest_of, IsOver, ComesTo}
 
 module _ (p : Program) (begins : Bool) (g : Gathered) (insn : Insn) (o : Outcome) (at : insn_at p.bundles g.place ≡ Some insn) (is : effect (site p g.place.bundle) insn (view insn (now_of g) g.base) g.memory g.unat ≡ o) where
   abbrev first : Bool
-  first = begins && is_alloc (insn_form insn)
+  first = begins && is_alloc (insn_action insn)
 
   abbrev rest : Outcome → ℕ → GatheredGroup
   rest o most = rest_of most p false (gathers first g o (place_after g.place (next_of p.bundles g.place)))

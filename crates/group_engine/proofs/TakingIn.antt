@@ -9,7 +9,7 @@ use Rattle.ia_meaning.specs.declared.write.Write.{Write}
 use Rattle.ia_meaning.specs.declared.write.Write.TheVariants.{SetFrame}
 use Rattle.ia_meaning.specs.State.{Registers, Memory}
 use Rattle.ia_meaning.specs.Writes.{apply}
-use Rattle.ia_meaning.specs.Actions.{insn_form}
+use Rattle.ia_meaning.specs.Actions.{insn_action}
 use Rattle.ia_meaning.specs.Outcomes.{Outcome}
 use Rattle.ia_meaning.specs.Effects.{site, guarded}
 use Rattle.ia_meaning.specs.Views.{view}
@@ -56,11 +56,11 @@ frame_taken g o place none = rw none refl
 
 -- What a slot does by a view that is that of its instruction.
 pub effect_is : (p : Program) (g : Gathered) (insn : Insn) (e : SlotEffect) (s : Steering) → s ≡ steering_of (view insn (now_of g) g.base)
-    → outcome_of_effect (seen_by g.base s) g.memory e ≡ guarded (site p g.place.bundle) insn.qp (insn_form insn) (seen_by g.base s) g.memory g.unat → MayMake (seen_by g.base s) g.memory e.change → IsEffectOf p g insn e s.pfs
+    → outcome_of_effect (seen_by g.base s) g.memory e ≡ guarded (site p g.place.bundle) insn.qp (insn_action insn) (seen_by g.base s) g.memory g.unat → MayMake (seen_by g.base s) g.memory e.change → IsEffectOf p g insn e s.pfs
 effect_is p g insn e s is value may =
     let same : seen_by g.base s ≡ view insn (now_of g) g.base = ap (seen_by g.base) is in
     record {
-      value = subst (λ r. outcome_of_effect r g.memory e ≡ guarded (site p g.place.bundle) insn.qp (insn_form insn) r g.memory g.unat) same value;
+      value = subst (λ r. outcome_of_effect r g.memory e ≡ guarded (site p g.place.bundle) insn.qp (insn_action insn) r g.memory g.unat) same value;
       may = subst (λ r. MayMake r g.memory e.change) same may;
       seen = ap (λ (s : Steering). s.pfs) is;
     }

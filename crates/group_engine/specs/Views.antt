@@ -1,8 +1,8 @@
 -- What a slot sees (volume 1, chapter 3, instruction dependencies).
 use Rattle.std.specs.Prelude.{ℕ, Option, Some, None}
-use Rattle.ia_meaning.specs.declared.form.Form.{Form}
-use Rattle.ia_meaning.specs.declared.form.Form.TheVariants.{JumpIndirect, Call, Return}
-use Rattle.ia_meaning.specs.declared.form.Goal.TheVariants.{Indirect}
+use Rattle.ia_meaning.specs.declared.action.Action.{Action}
+use Rattle.ia_meaning.specs.declared.action.Action.TheVariants.{JumpIndirect, Call, Return}
+use Rattle.ia_meaning.specs.declared.action.Goal.TheVariants.{Indirect}
 use Rattle.ia_meaning.specs.State.{Registers}
 use Rattle.group_engine.specs.declared.steering.Steering.{Steering}
 
@@ -10,8 +10,8 @@ use Rattle.group_engine.specs.declared.steering.Steering.{Steering}
 abbrev pub seen_by : Registers → Steering → Registers
 seen_by r s = record r { predicates = s.predicates; branches = s.branches; pfs = s.pfs }
 
--- the branch register that holds the target of an indirect branch, a call or a return; none of another form
-abbrev pub target_register : Form → Option ℕ
+-- the branch register that holds the target of an indirect branch, a call or a return; none of another action
+abbrev pub target_register : Action → Option ℕ
 target_register (JumpIndirect b2) = Some b2
 target_register (Call b1 (Indirect b2)) = Some b2
 target_register (Return b2) = Some b2

@@ -27,7 +27,7 @@ use crate::thread::Thread;
 use crate::view::{View, is_branch, sight};
 use ia_insn::limits::RUN_LIMIT;
 use ia_insn::{End, FaultKind, Place};
-use ia_meaning::{Form, FrameCause, FrameShape, Next, Rse, Write, groups_end};
+use ia_meaning::{Action, FrameCause, FrameShape, Next, Rse, Write, groups_end};
 use slot_effects::{Change, SlotEffect, effect};
 use slot_table::{Slot, SlotTable};
 use std::alloc::{AllocError, Global};
@@ -47,11 +47,11 @@ pub(crate) struct Gathering {
     pub place: Place,
 }
 
-/// Whether a group begins with this form, and it is an `alloc`.
-fn allocates_first(begins: bool, form: &Form) -> bool
-    ensures { result ≡ (begins && is_alloc form.now) }
+/// Whether a group begins with this action, and it is an `alloc`.
+fn allocates_first(begins: bool, action: &Action) -> bool
+    ensures { result ≡ (begins && is_alloc action.now) }
 {
-    begins && matches!(form, Form::Allocate { .. })
+    begins && matches!(action, Action::Allocate { .. })
 }
 
 impl Gathering {
@@ -113,15 +113,15 @@ impl Gathering {
         ensures { (insn : Insn) → insn_at table.now.bundles self.now.place ≡ Some insn → IsEffectOf table.now (gathered_of self.now) insn result.0 result.1 }
     {
         let (registers, thread, bundle) = (&self.registers, &self.thread, self.place.bundle);
-        if is_branch(&slot.form) {
-            let sight = sight(registers, self.kept.latest(), slot.qp, &slot.form);
+        if is_branch(&slot.action) {
+            let sight = sight(registers, self.kept.latest(), slot.qp, &slot.action);
             let view = View {
                 registers,
                 steering: &sight,
                 thread,
             };
             (
-                effect(&view, table.program(), bundle, slot.qp, &slot.form),
+                effect(&view, table.program(), bundle, slot.qp, &slot.action),
                 sight.pfs,
             )
         } else {
@@ -132,7 +132,7 @@ impl Gathering {
                 thread,
             };
             (
-                effect(&view, table.program(), bundle, slot.qp, &slot.form),
+                effect(&view, table.program(), bundle, slot.qp, &slot.action),
                 steering.pfs,
             )
         }
@@ -207,7 +207,7 @@ impl Gathering {
     {
         let slot = self.slot(table);
         let (effect, pfs) = self.effect_of(table, slot);
-        let first = allocates_first(begins, &slot.form);
+        let first = allocates_first(begins, &slot.action);
         let place = self.place;
         match effect.next {
             Next::Falls => match slot.next {

@@ -3,7 +3,7 @@
 ghost use Rattle.std.specs.Prelude.{true, ◌≡◌, ◌<◌, ◌==◌, ◌&&◌, if◌then◌else◌, nat_le, nat_lt, length};
 ghost use Rattle.ia_insn.specs.declared.insn.Insn.{Insn};
 ghost use Rattle.ia_meaning.specs.State.{Registers};
-ghost use Rattle.ia_meaning.specs.Actions.{insn_form, is_branch};
+ghost use Rattle.ia_meaning.specs.Actions.{insn_action, is_branch};
 ghost use Rattle.ia_meaning.specs.Views.{sees_static, sees_branch, sees_pfs, seen_in, view};
 ghost use Rattle.group_engine.specs.Groups.{memory_of};
 ghost use Rattle.group_engine.specs.Kept.{steering_of};
@@ -13,7 +13,7 @@ use crate::registers::GroupRegisters;
 use crate::steering::Steering;
 use crate::thread::Thread;
 use ia_insn::{Ar, Br, FaultKind, Gr, Pr};
-use ia_meaning::{AlatKey, Cell, Form, Goal};
+use ia_meaning::{Action, AlatKey, Cell, Goal};
 use nat_alat::{Alat, DataMem};
 use slot_effects::{Sees, predicate_word};
 
@@ -123,30 +123,30 @@ impl<'a> Sees for View<'a> {
 
 /// Whether it is a branch.
 #[inline(always)]
-pub(crate) fn is_branch(form: &Form) -> bool
-    ensures { result ≡ is_branch form.now }
+pub(crate) fn is_branch(action: &Action) -> bool
+    ensures { result ≡ is_branch action.now }
 {
     matches!(
-        form,
-        Form::Jump { .. }
-            | Form::JumpIndirect { .. }
-            | Form::Loop { .. }
-            | Form::Call { .. }
-            | Form::Return { .. }
+        action,
+        Action::Jump { .. }
+            | Action::JumpIndirect { .. }
+            | Action::Loop { .. }
+            | Action::Call { .. }
+            | Action::Return { .. }
     )
 }
 
-/// The branch register that holds the target of an indirect branch, a call or a return; None of another form.
-fn target(form: &Form) -> Option<Br>
-    ensures { result ≡ target_register form.now }
+/// The branch register that holds the target of an indirect branch, a call or a return; None of another action.
+fn target(action: &Action) -> Option<Br>
+    ensures { result ≡ target_register action.now }
 {
-    match *form {
-        Form::JumpIndirect { b2 }
-        | Form::Call {
+    match *action {
+        Action::JumpIndirect { b2 }
+        | Action::Call {
             goal: Goal::Indirect(b2),
             ..
         }
-        | Form::Return { b2 } => Some(b2),
+        | Action::Return { b2 } => Some(b2),
         _ => None,
     }
 }
@@ -170,10 +170,10 @@ fn see_static(seen: &mut [bool; 64], latest: &[bool; 64])
 /// Has p1 to p15, and the branch register that holds the target, of an indirect branch seen as `latest` has
 /// them.
 #[tactic(auto, using(crate::proofs::Sights::target_sights))]
-fn see_target(seen: &mut Steering, latest: &Steering, form: &Form)
-    ensures { seen.new ≡ record seen.old { predicates = seen_in (sees_static form.now) 0 seen.old.predicates latest.now.predicates; branches = seen_in (sees_branch form.now) 0 seen.old.branches latest.now.branches } }
+fn see_target(seen: &mut Steering, latest: &Steering, action: &Action)
+    ensures { seen.new ≡ record seen.old { predicates = seen_in (sees_static action.now) 0 seen.old.predicates latest.now.predicates; branches = seen_in (sees_branch action.now) 0 seen.old.branches latest.now.branches } }
 {
-    if let Some(b) = target(form) {
+    if let Some(b) = target(action) {
         b.has_three_bits();
         see_static(&mut seen.predicates, &latest.predicates);
         see(&mut seen.branches, &latest.branches, b.number() as usize);
@@ -181,26 +181,31 @@ fn see_target(seen: &mut Steering, latest: &Steering, form: &Form)
 }
 
 /// Has the previous function state of a return seen as `latest` has it.
-fn see_pfs(seen: &mut Steering, latest: &Steering, form: &Form)
-    ensures { seen.new ≡ record seen.old { pfs = if sees_pfs form.now then latest.now.pfs else seen.old.pfs } }
+fn see_pfs(seen: &mut Steering, latest: &Steering, action: &Action)
+    ensures { seen.new ≡ record seen.old { pfs = if sees_pfs action.now then latest.now.pfs else seen.old.pfs } }
 {
-    if let Form::Return { .. } = form {
+    if let Action::Return { .. } = action {
         seen.pfs = latest.pfs;
     }
 }
 
-/// What a branch of this form and qualifying predicate sees of the registers that steer it, where its group began
+/// What a branch of this action and qualifying predicate sees of the registers that steer it, where its group began
 /// with these registers and earlier slots left `latest`: its qualifying predicate as in `latest`, an indirect branch
 /// p1 to p15 and the branch register of its target too, and a return the previous function state. All others stand
 /// as at the start.
-pub(crate) fn sight(registers: &GroupRegisters, latest: &Steering, qp: Pr, form: &Form) -> Steering
-    requires { is_branch form.now ≡ true }
-    ensures { (insn : Insn) (now : Registers) → insn_form insn ≡ form.now → insn.qp ≡ qp → steering_of now ≡ latest.now → result ≡ steering_of (view insn now registers.now) }
+pub(crate) fn sight(
+    registers: &GroupRegisters,
+    latest: &Steering,
+    qp: Pr,
+    action: &Action,
+) -> Steering
+    requires { is_branch action.now ≡ true }
+    ensures { (insn : Insn) (now : Registers) → insn_action insn ≡ action.now → insn.qp ≡ qp → steering_of now ≡ latest.now → result ≡ steering_of (view insn now registers.now) }
 {
     let mut seen = *registers.steering();
-    see_target(&mut seen, latest, form);
+    see_target(&mut seen, latest, action);
     let place = registers.predicate_place(qp);
     see(&mut seen.predicates, &latest.predicates, place);
-    see_pfs(&mut seen, latest, form);
+    see_pfs(&mut seen, latest, action);
     seen
 }

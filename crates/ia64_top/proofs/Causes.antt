@@ -29,28 +29,28 @@ use Rattle.ia64_top.specs.Texts.{verdict_text}
 use Rattle.ia64_top.specs.Judgements.{verdict_status, IsJudgement, PrintsClashes}
 use Rattle.ia64_top.specs.Runs.{watch_text}
 use Rattle.ia64_top.specs.Trials.{IsTrialOutput}
-use Rattle.ia64_top.specs.Readings.{Reading, as_image, as_bundles, as_text, as_loose, as_either}
+use Rattle.ia64_top.specs.Readings.{InputReading, as_image, as_bundles, as_text, as_loose, as_either}
 use Rattle.ia64_top.specs.Output.{IsCanonical, IsPackedText, IsMadeOutput, IsCheckedAs, IsRunAs, IsNumberedRunAs, IsCommandOutput, IsProgramOf, IsUnreadable, is_too_long, GivesClashes}
 use Rattle.ia64_top.proofs.Outputs.{GivesOne, RefusesNone, image_refuses_none, bundles_refuse_none, text_refuses_none, loose_refuses_none, either_refuses_none}
 use Rattle.ia64_top.proofs.Answering.{same_command}
 
 -- What is answered to an input that is read in this way: something of its program, or its refusal.
-abbrev IsAnsweredAs : Reading → List ℕ → Status → Type 0
+abbrev IsAnsweredAs : InputReading → List ℕ → Status → Type 0
 IsAnsweredAs r input status =
     ((p : Program) × r.Gives input p × TellsOfProgram status) ⊎ ((bytes : List ℕ) × r.Refuses input bytes × (status ≡ Refused))
 
-made_so : (r : Reading) (Makes : Program → List ℕ → Type 0) (input bytes : List ℕ) (status : Status) → IsMadeOutput r Makes input bytes status → IsAnsweredAs r input status
+made_so : (r : InputReading) (Makes : Program → List ℕ → Type 0) (input bytes : List ℕ) (status : Status) → IsMadeOutput r Makes input bytes status → IsAnsweredAs r input status
 made_so r Makes input bytes Done o = inl (o.0, o.1, tt)
 made_so r Makes input bytes Refused o = inr (bytes, o, refl)
 made_so r Makes input bytes status o = absurd o
 
-checked_so : (r : Reading) (input bytes : List ℕ) (status : Status) → IsCheckedAs r input bytes status → IsAnsweredAs r input status
+checked_so : (r : InputReading) (input bytes : List ℕ) (status : Status) → IsCheckedAs r input bytes status → IsAnsweredAs r input status
 checked_so r input bytes Done o = inl (o.0, o.1, tt)
 checked_so r input bytes Violated o = inl (o.0, o.1, tt)
 checked_so r input bytes Refused o = inr (bytes, o, refl)
 checked_so r input bytes status o = absurd o
 
-run_so : (text : WholeRun → List ℕ) (groups : ℕ) (r : Reading) (input bytes : List ℕ) (status : Status) → IsRunAs text groups r input bytes status → IsAnsweredAs r input status
+run_so : (text : WholeRun → List ℕ) (groups : ℕ) (r : InputReading) (input bytes : List ℕ) (status : Status) → IsRunAs text groups r input bytes status → IsAnsweredAs r input status
 run_so text groups r input bytes Done o = inl (o.0, o.1, tt)
 run_so text groups r input bytes Violated o = inl (o.0, o.1, tt)
 run_so text groups r input bytes Limit o = inl (o.0, o.1, tt)
@@ -58,7 +58,7 @@ run_so text groups r input bytes Faulted o = inl (o.0, o.1, tt)
 run_so text groups r input bytes Refused o = inr (bytes, o, refl)
 run_so text groups r input bytes status o = absurd o
 
-numbered_run_so : (groups number : ℕ) (r : Reading) (input bytes : List ℕ) (status : Status) → IsNumberedRunAs groups number r input bytes status → IsAnsweredAs r input status
+numbered_run_so : (groups number : ℕ) (r : InputReading) (input bytes : List ℕ) (status : Status) → IsNumberedRunAs groups number r input bytes status → IsAnsweredAs r input status
 numbered_run_so groups number r input bytes Done o = inl (o.0, o.1, tt)
 numbered_run_so groups number r input bytes Limit o = inl (o.0, o.1, tt)
 numbered_run_so groups number r input bytes Faulted o = inl (o.0, o.1, tt)
@@ -70,7 +70,7 @@ pub record HasCause (Gives : Program → Type 0) (status : Status) : Type 0 wher
   pub refused : (status ≡ Refused) ↔ ((p : Program) → ¬ Gives p)
   pub served : (p : Program) → Gives p → TellsOfProgram status
 
-cause_of : (r : Reading) → RefusesNone r → (input : List ℕ) (status : Status) → IsAnsweredAs r input status → HasCause (λ p. r.Gives input p) status
+cause_of : (r : InputReading) → RefusesNone r → (input : List ℕ) (status : Status) → IsAnsweredAs r input status → HasCause (λ p. r.Gives input p) status
 cause_of r none input status (inl a) = record { refused = (λ e. absurd (subst TellsOfProgram e a.2), λ n. absurd (n a.0 a.1)); served = λ p g. a.2 }
 cause_of r none input status (inr a) = record { refused = (λ e p g. none input p a.0 g a.1, λ n. a.2); served = λ p g. absurd (none input p a.0 g a.1) }
 

@@ -24,7 +24,7 @@ use Rattle.ia64_top.specs.declared.status.Status.{Status}
 use Rattle.ia64_top.specs.declared.status.Status.TheVariants.{Done, Violated, Refused, Words, TooLong}
 use Rattle.ia64_top.specs.Words.{command_of}
 use Rattle.ia64_top.specs.Texts.{refusal_text, text_refusal_text, verdict_text, packed_text}
-use Rattle.ia64_top.specs.Readings.{Reading, as_image, as_bundles, as_text, as_loose, as_either}
+use Rattle.ia64_top.specs.Readings.{InputReading, as_image, as_bundles, as_text, as_loose, as_either}
 use Rattle.ia64_top.specs.Judgements.{IsJudgement, verdict_status}
 use Rattle.ia64_top.specs.Runs.{watch_text}
 use Rattle.ia64_top.specs.Trials.{IsTrialOutput}
@@ -35,7 +35,7 @@ use Rattle.ia64_top.proofs.Running.{IsRunAnswer, told_of_run}
 use Rattle.ia64_top.proofs.NumberedRuns.{IsNumberedRunAnswer, told_of_numbered_run}
 
 -- An input is refused in one way.
-abbrev pub RefusesOne : Reading → Type 0
+abbrev pub RefusesOne : InputReading → Type 0
 RefusesOne r = (input mine bytes : List ℕ) → r.Refuses input mine → r.Refuses input bytes → bytes ≡ mine
 
 image_refuses_one : OneFault → RefusesOne as_image
@@ -57,7 +57,7 @@ either_refuses_one image text input mine bytes (inr m) (inl o) = absurd (m.0 o.0
 either_refuses_one image text input mine bytes (inr m) (inr o) = text_refuses_one text input mine bytes m.1 o.1
 
 -- An input is read as one program, or refused in one way, and not both.
-pub record ReadsOne (r : Reading) : Type 0 where
+pub record ReadsOne (r : InputReading) : Type 0 where
   pub gives_one : GivesOne r
   pub refuses_none : RefusesNone r
   pub refuses_one : RefusesOne r
@@ -67,7 +67,7 @@ abbrev TellsOne : (Program → List ℕ → Status → Type 0) → Type 0
 TellsOne Tells = (p : Program) (mine bytes : List ℕ) (status other : Status) → Tells p mine status → Tells p bytes other → (bytes ≡ mine) × (other ≡ status)
 
 -- And so one is told of an input.
-one_told : (r : Reading) (Tells : Program → List ℕ → Status → Type 0) → TellsOne Tells → ReadsOne r
+one_told : (r : InputReading) (Tells : Program → List ℕ → Status → Type 0) → TellsOne Tells → ReadsOne r
     → (input mine bytes : List ℕ) (status other : Status) → IsTold r Tells input mine status → IsTold r Tells input bytes other → (bytes ≡ mine) × (other ≡ status)
 one_told r Tells single one input mine bytes status other (inl m) (inl o) =
     single m.0 mine bytes status other m.2 (subst (λ x. Tells x bytes other) (one.gives_one input o.0 m.0 o.1 m.1) o.2)
@@ -82,12 +82,12 @@ MakesOne Makes = (p : Program) (mine bytes : List ℕ) → Makes p mine → Make
 abbrev IsMade : (Program → List ℕ → Type 0) → Program → List ℕ → Status → Type 0
 IsMade Makes p bytes status = Makes p bytes × (status ≡ Done)
 
-told_of_made : (r : Reading) (Makes : Program → List ℕ → Type 0) (input bytes : List ℕ) (status : Status) → IsMadeOutput r Makes input bytes status → IsTold r (IsMade Makes) input bytes status
+told_of_made : (r : InputReading) (Makes : Program → List ℕ → Type 0) (input bytes : List ℕ) (status : Status) → IsMadeOutput r Makes input bytes status → IsTold r (IsMade Makes) input bytes status
 told_of_made r Makes input bytes Done o = inl (o.0, o.1, (o.2, refl))
 told_of_made r Makes input bytes Refused o = inr (o, refl)
 told_of_made r Makes input bytes status o = absurd o
 
-one_made : (r : Reading) (Makes : Program → List ℕ → Type 0) → MakesOne Makes → ReadsOne r
+one_made : (r : InputReading) (Makes : Program → List ℕ → Type 0) → MakesOne Makes → ReadsOne r
     → (input mine bytes : List ℕ) (status other : Status) → IsMadeOutput r Makes input mine status → IsMadeOutput r Makes input bytes other → (bytes ≡ mine) × (other ≡ status)
 one_made r Makes single one input mine bytes status other m o =
     one_told r (IsMade Makes) (λ p mine bytes status other m o. (single p mine bytes m.0 o.0, o.1 ∙ sym m.1)) one input mine bytes status other

@@ -9,7 +9,7 @@ use Rattle.stop_placer.specs.Laws.{OnePlaced, NoFaultWherePlaced}
 use Rattle.ia64_top.specs.declared.status.Status.{Status}
 use Rattle.ia64_top.specs.declared.status.Status.TheVariants.{Refused}
 use Rattle.ia64_top.specs.declared.answer.Answer.{Answer}
-use Rattle.ia64_top.specs.Readings.{Reading, IsRefusal, as_image, as_bundles, as_text, as_loose, as_either}
+use Rattle.ia64_top.specs.Readings.{InputReading, IsRefusal, as_image, as_bundles, as_text, as_loose, as_either}
 use Rattle.image_form.specs.Images.{BeginsAsImage}
 use Rattle.ia64_top.specs.Output.{IsMadeOutput}
 
@@ -19,7 +19,7 @@ if_ok (Ok x) p tell = tell x p
 if_ok (Err e) p tell = tt
 
 -- An input that is read in this way isn't refused.
-abbrev pub RefusesNone : Reading → Type 0
+abbrev pub RefusesNone : InputReading → Type 0
 RefusesNone r = (input : List ℕ) (p : Program) (bytes : List ℕ) → r.Gives input p → r.Refuses input bytes → ⊥
 
 pub image_refuses_none : NoFaultWhereSpelled → RefusesNone as_image
@@ -41,7 +41,7 @@ either_refuses_none spelled read input p bytes (inr g) (inl r) = absurd (g.0 r.0
 either_refuses_none spelled read input p bytes (inr g) (inr r) = text_refuses_none read input p bytes g.1 r.1
 
 -- It is read as one program.
-abbrev pub GivesOne : Reading → Type 0
+abbrev pub GivesOne : InputReading → Type 0
 GivesOne r = (input : List ℕ) (p q : Program) → r.Gives input p → r.Gives input q → p ≡ q
 
 pub loose_gives_one : OnePlaced → GivesOne as_loose
@@ -54,19 +54,19 @@ either_gives_one image text input p q (inr a) (inl b) = absurd (a.0 b.0)
 either_gives_one image text input p q (inr a) (inr b) = text input p q a.1 b.1
 
 -- What is told of the program that an input is read as, or that it is refused.
-abbrev pub IsTold : Reading → (Program → List ℕ → Status → Type 0) → List ℕ → List ℕ → Status → Type 0
+abbrev pub IsTold : InputReading → (Program → List ℕ → Status → Type 0) → List ℕ → List ℕ → Status → Type 0
 IsTold r Tells input bytes status =
     ((p : Program) × r.Gives input p × Tells p bytes status) ⊎ IsRefusal r input bytes status
 
 -- What holds of each program that it is told of holds of what the input is read as.
-pub holds_where_told : (r : Reading) (Tells : Program → List ℕ → Status → Type 0) (P : Program → Status → Type 0)
+pub holds_where_told : (r : InputReading) (Tells : Program → List ℕ → Status → Type 0) (P : Program → Status → Type 0)
     → ((p : Program) (bytes : List ℕ) (status : Status) → Tells p bytes status → P p status)
     → GivesOne r → RefusesNone r → (input bytes : List ℕ) (status : Status) → IsTold r Tells input bytes status → (p : Program) → r.Gives input p → P p status
 holds_where_told r Tells P holds one none input bytes status (inl t) p g = subst (λ x. P x status) (one input t.0 p t.1 g) (holds t.0 bytes status t.2)
 holds_where_told r Tells P holds one none input bytes status (inr t) p g = absurd (none input p bytes g t.0)
 
 -- the output of a refusal
-pub is_refusal : (r : Reading) (Makes : Program → List ℕ → Type 0) (input bytes : List ℕ) (status : Status) → r.Refuses input bytes → status ≡ Refused
+pub is_refusal : (r : InputReading) (Makes : Program → List ℕ → Type 0) (input bytes : List ℕ) (status : Status) → r.Refuses input bytes → status ≡ Refused
     → IsMadeOutput r Makes input bytes status
 is_refusal r Makes input bytes status refused e = subst (IsMadeOutput r Makes input bytes) (sym e) refused
 

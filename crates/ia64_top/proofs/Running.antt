@@ -21,7 +21,7 @@ use Rattle.ia64_top.specs.Runs.{run_of, end_status, watch_text, IsRunOf}
 use Rattle.watch_seam.specs.Watchers.{WatchState}
 use Rattle.watch_seam.specs.Watching.{staying}
 use Rattle.ia64_top.specs.Watching.{IsNotRun, HaveWatched}
-use Rattle.ia64_top.specs.Readings.{Reading, IsRefusal, as_either}
+use Rattle.ia64_top.specs.Readings.{InputReading, IsRefusal, as_either}
 use Rattle.std.specs.Prelude.{Some}
 use Rattle.ia64_top.specs.declared.words.Command.{Command}
 use Rattle.ia64_top.specs.declared.words.Command.TheVariants as command
@@ -34,22 +34,22 @@ use Rattle.ia64_top.proofs.Judging.{violated_of_judgement, done_where_free, viol
 abbrev pub IsRunAnswer : (Run → List ℕ) → ℕ → Program → List ℕ → Status → Type 0
 IsRunAnswer text groups p bytes status = IsRunOf text p groups bytes status ⊎ IsJudgedViolated p bytes status
 
-pub is_run_refusal : (text : Run → List ℕ) (groups : ℕ) (r : Reading) (input bytes : List ℕ) (status : Status) → IsRefusal r input bytes status → IsRunAs text groups r input bytes status
+pub is_run_refusal : (text : Run → List ℕ) (groups : ℕ) (r : InputReading) (input bytes : List ℕ) (status : Status) → IsRefusal r input bytes status → IsRunAs text groups r input bytes status
 is_run_refusal text groups r input bytes status refused = subst (IsRunAs text groups r input bytes) (sym refused.1) refused.0
 
 -- the end of the run tells the row of its status
-by_end : (text : Run → List ℕ) (groups : ℕ) (r : Reading) (input : List ℕ) (p : Program) (bytes : List ℕ) (status : Status) (e : End) → r.Gives input p → status ≡ end_status e → IsRunOf text p groups bytes status → IsRunAs text groups r input bytes status
+by_end : (text : Run → List ℕ) (groups : ℕ) (r : InputReading) (input : List ℕ) (p : Program) (bytes : List ℕ) (status : Status) (e : End) → r.Gives input p → status ≡ end_status e → IsRunOf text p groups bytes status → IsRunAs text groups r input bytes status
 by_end text groups r input p bytes status (end.Break imm place) g is = subst (λ s. IsRunOf text p groups bytes s → IsRunAs text groups r input bytes s) (sym is) (λ o. (p, g, o))
 by_end text groups r input p bytes status (end.Limit place) g is = subst (λ s. IsRunOf text p groups bytes s → IsRunAs text groups r input bytes s) (sym is) (λ o. (p, g, o))
 by_end text groups r input p bytes status (end.Fault kind place) g is = subst (λ s. IsRunOf text p groups bytes s → IsRunAs text groups r input bytes s) (sym is) (λ o. (p, g, o))
 
 -- the answer of the program that an input is read as is that of the input
-pub run_of_program : (text : Run → List ℕ) (groups : ℕ) (r : Reading) (input : List ℕ) (p : Program) (bytes : List ℕ) (status : Status) → r.Gives input p → IsRunOf text p groups bytes status ⊎ IsJudgedViolated p bytes status → IsRunAs text groups r input bytes status
+pub run_of_program : (text : Run → List ℕ) (groups : ℕ) (r : InputReading) (input : List ℕ) (p : Program) (bytes : List ℕ) (status : Status) → r.Gives input p → IsRunOf text p groups bytes status ⊎ IsJudgedViolated p bytes status → IsRunAs text groups r input bytes status
 run_of_program text groups r input p bytes status g (inl o) = by_end text groups r input p bytes status (run_of p groups).end g o.ends o
 run_of_program text groups r input p bytes status g (inr o) = subst (λ s. IsJudgement p bytes s → IsRunAs text groups r input bytes s) (sym o.1) (λ j. (p, g, j)) o.0
 
 -- each row tells the answer of the program, or the refusal
-pub told_of_run : (text : Run → List ℕ) (groups : ℕ) (r : Reading) (input bytes : List ℕ) (status : Status) → IsRunAs text groups r input bytes status → IsTold r (IsRunAnswer text groups) input bytes status
+pub told_of_run : (text : Run → List ℕ) (groups : ℕ) (r : InputReading) (input bytes : List ℕ) (status : Status) → IsRunAs text groups r input bytes status → IsTold r (IsRunAnswer text groups) input bytes status
 told_of_run text groups r input bytes Done o = inl (o.0, o.1, inl o.2)
 told_of_run text groups r input bytes Violated o = inl (o.0, o.1, inr (o.2, refl))
 told_of_run text groups r input bytes Limit o = inl (o.0, o.1, inl o.2)
@@ -72,23 +72,23 @@ end_of_answer : (text : Run → List ℕ) (groups : ℕ) (p : Program) (bytes : 
 end_of_answer text groups p bytes status (inl o) free = o.ends
 end_of_answer text groups p bytes status (inr o) free = absurd ((violated_of_judgement p bytes status o.0).0 o.1 free)
 
-status_of_run : (text : Run → List ℕ) (groups : ℕ) (r : Reading) → GivesOne r → RefusesNone r → (input bytes : List ℕ) (status : Status) → IsRunAs text groups r input bytes status
+status_of_run : (text : Run → List ℕ) (groups : ℕ) (r : InputReading) → GivesOne r → RefusesNone r → (input bytes : List ℕ) (status : Status) → IsRunAs text groups r input bytes status
     → (p : Program) → r.Gives input p → IsFree p → status ≡ end_status (run_of p groups).end
 status_of_run text groups r one none input bytes status o =
     holds_where_told r (IsRunAnswer text groups) (λ p s. IsFree p → s ≡ end_status (run_of p groups).end) (end_of_answer text groups) one none input bytes status (told_of_run text groups r input bytes status o)
 
 -- `Violated` is the answer exactly where the program isn't free
-run_violated_where_not_free : (text : Run → List ℕ) (groups : ℕ) (r : Reading) → GivesOne r → RefusesNone r → (input bytes : List ℕ) (status : Status) → IsRunAs text groups r input bytes status
+run_violated_where_not_free : (text : Run → List ℕ) (groups : ℕ) (r : InputReading) → GivesOne r → RefusesNone r → (input bytes : List ℕ) (status : Status) → IsRunAs text groups r input bytes status
     → (p : Program) → r.Gives input p → ((status ≡ Violated) ↔ (¬ IsFree p))
 run_violated_where_not_free text groups r one none input bytes status o =
     holds_where_told r (IsRunAnswer text groups) (λ p s. (s ≡ Violated) ↔ (¬ IsFree p)) (violated_of_answer text groups) one none input bytes status (told_of_run text groups r input bytes status o)
 
 -- What is answered to an input that isn't run, and of the accepted program that is.
-pub unrun_is : (text : Run → List ℕ) (groups : ℕ) (r : Reading) (input bytes : List ℕ) (status : Status) → IsUnrunAs r input bytes status → IsRunAs text groups r input bytes status
+pub unrun_is : (text : Run → List ℕ) (groups : ℕ) (r : InputReading) (input bytes : List ℕ) (status : Status) → IsUnrunAs r input bytes status → IsRunAs text groups r input bytes status
 unrun_is text groups r input bytes status (inl refused) = is_run_refusal text groups r input bytes status refused
 unrun_is text groups r input bytes status (inr o) = run_of_program text groups r input o.0 bytes status o.1 (inr o.2)
 
-pub run_is : (text : Run → List ℕ) (groups : ℕ) (r : Reading) (input : List ℕ) (p : Program) (bytes : List ℕ) (status : Status) → IsAcceptedAs r input p → IsRunOf text p groups bytes status → IsRunAs text groups r input bytes status
+pub run_is : (text : Run → List ℕ) (groups : ℕ) (r : InputReading) (input : List ℕ) (p : Program) (bytes : List ℕ) (status : Status) → IsAcceptedAs r input p → IsRunOf text p groups bytes status → IsRunAs text groups r input bytes status
 run_is text groups r input p bytes status accepted o = run_of_program text groups r input p bytes status accepted.0 (inl o)
 
 -- A run under way that has come so far prints the run, and ends as it does.

@@ -24,7 +24,7 @@ use Rattle.stop_placer.specs.Packed.{Packed}
 use Rattle.stop_placer.specs.Laws.{KeepsText}
 use Rattle.stop_placer.specs.Placing.{IsPlaced}
 use Rattle.ia64_top.specs.Texts.{packed_text}
-use Rattle.ia64_top.specs.Readings.{Reading, IsRefusal, as_image, as_bundles, as_text, as_loose, as_either}
+use Rattle.ia64_top.specs.Readings.{InputReading, IsRefusal, as_image, as_bundles, as_text, as_loose, as_either}
 
 -- An input that isn't too long. An image is never longer than the limit.
 abbrev pub IsWithinLimit : List ℕ → Type 0
@@ -32,7 +32,7 @@ IsWithinLimit input = ¬ BeginsAsImage input → length input ≤ INPUT_LIMIT
 
 -- What a command writes and answers that makes something of the program that its input is read as: a row for
 -- each status, with where it comes.
-abbrev pub IsMadeOutput : Reading → (Program → List ℕ → Type 0) → List ℕ → List ℕ → Status → Type 0
+abbrev pub IsMadeOutput : InputReading → (Program → List ℕ → Type 0) → List ℕ → List ℕ → Status → Type 0
 IsMadeOutput reading Makes input bytes Done = (program : Program) × reading.Gives input program × Makes program bytes
 IsMadeOutput reading Makes input bytes Refused = reading.Refuses input bytes
 IsMadeOutput reading Makes input bytes status = ⊥
@@ -55,7 +55,7 @@ pub record IsPackedText (input : List ℕ) (program : Program) (text : List ℕ)
   pub printed : text ≡ packed_text packed
 
 -- What `check` writes and answers of an input that is read in a way.
-abbrev pub IsCheckedAs : Reading → List ℕ → List ℕ → Status → Type 0
+abbrev pub IsCheckedAs : InputReading → List ℕ → List ℕ → Status → Type 0
 IsCheckedAs reading input bytes Done =
     (program : Program) × reading.Gives input program × IsJudgement program bytes Done
 IsCheckedAs reading input bytes Violated =
@@ -64,18 +64,18 @@ IsCheckedAs reading input bytes Refused = reading.Refuses input bytes
 IsCheckedAs reading input bytes status = ⊥
 
 -- The input is read as this program, and it is accepted.
-abbrev pub IsAcceptedAs : Reading → List ℕ → Program → Type 0
+abbrev pub IsAcceptedAs : InputReading → List ℕ → Program → Type 0
 IsAcceptedAs reading input program = reading.Gives input program × IsFree program
 
 -- What is answered to an input that isn't run: its fault, or the verdict on a program with violations.
-abbrev pub IsUnrunAs : Reading → List ℕ → List ℕ → Status → Type 0
+abbrev pub IsUnrunAs : InputReading → List ℕ → List ℕ → Status → Type 0
 IsUnrunAs reading input bytes status =
     IsRefusal reading input bytes status
     ⊎ ((program : Program) × reading.Gives input program × IsJudgedViolated program bytes status)
 
 -- What is written and answered of an input that is read in a way, where so many groups of its program are run and this is
 -- printed of a run. A program with violations isn't run: it gets the verdict that `check` gives it.
-abbrev pub IsRunAs : (Run → List ℕ) → ℕ → Reading → List ℕ → List ℕ → Status → Type 0
+abbrev pub IsRunAs : (Run → List ℕ) → ℕ → InputReading → List ℕ → List ℕ → Status → Type 0
 IsRunAs text groups reading input bytes Done =
     (program : Program) × reading.Gives input program × IsRunOf text program groups bytes Done
 IsRunAs text groups reading input bytes Violated =
@@ -89,7 +89,7 @@ IsRunAs text groups reading input bytes status = ⊥
 
 -- What is written and answered of an input that is read in a way, where so many groups of its program are run all at once, in
 -- the order with a number. No verdict is made, so a program with violations is run as any other.
-abbrev pub IsNumberedRunAs : (groups number : ℕ) → Reading → List ℕ → List ℕ → Status → Type 0
+abbrev pub IsNumberedRunAs : (groups number : ℕ) → InputReading → List ℕ → List ℕ → Status → Type 0
 IsNumberedRunAs groups number reading input bytes Done =
     (program : Program) × reading.Gives input program × IsNumberedRunOf program groups number bytes Done
 IsNumberedRunAs groups number reading input bytes Limit =

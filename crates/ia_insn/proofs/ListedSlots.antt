@@ -12,8 +12,6 @@ use Rattle.ia_insn.specs.Places.{bundle_insn, insn_at}
 use Rattle.ia_insn.specs.Programs.{Program, IsProgram}
 use Rattle.ia_insn.specs.Fits.{FitsUnit}
 use Rattle.ia_insn.specs.Listed.{IsListed}
-use Rattle.ia_insn.specs.Ranges.{HasRanges}
-use Rattle.ia_insn.proofs.OperandRanges.{ranges_of_listed}
 
 -- each instruction of the slots has P
 abbrev EachSlot : (Insn → Type 0) → Slots → Type 0
@@ -45,13 +43,9 @@ slots_listed (u ∷ []) slots h = absurd h
 slots_listed (u ∷ v ∷ []) slots h = absurd h
 slots_listed (u ∷ v ∷ w ∷ x ∷ more) slots h = absurd h
 
--- an instruction of a bundle is listed,
+-- an instruction of a bundle is listed
 listed_in : (b : Bundle) (slot : ℕ) (i : Insn) → IsBundle b → slot_insn b.slots slot ≡ Some i → IsListed i
 listed_in b slot i fit e = at_slot IsListed b.slots slot i (slots_listed (units_of b.template) b.slots fit) e
-
--- and has its operands in range
-pub ranges_in : (b : Bundle) (slot : ℕ) (i : Insn) → IsBundle b → slot_insn b.slots slot ≡ Some i → HasRanges i.op
-ranges_in b slot i fit e = ranges_of_listed i (listed_in b slot i fit e)
 
 in_bundle : (o : Option Bundle) (slot : ℕ) (i : Insn) → IfSome o IsBundle → bundle_insn o slot ≡ Some i → IsListed i
 in_bundle None slot i h e = absurd (cc)

@@ -1,7 +1,8 @@
 -- An immediate is read back from the fields that hold its parts.
-use Rattle.std.proofs.Common.{◌≡◌, ℕ, ◌+◌, ◌*◌, ◌^◌, ◌<◌, ◌≤◌, arith, ap, ◌∙◌}
+use Rattle.std.proofs.Common.{◌≡◌, ℕ, ◌+◌, ◌*◌, ◌^◌, ◌<◌, ◌≤◌, arith, ap, ◌∙◌, inl, inr, subst, sym}
 use Rattle.std.specs.Prelude.{ℤ}
 use Rattle.bundle_bits.specs.Words.{bits}
+use Rattle.ia_insn.specs.Ranges.{IsAccessSize, IsPartSize}
 use Rattle.ia_insn.specs.Signed.{twos, FitsSigned, signed_of}
 use Rattle.ia_insn.proofs.Numbers.{signed-twos, twos-fits}
 
@@ -39,3 +40,16 @@ check_displacement-back = signed-back 21 (omega arith) (λ u. bits 20 1 u * 1048
 
 pub branch_displacement-back : (z : ℤ) → FitsSigned 21 z → (let u = twos 21 z in signed_of 21 (bits 20 1 u * 1048576 + bits 0 20 u)) ≡ z
 branch_displacement-back = signed-back 21 (omega arith) (λ u. bits 20 1 u * 1048576 + bits 0 20 u) imm21-back
+
+-- what holds of 1, 2, 4 and 8 bytes holds of every size of an access,
+pub each_access_size : (P : ℕ → Type 0) → P 1 → P 2 → P 4 → P 8 → (size : ℕ) → IsAccessSize size → P size
+each_access_size P one two four eight size (inl is) = subst P (sym is) one
+each_access_size P one two four eight size (inr (inl is)) = subst P (sym is) two
+each_access_size P one two four eight size (inr (inr (inl is))) = subst P (sym is) four
+each_access_size P one two four eight size (inr (inr (inr is))) = subst P (sym is) eight
+
+-- and of 1, 2 and 4 bytes of every size of a part of a register
+pub each_part_size : (P : ℕ → Type 0) → P 1 → P 2 → P 4 → (size : ℕ) → IsPartSize size → P size
+each_part_size P one two four size (inl is) = subst P (sym is) one
+each_part_size P one two four size (inr (inl is)) = subst P (sym is) two
+each_part_size P one two four size (inr (inr is)) = subst P (sym is) four

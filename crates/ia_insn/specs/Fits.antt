@@ -1,12 +1,7 @@
 -- Which slot an instruction fits (volume 1, chapter 3, instruction encoding, and volume 3, chapter
 -- 2, `br`, which keeps loop branches to slot 2).
 use Rattle.std.specs.Prelude.{◌≡◌, ℕ, ◌<◌, ◌⊎◌}
-use Rattle.ia_insn.specs.FormatsA.{IsListedA}
-use Rattle.ia_insn.specs.FormatsI.{IsListedI}
-use Rattle.ia_insn.specs.FormatsM.{IsListedM}
-use Rattle.ia_insn.specs.FormatsB.{IsListedB}
-use Rattle.ia_insn.specs.FormatsF.{IsListedF}
-use Rattle.ia_insn.specs.FormatsX.{IsListedX}
+use Rattle.ia_insn.specs.Listed.{IsListedA, IsListedI, IsListedM, IsListedB, IsListedF, IsListedX}
 use Rattle.ia_insn.specs.declared.insn.Insn.{Insn}
 use Rattle.ia_insn.specs.declared.insn.Op.{Op}
 use Rattle.ia_insn.specs.declared.insn.Op.TheVariants.{Br}

@@ -1,10 +1,9 @@
--- The A formats, of M and I slots: the fields of each instruction, and when it is listed
+-- The A formats, of M and I slots: the fields of each instruction
 -- (volume 3, chapter 4, instruction formats, A1 to A9).
-use Rattle.std.specs.Prelude.{◌≡◌, ◌≢◌, ℕ, ◌+◌, ◌-◌, ◌*◌, ◌≤◌, ◌==◌, if◌then◌else◌, List, [], ◌∷◌, Option, Some, None, IsSome, unwrap_or}
+use Rattle.std.specs.Prelude.{ℕ, ◌+◌, ◌-◌, ◌*◌, ◌==◌, if◌then◌else◌, List, [], ◌∷◌, Option, Some, None, unwrap_or}
 use Rattle.ia_insn.specs.Fields.{Major, Qp, Za, Tb, X2, X2a, Ve, Zb, Ta, X4, X2b, C, P2, R3, R3A5, R2, R1, P1, S, Imm9d, Imm6d, Imm5c, Imm7b, Ct2d}
-use Rattle.bundle_bits.specs.Words.{Part, word_of, AllFit, bits}
-use Rattle.ia_insn.specs.Signed.{twos, FitsSigned, flag}
-use Rattle.ia_insn.specs.declared.insn.Insn.{Insn}
+use Rattle.bundle_bits.specs.Words.{Part, bits}
+use Rattle.ia_insn.specs.Signed.{twos, flag}
 use Rattle.ia_insn.specs.declared.insn.Op.{Op}
 use Rattle.ia_insn.specs.declared.insn.Op.TheVariants.{Alu, ShlAdd, AluImm8, AddImm14, AddImm22, Cmp, CmpZero, CmpImm, Lane}
 use Rattle.ia_insn.specs.declared.choices.AluFn.{AluFn}
@@ -79,10 +78,9 @@ zero_codes Ge = Some (1, 0)
 zero_codes Lt = Some (1, 1)
 zero_codes rel = None
 
--- za and zb of lanes of a size, A9
-abbrev pub lane_size_codes : ℕ → Option (ℕ × ℕ)
-lane_size_codes size =
-    if size == 1 then Some (0, 0) else if size == 2 then Some (0, 1) else if size == 4 then Some (1, 0) else None
+-- za and zb of lanes of 1, 2 or 4 bytes, A9
+abbrev pub lane_size_codes : ℕ → ℕ × ℕ
+lane_size_codes size = if size == 1 then (0, 0) else if size == 2 then (0, 1) else (1, 0)
 
 -- x4 and x2b of the operations on lanes, A9
 abbrev pub lane_codes : LaneFn → ℕ × ℕ
@@ -132,35 +130,7 @@ fields qp (CmpImm four rel kind p1 p2 imm r3) =
     ∷ Qp qp ∷ []
 -- A9: lanes of two registers
 fields qp (Lane f size r1 r2 r3) =
-    let z = unwrap_or (lane_size_codes size) (0, 0) in
+    let z = lane_size_codes size in
     let x = lane_codes f in
     Major 8 ∷ Za z.0 ∷ X2a 1 ∷ Zb z.1 ∷ X4 x.0 ∷ X2b x.1 ∷ R3 r3 ∷ R2 r2 ∷ R1 r1 ∷ Qp qp ∷ []
 fields qp op = []
-
--- What of an instruction's range its fields' widths don't say: r0 is no target, two predicate
--- targets differ, a count is 1 to 4, and the choices have codes.
-abbrev pub IsInRange : ℕ → Op → Type 0
-IsInRange qp (Alu f r1 r2 r3) = r1 ≢ 0
-IsInRange qp (ShlAdd p4 r1 r2 count r3) = (r1 ≢ 0) × (1 ≤ count)
-IsInRange qp (AluImm8 f r1 imm r3) = (r1 ≢ 0) × FitsSigned 8 imm × IsSome (imm8_codes f)
-IsInRange qp (AddImm14 p4 r1 imm r3) = (r1 ≢ 0) × FitsSigned 14 imm
-IsInRange qp (AddImm22 r1 imm r3) = (r1 ≢ 0) × FitsSigned 22 imm
-IsInRange qp (Cmp four rel kind p1 p2 r2 r3) = (p1 ≢ p2) × IsSome (compare kind rel)
-IsInRange qp (CmpZero four rel kind p1 p2 r3) = (p1 ≢ p2) × IsSome (parallel_op kind) × IsSome (zero_codes rel)
-IsInRange qp (CmpImm four rel kind p1 p2 imm r3) = (p1 ≢ p2) × FitsSigned 8 imm × IsSome (compare kind rel)
-IsInRange qp (Lane f size r1 r2 r3) = (r1 ≢ 0) × IsSome (lane_size_codes size)
-IsInRange qp op = ⊥
-
--- The instruction is an A instruction, in its range.
-pub record IsListedA (i : Insn) : Type 0 where
-  pub range : IsInRange i.qp i.op
-  pub fit : AllFit (fields i.qp i.op)
-
--- The word of an A instruction.
-abbrev pub word_a : Insn → ℕ
-word_a i = word_of (fields i.qp i.op)
-
--- The instruction has the word: the sum of its fields.
-pub record CodeA (i : Insn) (w : ℕ) : Type 0 where
-  pub listed : IsListedA i
-  pub sum : w ≡ word_a i

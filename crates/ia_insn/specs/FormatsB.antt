@@ -1,10 +1,9 @@
--- The B formats, of B slots: the fields of each instruction, and when it is listed
+-- The B formats, of B slots: the fields of each instruction
 -- (volume 3, chapter 4, instruction formats, B1 to B9).
-use Rattle.std.specs.Prelude.{◌≡◌, ℕ, ◌+◌, ◌<◌, ◌^◌, List, [], ◌∷◌}
+use Rattle.std.specs.Prelude.{ℕ, ◌+◌, List, [], ◌∷◌}
 use Rattle.ia_insn.specs.Fields.{Major, Qp, X6, Btype, B2, B1, S, I, Imm20b, Imm20a, D, Wh, WhLowestB5, P}
-use Rattle.bundle_bits.specs.Words.{Part, word_of, AllFit, bits}
-use Rattle.ia_insn.specs.Signed.{twos, FitsSigned, flag}
-use Rattle.ia_insn.specs.declared.insn.Insn.{Insn}
+use Rattle.bundle_bits.specs.Words.{Part, bits}
+use Rattle.ia_insn.specs.Signed.{twos, flag}
 use Rattle.ia_insn.specs.declared.insn.Op.{Op}
 use Rattle.ia_insn.specs.declared.insn.Op.TheVariants.{Br, BrCall, BrInd, BrRet, BrCallInd, Clrrrb, Break, Nop, Hint}
 use Rattle.ia_insn.specs.declared.choices.BranchKind.{BranchKind}
@@ -19,13 +18,6 @@ btype Wtop = 3
 btype Cloop = 5
 btype Cexit = 6
 btype Ctop = 7
-
--- The qualifying predicate of a branch: the counted loop branches, B2, have none.
-abbrev pub IsQualifier : BranchKind → ℕ → Type 0
-IsQualifier Cloop qp = qp ≡ 0
-IsQualifier Cexit qp = qp ≡ 0
-IsQualifier Ctop qp = qp ≡ 0
-IsQualifier kind qp = Unit {0}
 
 -- The fields, from the top bit down. A displacement counts bundles, and wh is 0 (sptk), 1 (spnt),
 -- 2 (dptk) or 3 (dpnt). An instruction of another family has none.
@@ -58,31 +50,3 @@ fields qp (Nop units.B imm) =
 fields qp (Hint units.B imm) =
     Major 2 ∷ I (bits 20 1 imm) ∷ X6 1 ∷ Imm20a (bits 0 20 imm) ∷ Qp qp ∷ []
 fields qp op = []
-
--- What of an instruction's range its fields' widths don't say: a displacement has the width of its
--- field, and neither a counted loop branch nor a clearing of the bases has a qualifying predicate.
-abbrev pub IsInRange : ℕ → Op → Type 0
-IsInRange qp (Br kind wh many clr disp) = IsQualifier kind qp × FitsSigned 21 disp
-IsInRange qp (BrCall b1 wh many clr disp) = FitsSigned 21 disp
-IsInRange qp (BrInd b2 wh many clr) = Unit {0}
-IsInRange qp (BrRet b2 wh many clr) = Unit {0}
-IsInRange qp (BrCallInd b1 b2 wh many clr) = Unit {0}
-IsInRange qp (Clrrrb pred_only) = qp ≡ 0
-IsInRange qp (Break units.B imm) = imm < 2 ^ 21
-IsInRange qp (Nop units.B imm) = imm < 2 ^ 21
-IsInRange qp (Hint units.B imm) = imm < 2 ^ 21
-IsInRange qp op = ⊥
-
--- The instruction is a B instruction, in its range.
-pub record IsListedB (i : Insn) : Type 0 where
-  pub range : IsInRange i.qp i.op
-  pub fit : AllFit (fields i.qp i.op)
-
--- The word of a B instruction.
-abbrev pub word_b : Insn → ℕ
-word_b i = word_of (fields i.qp i.op)
-
--- The instruction has the word: the sum of its fields.
-pub record CodeB (i : Insn) (w : ℕ) : Type 0 where
-  pub listed : IsListedB i
-  pub sum : w ≡ word_b i

@@ -1,10 +1,10 @@
--- The I formats, of I slots: the fields of each instruction, and when it is listed
+-- The I formats, of I slots: the fields of each instruction
 -- (volume 3, chapter 4, instruction formats, I5 to I29).
-use Rattle.std.specs.Prelude.{◌≡◌, ◌≢◌, ℕ, ◌-◌, ◌<◌, ◌≤◌, ◌^◌, ◌==◌, if◌then◌else◌, List, [], ◌∷◌, Bool, true, false, Option, Some, None, IsSome, unwrap_or}
+use Rattle.std.specs.Prelude.{ℕ, ◌+◌, ◌-◌, ◌*◌, List, [], ◌∷◌, Bool}
 use Rattle.ia_insn.specs.Fields.{Major, Qp, Za, Tb, X2, X2a, X3, X, Zb, Ta, VeI5, X2c, X2bI5, X6, Y, YI11, C, P2, R3, Ar3, R2, B2, R1, P1, B1, S, I, Timm9c, Mask8c, Imm13c, Imm7b, Imm27a, Imm20a, Imm7a, Mask7a, Count6d, Cpos6d, Cpos6c, Cpos6b, Pos6b, Len6d, Len4d, Ih, XI21, WhI21}
-use Rattle.bundle_bits.specs.Words.{Part, word_of, AllFit, bits}
-use Rattle.ia_insn.specs.Signed.{twos, FitsSigned, flag}
-use Rattle.ia_insn.specs.declared.insn.Insn.{Insn}
+use Rattle.bundle_bits.specs.Words.{Part, bits}
+use Rattle.ia_insn.specs.Sizes.{code_of_size}
+use Rattle.ia_insn.specs.Signed.{twos, flag}
 use Rattle.ia_insn.specs.declared.insn.Op.{Op}
 use Rattle.ia_insn.specs.declared.insn.Op.TheVariants.{ShiftVar, Popcnt, Shrp, Extr, DepZ, DepZImm, DepImm, Dep, Tbit, Tnat, Ext, ChkS, MovToBr, MovFromBr, MovToPr, MovToPrRot, MovFromIp, MovFromPr, MovToAr, MovToArImm, MovFromAr, Break, Nop, Hint}
 use Rattle.ia_insn.specs.declared.registers.Ar.{Ar}
@@ -20,9 +20,8 @@ ar_number Lc = 65
 ar_number Ec = 66
 
 -- x6 of a zero or sign extension from 1, 2 or 4 bytes, I29
-abbrev pub ext_code : Bool → ℕ → Option ℕ
-ext_code false size = if size == 1 then Some 16 else if size == 2 then Some 17 else if size == 4 then Some 18 else None
-ext_code true size = if size == 1 then Some 20 else if size == 2 then Some 21 else if size == 4 then Some 22 else None
+abbrev pub extension_code : Bool → ℕ → ℕ
+extension_code signed size = 0x10 + 4 * flag signed + code_of_size size
 
 -- The fields, from the top bit down. An instruction of another family has none.
 abbrev pub fields : ℕ → Op → List Part
@@ -93,62 +92,20 @@ fields qp (MovFromIp r1) =
     Major 0 ∷ X3 0 ∷ X6 0x30 ∷ R1 r1 ∷ Qp qp ∷ []
 fields qp (MovFromPr r1) =
     Major 0 ∷ X3 0 ∷ X6 0x33 ∷ R1 r1 ∷ Qp qp ∷ []
--- I26: move to an application register
+-- I26: move to an application register; M slots move ar.unat
+fields qp (MovToAr Unat r2) = []
 fields qp (MovToAr ar r2) =
     Major 0 ∷ X3 0 ∷ X6 0x2a ∷ Ar3 (ar_number ar) ∷ R2 r2 ∷ Qp qp ∷ []
 -- I27: move of an immediate to an application register
+fields qp (MovToArImm Unat imm) = []
 fields qp (MovToArImm ar imm) =
     let u = twos 8 imm in
     Major 0 ∷ S (bits 7 1 u) ∷ X3 0 ∷ X6 0x0a ∷ Ar3 (ar_number ar) ∷ Imm7b (bits 0 7 u) ∷ Qp qp ∷ []
 -- I28: move from an application register
+fields qp (MovFromAr r1 Unat) = []
 fields qp (MovFromAr r1 ar) =
     Major 0 ∷ X3 0 ∷ X6 0x32 ∷ Ar3 (ar_number ar) ∷ R1 r1 ∷ Qp qp ∷ []
 -- I29: zero and sign extension
 fields qp (Ext signed size r1 r3) =
-    Major 0 ∷ X3 0 ∷ X6 (unwrap_or (ext_code signed size) 0) ∷ R3 r3 ∷ R1 r1 ∷ Qp qp ∷ []
+    Major 0 ∷ X3 0 ∷ X6 (extension_code signed size) ∷ R3 r3 ∷ R1 r1 ∷ Qp qp ∷ []
 fields qp op = []
-
--- What of an instruction's range its fields' widths don't say: r0 is no target, two predicate
--- targets differ, a position is 0 to 63 and a length at least 1, a signed number has the width of
--- its field, the lowest bit of a mask is zero, a number for the rotating predicates is a multiple
--- of 65536, and an application register is one that I slots move.
-abbrev pub IsInRange : ℕ → Op → Type 0
-IsInRange qp (ShiftVar f r1 value count) = r1 ≢ 0
-IsInRange qp (Popcnt r1 r3) = r1 ≢ 0
-IsInRange qp (Shrp r1 r2 r3 count) = r1 ≢ 0
-IsInRange qp (Extr signed r1 r3 pos len) = (r1 ≢ 0) × (1 ≤ len)
-IsInRange qp (DepZ r1 r2 pos len) = (r1 ≢ 0) × (1 ≤ len) × (pos ≤ 63)
-IsInRange qp (DepZImm r1 imm pos len) = (r1 ≢ 0) × (1 ≤ len) × (pos ≤ 63) × FitsSigned 8 imm
-IsInRange qp (DepImm r1 ones r3 pos len) = (r1 ≢ 0) × (1 ≤ len) × (pos ≤ 63)
-IsInRange qp (Dep r1 r2 r3 pos len) = (r1 ≢ 0) × (1 ≤ len) × (pos ≤ 63)
-IsInRange qp (Tbit unc p1 p2 r3 pos) = p1 ≢ p2
-IsInRange qp (Tnat unc p1 p2 r3) = p1 ≢ p2
-IsInRange qp (Nop units.I imm) = imm < 2 ^ 21
-IsInRange qp (Hint units.I imm) = imm < 2 ^ 21
-IsInRange qp (Break units.I imm) = imm < 2 ^ 21
-IsInRange qp (ChkS units.I r2 disp) = FitsSigned 21 disp
-IsInRange qp (MovToBr b1 r2 ret imp wh tag) = (wh < 3) × FitsSigned 9 tag
-IsInRange qp (MovFromBr r1 b2) = r1 ≢ 0
-IsInRange qp (MovToPr r2 mask) = (mask < 2 ^ 17) × (bits 0 1 mask ≡ 0)
-IsInRange qp (MovToPrRot imm) = FitsSigned 44 imm × (bits 0 16 (twos 44 imm) ≡ 0)
-IsInRange qp (MovFromIp r1) = r1 ≢ 0
-IsInRange qp (MovFromPr r1) = r1 ≢ 0
-IsInRange qp (MovToAr ar r2) = ar ≢ Unat
-IsInRange qp (MovToArImm ar imm) = (ar ≢ Unat) × FitsSigned 8 imm
-IsInRange qp (MovFromAr r1 ar) = (r1 ≢ 0) × (ar ≢ Unat)
-IsInRange qp (Ext signed size r1 r3) = (r1 ≢ 0) × IsSome (ext_code signed size)
-IsInRange qp op = ⊥
-
--- The instruction is an I instruction, in its range.
-pub record IsListedI (i : Insn) : Type 0 where
-  pub range : IsInRange i.qp i.op
-  pub fit : AllFit (fields i.qp i.op)
-
--- The word of an I instruction.
-abbrev pub word_i : Insn → ℕ
-word_i i = word_of (fields i.qp i.op)
-
--- The instruction has the word: the sum of its fields.
-pub record CodeI (i : Insn) (w : ℕ) : Type 0 where
-  pub listed : IsListedI i
-  pub sum : w ≡ word_i i

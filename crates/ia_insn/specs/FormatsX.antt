@@ -1,10 +1,8 @@
 -- The X formats, of long instructions, which have a word in the L slot and one in the X slot: the
--- fields of each instruction, and when it is listed (volume 3, chapter 4, instruction formats, X1,
--- X2 and X5).
-use Rattle.std.specs.Prelude.{◌≡◌, ◌≢◌, ℕ, ◌<◌, ◌^◌, List, [], ◌∷◌}
+-- fields of each instruction (volume 3, chapter 4, instruction formats, X1, X2 and X5).
+use Rattle.std.specs.Prelude.{ℕ, List, [], ◌∷◌}
 use Rattle.ia_insn.specs.Fields.{Major, Qp, X3, X6, Y, Vc, R1, I, Imm9d, Imm5c, Ic, Imm7b, Imm20a}
-use Rattle.bundle_bits.specs.Words.{Part, word_of, AllFit, bits}
-use Rattle.ia_insn.specs.declared.insn.Insn.{Insn}
+use Rattle.bundle_bits.specs.Words.{Part, bits}
 use Rattle.ia_insn.specs.declared.insn.Op.{Op}
 use Rattle.ia_insn.specs.declared.insn.Op.TheVariants.{Movl, Break, Nop}
 use Rattle.ia_insn.specs.declared.choices.Unit.TheVariants as units
@@ -32,27 +30,3 @@ low_of (Movl r1 imm) = bits 22 41 imm
 low_of (Break unit imm) = bits 20 41 imm
 low_of (Nop unit imm) = bits 20 41 imm
 low_of op = 0
-
--- What of an instruction's range its fields' widths don't say: r0 is no target, an immediate has 64
--- bits, and the number of a break or nop 62.
-abbrev pub IsInRange : ℕ → Op → Type 0
-IsInRange qp (Break units.X imm) = imm < 2 ^ 62
-IsInRange qp (Movl r1 imm) = (r1 ≢ 0) × (imm < 2 ^ 64)
-IsInRange qp (Nop units.X imm) = imm < 2 ^ 62
-IsInRange qp op = ⊥
-
--- The instruction is a long instruction, in its range.
-pub record IsListedX (i : Insn) : Type 0 where
-  pub range : IsInRange i.qp i.op
-  pub fit : AllFit (fields i.qp i.op)
-
--- The word of the X slot of a long instruction.
-abbrev pub word_x : Insn → ℕ
-word_x i = word_of (fields i.qp i.op)
-
--- The instruction has the words of the L slot and of the X slot: the second is the sum of its
--- fields.
-pub record CodeX (i : Insn) (l w : ℕ) : Type 0 where
-  pub listed : IsListedX i
-  pub low : l ≡ low_of i.op
-  pub sum : w ≡ word_x i

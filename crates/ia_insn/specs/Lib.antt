@@ -1,4 +1,5 @@
 pub mod Signed
+pub mod Sizes
 pub mod Fields
 pub mod Immediates
 pub mod FormatsA
@@ -7,8 +8,9 @@ pub mod FormatsM
 pub mod FormatsB
 pub mod FormatsF
 pub mod FormatsX
-pub mod Listed
 pub mod Ranges
+pub mod Listed
+pub mod Codes
 pub mod NewValues
 pub mod Fits
 pub mod Templates

@@ -1,4 +1,4 @@
--- The ranges of the operands of a listed instruction.
+-- The ranges of the operands of an instruction (volume 3, chapter 4).
 use Rattle.std.specs.Prelude.{◌≡◌, ◌≢◌, ◌⊎◌, ℕ, ℤ, unsigned_abs, ◌*◌, ◌%◌, ◌<◌, ◌≤◌, ◌^◌, IsSome}
 use Rattle.bundle_bits.specs.Words.{bits}
 use Rattle.ia_insn.specs.Signed.{twos, FitsSigned}
@@ -10,8 +10,11 @@ use Rattle.ia_insn.specs.declared.choices.LoadKind.{LoadKind}
 use Rattle.ia_insn.specs.declared.choices.LoadKind.TheVariants as loads
 use Rattle.ia_insn.specs.declared.choices.StoreKind.{StoreKind}
 use Rattle.ia_insn.specs.declared.choices.StoreKind.TheVariants as stores
+use Rattle.ia_insn.specs.declared.choices.Update.{Update}
+use Rattle.ia_insn.specs.declared.choices.Update.TheVariants as updates
+use Rattle.ia_insn.specs.declared.choices.BranchKind.{BranchKind}
+use Rattle.ia_insn.specs.declared.choices.BranchKind.TheVariants.{Cloop, Cexit, Ctop}
 use Rattle.ia_insn.specs.FormatsA.{imm8_codes, compare, parallel_op, zero_codes}
-use Rattle.ia_insn.specs.FormatsM.{IsLoadUpdate, IsStoreUpdate}
 
 -- the position and the length of a field of a register, of at most so many bits
 pub record IsBitField (pos len most : ℕ) : Type 0 where
@@ -42,6 +45,18 @@ abbrev pub IsStoreSize : StoreKind → ℕ → Type 0
 IsStoreSize stores.Spill size = size ≡ 8
 IsStoreSize kind size = IsAccessSize size
 
+-- an update is none, or of a base other than r0 and than the target, by a register or by -256 to 255
+abbrev pub IsLoadUpdate : ℕ → ℕ → Update → Type 0
+IsLoadUpdate r1 r3 updates.None = Unit {0}
+IsLoadUpdate r1 r3 (updates.Reg r2) = (r3 ≢ 0) × (r1 ≢ r3)
+IsLoadUpdate r1 r3 (updates.Imm imm) = (r3 ≢ 0) × (r1 ≢ r3) × FitsSigned 9 imm
+
+-- an update is none, or of a base other than r0 by -256 to 255
+abbrev pub IsStoreUpdate : ℕ → Update → Type 0
+IsStoreUpdate r3 updates.None = Unit {0}
+IsStoreUpdate r3 (updates.Reg r2) = ⊥
+IsStoreUpdate r3 (updates.Imm imm) = (r3 ≢ 0) × FitsSigned 9 imm
+
 -- the number of a break or a nop of this unit
 abbrev pub IsNumberOf : ExecutionUnit → ℕ → Type 0
 IsNumberOf L imm = ⊥
@@ -62,7 +77,8 @@ IsCheckOf I = Unit {0}
 IsCheckOf unit = ⊥
 
 -- r0 is no target and two predicate targets differ; each number has its range, and each choice is one
--- that the formats have a code for.
+-- that the formats have a code for. Which units and updates an operation has is said by the rows of fields, too; it stands
+-- here for who asks of the operands alone.
 abbrev pub HasRanges : Op → Type 0
 HasRanges (ops.Alu f r1 r2 r3) = r1 ≢ 0
 HasRanges (ops.ShlAdd p4 r1 r2 count r3) = (r1 ≢ 0) × (1 ≤ count) × (count ≤ 4)
@@ -116,3 +132,17 @@ HasRanges (ops.Movl r1 imm) = (r1 ≢ 0) × (imm < 2 ^ 64)
 HasRanges (ops.Break unit imm) = IsNumberOf unit imm
 HasRanges (ops.Nop unit imm) = IsNumberOf unit imm
 HasRanges (ops.Hint unit imm) = IsHintOf unit imm
+
+-- the qualifying predicate of a branch: the counted loop branches, B2, have none
+abbrev pub IsQualifier : BranchKind → ℕ → Type 0
+IsQualifier Cloop qp = qp ≡ 0
+IsQualifier Cexit qp = qp ≡ 0
+IsQualifier Ctop qp = qp ≡ 0
+IsQualifier kind qp = Unit {0}
+
+-- An allocation and a clearing of the rotating register bases have none, either.
+abbrev pub MayQualify : ℕ → Op → Type 0
+MayQualify qp (ops.Alloc r1 sof sol sor) = qp ≡ 0
+MayQualify qp (ops.Br kind wh many clr disp) = IsQualifier kind qp
+MayQualify qp (ops.Clrrrb pred_only) = qp ≡ 0
+MayQualify qp op = Unit {0}

@@ -1,11 +1,11 @@
 //! The instructions of the IA-64 profile, the registers that they name, and the bundles and programs
 //! that they make.
 //!
-//! `specs/` holds the encoding relation: of each instruction its fields and its range, one file a
-//! family of formats (Intel Itanium Architecture Software Developer's Manual, volume 3, chapter 4),
-//! and which slots it fits; then the templates and what they have room for, places and runs of slots,
-//! and what makes bundles, declared entries, data and declared relations a program. The functions here say which
-//! instructions are listed and make bundles and programs; the formats crates go from instructions to
+//! `specs/` holds the encoding relation: of each instruction its fields, one file a family of formats (Intel
+//! Itanium Architecture Software Developer's Manual, volume 3, chapter 4), the ranges of its operands, its word,
+//! which is the sum of its fields, and which slots it fits; then the templates and what they have room for, places
+//! and runs of slots, and what makes bundles, declared entries, data and declared relations a program. The functions
+//! here say which instructions are listed and make bundles and programs; the formats crates go from instructions to
 //! words and back.
 #![tactic(auto)]
 
@@ -32,6 +32,7 @@ mod registers;
 mod relations;
 mod runs;
 mod signed;
+mod sizes;
 mod slot_fitness;
 mod targets;
 mod template;
@@ -57,5 +58,6 @@ pub use registers::{Ar, Br, Gr, Pr};
 pub use relations::Relation;
 pub use runs::long_run;
 pub use signed::{sign_extended, twos_complement};
+pub use sizes::{code_of_size, size_of_code};
 pub use slot_fitness::{fits, is_branch_slot};
 pub use template::{Template, one_template};

@@ -4,11 +4,13 @@
 //! field.
 
 ghost use Rattle.std.specs.Prelude.{◌↔◌, IsTrue, IsSome};
-ghost use Rattle.ia_insn.specs.FormatsA.{imm8_codes, compare, parallel_op, zero_codes, lane_size_codes, IsListedA};
+ghost use Rattle.ia_insn.specs.FormatsA.{imm8_codes, compare, parallel_op, zero_codes};
+ghost use Rattle.ia_insn.specs.Listed.{IsListedA};
 
 use crate::choices::{AluFn, CmpKind, Rel};
 use crate::insn::{Insn, Op};
 use crate::signed::fits_signed;
+use crate::sizes::is_part_size;
 
 /// Whether the operation takes an immediate.
 fn has_imm8_codes(f: AluFn) -> bool
@@ -36,13 +38,6 @@ fn is_zero_compare(kind: CmpKind, rel: Rel) -> bool
 {
     matches!(kind, CmpKind::And | CmpKind::Or | CmpKind::OrAndcm)
         && matches!(rel, Rel::Gt | Rel::Le | Rel::Ge | Rel::Lt)
-}
-
-/// Whether lanes have this size in bytes.
-fn is_lane_size(size: u8) -> bool
-    ensures { IsTrue result ↔ IsSome (lane_size_codes size) }
-{
-    size == 1 || size == 2 || size == 4
 }
 
 /// Whether the instruction is an A instruction whose operands are in their ranges.
@@ -123,7 +118,7 @@ pub fn is_listed_a(insn: &Insn) -> bool
         } => {
             r2.has_seven_bits();
             r3.has_seven_bits();
-            !r1.is_zero() && is_lane_size(size)
+            !r1.is_zero() && is_part_size(size)
         }
         _ => false,
     }

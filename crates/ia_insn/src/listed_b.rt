@@ -4,22 +4,11 @@
 //! field.
 
 ghost use Rattle.std.specs.Prelude.{◌↔◌, IsTrue};
-ghost use Rattle.ia_insn.specs.FormatsB.{IsQualifier, IsListedB};
+ghost use Rattle.ia_insn.specs.Listed.{IsListedB};
 
 use crate::choices::{BranchKind, Unit};
 use crate::insn::{Insn, Op};
-use crate::registers::Pr;
 use crate::signed::fits_signed;
-
-/// Whether a branch of this kind may have this qualifying predicate.
-fn is_qualifier(kind: BranchKind, qp: Pr) -> bool
-    ensures { IsTrue result ↔ IsQualifier kind qp }
-{
-    match kind {
-        BranchKind::Cond | BranchKind::Wexit | BranchKind::Wtop => true,
-        BranchKind::Cloop | BranchKind::Cexit | BranchKind::Ctop => qp.is_zero(),
-    }
-}
 
 /// Whether the instruction is a B instruction whose operands are in their ranges.
 pub fn is_listed_b(insn: &Insn) -> bool
@@ -27,9 +16,15 @@ pub fn is_listed_b(insn: &Insn) -> bool
 {
     insn.qp.has_six_bits();
     match insn.op {
-        Op::Br { kind, wh, disp, .. } => is_qualifier(kind, insn.qp)
-            && wh < 4
-            && fits_signed::<21>(i64::from(disp)),
+        // B2: the counted loop branches have no qualifying predicate
+        Op::Br { kind, wh, disp, .. } => {
+            (matches!(
+                kind,
+                BranchKind::Cond | BranchKind::Wexit | BranchKind::Wtop
+            ) || insn.qp.is_zero())
+                && wh < 4
+                && fits_signed::<21>(i64::from(disp))
+        }
         Op::BrCall { b1, wh, disp, .. } => {
             b1.has_three_bits();
             wh < 4 && fits_signed::<21>(i64::from(disp))

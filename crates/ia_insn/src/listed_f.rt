@@ -5,7 +5,7 @@
 //! field.
 
 ghost use Rattle.std.specs.Prelude.{◌↔◌, IsTrue};
-ghost use Rattle.ia_insn.specs.FormatsF.{IsListedF};
+ghost use Rattle.ia_insn.specs.Listed.{IsListedF};
 
 use crate::choices::Unit;
 use crate::insn::{Insn, Op};

@@ -3,20 +3,15 @@
 //! A call such as `has_seven_bits` does nothing: it tells the proof that a register's number fits its
 //! field.
 
-ghost use Rattle.std.specs.Prelude.{◌≤◌, ◌↔◌, IsTrue, IsSome};
-ghost use Rattle.ia_insn.specs.FormatsI.{ext_code, IsListedI};
+ghost use Rattle.std.specs.Prelude.{◌↔◌, IsTrue};
+ghost use Rattle.ia_insn.specs.Ranges.{IsBitField};
+ghost use Rattle.ia_insn.specs.Listed.{IsListedI};
 
 use crate::choices::Unit;
 use crate::insn::{Insn, Op};
 use crate::registers::Ar;
 use crate::signed::{fits_signed, twos_complement};
-
-/// Whether values of this many bytes are extended.
-fn is_extended_size(signed: bool, size: u8) -> bool
-    ensures { IsTrue result ↔ IsSome (ext_code signed size) }
-{
-    size == 1 || size == 2 || size == 4
-}
+use crate::sizes::is_part_size;
 
 /// Whether the instruction is an I instruction whose operands are in their ranges.
 pub fn is_listed_i(insn: &Insn) -> bool
@@ -51,14 +46,14 @@ pub fn is_listed_i(insn: &Insn) -> bool
             ..
         } => {
             r3.has_seven_bits();
-            !r1.is_zero() && is_bit_range(pos, len)
+            !r1.is_zero() && is_bit_field(pos, len, 64)
         }
         Op::DepZ { r1, r2, pos, len } => {
             r2.has_seven_bits();
-            !r1.is_zero() && is_bit_range(pos, len)
+            !r1.is_zero() && is_bit_field(pos, len, 64)
         }
         Op::DepZImm { r1, imm, pos, len } => {
-            !r1.is_zero() && is_bit_range(pos, len) && fits_signed::<8>(imm)
+            !r1.is_zero() && is_bit_field(pos, len, 64) && fits_signed::<8>(imm)
         }
         Op::DepImm {
             r1,
@@ -68,7 +63,7 @@ pub fn is_listed_i(insn: &Insn) -> bool
             ..
         } => {
             r3.has_seven_bits();
-            !r1.is_zero() && is_bit_range(pos, len)
+            !r1.is_zero() && is_bit_field(pos, len, 64)
         }
         Op::Dep {
             r1,
@@ -79,7 +74,7 @@ pub fn is_listed_i(insn: &Insn) -> bool
         } => {
             r2.has_seven_bits();
             r3.has_seven_bits();
-            !r1.is_zero() && is_bit_range(pos, len) && len <= 16
+            !r1.is_zero() && is_bit_field(pos, len, 16)
         }
         Op::Tbit {
             p1,
@@ -131,22 +126,17 @@ pub fn is_listed_i(insn: &Insn) -> bool
         }
         Op::MovToArImm { ar, imm } => ar != Ar::Unat && fits_signed::<8>(imm),
         Op::MovFromAr { r1, ar } => !r1.is_zero() && ar != Ar::Unat,
-        Op::Ext {
-            signed,
-            size,
-            r1,
-            r3,
-        } => {
+        Op::Ext { size, r1, r3, .. } => {
             r3.has_seven_bits();
-            !r1.is_zero() && is_extended_size(signed, size)
+            !r1.is_zero() && is_part_size(size)
         }
         _ => false,
     }
 }
 
-/// Whether this is a position in a word of 64 bits, and a length that some field there has.
-fn is_bit_range(pos: u8, len: u8) -> bool
-    ensures { IsTrue result ↔ (pos ≤ 63) × (1 ≤ len) × (len ≤ 64) }
+/// Whether this is a position in a word of 64 bits, and a length of 1 to `most`.
+fn is_bit_field(pos: u8, len: u8, most: u8) -> bool
+    ensures { IsTrue result ↔ IsBitField pos len most }
 {
-    pos <= 63 && len >= 1 && len <= 64
+    pos <= 63 && len >= 1 && len <= most
 }

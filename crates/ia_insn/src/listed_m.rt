@@ -4,59 +4,40 @@
 //! A call such as `has_seven_bits` does nothing: it tells the proof that a register's number fits its
 //! field.
 
-ghost use Rattle.std.specs.Prelude.{◌≡◌, ◌≢◌, ◌<◌, ◌≤◌, ◌↔◌, IsTrue, IsSome, unsigned_abs};
-ghost use Rattle.ia_insn.specs.FormatsM.{log2_of, load_code, store_code, exchange_code, fetch_add_code, increment_code, IsListedM};
+ghost use Rattle.std.specs.Prelude.{◌≢◌, ◌<◌, ◌↔◌, IsTrue};
+ghost use Rattle.ia_insn.specs.Ranges.{IsLoadSize, IsStoreSize, IsIncrement};
+ghost use Rattle.ia_insn.specs.Listed.{IsListedM};
 ghost use Rattle.ia_insn.specs.declared.insn.Op.TheVariants.{Load, Store};
 
 use crate::choices::{LoadKind, StoreKind, Unit, Update};
 use crate::insn::{Insn, Op};
 use crate::registers::{Ar, Gr, Pr};
 use crate::signed::fits_signed;
-
-/// Whether a load or a store reaches this many bytes.
-fn is_size(size: u8) -> bool
-    ensures { IsTrue result ↔ IsSome (log2_of size) }
-{
-    size == 1 || size == 2 || size == 4 || size == 8
-}
+use crate::sizes::is_access_size;
 
 /// Whether a load of this kind has this many bytes.
 fn is_load_size(kind: LoadKind, size: u8) -> bool
-    ensures { IsTrue result ↔ IsSome (load_code kind size) }
+    ensures { IsTrue result ↔ IsLoadSize kind size }
 {
     match kind {
         LoadKind::Fill => size == 8,
-        _ => is_size(size),
+        _ => is_access_size(size),
     }
 }
 
 /// Whether a store of this kind has this many bytes.
 fn is_store_size(kind: StoreKind, size: u8) -> bool
-    ensures { IsTrue result ↔ IsSome (store_code kind size) }
+    ensures { IsTrue result ↔ IsStoreSize kind size }
 {
     match kind {
         StoreKind::Spill => size == 8,
-        StoreKind::Plain | StoreKind::Rel => is_size(size),
+        StoreKind::Plain | StoreKind::Rel => is_access_size(size),
     }
-}
-
-/// Whether an exchange has this many bytes.
-fn is_exchange_size(size: u8) -> bool
-    ensures { IsTrue result ↔ IsSome (exchange_code size) }
-{
-    is_size(size)
-}
-
-/// Whether a fetch-and-add has this many bytes.
-fn is_fetch_add_size(size: u8, release: bool) -> bool
-    ensures { IsTrue result ↔ IsSome (fetch_add_code size release) }
-{
-    size == 4 || size == 8
 }
 
 /// Whether this is an increment of a fetch-and-add.
 fn is_increment(inc: i16) -> bool
-    ensures { IsTrue result ↔ IsSome (increment_code (unsigned_abs inc)) }
+    ensures { IsTrue result ↔ IsIncrement inc }
 {
     matches!(inc.unsigned_abs(), 1 | 4 | 8 | 16)
 }
@@ -143,22 +124,18 @@ pub fn is_listed_m(insn: &Insn) -> bool
         } => {
             r3.has_seven_bits();
             r2.has_seven_bits();
-            !r1.is_zero() && hint <= 3 && hint != 2 && is_exchange_size(size)
+            !r1.is_zero() && hint <= 3 && hint != 2 && is_access_size(size)
         }
         Op::FetchAdd {
             size,
-            release,
             hint,
             r1,
             r3,
             inc,
+            ..
         } => {
             r3.has_seven_bits();
-            !r1.is_zero()
-                && hint <= 3
-                && hint != 2
-                && is_fetch_add_size(size, release)
-                && is_increment(inc)
+            !r1.is_zero() && hint <= 3 && hint != 2 && (size == 4 || size == 8) && is_increment(inc)
         }
         Op::ChkS { unit, r2, disp } => {
             r2.has_seven_bits();

@@ -5,7 +5,7 @@
 //! field.
 
 ghost use Rattle.std.specs.Prelude.{◌↔◌, IsTrue};
-ghost use Rattle.ia_insn.specs.FormatsX.{IsListedX};
+ghost use Rattle.ia_insn.specs.Listed.{IsListedX};
 
 use crate::choices::Unit;
 use crate::insn::{Insn, Op};

@@ -238,3 +238,20 @@ pub enum Ar {
     /// `ar.ec`, register 66, which I slots move.
     Ec,
 }
+
+impl Ar {
+    ghost use Rattle.ia_insn.specs.FormatsI.{ar_number};
+
+    /// Its number, 36 or 64 to 66.
+    pub fn number(self) -> u64
+        ensures value { result ≡ ar_number self }
+        ensures within { result < 2 ^ 7 }
+    {
+        match self {
+            Ar::Unat => 36,
+            Ar::Pfs => 64,
+            Ar::Lc => 65,
+            Ar::Ec => 66,
+        }
+    }
+}

@@ -6,12 +6,12 @@ use Rattle.ia_insn.specs.declared.registers.Ar.{Ar}
 use Rattle.ia_insn.specs.declared.registers.Ar.TheVariants.{Pfs}
 use Rattle.ia_meaning.specs.declared.next.Next.{Next}
 use Rattle.ia_meaning.specs.declared.next.Next.TheVariants.{Falls}
-use Rattle.ia_meaning.specs.declared.form.Form.{Form}
-use Rattle.ia_meaning.specs.declared.form.Form.TheVariants.{Compute, Fetch, Test, ToPredicates, ToBranch, ToApplication, FromMemory, ToMemory, Exchange, CheckNat, CheckAlat, ForgetAll, Forget, Allocate, Jump, JumpIndirect, Loop, Call, Return, ClearBases, Stop, Idle}
-use Rattle.ia_meaning.specs.declared.form.Goal.TheVariants.{Direct, Indirect}
+use Rattle.ia_meaning.specs.declared.action.Action.{Action}
+use Rattle.ia_meaning.specs.declared.action.Action.TheVariants.{Compute, Fetch, Test, ToPredicates, ToBranch, ToApplication, FromMemory, ToMemory, Exchange, CheckNat, CheckAlat, ForgetAll, Forget, Allocate, Jump, JumpIndirect, Loop, Call, Return, ClearBases, Stop, Idle}
+use Rattle.ia_meaning.specs.declared.action.Goal.TheVariants.{Direct, Indirect}
 use Rattle.ia_meaning.specs.State.{Registers, Memory}
 use Rattle.ia_meaning.specs.Names.{holds}
-use Rattle.ia_meaning.specs.Actions.{accesses_memory, insn_form}
+use Rattle.ia_meaning.specs.Actions.{accesses_memory, insn_action}
 use Rattle.ia_meaning.specs.Outcomes.{Outcome}
 use Rattle.ia_meaning.specs.Effects.{Site, effect}
 use Rattle.ia_meaning.specs.Steps.{settled}
@@ -24,7 +24,7 @@ application_keeps : (a : Ar) (x : ℕ) (m : Memory) → ApplicationCases (Keeps 
 application_keeps Pfs x m = λ _. refl
 application_keeps a x m = refl
 
-act_keeps : (s : Site) (form : Form) (r : Registers) (m : Memory) (unat : ℕ) → accesses_memory form ≡ false → ActCases (Keeps m.bytes) s form r m unat
+act_keeps : (s : Site) (action : Action) (r : Registers) (m : Memory) (unat : ℕ) → accesses_memory action ≡ false → ActCases (Keeps m.bytes) s action r m unat
 act_keeps s (Compute r1 r2 r3 f) r m unat h = (λ k. refl, λ d a b _ _ _. refl)
 act_keeps s (Fetch r1 source) r m unat h = (λ k. refl, λ d _. refl)
 act_keeps s (Test kind p1 p2 r2 r3 c) r m unat h = (λ k. refl, λ a b _ _. refl)
@@ -49,10 +49,10 @@ act_keeps s (ClearBases pred_only) r m unat h = refl
 act_keeps s (Stop unit imm) r m unat h = refl
 act_keeps s (Idle unit) r m unat h = refl
 
-skip_keeps : (s : Site) (form : Form) (r : Registers) (m : Memory) → SkipCases (Keeps m.bytes) s form r m
+skip_keeps : (s : Site) (action : Action) (r : Registers) (m : Memory) → SkipCases (Keeps m.bytes) s action r m
 skip_keeps s (Test kind p1 p2 r2 r3 c) r m = (λ _. refl, λ _. refl)
 skip_keeps s (Loop kind disp) r m = (λ _. refl, λ _. refl)
-skip_keeps s form r m = refl
+skip_keeps s action r m = refl
 
 settled_keeps : (next : Option Place) (m : Memory) (way : Next) (o : Outcome) → Keeps m.bytes o → Keeps m.bytes (settled next m way o)
 settled_keeps None m Falls o h = refl
@@ -60,8 +60,8 @@ settled_keeps next m way o h = h
 
 -- So it is where the slot falls off the program's end too, and of one that accesses memory where its qualifying predicate is 0.
 pub bytes_kept : (s : Site) (insn : Insn) (next : Option Place) (r : Registers) (m : Memory) (unat : ℕ)
-    → (holds r insn.qp ≡ true → accesses_memory (insn_form insn) ≡ false)
+    → (holds r insn.qp ≡ true → accesses_memory (insn_action insn) ≡ false)
     → (let o = effect s insn r m unat in settled next m o.next o).memory.bytes ≡ m.bytes
 bytes_kept s insn next r m unat h =
     settled_keeps next m _ (effect s insn r m unat)
-    (guarded_cases (Keeps m.bytes) s insn.qp (insn_form insn) r m unat (λ t. act_keeps s (insn_form insn) r m unat (h t)) (λ _. skip_keeps s (insn_form insn) r m))
+    (guarded_cases (Keeps m.bytes) s insn.qp (insn_action insn) r m unat (λ t. act_keeps s (insn_action insn) r m unat (h t)) (λ _. skip_keeps s (insn_action insn) r m))

@@ -11,16 +11,15 @@ use Rattle.ia_insn.specs.Targets.{displacement}
 use Rattle.ia_insn.specs.Runs.{IsLeaving}
 use Rattle.ia_meaning.specs.declared.next.Next.{Next}
 use Rattle.ia_meaning.specs.declared.next.Next.TheVariants.{Falls, Goes}
-use Rattle.ia_meaning.specs.declared.state.FrameShape.{FrameShape}
-use Rattle.ia_meaning.specs.declared.form.Goal.TheVariants.{Direct, Indirect}
+use Rattle.ia_meaning.specs.declared.action.Goal.TheVariants.{Direct, Indirect}
 use Rattle.ia_meaning.specs.State.{Registers, Memory}
 use Rattle.ia_meaning.specs.declared.write.Write.{Write}
-use Rattle.ia_meaning.specs.Outcomes.{Outcome}
-use Rattle.ia_meaning.specs.Frames.{lands, return_tried}
+use Rattle.ia_meaning.specs.Outcomes.{Outcome, unless}
+use Rattle.ia_meaning.specs.Frames.{lands}
 use Rattle.ia_meaning.specs.Landings.{target_of}
-use Rattle.ia_meaning.specs.declared.form.Form.{Form}
-use Rattle.ia_meaning.specs.declared.form.Form.TheVariants.{Test, ToApplication, CheckNat, CheckAlat, Jump, JumpIndirect, Loop, Call, Return}
-use Rattle.ia_meaning.specs.Actions.{form_of, moved}
+use Rattle.ia_meaning.specs.declared.action.Action.{Action}
+use Rattle.ia_meaning.specs.declared.action.Action.TheVariants.{Test, ToApplication, CheckNat, CheckAlat, Jump, JumpIndirect, Loop, Call, Return}
+use Rattle.ia_meaning.specs.Actions.{action_of, moved}
 use Rattle.ia_meaning.specs.Effects.{Site, act, guarded, effect}
 use Rattle.ia_meaning.specs.Names.{holds}
 use Rattle.ia_meaning.specs.Steps.{settled}
@@ -43,14 +42,14 @@ application_on : (Good : ℕ → Type 0) (ar : Ar) (x : ℕ) (m : Memory) → Ap
 application_on Good Pfs x m = λ _. tt
 application_on Good ar x m = tt
 
--- how many bundles from its own the target of a direct form is
-abbrev pub form_displacement : Form → Option ℤ
-form_displacement (CheckNat r2 disp) = Some disp
-form_displacement (CheckAlat clear r1 disp) = Some disp
-form_displacement (Jump disp) = Some disp
-form_displacement (Loop kind disp) = Some disp
-form_displacement (Call b1 (Direct disp)) = Some disp
-form_displacement form = None
+-- how many bundles from its own the target of an action is, where the action has it from the instruction
+abbrev pub action_displacement : Action → Option ℤ
+action_displacement (CheckNat r2 disp) = Some disp
+action_displacement (CheckAlat clear r1 disp) = Some disp
+action_displacement (Jump disp) = Some disp
+action_displacement (Loop kind disp) = Some disp
+action_displacement (Call b1 (Direct disp)) = Some disp
+action_displacement action = None
 
 -- the target, where there is one, is a good bundle
 abbrev pub IsGoodTarget : (ℕ → Type 0) → ℕ → Option ℤ → Type 0
@@ -60,30 +59,30 @@ IsGoodTarget Good bundle target = IfSome target (λ disp. Good (target_of bundle
 abbrev pub AreGoodLandings : (ℕ → Type 0) → Site → List Bool → Type 0
 AreGoodLandings Good s low = (address : ℕ) → IfOk (s.arrival low address) Good
 
--- An effect goes on by falling, to the form's target, to a bundle that the site gives, or not at all. A form without a row
+-- An effect goes on by falling, to the action's target, to a bundle that the site gives, or not at all. An action without a row
 -- here falls or goes to its target.
-act_on : (Good : ℕ → Type 0) (s : Site) (form : Form) (r : Registers) (m : Memory) (unat : ℕ) → AreGoodLandings Good s (take 16 r.predicates) → IsGoodTarget Good s.bundle (form_displacement form) → ActCases (IsGoodWay Good) s form r m unat
+act_on : (Good : ℕ → Type 0) (s : Site) (action : Action) (r : Registers) (m : Memory) (unat : ℕ) → AreGoodLandings Good s (take 16 r.predicates) → IsGoodTarget Good s.bundle (action_displacement action) → ActCases (IsGoodWay Good) s action r m unat
 act_on Good s (ToApplication ar r2 w) r m unat landings target = (λ kind. tt, λ a _ _. application_on Good ar (moved w a.value) m)
 act_on Good s (JumpIndirect b2) r m unat landings target = (λ kind. tt, λ to e. lands_on Good _ to (landings _) e)
 act_on Good s (Call b1 (Indirect b2)) r m unat landings target = (λ kind. tt, λ to e. lands_on Good _ to (landings _) e)
 act_on Good s (Return b2) r m unat landings target = (λ kind. tt, λ to _ e. lands_on Good _ to (landings _) e)
-act_on Good s form r m unat landings target = search (target)
+act_on Good s action r m unat landings target = search (target)
 
 -- so does one that is skipped
-skip_on : (Good : ℕ → Type 0) (s : Site) (form : Form) (r : Registers) (m : Memory) → IsGoodTarget Good s.bundle (form_displacement form) → SkipCases (IsGoodWay Good) s form r m
+skip_on : (Good : ℕ → Type 0) (s : Site) (action : Action) (r : Registers) (m : Memory) → IsGoodTarget Good s.bundle (action_displacement action) → SkipCases (IsGoodWay Good) s action r m
 skip_on Good s (Test kind p1 p2 r2 r3 c) r m target = (λ _. tt, λ _. tt)
 skip_on Good s (Loop kind disp) r m target = (λ _. target, λ _. tt)
 skip_on Good s _ r m target = tt
 
--- the target of an operation's form is that of the operation
-same_displacement : (o : Op) → form_displacement (form_of o) ≡ displacement o
+-- the target of an operation's action is that of the operation
+same_displacement : (o : Op) → action_displacement (action_of o) ≡ displacement o
 same_displacement o = grind arith
 
 -- An instruction falls, goes to its target or to a bundle that the site gives, or ends the run.
 pub effect_on : (Good : ℕ → Type 0) (s : Site) (insn : Insn) (r : Registers) (m : Memory) (unat : ℕ) → AreGoodLandings Good s (take 16 r.predicates) → IsGoodTarget Good s.bundle (displacement insn.op) → IsGoodWay Good (effect s insn r m unat)
 effect_on Good s insn r m unat landings target =
-    let good : IsGoodTarget Good s.bundle (form_displacement (form_of insn.op)) = subst (IsGoodTarget Good s.bundle) (sym (same_displacement insn.op)) target in
-    guarded_cases (IsGoodWay Good) s insn.qp (form_of insn.op) r m unat (λ _. act_on Good s (form_of insn.op) r m unat landings good) (λ _. skip_on Good s (form_of insn.op) r m good)
+    let good : IsGoodTarget Good s.bundle (action_displacement (action_of insn.op)) = subst (IsGoodTarget Good s.bundle) (sym (same_displacement insn.op)) target in
+    guarded_cases (IsGoodWay Good) s insn.qp (action_of insn.op) r m unat (λ _. act_on Good s (action_of insn.op) r m unat landings good) (λ _. skip_on Good s (action_of insn.op) r m good)
 
 settled_as : (Good : ℕ → Type 0) (next : Option Place) (m : Memory) (way : Next) (o : Outcome) → IsGoodWay Good o → IsGoodWay Good (settled next m way o)
 settled_as Good next m way o h = grind arith
@@ -109,15 +108,15 @@ lands_leaves : (ws : List Write) (m : Memory) (to : Result ℕ FaultKind) → (l
 lands_leaves ws m (Err kind) e = cc
 lands_leaves ws m (Ok bundle) e = cc
 
-return_leaves : (fault : Option FaultKind) (f : FrameShape) (ec : ℕ) (to : Result ℕ FaultKind) (m : Memory) → (return_tried fault f ec to m).next ≡ Falls → ⊥
-return_leaves (Some k) f ec to m e = cc
-return_leaves None f ec to m e = lands_leaves _ m to e
+return_leaves : (fault : Option FaultKind) (ws : List Write) (to : Result ℕ FaultKind) (m : Memory) → (unless fault m (lands ws m to)).next ≡ Falls → ⊥
+return_leaves (Some k) ws to m e = cc
+return_leaves None ws to m e = lands_leaves ws m to e
 
 -- a leaving operation that is executed doesn't fall through
-act_leaves : (s : Site) (o : Op) (r : Registers) (m : Memory) (unat : ℕ) → IsLeaving o → (act s (form_of o) r m unat).next ≡ Falls → ⊥
+act_leaves : (s : Site) (o : Op) (r : Registers) (m : Memory) (unat : ℕ) → IsLeaving o → (act s (action_of o) r m unat).next ≡ Falls → ⊥
 act_leaves s o r m unat h e = grind arith
 
-guarded_leaves : (s : Site) (qp : ℕ) (o : Op) (r : Registers) (m : Memory) (unat : ℕ) → qp ≡ 0 → IsLeaving o → (guarded s qp (form_of o) r m unat).next ≡ Falls → ⊥
+guarded_leaves : (s : Site) (qp : ℕ) (o : Op) (r : Registers) (m : Memory) (unat : ℕ) → qp ≡ 0 → IsLeaving o → (guarded s qp (action_of o) r m unat).next ≡ Falls → ⊥
 unfolding holds
 guarded_leaves s zero o r m unat z h e = act_leaves s o r m unat h e
 guarded_leaves s (suc p) o r m unat z h e = absurd (omega arith)

@@ -1,4 +1,4 @@
--- What can come of a slot, by the forms: from these lemmas the facts of outcomes follow. Each case tells where
+-- What can come of a slot, by the actions: from these lemmas the facts of outcomes follow. Each case tells where
 -- its values come from.
 use Rattle.std.proofs.Common.{◌≡◌, ◌≢◌, ℕ, ℤ, ◌+◌, ◌-◌, ◌/◌, ◌%◌, ◌^◌, ◌≤◌, ◌⊎◌, inl, inr, Bool, true, false, not, ◌&&◌, ◌||◌, ◌==◌, nat_lt, List, [], ◌∷◌, Option, Some, None, Result, Ok, Err, refl, arith, if◌then◌else◌}
 use Rattle.std.proofs.lemmas.Bool.Decides.{nat_tests}
@@ -17,19 +17,19 @@ use Rattle.ia_meaning.specs.declared.state.Cell.{Cell}
 use Rattle.ia_meaning.specs.declared.state.FrameShape.{FrameShape}
 use Rattle.ia_meaning.specs.declared.state.AlatKey.{AlatKey as Spot}
 use Rattle.ia_meaning.specs.declared.state.AlatEntry.{AlatEntry}
-use Rattle.ia_meaning.specs.declared.form.Goal.TheVariants.{Direct, Indirect}
+use Rattle.ia_meaning.specs.declared.action.Goal.TheVariants.{Direct, Indirect}
 use Rattle.ia_meaning.specs.State.{zero_cell, Registers, Memory}
 use Rattle.ia_meaning.specs.declared.write.Write.{Write}
 use Rattle.ia_meaning.specs.declared.write.Write.TheVariants.{SetBranch, SetUnat, SetPfs, SetLc, SetEc, SetFrame}
 use Rattle.ia_meaning.specs.declared.write.FrameCause.TheVariants.{Resized, Renamed}
 use Rattle.ia_meaning.specs.Names.{spot, look, holds, predicate_spot, set_spot, set_predicate}
-use Rattle.ia_meaning.specs.Outcomes.{Outcome, falls, goes, breaks, faults}
-use Rattle.ia_meaning.specs.declared.form.Form.{Form}
-use Rattle.ia_meaning.specs.declared.form.Form.TheVariants.{Compute, Fetch, Test, ToPredicates, ToBranch, ToApplication, FromMemory, ToMemory, Exchange, CheckNat, CheckAlat, ForgetAll, Forget, Allocate, Jump, JumpIndirect, Loop, Call, Return, ClearBases, Stop, Idle}
+use Rattle.ia_meaning.specs.Outcomes.{Outcome, falls, goes, breaks, faults, unless}
+use Rattle.ia_meaning.specs.declared.action.Action.{Action}
+use Rattle.ia_meaning.specs.declared.action.Action.TheVariants.{Compute, Fetch, Test, ToPredicates, ToBranch, ToApplication, FromMemory, ToMemory, Exchange, CheckNat, CheckAlat, ForgetAll, Forget, Allocate, Jump, JumpIndirect, Loop, Call, Return, ClearBases, Stop, Idle}
 use Rattle.ia_meaning.specs.Actions.{value_of, result_of, moved}
 use Rattle.ia_meaning.specs.Moves.{computed, fetched, source_value, test_writes, test_made, test_skipped, predicate_writes, to_predicates, to_branch, has_reserved_zeros, application_written, to_application}
-use Rattle.ia_meaning.specs.Loads.{access_fault, loaded, forgotten, has_hit, has_entry, update_register, base_writes, is_speculative, is_check, load_alat, load_nat, deferred, load_hit, load_failed, load_tried, load_checked, from_memory, takes_nat, store_made, store_tried, to_memory, exchange_made, exchange_tried, exchange, check_nat, check_alat, forget}
-use Rattle.ia_meaning.specs.Frames.{with_sizes, has_zero_bases, allocated, cleared, call_writes, lands, marked_frame, return_fault, return_tried}
+use Rattle.ia_meaning.specs.Loads.{access_fault, loaded, forgotten, has_hit, has_entry, update_register, base_writes, is_speculative, is_check, load_alat, load_nat, deferred, load_hit, load_failed, load_tried, load_checked, from_memory, takes_nat, store_made, to_memory, exchange_made, exchange, check_nat, check_alat, forget}
+use Rattle.ia_meaning.specs.Frames.{with_sizes, has_zero_bases, allocated, cleared, call_writes, lands, marked_frame, return_fault}
 use Rattle.ia_meaning.specs.Loops.{turn_of, turn_writes, turned}
 use Rattle.ia_meaning.specs.declared.turn.Turn.{Turn}
 use Rattle.ia_meaning.specs.Landings.{target_of}
@@ -61,8 +61,8 @@ abbrev pub TurnCases : (Outcome → Type 0) → Turn → FrameShape → ℕ → 
 TurnCases Q t f bundle m =
     (t.taken ≡ true → Q (goes (turn_writes t f) m bundle)) × (t.taken ≡ false → Q (falls (turn_writes t f) m))
 
--- What can come of a form that is executed.
-abbrev pub ActCases : (Outcome → Type 0) → Site → Form → Registers → Memory → ℕ → Type 0
+-- What can come of an action that is executed.
+abbrev pub ActCases : (Outcome → Type 0) → Site → Action → Registers → Memory → ℕ → Type 0
 ActCases Q s (Compute r1 r2 r3 f) r m unat =
     Fails Q m
     × ((d : Spot) (a b : Cell) → spot r.frame r1 ≡ Some d → look r r2 ≡ Some a → look r r3 ≡ Some b
@@ -133,12 +133,12 @@ ActCases Q s (Stop unit imm) r m unat = Q (breaks imm m)
 ActCases Q s (Idle unit) r m unat = Q (falls [] m)
 
 -- What can come of one whose qualifying predicate is 0.
-abbrev pub SkipCases : (Outcome → Type 0) → Site → Form → Registers → Memory → Type 0
+abbrev pub SkipCases : (Outcome → Type 0) → Site → Action → Registers → Memory → Type 0
 SkipCases Q s (Test kind p1 p2 r2 r3 c) r m =
     (kind ≡ Unc → Q (falls (set_predicate (predicate_spot r.frame p1) false (set_predicate (predicate_spot r.frame p2) false [])) m))
     × (kind ≢ Unc → Q (falls [] m))
 SkipCases Q s (Loop kind disp) r m = TurnCases Q (turn_of kind false r.lc r.ec) r.frame (target_of s.bundle disp) m
-SkipCases Q s form r m = Q (falls [] m)
+SkipCases Q s action r m = Q (falls [] m)
 
 -- the sides of a choice
 either : (Q : Outcome → Type 0) (b : Bool) (x y : Outcome) → (b ≡ true → Q x) → (b ≡ false → Q y) → Q (if b then x else y)
@@ -229,10 +229,9 @@ no_nat false false t h = (refl, inl refl)
 no_nat false true true h = (refl, inr refl)
 no_nat false true false h = absurd (cc)
 
-case_store_tried : (Q : Outcome → Type 0) (o : Option FaultKind) (size : ℕ) (kind : StoreKind) (address : ℕ) (x : Cell) (m : Memory) (ws : List Write) → Fails Q m
-    → (o ≡ None → Q (store_made size kind address x m ws)) → Q (store_tried o size kind address x m ws)
-case_store_tried Q None size kind address x m ws h k = k refl
-case_store_tried Q (Some cause) size kind address x m ws h k = h cause
+case_unless : (Q : Outcome → Type 0) (o : Option FaultKind) (m : Memory) (made : Outcome) → Fails Q m → (o ≡ None → Q made) → Q (unless o m made)
+case_unless Q None m made h k = k refl
+case_unless Q (Some cause) m made h k = h cause
 
 case_store : (Q : Outcome → Type 0) (size : ℕ) (kind : StoreKind) (u : Update) (o : Option Spot) (y z : Option Cell) (m : Memory) → Fails Q m
     → ((e : Spot) (base x : Cell) → o ≡ Some e → y ≡ Some base → z ≡ Some x → base.nat ≡ false → (x.nat ≡ false) ⊎ (takes_nat kind ≡ true) → access_fault m.bytes base.value size ≡ None → Q (store_made size kind base.value x m (base_writes u e base zero_cell)))
@@ -240,17 +239,12 @@ case_store : (Q : Outcome → Type 0) (size : ℕ) (kind : StoreKind) (u : Updat
 case_store Q size kind u (Some e) (Some base) (Some x) m h k =
     either Q (base.nat || (x.nat && not (takes_nat kind))) _ _ (λ _. h NatConsumed)
     (λ t. let n = no_nat base.nat x.nat (takes_nat kind) t in
-    case_store_tried Q (access_fault m.bytes base.value size) size kind base.value x m _ h (k e base x refl refl refl n.0 n.1))
+    case_unless Q (access_fault m.bytes base.value size) m _ h (k e base x refl refl refl n.0 n.1))
 case_store Q size kind u _ _ _ m h k = h OutOfFrame
 
 no_nats : (a b : Bool) → (a || b) ≡ false → (a ≡ false) × (b ≡ false)
 no_nats true b h = absurd (cc)
 no_nats false b h = (refl, h)
-
-case_exchange_tried : (Q : Outcome → Type 0) (o : Option FaultKind) (size : ℕ) (inc : Option ℤ) (d : Spot) (address x : ℕ) (m : Memory) → Fails Q m
-    → (o ≡ None → Q (exchange_made size inc d address x m)) → Q (exchange_tried o size inc d address x m)
-case_exchange_tried Q None size inc d address x m h k = k refl
-case_exchange_tried Q (Some cause) size inc d address x m h k = h cause
 
 case_exchange : (Q : Outcome → Type 0) (size : ℕ) (inc : Option ℤ) (o : Option Spot) (y z : Option Cell) (m : Memory) → Fails Q m
     → ((d : Spot) (base x : Cell) → o ≡ Some d → y ≡ Some base → z ≡ Some x → base.nat ≡ false → x.nat ≡ false → access_fault m.bytes base.value size ≡ None → Q (exchange_made size inc d base.value x.value m))
@@ -258,7 +252,7 @@ case_exchange : (Q : Outcome → Type 0) (size : ℕ) (inc : Option ℤ) (o : Op
 case_exchange Q size inc (Some d) (Some base) (Some x) m h k =
     either Q (base.nat || x.nat) _ _ (λ _. h NatConsumed)
     (λ t. let n = no_nats base.nat x.nat t in
-    case_exchange_tried Q (access_fault m.bytes base.value size) size inc d base.value x.value m h (k d base x refl refl refl n.0 n.1))
+    case_unless Q (access_fault m.bytes base.value size) m _ h (k d base x refl refl refl n.0 n.1))
 case_exchange Q size inc _ _ _ m h k = h OutOfFrame
 
 case_check_nat : (Q : Outcome → Type 0) (bundle : ℕ) (x : Option Cell) (m : Memory) → Fails Q m
@@ -303,15 +297,14 @@ case_lands Q ws m (Ok to) h k = k to refl
 case_lands Q ws m (Err kind) h k = h kind
 
 case_return : (Q : Outcome → Type 0) (x : Option FaultKind) (f : FrameShape) (ec : ℕ) (o : Result ℕ FaultKind) (m : Memory) → Fails Q m
-    → ((to : ℕ) → x ≡ None → o ≡ Ok to → Q (goes (SetFrame Resized f ∷ SetEc ec ∷ []) m to)) → Q (return_tried x f ec o m)
-case_return Q (Some cause) f ec o m h k = h cause
-case_return Q None f ec o m h k = case_lands Q (SetFrame Resized f ∷ SetEc ec ∷ []) m o h (λ to. k to refl)
+    → ((to : ℕ) → x ≡ None → o ≡ Ok to → Q (goes (SetFrame Resized f ∷ SetEc ec ∷ []) m to)) → Q (unless x m (lands (SetFrame Resized f ∷ SetEc ec ∷ []) m o))
+case_return Q x f ec o m h k = case_unless Q x m _ h (λ free. case_lands Q _ m o h (λ to. k to free))
 
 case_turn : (Q : Outcome → Type 0) (t : Turn) (f : FrameShape) (bundle : ℕ) (m : Memory) → TurnCases Q t f bundle m → Q (turned t f bundle m)
 case_turn Q t f bundle m h = either Q t.taken _ _ h.0 h.1
 
--- what holds in each case of a form holds of its effect
-pub act_cases : (Q : Outcome → Type 0) (s : Site) (form : Form) (r : Registers) (m : Memory) (unat : ℕ) → ActCases Q s form r m unat → Q (act s form r m unat)
+-- what holds in each case of an action holds of its effect
+pub act_cases : (Q : Outcome → Type 0) (s : Site) (action : Action) (r : Registers) (m : Memory) (unat : ℕ) → ActCases Q s action r m unat → Q (act s action r m unat)
 act_cases Q s (Compute r1 r2 r3 f) r m unat h = case_computed Q (value_of f) (spot r.frame r1) (look r r2) (look r r3) m h.0 h.1
 act_cases Q s (Fetch r1 source) r m unat h = case_fetched Q (spot r.frame r1) (source_value s.bundle r source) m h.0 h.1
 act_cases Q s (Test kind p1 p2 r2 r3 c) r m unat h = case_test Q kind (predicate_spot r.frame p1) (predicate_spot r.frame p2) (result_of c) (look r r2) (look r r3) m h.0 h.1
@@ -345,13 +338,13 @@ case_skipped Q Unc p q m h k = h refl
 case_skipped Q _ p q m h k = k (λ e. absurd (cc))
 
 -- what holds in each case of one whose qualifying predicate is 0 holds of its effect
-pub skip_cases : (Q : Outcome → Type 0) (s : Site) (form : Form) (r : Registers) (m : Memory) → SkipCases Q s form r m → Q (skip s form r m)
+pub skip_cases : (Q : Outcome → Type 0) (s : Site) (action : Action) (r : Registers) (m : Memory) → SkipCases Q s action r m → Q (skip s action r m)
 skip_cases Q s (Test kind p1 p2 r2 r3 c) r m h = case_skipped Q kind (predicate_spot r.frame p1) (predicate_spot r.frame p2) m h.0 h.1
 skip_cases Q s (Loop kind disp) r m h = case_turn Q (turn_of kind false r.lc r.ec) r.frame (target_of s.bundle disp) m h
 skip_cases Q s _ r m h = h
 
 -- both together
-pub guarded_cases : (Q : Outcome → Type 0) (s : Site) (qp : ℕ) (form : Form) (r : Registers) (m : Memory) (unat : ℕ)
-    → (holds r qp ≡ true → ActCases Q s form r m unat) → (holds r qp ≡ false → SkipCases Q s form r m) → Q (guarded s qp form r m unat)
-guarded_cases Q s qp form r m unat h k =
-    either Q (holds r qp) _ _ (λ t. act_cases Q s form r m unat (h t)) (λ t. skip_cases Q s form r m (k t))
+pub guarded_cases : (Q : Outcome → Type 0) (s : Site) (qp : ℕ) (action : Action) (r : Registers) (m : Memory) (unat : ℕ)
+    → (holds r qp ≡ true → ActCases Q s action r m unat) → (holds r qp ≡ false → SkipCases Q s action r m) → Q (guarded s qp action r m unat)
+guarded_cases Q s qp action r m unat h k =
+    either Q (holds r qp) _ _ (λ t. act_cases Q s action r m unat (h t)) (λ t. skip_cases Q s action r m (k t))

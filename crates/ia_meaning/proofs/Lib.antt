@@ -1,5 +1,5 @@
 pub mod Sequences
-pub mod FormRanges
+pub mod ActionRanges
 pub mod LaneValues
 pub mod Inversions
 mod Examples

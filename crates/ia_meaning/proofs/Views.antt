@@ -3,11 +3,11 @@ use Rattle.std.proofs.Common.{ℕ, zero, suc, ◌+◌, ◌≡◌, ◌&&◌, ◌|
 use Rattle.std.specs.Prelude.{◌==◌}
 use Rattle.ia_insn.specs.declared.insn.Insn.{Insn}
 use Rattle.ia_meaning.specs.declared.state.FrameShape.{FrameShape}
-use Rattle.ia_meaning.specs.declared.form.Form.{Form}
-use Rattle.ia_meaning.specs.declared.form.Form.TheVariants as form
+use Rattle.ia_meaning.specs.declared.action.Action.{Action}
+use Rattle.ia_meaning.specs.declared.action.Action.TheVariants as action
 use Rattle.ia_meaning.specs.State.{Registers}
 use Rattle.ia_meaning.specs.Names.{predicate_place}
-use Rattle.ia_meaning.specs.Actions.{is_branch, insn_form}
+use Rattle.ia_meaning.specs.Actions.{is_branch, insn_action}
 use Rattle.ia_meaning.specs.Views.{sees_static, sees_predicate, sees_branch, sees_pfs, seen_in, view}
 
 -- where nothing is seen the list is the start's
@@ -37,31 +37,31 @@ length_seen sees n (x ∷ base) [] = refl
 length_seen sees n (x ∷ base) (y ∷ now) = ap suc (length_seen sees (suc n) base now)
 
 -- what is no branch sees nothing of earlier slots
-sees_no_branch : (f : Form) (b : ℕ) → is_branch f ≡ false → sees_branch f b ≡ false
-sees_no_branch (form.JumpIndirect b2) b e = absurd (true≢false e)
-sees_no_branch (form.Call b1 goal) b e = absurd (true≢false e)
-sees_no_branch (form.Return b2) b e = absurd (true≢false e)
+sees_no_branch : (f : Action) (b : ℕ) → is_branch f ≡ false → sees_branch f b ≡ false
+sees_no_branch (action.JumpIndirect b2) b e = absurd (true≢false e)
+sees_no_branch (action.Call b1 goal) b e = absurd (true≢false e)
+sees_no_branch (action.Return b2) b e = absurd (true≢false e)
 sees_no_branch f b e = refl
 
-sees_no_pfs : (f : Form) → is_branch f ≡ false → sees_pfs f ≡ false
-sees_no_pfs (form.Return b2) e = absurd (true≢false e)
+sees_no_pfs : (f : Action) → is_branch f ≡ false → sees_pfs f ≡ false
+sees_no_pfs (action.Return b2) e = absurd (true≢false e)
 sees_no_pfs f e = refl
 
-sees_no_static : (f : Form) (n : ℕ) → is_branch f ≡ false → sees_static f n ≡ false
-sees_no_static (form.JumpIndirect b2) n e = absurd (true≢false e)
-sees_no_static (form.Call b1 goal) n e = absurd (true≢false e)
-sees_no_static (form.Return b2) n e = absurd (true≢false e)
+sees_no_static : (f : Action) (n : ℕ) → is_branch f ≡ false → sees_static f n ≡ false
+sees_no_static (action.JumpIndirect b2) n e = absurd (true≢false e)
+sees_no_static (action.Call b1 goal) n e = absurd (true≢false e)
+sees_no_static (action.Return b2) n e = absurd (true≢false e)
 sees_no_static f n e = refl
 
-sees_no_predicate : (insn : Insn) (f : FrameShape) (n : ℕ) → is_branch (insn_form insn) ≡ false → sees_predicate insn f n ≡ false
-sees_no_predicate insn f n e = ap (λ b. (b && (n == predicate_place f insn.qp)) || sees_static (insn_form insn) n) e ∙ sees_no_static (insn_form insn) n e
+sees_no_predicate : (insn : Insn) (f : FrameShape) (n : ℕ) → is_branch (insn_action insn) ≡ false → sees_predicate insn f n ≡ false
+sees_no_predicate insn f n e = ap (λ b. (b && (n == predicate_place f insn.qp)) || sees_static (insn_action insn) n) e ∙ sees_no_static (insn_action insn) n e
 
 -- so it sees the registers of the start
-pub view_plain : (insn : Insn) (now base : Registers) → is_branch (insn_form insn) ≡ false → view insn now base ≡ base
+pub view_plain : (insn : Insn) (now base : Registers) → is_branch (insn_action insn) ≡ false → view insn now base ≡ base
 view_plain insn now base e =
     let predicates = seen_none (sees_predicate insn base.frame) (λ n. sees_no_predicate insn base.frame n e) 0 base.predicates now.predicates in
-    let branches = seen_none (sees_branch (insn_form insn)) (λ n. sees_no_branch (insn_form insn) n e) 0 base.branches now.branches in
-    let pfs = ap (λ b. if b then now.pfs else base.pfs) (sees_no_pfs (insn_form insn) e) in
-    ap (λ l. record base { predicates = l; branches = seen_in (sees_branch (insn_form insn)) 0 base.branches now.branches; pfs = if sees_pfs (insn_form insn) then now.pfs else base.pfs }) predicates
-    ∙ ap (λ l. record base { branches = l; pfs = if sees_pfs (insn_form insn) then now.pfs else base.pfs }) branches
+    let branches = seen_none (sees_branch (insn_action insn)) (λ n. sees_no_branch (insn_action insn) n e) 0 base.branches now.branches in
+    let pfs = ap (λ b. if b then now.pfs else base.pfs) (sees_no_pfs (insn_action insn) e) in
+    ap (λ l. record base { predicates = l; branches = seen_in (sees_branch (insn_action insn)) 0 base.branches now.branches; pfs = if sees_pfs (insn_action insn) then now.pfs else base.pfs }) predicates
+    ∙ ap (λ l. record base { branches = l; pfs = if sees_pfs (insn_action insn) then now.pfs else base.pfs }) branches
     ∙ ap (λ x. record base { pfs = x }) pfs

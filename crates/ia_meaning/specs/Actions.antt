@@ -1,5 +1,5 @@
--- What each operation does: one row an operation, in the manual's order, which gives it a form. A form is one of few kinds
--- of action, each of which has its effect once (Effects), with its registers and with what it computes.
+-- What each operation does: one row an operation, in the manual's order, which gives it its action: one of few kinds,
+-- each of which has its effect once (Effects), with its registers and with what it computes.
 use Rattle.std.specs.Prelude.{ℕ, ℤ, pos as positive, negsuc, ◌^◌, Bool, true, false, not, if◌then◌else◌, Option, Some, None, count_ones}
 use Rattle.ia_insn.specs.declared.choices.Unit.TheVariants.{M}
 use Rattle.ia_insn.specs.declared.choices.AluFn.{AluFn}
@@ -12,16 +12,16 @@ use Rattle.ia_insn.specs.declared.insn.Insn.{Insn}
 use Rattle.ia_insn.specs.declared.insn.Op.{Op}
 use Rattle.ia_insn.specs.declared.insn.Op.TheVariants as op
 use Rattle.ia_meaning.specs.declared.state.Cell.{Cell}
-use Rattle.ia_meaning.specs.declared.form.Source.TheVariants as source
-use Rattle.ia_meaning.specs.declared.form.Goal.TheVariants as goal
-use Rattle.ia_meaning.specs.declared.form.Function.{Function}
-use Rattle.ia_meaning.specs.declared.form.Function.TheVariants as function
-use Rattle.ia_meaning.specs.declared.form.Condition.{Condition}
-use Rattle.ia_meaning.specs.declared.form.Condition.TheVariants as condition
-use Rattle.ia_meaning.specs.declared.form.MovedWord.{MovedWord}
-use Rattle.ia_meaning.specs.declared.form.MovedWord.TheVariants as word
-use Rattle.ia_meaning.specs.declared.form.Form.{Form}
-use Rattle.ia_meaning.specs.declared.form.Form.TheVariants.{Compute, Fetch, Test, ToPredicates, ToBranch, ToApplication, FromMemory, ToMemory, Exchange, CheckNat, CheckAlat, ForgetAll, Forget, Allocate, Jump, JumpIndirect, Loop, Call, Return, ClearBases, Stop, Idle}
+use Rattle.ia_meaning.specs.declared.action.FetchSource.TheVariants as source
+use Rattle.ia_meaning.specs.declared.action.Goal.TheVariants as goal
+use Rattle.ia_meaning.specs.declared.action.Function.{Function}
+use Rattle.ia_meaning.specs.declared.action.Function.TheVariants as function
+use Rattle.ia_meaning.specs.declared.action.Condition.{Condition}
+use Rattle.ia_meaning.specs.declared.action.Condition.TheVariants as condition
+use Rattle.ia_meaning.specs.declared.action.MovedWord.{MovedWord}
+use Rattle.ia_meaning.specs.declared.action.MovedWord.TheVariants as word
+use Rattle.ia_meaning.specs.declared.action.Action.{Action}
+use Rattle.ia_meaning.specs.declared.action.Action.TheVariants.{Compute, Fetch, Test, ToPredicates, ToBranch, ToApplication, FromMemory, ToMemory, Exchange, CheckNat, CheckAlat, ForgetAll, Forget, Allocate, Jump, JumpIndirect, Loop, Call, Return, ClearBases, Stop, Idle}
 use Rattle.ia_meaning.specs.Arithmetic.{immediate, alu, shift_add, shift, shift_pair, extract, deposit, extend, compared, bit, tested}
 use Rattle.ia_meaning.specs.Lanes.{lanes}
 
@@ -36,66 +36,66 @@ addition p4 = if p4 then Addp4 else Add
 abbrev pub filling : Bool → ℤ
 filling ones = if ones then negsuc 0 else positive 0
 
-abbrev pub branch_form : BranchKind → ℤ → Form
-branch_form Cond disp = Jump disp
-branch_form kind disp = Loop kind disp
+abbrev pub branch_action : BranchKind → ℤ → Action
+branch_action Cond disp = Jump disp
+branch_action kind disp = Loop kind disp
 
--- r0 stands for an operand that a form has and the operation lacks: it reads 0, and no write reaches it.
-abbrev pub form_of : Op → Form
+-- r0 stands for an operand that an action has and the operation lacks: it reads 0, and no write reaches it.
+abbrev pub action_of : Op → Action
 -- A
-form_of (op.Alu f r1 r2 r3) = Compute r1 r2 r3 (function.Alu f)
-form_of (op.ShlAdd p4 r1 r2 count r3) = Compute r1 r2 r3 (function.ShiftAdd p4 count)
-form_of (op.AluImm8 f r1 imm r3) = Compute r1 0 r3 (function.AluImmediate f imm)
-form_of (op.AddImm14 p4 r1 imm r3) = Compute r1 0 r3 (function.AluImmediate (addition p4) imm)
-form_of (op.AddImm22 r1 imm r3) = Compute r1 0 r3 (function.AluImmediate Add imm)
-form_of (op.Cmp four rel kind p1 p2 r2 r3) = Test kind p1 p2 r2 r3 (condition.Compare four rel)
-form_of (op.CmpZero four rel kind p1 p2 r3) = Test kind p1 p2 0 r3 (condition.Compare four rel)
-form_of (op.CmpImm four rel kind p1 p2 imm r3) = Test kind p1 p2 0 r3 (condition.CompareImmediate four rel imm)
-form_of (op.Lane f size r1 r2 r3) = Compute r1 r2 r3 (function.Lanes f size)
+action_of (op.Alu f r1 r2 r3) = Compute r1 r2 r3 (function.Alu f)
+action_of (op.ShlAdd p4 r1 r2 count r3) = Compute r1 r2 r3 (function.ShiftAdd p4 count)
+action_of (op.AluImm8 f r1 imm r3) = Compute r1 0 r3 (function.AluImmediate f imm)
+action_of (op.AddImm14 p4 r1 imm r3) = Compute r1 0 r3 (function.AluImmediate (addition p4) imm)
+action_of (op.AddImm22 r1 imm r3) = Compute r1 0 r3 (function.AluImmediate Add imm)
+action_of (op.Cmp four rel kind p1 p2 r2 r3) = Test kind p1 p2 r2 r3 (condition.Compare four rel)
+action_of (op.CmpZero four rel kind p1 p2 r3) = Test kind p1 p2 0 r3 (condition.Compare four rel)
+action_of (op.CmpImm four rel kind p1 p2 imm r3) = Test kind p1 p2 0 r3 (condition.CompareImmediate four rel imm)
+action_of (op.Lane f size r1 r2 r3) = Compute r1 r2 r3 (function.Lanes f size)
 -- I
-form_of (op.ShiftVar f r1 value count) = Compute r1 value count (function.Shift f)
-form_of (op.Popcnt r1 r3) = Compute r1 0 r3 function.Popcount
-form_of (op.Shrp r1 r2 r3 count) = Compute r1 r2 r3 (function.ShiftPair count)
-form_of (op.Extr signed r1 r3 pos len) = Compute r1 0 r3 (function.Extract signed pos len)
-form_of (op.DepZ r1 r2 pos len) = Compute r1 r2 0 (function.Deposit pos len)
-form_of (op.DepZImm r1 imm pos len) = Compute r1 0 0 (function.DepositImmediate pos len imm)
-form_of (op.DepImm r1 ones r3 pos len) = Compute r1 0 r3 (function.DepositImmediate pos len (filling ones))
-form_of (op.Dep r1 r2 r3 pos len) = Compute r1 r2 r3 (function.Deposit pos len)
-form_of (op.Tbit unc p1 p2 r3 pos) = Test (test_kind unc) p1 p2 0 r3 (condition.BitIsZero pos)
-form_of (op.Tnat unc p1 p2 r3) = Test (test_kind unc) p1 p2 0 r3 condition.NatIsZero
-form_of (op.ChkS unit r2 disp) = CheckNat r2 disp
-form_of (op.MovToBr b1 r2 ret imp wh tag) = ToBranch b1 r2
-form_of (op.MovFromBr r1 b2) = Fetch r1 (source.Branch b2)
-form_of (op.MovToPr r2 mask) = ToPredicates r2 mask word.Register
-form_of (op.MovToPrRot imm) = ToPredicates 0 (2 ^ 16) (word.Immediate imm)
-form_of (op.MovFromIp r1) = Fetch r1 source.Ip
-form_of (op.MovFromPr r1) = Fetch r1 source.Predicates
-form_of (op.MovToAr ar r2) = ToApplication ar r2 word.Register
-form_of (op.MovToArImm ar imm) = ToApplication ar 0 (word.Immediate imm)
-form_of (op.MovFromAr r1 ar) = Fetch r1 (source.Application ar)
-form_of (op.Ext signed size r1 r3) = Compute r1 0 r3 (function.Extend signed size)
+action_of (op.ShiftVar f r1 value count) = Compute r1 value count (function.Shift f)
+action_of (op.Popcnt r1 r3) = Compute r1 0 r3 function.Popcount
+action_of (op.Shrp r1 r2 r3 count) = Compute r1 r2 r3 (function.ShiftPair count)
+action_of (op.Extr signed r1 r3 pos len) = Compute r1 0 r3 (function.Extract signed pos len)
+action_of (op.DepZ r1 r2 pos len) = Compute r1 r2 0 (function.Deposit pos len)
+action_of (op.DepZImm r1 imm pos len) = Compute r1 0 0 (function.DepositImmediate pos len imm)
+action_of (op.DepImm r1 ones r3 pos len) = Compute r1 0 r3 (function.DepositImmediate pos len (filling ones))
+action_of (op.Dep r1 r2 r3 pos len) = Compute r1 r2 r3 (function.Deposit pos len)
+action_of (op.Tbit unc p1 p2 r3 pos) = Test (test_kind unc) p1 p2 0 r3 (condition.BitIsZero pos)
+action_of (op.Tnat unc p1 p2 r3) = Test (test_kind unc) p1 p2 0 r3 condition.NatIsZero
+action_of (op.ChkS unit r2 disp) = CheckNat r2 disp
+action_of (op.MovToBr b1 r2 ret imp wh tag) = ToBranch b1 r2
+action_of (op.MovFromBr r1 b2) = Fetch r1 (source.Branch b2)
+action_of (op.MovToPr r2 mask) = ToPredicates r2 mask word.Register
+action_of (op.MovToPrRot imm) = ToPredicates 0 (2 ^ 16) (word.Immediate imm)
+action_of (op.MovFromIp r1) = Fetch r1 source.Ip
+action_of (op.MovFromPr r1) = Fetch r1 source.Predicates
+action_of (op.MovToAr ar r2) = ToApplication ar r2 word.Register
+action_of (op.MovToArImm ar imm) = ToApplication ar 0 (word.Immediate imm)
+action_of (op.MovFromAr r1 ar) = Fetch r1 (source.Application ar)
+action_of (op.Ext signed size r1 r3) = Compute r1 0 r3 (function.Extend signed size)
 -- M
-form_of (op.Load size kind hint r1 r3 update) = FromMemory size kind r1 r3 update
-form_of (op.Store size kind hint r3 r2 update) = ToMemory size kind r3 r2 update
-form_of (op.Xchg size hint r1 r3 r2) = Exchange size r1 r3 r2 None
-form_of (op.FetchAdd size release hint r1 r3 inc) = Exchange size r1 r3 0 (Some inc)
-form_of (op.ChkA clear r1 disp) = CheckAlat clear r1 disp
-form_of op.Invala = ForgetAll
-form_of op.Mf = Idle M
-form_of (op.InvalaE r1) = Forget r1
-form_of (op.Alloc r1 sof sol sor) = Allocate r1 sof sol sor
+action_of (op.Load size kind hint r1 r3 update) = FromMemory size kind r1 r3 update
+action_of (op.Store size kind hint r3 r2 update) = ToMemory size kind r3 r2 update
+action_of (op.Xchg size hint r1 r3 r2) = Exchange size r1 r3 r2 None
+action_of (op.FetchAdd size release hint r1 r3 inc) = Exchange size r1 r3 0 (Some inc)
+action_of (op.ChkA clear r1 disp) = CheckAlat clear r1 disp
+action_of op.Invala = ForgetAll
+action_of op.Mf = Idle M
+action_of (op.InvalaE r1) = Forget r1
+action_of (op.Alloc r1 sof sol sor) = Allocate r1 sof sol sor
 -- B
-form_of (op.Br kind wh many clr disp) = branch_form kind disp
-form_of (op.BrCall b1 wh many clr disp) = Call b1 (goal.Direct disp)
-form_of (op.BrInd b2 wh many clr) = JumpIndirect b2
-form_of (op.BrRet b2 wh many clr) = Return b2
-form_of (op.BrCallInd b1 b2 wh many clr) = Call b1 (goal.Indirect b2)
-form_of (op.Clrrrb pred_only) = ClearBases pred_only
+action_of (op.Br kind wh many clr disp) = branch_action kind disp
+action_of (op.BrCall b1 wh many clr disp) = Call b1 (goal.Direct disp)
+action_of (op.BrInd b2 wh many clr) = JumpIndirect b2
+action_of (op.BrRet b2 wh many clr) = Return b2
+action_of (op.BrCallInd b1 b2 wh many clr) = Call b1 (goal.Indirect b2)
+action_of (op.Clrrrb pred_only) = ClearBases pred_only
 -- X and the common ones
-form_of (op.Movl r1 imm) = Compute r1 0 0 (function.Immediate imm)
-form_of (op.Break unit imm) = Stop unit imm
-form_of (op.Nop unit imm) = Idle unit
-form_of (op.Hint unit imm) = Idle unit
+action_of (op.Movl r1 imm) = Compute r1 0 0 (function.Immediate imm)
+action_of (op.Break unit imm) = Stop unit imm
+action_of (op.Nop unit imm) = Idle unit
+action_of (op.Hint unit imm) = Idle unit
 
 -- the value of a function of the values of r2 and r3
 abbrev pub value_of : Function → ℕ → ℕ → ℕ
@@ -124,19 +124,19 @@ abbrev pub moved : MovedWord → ℕ → ℕ
 moved word.Register a = a
 moved (word.Immediate imm) a = immediate imm
 
--- the form of an instruction
-abbrev pub insn_form : Insn → Form
-insn_form insn = form_of insn.op
+-- the action of an instruction
+abbrev pub insn_action : Insn → Action
+insn_action insn = action_of insn.op
 
 -- a load, a store or an exchange
-abbrev pub accesses_memory : Form → Bool
+abbrev pub accesses_memory : Action → Bool
 accesses_memory (FromMemory size kind r1 r3 u) = true
 accesses_memory (ToMemory size kind r3 r2 u) = true
 accesses_memory (Exchange size r1 r3 r2 inc) = true
 accesses_memory f = false
 
 -- a branch, direct or indirect, loop branches, calls and returns among them
-abbrev pub is_branch : Form → Bool
+abbrev pub is_branch : Action → Bool
 is_branch (Jump disp) = true
 is_branch (JumpIndirect b2) = true
 is_branch (Loop kind disp) = true
@@ -145,17 +145,17 @@ is_branch (Return b2) = true
 is_branch f = false
 
 -- an indirect branch, a call or a return: it goes where a branch register says
-abbrev pub is_indirect : Form → Bool
+abbrev pub is_indirect : Action → Bool
 is_indirect (JumpIndirect b2) = true
 is_indirect (Call b1 (goal.Indirect b2)) = true
 is_indirect (Return b2) = true
 is_indirect f = false
 
-abbrev pub is_alloc : Form → Bool
+abbrev pub is_alloc : Action → Bool
 is_alloc (Allocate r1 sof sol sor) = true
 is_alloc f = false
 
 -- a slot that is an `alloc`
 abbrev pub allocates : Option Insn → Bool
 allocates None = false
-allocates (Some insn) = is_alloc (insn_form insn)
+allocates (Some insn) = is_alloc (insn_action insn)

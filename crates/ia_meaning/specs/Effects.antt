@@ -1,18 +1,18 @@
--- The effect of a slot: of each form once (volume 3, chapter 2).
+-- The effect of a slot: of each action once (volume 3, chapter 2).
 use Rattle.std.specs.Prelude.{ℕ, Bool, true, false, if◌then◌else◌, List, [], ◌∷◌, get_or, take, Result}
 use Rattle.ia_insn.specs.declared.insn.Insn.{Insn}
 use Rattle.ia_insn.specs.declared.ending.FaultKind.{FaultKind}
 use Rattle.ia_insn.specs.Programs.{Program}
-use Rattle.ia_meaning.specs.declared.form.Goal.{Goal}
-use Rattle.ia_meaning.specs.declared.form.Goal.TheVariants.{Direct, Indirect}
-use Rattle.ia_meaning.specs.declared.form.Form.{Form}
-use Rattle.ia_meaning.specs.declared.form.Form.TheVariants.{Compute, Fetch, Test, ToPredicates, ToBranch, ToApplication, FromMemory, ToMemory, Exchange, CheckNat, CheckAlat, ForgetAll, Forget, Allocate, Jump, JumpIndirect, Loop, Call, Return, ClearBases, Stop, Idle}
+use Rattle.ia_meaning.specs.declared.action.Goal.{Goal}
+use Rattle.ia_meaning.specs.declared.action.Goal.TheVariants.{Direct, Indirect}
+use Rattle.ia_meaning.specs.declared.action.Action.{Action}
+use Rattle.ia_meaning.specs.declared.action.Action.TheVariants.{Compute, Fetch, Test, ToPredicates, ToBranch, ToApplication, FromMemory, ToMemory, Exchange, CheckNat, CheckAlat, ForgetAll, Forget, Allocate, Jump, JumpIndirect, Loop, Call, Return, ClearBases, Stop, Idle}
 use Rattle.ia_meaning.specs.State.{Registers, Memory}
 use Rattle.ia_meaning.specs.declared.write.Write.{Write}
 use Rattle.ia_meaning.specs.declared.write.Write.TheVariants.{SetFrame}
 use Rattle.ia_meaning.specs.declared.write.FrameCause.TheVariants.{Renamed}
 use Rattle.ia_meaning.specs.Names.{spot, look, holds, predicate_spot}
-use Rattle.ia_meaning.specs.Actions.{insn_form, value_of, result_of, moved}
+use Rattle.ia_meaning.specs.Actions.{insn_action, value_of, result_of, moved}
 use Rattle.ia_meaning.specs.Outcomes.{Outcome, falls, goes, breaks}
 use Rattle.ia_meaning.specs.Moves.{computed, fetched, source_value, test_made, test_skipped, to_predicates, to_branch, to_application}
 use Rattle.ia_meaning.specs.Loads.{update_register, from_memory, to_memory, exchange, check_nat, check_alat, forget}
@@ -37,9 +37,9 @@ abbrev pub called : Goal → Site → List Write → Registers → Memory → Ou
 called (Direct disp) s ws r m = goes ws m (target_of s.bundle disp)
 called (Indirect b2) s ws r m = lands ws m (arrives s r b2)
 
--- The effect of a form that is executed, from these registers, this memory, and the UNAT that fills use. The values of
+-- The effect of an action that is executed, from these registers, this memory, and the UNAT that fills use. The values of
 -- all registers are looked up first.
-abbrev pub act : Site → Form → Registers → Memory → ℕ → Outcome
+abbrev pub act : Site → Action → Registers → Memory → ℕ → Outcome
 act s (Compute r1 r2 r3 f) r m unat = computed (value_of f) (spot r.frame r1) (look r r2) (look r r3) m
 act s (Fetch r1 source) r m unat = fetched (spot r.frame r1) (source_value s.bundle r source) m
 act s (Test kind p1 p2 r2 r3 c) r m unat =
@@ -67,15 +67,15 @@ act s (Stop unit imm) r m unat = breaks imm m
 act s (Idle unit) r m unat = falls [] m
 
 -- The effect of one whose qualifying predicate is 0: nothing but for `unc` tests and loop branches.
-abbrev pub skip : Site → Form → Registers → Memory → Outcome
+abbrev pub skip : Site → Action → Registers → Memory → Outcome
 skip s (Test kind p1 p2 r2 r3 c) r m = test_skipped kind (predicate_spot r.frame p1) (predicate_spot r.frame p2) m
 skip s (Loop kind disp) r m = turned (turn_of kind false r.lc r.ec) r.frame (target_of s.bundle disp) m
-skip s form r m = falls [] m
+skip s action r m = falls [] m
 
--- the effect of a form under a qualifying predicate
-abbrev pub guarded : Site → ℕ → Form → Registers → Memory → ℕ → Outcome
-guarded s qp form r m unat = if holds r qp then act s form r m unat else skip s form r m
+-- the effect of an action under a qualifying predicate
+abbrev pub guarded : Site → ℕ → Action → Registers → Memory → ℕ → Outcome
+guarded s qp action r m unat = if holds r qp then act s action r m unat else skip s action r m
 
 -- the effect of an instruction
 abbrev pub effect : Site → Insn → Registers → Memory → ℕ → Outcome
-effect s insn r m unat = guarded s insn.qp (insn_form insn) r m unat
+effect s insn r m unat = guarded s insn.qp (insn_action insn) r m unat

@@ -12,7 +12,7 @@ use Rattle.ia_meaning.specs.declared.write.Write.{Write}
 use Rattle.ia_meaning.specs.declared.write.Write.TheVariants.{SetBranch, SetPfs, SetEc, SetFrame}
 use Rattle.ia_meaning.specs.declared.write.FrameCause.TheVariants.{Resized}
 use Rattle.ia_meaning.specs.Names.{set_spot}
-use Rattle.ia_meaning.specs.Outcomes.{Outcome, falls, goes, faults}
+use Rattle.ia_meaning.specs.Outcomes.{Outcome, falls, goes, faults, unless}
 
 abbrev pub with_sizes : FrameShape → ℕ → ℕ → ℕ → FrameShape
 with_sizes f sof sol sor = record f { sof = sof; sol = sol; sor = sor }
@@ -94,12 +94,8 @@ return_fault base f =
     else if nat_lt base f.sol then Some Underflow
     else if nat_lt STACK_LIMIT (base - f.sol + f.sof) then Some StackLimit else None
 
-abbrev pub return_tried : Option FaultKind → FrameShape → ℕ → Result ℕ FaultKind → Memory → Outcome
-return_tried (Some k) f ec to m = faults k m
-return_tried None f ec to m = lands (SetFrame Resized f ∷ SetEc ec ∷ []) m to
-
 -- A return: the frame and EC of the previous function state, below this base.
 abbrev pub returned : ℕ → ℕ → Result ℕ FaultKind → Memory → Outcome
 returned base pfs to m =
-    return_tried (return_fault base (marked_frame base pfs))
-    (marked_frame (base - (marked_frame base pfs).sol) pfs) ((pfs / 2 ^ 52) % 2 ^ 6) to m
+    unless (return_fault base (marked_frame base pfs)) m
+    (lands (SetFrame Resized (marked_frame (base - (marked_frame base pfs).sol) pfs) ∷ SetEc ((pfs / 2 ^ 52) % 2 ^ 6) ∷ []) m to)

@@ -4,7 +4,7 @@ pub mod Names
 pub mod Arithmetic
 pub mod Lanes
 pub mod Actions
-pub mod FormRanges
+pub mod ActionRanges
 pub mod Outcomes
 pub mod Moves
 pub mod Loads

@@ -21,7 +21,7 @@ use Rattle.ia_meaning.specs.State.{zero_cell, Memory}
 use Rattle.ia_meaning.specs.declared.write.Write.{Write}
 use Rattle.ia_meaning.specs.Names.{set_spot}
 use Rattle.ia_meaning.specs.Arithmetic.{word, immediate, bit}
-use Rattle.ia_meaning.specs.Outcomes.{Outcome, falls, goes, faults}
+use Rattle.ia_meaning.specs.Outcomes.{Outcome, falls, goes, faults, unless}
 
 -- The fault of an access to so many bytes: an address that isn't a multiple of the size, and then bytes that aren't data.
 unfoldable pub access_fault : List ℕ → ℕ → ℕ → Option FaultKind
@@ -184,15 +184,11 @@ store_made size kind address x m ws = record {
   next = Falls;
 }
 
-abbrev pub store_tried : Option FaultKind → ℕ → StoreKind → ℕ → Cell → Memory → List Write → Outcome
-store_tried None size kind address x m ws = store_made size kind address x m ws
-store_tried (Some k) size kind address x m ws = faults k m
-
 -- A store of x to the address in the base, which stands at e.
 abbrev pub to_memory : ℕ → StoreKind → Update → Option Spot → Option Cell → Option Cell → Memory → Outcome
 to_memory size kind u (Some e) (Some base) (Some x) m =
     if base.nat || (x.nat && not (takes_nat kind)) then faults NatConsumed m
-    else store_tried (access_fault m.bytes base.value size) size kind base.value x m (base_writes u e base zero_cell)
+    else unless (access_fault m.bytes base.value size) m (store_made size kind base.value x m (base_writes u e base zero_cell))
 to_memory size kind u _ _ _ m = faults OutOfFrame m
 
 -- An exchange: what was there goes into d, without NaT, and of the entries those that it touches go.
@@ -207,15 +203,11 @@ exchange_made size inc d address x m = record {
   next = Falls;
 }
 
-abbrev pub exchange_tried : Option FaultKind → ℕ → Option ℤ → Spot → ℕ → ℕ → Memory → Outcome
-exchange_tried None size inc d address x m = exchange_made size inc d address x m
-exchange_tried (Some k) size inc d address x m = faults k m
-
 -- An exchange with x, or a sum with an increment, at the address in the base.
 abbrev pub exchange : ℕ → Option ℤ → Option Spot → Option Cell → Option Cell → Memory → Outcome
 exchange size inc (Some d) (Some base) (Some x) m =
     if base.nat || x.nat then faults NatConsumed m
-    else exchange_tried (access_fault m.bytes base.value size) size inc d base.value x.value m
+    else unless (access_fault m.bytes base.value size) m (exchange_made size inc d base.value x.value m)
 exchange size inc _ _ _ m = faults OutOfFrame m
 
 -- `chk.s`

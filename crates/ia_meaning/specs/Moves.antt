@@ -8,8 +8,8 @@ use Rattle.ia_insn.specs.declared.ending.FaultKind.TheVariants.{OutOfFrame, NatC
 use Rattle.ia_insn.specs.Addresses.{bundle_address}
 use Rattle.ia_meaning.specs.declared.state.Cell.{Cell}
 use Rattle.ia_meaning.specs.declared.state.AlatKey.{AlatKey as Spot}
-use Rattle.ia_meaning.specs.declared.form.Source.{Source}
-use Rattle.ia_meaning.specs.declared.form.Source.TheVariants as source
+use Rattle.ia_meaning.specs.declared.action.FetchSource.{FetchSource}
+use Rattle.ia_meaning.specs.declared.action.FetchSource.TheVariants as source
 use Rattle.ia_meaning.specs.State.{Registers, Memory}
 use Rattle.ia_meaning.specs.declared.write.Write.{Write}
 use Rattle.ia_meaning.specs.declared.write.Write.TheVariants.{SetPredicate, SetBranch, SetUnat, SetPfs, SetLc, SetEc}
@@ -44,7 +44,7 @@ application r Lc = r.lc
 application r Ec = r.ec
 
 -- what is copied in a bundle
-abbrev pub source_value : ℕ → Registers → Source → ℕ
+abbrev pub source_value : ℕ → Registers → FetchSource → ℕ
 source_value bundle r (source.Branch b) = get_or r.branches b 0
 source_value bundle r (source.Application ar) = application r ar
 source_value bundle r source.Predicates = predicate_word r.predicates

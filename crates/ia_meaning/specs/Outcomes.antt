@@ -1,5 +1,5 @@
 -- What a slot does.
-use Rattle.std.specs.Prelude.{ℕ, Bool, List, [], Option, None}
+use Rattle.std.specs.Prelude.{ℕ, Bool, List, [], Option, Some, None}
 use Rattle.ia_insn.specs.declared.ending.FaultKind.{FaultKind}
 use Rattle.ia_meaning.specs.declared.next.Next.{Next}
 use Rattle.ia_meaning.specs.declared.next.Next.TheVariants.{Falls, Goes, Breaks, Faults}
@@ -28,3 +28,8 @@ breaks imm m = record { writes = []; memory = m; spills = None; next = Breaks im
 -- a fault, which writes nothing and leaves the memory as it was
 abbrev pub faults : FaultKind → Memory → Outcome
 faults k m = record { writes = []; memory = m; spills = None; next = Faults k }
+
+-- what a slot does where there may be a fault
+abbrev pub unless : Option FaultKind → Memory → Outcome → Outcome
+unless None m o = o
+unless (Some k) m o = faults k m

@@ -2,14 +2,14 @@
 //! group and run, the resident range of the register stack and the printed state.
 //!
 //! The meaning stands in `specs/`, in whole numbers and lists; it speaks of no machine. Each operation
-//! is one row of a table that gives it a form, one of twenty-two, and each form has its effect once (Intel
+//! is one row of a table that gives it an action, one of twenty-two, and each action has its effect once (Intel
 //! Itanium Architecture Software Developer's Manual, volume 1, chapters 3 and 4, and volume 3, chapter 2).
-//! The code here is what the layers above share: the parts of a state, the form of an instruction, writes of
+//! The code here is what the layers above share: the parts of a state, the action of an instruction, writes of
 //! registers, how a slot goes on, the turn of a loop, and laws, which are functions that do nothing.
 #![tactic(auto)]
 
+mod action;
 mod ending;
-mod form;
 mod landings;
 mod laws;
 pub mod limits;
@@ -19,8 +19,10 @@ mod state;
 mod turn;
 mod write;
 
+pub use action::{
+    Action, Condition, FetchSource, Function, Goal, MovedWord, action_of, update_register,
+};
 pub use ending::end_or;
-pub use form::{Condition, Form, Function, Goal, MovedWord, Source, form_of, update_register};
 pub use landings::target_of;
 pub use laws::{
     addresses, entry_test, frame_test, law_codes, next_place, numbered_run_is_parallel,

@@ -7,9 +7,9 @@ use Rattle.ia_insn.specs.declared.choices.Unit.{Unit as ExecutionUnit}
 use Rattle.ia_insn.specs.declared.bundle.Slots.{Slots}
 use Rattle.ia_insn.specs.declared.bundle.Slots.TheVariants.{Three, Long}
 use Rattle.ia_insn.specs.Templates.{units_of}
-use Rattle.formats_b.specs.Laws.{OneInstructionX, OneLongWord}
+use Rattle.ia_insn.specs.Codes.{OneLongInstruction, OneLongWord}
 use Rattle.insn_codec.specs.Spelling.{StandIn, IsRawOf}
-use Rattle.insn_codec.specs.Laws.{OneInstruction, OneWord, OneBundle, OneSpelling}
+use Rattle.insn_codec.specs.Laws.{OneInstructionOfUnit, OneWordOfUnit, OneBundle, OneSpelling}
 use Rattle.insn_codec.proofs.Slots.{not_of_l, three_items, parts_of, same_bundle, same_number}
 
 -- bytes have one template and one choice of words
@@ -17,7 +17,7 @@ pub same_raw : OneRaw → (bytes : List ℕ) (x y : RawBundle) → IsRawOf bytes
 same_raw raws bytes x y first second = raws x y first.widths second.widths (first.number ∙ sym second.number)
 
 -- the words of slots are those of one choice of instructions
-same_slots : OneInstruction → OneInstructionX → (units : List ExecutionUnit) (s t : Slots) (words : List ℕ) → StandIn units s words → StandIn units t words → s ≡ t
+same_slots : OneInstructionOfUnit → OneLongInstruction → (units : List ExecutionUnit) (s t : Slots) (words : List ℕ) → StandIn units s words → StandIn units t words → s ≡ t
 same_slots one long (u ∷ v ∷ w ∷ []) (Three a b c) (Three x y z) words p q =
     let e = one u (slice_index words 0) a x p.0.code q.0.code in
     let f = one v (slice_index words 1) b y p.1.code q.1.code in
@@ -32,7 +32,7 @@ same_slots one long (u ∷ v ∷ w ∷ []) (Long a b) (Long x y) words p q =
 same_slots one long units s t words p q = absurd p
 
 -- bytes are those of one bundle
-pub one_bundle : OneRaw → OneInstruction → OneInstructionX → OneBundle
+pub one_bundle : OneRaw → OneInstructionOfUnit → OneLongInstruction → OneBundle
 one_bundle raws one long bytes b c s t =
     let p = parts_of b bytes t.raw s (same_raw raws bytes s.raw t.raw s.parts t.parts) in
     let q = parts_of c bytes t.raw t refl in
@@ -44,7 +44,7 @@ same_three x y m n first second third =
     sym (three_items 0 x m) ∙ (λ i. first i ∷ second i ∷ third i ∷ []) ∙ three_items 0 y n
 
 -- instructions have one choice of words
-same_words : OneWord → OneLongWord → (units : List ExecutionUnit) (s : Slots) (x y : List ℕ) → length x ≡ 3 → length y ≡ 3 → StandIn units s x → StandIn units s y → x ≡ y
+same_words : OneWordOfUnit → OneLongWord → (units : List ExecutionUnit) (s : Slots) (x y : List ℕ) → length x ≡ 3 → length y ≡ 3 → StandIn units s x → StandIn units s y → x ≡ y
 same_words one long (u ∷ v ∷ w ∷ []) (Three a b c) x y m n p q =
     same_three x y m n (one u a _ _ p.0.code q.0.code) (one v b _ _ p.1.code q.1.code) (one w c _ _ p.2.code q.2.code)
 same_words one long (u ∷ v ∷ w ∷ []) (Long a b) x y m n p q =
@@ -53,7 +53,7 @@ same_words one long (u ∷ v ∷ w ∷ []) (Long a b) x y m n p q =
 same_words one long units s x y m n p q = absurd p
 
 -- a bundle has one spelling
-pub one_spelling : OneBytes → OneWord → OneLongWord → OneSpelling
+pub one_spelling : OneBytes → OneWordOfUnit → OneLongWord → OneSpelling
 one_spelling bytes one long b x y s t =
     let words = same_words one long (units_of b.template) b.slots s.raw.slots t.raw.slots s.parts.widths.count t.parts.widths.count s.slots t.slots in
     bytes x y s.are t.are (sym s.parts.number ∙ same_number s.raw t.raw.template t.raw.slots (s.code ∙ sym t.code) words ∙ t.parts.number)

@@ -2,7 +2,7 @@
 -- first fault.
 use Rattle.std.specs.Prelude.{◌≡◌, ◌⊎◌, ℕ, List}
 use Rattle.bundle_bits.specs.RawBundle.{AreBytes}
-use Rattle.ia_insn.specs.declared.insn.Insn.{Insn}
+use Rattle.ia_insn.specs.Codes.{OneInstruction, OneWord}
 use Rattle.ia_insn.specs.declared.choices.Unit.{Unit as ExecutionUnit}
 use Rattle.ia_insn.specs.Bundles.{Bundle}
 use Rattle.insn_codec.specs.declared.bundle.SlotFault.{SlotFault}
@@ -11,12 +11,12 @@ use Rattle.insn_codec.specs.Spelling.{IsSpelled}
 use Rattle.insn_codec.specs.SlotFaults.{HasSlotFault}
 
 -- a word is that of at most one instruction of a unit
-abbrev pub OneInstruction : Type 0
-OneInstruction = (unit : ExecutionUnit) (word : ℕ) (i j : Insn) → UnitCode unit i word → UnitCode unit j word → i ≡ j
+abbrev pub OneInstructionOfUnit : Type 0
+OneInstructionOfUnit = (unit : ExecutionUnit) → OneInstruction (UnitCode unit)
 
 -- an instruction has at most one word of a unit
-abbrev pub OneWord : Type 0
-OneWord = (unit : ExecutionUnit) (i : Insn) (v w : ℕ) → UnitCode unit i v → UnitCode unit i w → v ≡ w
+abbrev pub OneWordOfUnit : Type 0
+OneWordOfUnit = (unit : ExecutionUnit) → OneWord (UnitCode unit)
 
 -- bytes are those of at most one bundle
 abbrev pub OneBundle : Type 0

@@ -3,12 +3,8 @@ use Rattle.std.specs.Prelude.{ℕ, ◌⊎◌}
 use Rattle.ia_insn.specs.declared.insn.Insn.{Insn}
 use Rattle.ia_insn.specs.declared.choices.Unit.{Unit as ExecutionUnit}
 use Rattle.ia_insn.specs.declared.choices.Unit.TheVariants.{M, I, F, B, L}
-use Rattle.ia_insn.specs.FormatsA.{IsListedA, CodeA}
-use Rattle.ia_insn.specs.FormatsI.{IsListedI, CodeI}
-use Rattle.ia_insn.specs.FormatsM.{IsListedM, CodeM}
-use Rattle.ia_insn.specs.FormatsB.{IsListedB, CodeB}
-use Rattle.ia_insn.specs.FormatsF.{IsListedF, CodeF}
-use Rattle.ia_insn.specs.FormatsX.{CodeX}
+use Rattle.ia_insn.specs.Listed.{IsListedA, IsListedI, IsListedM, IsListedB, IsListedF}
+use Rattle.ia_insn.specs.Codes.{CodeA, CodeI, CodeM, CodeB, CodeF, CodeX}
 use Rattle.ia_insn.specs.Fits.{Fits}
 
 -- An instruction of the unit has this word. A instructions are those of M and of I. In an L and an X

@@ -1,6 +1,6 @@
 //! The laws of bundles and their bytes.
 
-ghost use Rattle.insn_codec.specs.Laws.{OneInstruction, OneWord, OneBundle, OneSpelling, OneFault, NoFaultWhereSpelled, FaultWhereNoneSpelled, BundleOrFault};
+ghost use Rattle.insn_codec.specs.Laws.{OneInstructionOfUnit, OneWordOfUnit, OneBundle, OneSpelling, OneFault, NoFaultWhereSpelled, FaultWhereNoneSpelled, BundleOrFault};
 
 use crate::bundle::decode_bundle;
 use bundle_bits::{one_bytes, one_raw, some_raw};
@@ -11,7 +11,7 @@ use formats_b::{
 
 /// The law that a word is that of at most one instruction of a unit. It does nothing.
 fn one_instruction()
-    ensures { OneInstruction }
+    ensures { OneInstructionOfUnit }
 {
     opcode_is_high();
     formats_m::opcode_is_low();
@@ -25,7 +25,7 @@ fn one_instruction()
 
 /// The law that an instruction has at most one word of a unit. It does nothing.
 fn one_word()
-    ensures { OneWord }
+    ensures { OneWordOfUnit }
 {
     formats_a::one_word();
     formats_m::one_word();

@@ -2,7 +2,8 @@
 
 ghost use Rattle.std.specs.Prelude.{◌≡◌, ◌^◌, ◌<◌, Some, IfSome};
 ghost use Rattle.ia_insn.specs.declared.insn.Insn.{Insn};
-ghost use Rattle.ia_insn.specs.FormatsX.{IsListedX, CodeX};
+ghost use Rattle.ia_insn.specs.Listed.{IsListedX};
+ghost use Rattle.ia_insn.specs.Codes.{CodeX};
 ghost use Rattle.ia_insn.specs.declared.choices.Unit.TheVariants.{B};
 ghost use Rattle.insn_codec.specs.Slots.{UnitCode, IsOfUnit, IsInSlot};
 

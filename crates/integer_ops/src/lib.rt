@@ -1,13 +1,13 @@
 //! What integer instructions compute, on machine words (volume 3, chapter 2: the A and I instructions
 //! and `movl`).
 //!
-//! The contracts are the definitions of `ia_meaning`, in whole numbers. A form names what its instruction
+//! The contracts are the definitions of `ia_meaning`, in whole numbers. An action names what its instruction
 //! computes, and the functions here give the value of that for the values of its operands.
 #![tactic(auto)]
 
 ghost use Rattle.std.specs.Prelude.{◌≡◌, ◌||◌, if◌then◌else◌, Some, None};
 ghost use Rattle.ia_meaning.specs.Actions.{value_of, result_of, moved};
-ghost use Rattle.ia_meaning.specs.FormRanges.{IsFunction, IsCondition};
+ghost use Rattle.ia_meaning.specs.ActionRanges.{IsFunction, IsCondition};
 
 mod alu;
 mod compares;
@@ -23,9 +23,9 @@ use ia_meaning::{Cell, Condition, Function, MovedWord};
 use lane_ops::lanes;
 
 /// The value that a computation gives for the values of its operands r2 and r3 (volume 3, chapter 2). An
-/// operation with one operand, or with an immediate, reads the value in whose place its form has that
+/// operation with one operand, or with an immediate, reads the value in whose place its action has that
 /// register, and not the other.
-pub fn computed(function: &Function, a: u64, b: u64) -> u64
+pub fn value_of(function: &Function, a: u64, b: u64) -> u64
     requires ranges { IsFunction function.now }
     ensures { result ≡ value_of function.now a b }
 {
@@ -66,7 +66,7 @@ fn unless_nat(a: Cell, b: Cell, holds: bool) -> Option<bool>
 /// The result of a test of the registers r2 and r3 (volume 3, chapter 2, `cmp`, `cmp4`, `tbit` and
 /// `tnat`). It is None where one of them has NaT, but for `tnat`. r0, which reads 0 and has no NaT, stands
 /// for an operand that the operation lacks.
-pub fn tested(condition: &Condition, a: Cell, b: Cell) -> Option<bool>
+pub fn result_of(condition: &Condition, a: Cell, b: Cell) -> Option<bool>
     requires ranges { IsCondition condition.now }
     ensures { result ≡ result_of condition.now a b }
 {

@@ -24,6 +24,8 @@ mod resource_sets_tests;
 #[cfg(test)]
 mod sem_ops_tests;
 #[cfg(test)]
+mod stop_placer_tests;
+#[cfg(test)]
 mod trial_maker_tests;
 #[cfg(test)]
 mod watch_seam_tests;

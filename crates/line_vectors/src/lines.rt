@@ -1,6 +1,6 @@
 //! The rows of faults, and of lines that aren't slots.
 
-use asm_reading::{Line, Shape, read_line};
+use asm_reading::{Line, TemplateName, read_line};
 use asm_words::limits::LINE_LIMIT;
 use asm_words::{LineFault, Name};
 
@@ -44,19 +44,19 @@ pub fn is_line(rest: &str) -> bool {
 /// Whether a line is what the row says: a word, and after it what the line holds.
 fn is_what(line: &Line, what: &str) -> bool {
     let (kind, held) = what.split_once(' ').unwrap_or((what, ""));
-    kind == kind_of(line)
+    kind == name_of(line)
         && match line {
             Line::Label { name } | Line::Entry { name } => is_named(name, held),
             Line::Relation { predicates } => are_predicates(predicates.numbers(), held),
             Line::Numbers { size, values } => are_numbers(*size, values.numbers(), held),
             Line::Skip { count } => held.parse::<u32>() == Ok(*count),
-            Line::Open { shape } => held == shape_name(shape),
+            Line::Open { name } => held == template_name(name),
             _ => held.is_empty(),
         }
 }
 
 /// The word of the input for a kind of line.
-fn kind_of(line: &Line) -> &'static str {
+fn name_of(line: &Line) -> &'static str {
     match line {
         Line::Empty => "empty",
         Line::Label { .. } => "label",
@@ -80,18 +80,18 @@ fn is_named(name: &Name, bytes: &str) -> bool {
 }
 
 /// The name of a template in the input.
-fn shape_name(shape: &Shape) -> &'static str {
-    match shape {
-        Shape::Mii => "mii",
-        Shape::Mlx => "mlx",
-        Shape::Mmi => "mmi",
-        Shape::Mfi => "mfi",
-        Shape::Mmf => "mmf",
-        Shape::Mib => "mib",
-        Shape::Mbb => "mbb",
-        Shape::Bbb => "bbb",
-        Shape::Mmb => "mmb",
-        Shape::Mfb => "mfb",
+fn template_name(name: &TemplateName) -> &'static str {
+    match name {
+        TemplateName::Mii => "mii",
+        TemplateName::Mlx => "mlx",
+        TemplateName::Mmi => "mmi",
+        TemplateName::Mfi => "mfi",
+        TemplateName::Mmf => "mmf",
+        TemplateName::Mib => "mib",
+        TemplateName::Mbb => "mbb",
+        TemplateName::Bbb => "bbb",
+        TemplateName::Mmb => "mmb",
+        TemplateName::Mfb => "mfb",
     }
 }
 

@@ -6,7 +6,9 @@ use Rattle.ia_insn.specs.declared.choices.Unit.TheVariants as unit
 use Rattle.ia_insn.specs.declared.insn.Insn.{Insn}
 use Rattle.ia_insn.specs.declared.insn.Op.{Op}
 use Rattle.ia_insn.specs.declared.insn.Op.TheVariants as op
+use Rattle.ia_insn.specs.Ranges.{IsHintOf}
 use Rattle.ia_insn.specs.Listed.{IsListed}
+use Rattle.ia_insn.proofs.OperandRanges.{ranges_of_listed}
 use Rattle.asm_printing.proofs.Printed.{printed}
 use Rattle.asm_reading.specs.declared.line.Draft.{Draft}
 use Rattle.asm_build.specs.Drafts.{lettered}
@@ -22,93 +24,36 @@ guard qp x listed = (printed (record { qp = qp; op = x }) listed).0
 -- those of unit I with a number
 nop_listed : (qp imm : ℕ) → qp < 64 → imm < 2 ^ 21 → IsListedOp qp (op.Nop unit.I imm)
 nop_listed qp imm small narrow =
-    inr (inl (record { range = narrow; fit = (lit< tt, (omega arith, (lit< tt, (lit< tt, (lit< tt, (omega arith, (omega (arith, small), tt))))))) }))
+    inr (inl (record { row = tt; ranges = narrow; qualifier = tt; fit = (lit< tt, (omega arith, (lit< tt, (lit< tt, (lit< tt, (omega arith, (omega (arith, small), tt))))))) }))
 
 hint_listed : (qp imm : ℕ) → qp < 64 → imm < 2 ^ 21 → IsListedOp qp (op.Hint unit.I imm)
 hint_listed qp imm small narrow =
-    inr (inl (record { range = narrow; fit = (lit< tt, (omega arith, (lit< tt, (lit< tt, (lit< tt, (omega arith, (omega (arith, small), tt))))))) }))
+    inr (inl (record { row = tt; ranges = narrow; qualifier = tt; fit = (lit< tt, (omega arith, (lit< tt, (lit< tt, (lit< tt, (omega arith, (omega (arith, small), tt))))))) }))
 
 break_listed : (qp imm : ℕ) → qp < 64 → imm < 2 ^ 21 → IsListedOp qp (op.Break unit.I imm)
 break_listed qp imm small narrow =
-    inr (inl (record { range = narrow; fit = (lit< tt, (omega arith, (lit< tt, (lit< tt, (omega arith, (omega (arith, small), tt)))))) }))
+    inr (inl (record { row = tt; ranges = narrow; qualifier = tt; fit = (lit< tt, (omega arith, (lit< tt, (lit< tt, (omega arith, (omega (arith, small), tt)))))) }))
 
 -- the number of a hint is narrow
+narrow_hint : (u : ExecutionUnit) (imm : ℕ) → IsHintOf u imm → imm < 2 ^ 21
+narrow_hint unit.M imm h = h
+narrow_hint unit.I imm h = h
+narrow_hint unit.B imm h = h
+narrow_hint u imm h = absurd h
+
 hint_narrow : (qp imm : ℕ) (u : ExecutionUnit) → IsListedOp qp (op.Hint u imm) → imm < 2 ^ 21
-hint_narrow qp imm unit.M (inl h) = absurd h.range
-hint_narrow qp imm unit.M (inr (inl h)) = absurd h.range
-hint_narrow qp imm unit.M (inr (inr (inl h))) = h.range
-hint_narrow qp imm unit.M (inr (inr (inr (inl h)))) = absurd h.range
-hint_narrow qp imm unit.M (inr (inr (inr (inr (inl h))))) = absurd h.range
-hint_narrow qp imm unit.M (inr (inr (inr (inr (inr (h)))))) = absurd h.range
-hint_narrow qp imm unit.I (inl h) = absurd h.range
-hint_narrow qp imm unit.I (inr (inl h)) = h.range
-hint_narrow qp imm unit.I (inr (inr (inl h))) = absurd h.range
-hint_narrow qp imm unit.I (inr (inr (inr (inl h)))) = absurd h.range
-hint_narrow qp imm unit.I (inr (inr (inr (inr (inl h))))) = absurd h.range
-hint_narrow qp imm unit.I (inr (inr (inr (inr (inr (h)))))) = absurd h.range
-hint_narrow qp imm unit.F (inl h) = absurd h.range
-hint_narrow qp imm unit.F (inr (inl h)) = absurd h.range
-hint_narrow qp imm unit.F (inr (inr (inl h))) = absurd h.range
-hint_narrow qp imm unit.F (inr (inr (inr (inl h)))) = absurd h.range
-hint_narrow qp imm unit.F (inr (inr (inr (inr (inl h))))) = absurd h.range
-hint_narrow qp imm unit.F (inr (inr (inr (inr (inr (h)))))) = absurd h.range
-hint_narrow qp imm unit.B (inl h) = absurd h.range
-hint_narrow qp imm unit.B (inr (inl h)) = absurd h.range
-hint_narrow qp imm unit.B (inr (inr (inl h))) = absurd h.range
-hint_narrow qp imm unit.B (inr (inr (inr (inl h)))) = h.range
-hint_narrow qp imm unit.B (inr (inr (inr (inr (inl h))))) = absurd h.range
-hint_narrow qp imm unit.B (inr (inr (inr (inr (inr (h)))))) = absurd h.range
-hint_narrow qp imm unit.L (inl h) = absurd h.range
-hint_narrow qp imm unit.L (inr (inl h)) = absurd h.range
-hint_narrow qp imm unit.L (inr (inr (inl h))) = absurd h.range
-hint_narrow qp imm unit.L (inr (inr (inr (inl h)))) = absurd h.range
-hint_narrow qp imm unit.L (inr (inr (inr (inr (inl h))))) = absurd h.range
-hint_narrow qp imm unit.L (inr (inr (inr (inr (inr (h)))))) = absurd h.range
-hint_narrow qp imm unit.X (inl h) = absurd h.range
-hint_narrow qp imm unit.X (inr (inl h)) = absurd h.range
-hint_narrow qp imm unit.X (inr (inr (inl h))) = absurd h.range
-hint_narrow qp imm unit.X (inr (inr (inr (inl h)))) = absurd h.range
-hint_narrow qp imm unit.X (inr (inr (inr (inr (inl h))))) = absurd h.range
-hint_narrow qp imm unit.X (inr (inr (inr (inr (inr (h)))))) = absurd h.range
+hint_narrow qp imm u h = narrow_hint u imm (ranges_of_listed (record { qp = qp; op = op.Hint u imm }) h)
 
 -- a check of either unit is listed as one of unit M
 check_listed : (qp r2 : ℕ) (disp : ℤ) (u : ExecutionUnit) → IsListedOp qp (op.ChkS u r2 disp) → IsListedOp qp (op.ChkS unit.M r2 disp)
-check_listed qp r2 disp unit.M (inl h) = absurd h.range
-check_listed qp r2 disp unit.M (inr (inl h)) = absurd h.range
-check_listed qp r2 disp unit.M (inr (inr (inl h))) = inr (inr (inl h))
-check_listed qp r2 disp unit.M (inr (inr (inr (inl h)))) = absurd h.range
-check_listed qp r2 disp unit.M (inr (inr (inr (inr (inl h))))) = absurd h.range
-check_listed qp r2 disp unit.M (inr (inr (inr (inr (inr (h)))))) = absurd h.range
-check_listed qp r2 disp unit.I (inl h) = absurd h.range
-check_listed qp r2 disp unit.I (inr (inl h)) = inr (inr (inl (record { range = h.range; fit = (lit< tt, h.fit.1) })))
-check_listed qp r2 disp unit.I (inr (inr (inl h))) = absurd h.range
-check_listed qp r2 disp unit.I (inr (inr (inr (inl h)))) = absurd h.range
-check_listed qp r2 disp unit.I (inr (inr (inr (inr (inl h))))) = absurd h.range
-check_listed qp r2 disp unit.I (inr (inr (inr (inr (inr (h)))))) = absurd h.range
-check_listed qp r2 disp unit.F (inl h) = absurd h.range
-check_listed qp r2 disp unit.F (inr (inl h)) = absurd h.range
-check_listed qp r2 disp unit.F (inr (inr (inl h))) = absurd h.range
-check_listed qp r2 disp unit.F (inr (inr (inr (inl h)))) = absurd h.range
-check_listed qp r2 disp unit.F (inr (inr (inr (inr (inl h))))) = absurd h.range
-check_listed qp r2 disp unit.F (inr (inr (inr (inr (inr (h)))))) = absurd h.range
-check_listed qp r2 disp unit.B (inl h) = absurd h.range
-check_listed qp r2 disp unit.B (inr (inl h)) = absurd h.range
-check_listed qp r2 disp unit.B (inr (inr (inl h))) = absurd h.range
-check_listed qp r2 disp unit.B (inr (inr (inr (inl h)))) = absurd h.range
-check_listed qp r2 disp unit.B (inr (inr (inr (inr (inl h))))) = absurd h.range
-check_listed qp r2 disp unit.B (inr (inr (inr (inr (inr (h)))))) = absurd h.range
-check_listed qp r2 disp unit.L (inl h) = absurd h.range
-check_listed qp r2 disp unit.L (inr (inl h)) = absurd h.range
-check_listed qp r2 disp unit.L (inr (inr (inl h))) = absurd h.range
-check_listed qp r2 disp unit.L (inr (inr (inr (inl h)))) = absurd h.range
-check_listed qp r2 disp unit.L (inr (inr (inr (inr (inl h))))) = absurd h.range
-check_listed qp r2 disp unit.L (inr (inr (inr (inr (inr (h)))))) = absurd h.range
-check_listed qp r2 disp unit.X (inl h) = absurd h.range
-check_listed qp r2 disp unit.X (inr (inl h)) = absurd h.range
-check_listed qp r2 disp unit.X (inr (inr (inl h))) = absurd h.range
-check_listed qp r2 disp unit.X (inr (inr (inr (inl h)))) = absurd h.range
-check_listed qp r2 disp unit.X (inr (inr (inr (inr (inl h))))) = absurd h.range
-check_listed qp r2 disp unit.X (inr (inr (inr (inr (inr (h)))))) = absurd h.range
+check_listed qp r2 disp unit.M h = h
+check_listed qp r2 disp unit.I (inl h) = absurd h.row
+check_listed qp r2 disp unit.I (inr (inl h)) = inr (inr (inl (record { row = tt; ranges = h.ranges; qualifier = tt; fit = (lit< tt, h.fit.1) })))
+check_listed qp r2 disp unit.I (inr (inr (inl h))) = absurd h.row
+check_listed qp r2 disp unit.I (inr (inr (inr (inl h)))) = absurd h.row
+check_listed qp r2 disp unit.I (inr (inr (inr (inr (inl h))))) = absurd h.row
+check_listed qp r2 disp unit.I (inr (inr (inr (inr (inr h))))) = absurd h.row
+check_listed qp r2 disp u h = absurd (ranges_of_listed (record { qp = qp; op = op.ChkS u r2 disp }) h).0
 
 -- an operation without its unit letter, with the unit that it has then
 bare_listed : (qp : ℕ) (x : Op) → IsNarrow x → IsListedOp qp x → IsListedOp qp (lettered (bare_unit x) x)

@@ -112,7 +112,7 @@ fit_after s n (line.Skip count) related passed h = record {
   related = h.related;
   bytes = all_both IsByte s.declared.bytes (replicate count 0) h.bytes (zeros_small count);
 }
-fit_after s n (line.Open shape) related passed h = absurd passed.1.0
+fit_after s n (line.Open name) related passed h = absurd passed.1.0
 fit_after s n (line.Slot draft stop) related passed h = slot_fit s (record { item = item_of s.fresh n draft stop; target = draft.target }) 0 h passed.1.1.1.0
 fit_after s n line.Stop related passed h = stop_fit s h
 fit_after s n line.Close related passed h = absurd passed.1.0

@@ -21,12 +21,12 @@ use Rattle.asm_forms.specs.Naming.{named_forms}
 use Rattle.asm_forms.specs.Rows.{row_of}
 use Rattle.asm_reading.specs.declared.line.Line.{Line}
 use Rattle.asm_reading.specs.declared.line.Line.TheVariants as line
-use Rattle.asm_reading.specs.declared.line.Shape.{Shape}
+use Rattle.asm_reading.specs.declared.line.TemplateName.{TemplateName}
 use Rattle.ia_insn.specs.declared.insn.Op.{Op}
 use Rattle.asm_forms.specs.Items.{taken}
 use Rattle.asm_reading.specs.Instructions.{op_of}
 use Rattle.asm_reading.specs.Operands.{bytes}
-use Rattle.asm_reading.specs.Lines.{KindAndText, ◌>>=◌, or_fault, tokens, texts, name_of, label_name, lead_at, ends_in_stop, without_stop, predicate_of, draft_of, completers_or_none, slot_under, slot_of, data_field, agreed_data, numbers_of, data_fault, data_of, named, directive_value, directive_of, alone, formed, among, marked, shape_of, opened_as, opened, mark_led, led_by, led_at, led, is_name_word, is_colon, label_of, value_of, reading_of}
+use Rattle.asm_reading.specs.Lines.{KindAndText, ◌>>=◌, or_fault, tokens, texts, name_of, label_name, lead_at, ends_in_stop, without_stop, predicate_of, draft_of, completers_or_none, slot_under, slot_of, data_field, agreed_data, numbers_of, data_fault, data_of, named, directive_value, directive_of, alone, formed, among, marked, template_name_of, opened_as, opened, mark_led, led_by, led_at, led, is_name_word, is_colon, label_of, value_of, reading_of}
 use Rattle.asm_reading.specs.Related.{IsRelated}
 use Rattle.asm_reading.specs.Relations.{named_predicates, agreed_relation, relation_fault, relation_of}
 use Rattle.asm_reading.proofs.NamedPredicates.{are_predicates}
@@ -122,13 +122,13 @@ marked_relates value [] [] h = h
 marked_relates value [] (w ∷ after) h = tt
 marked_relates value (b ∷ before) after h = tt
 
-shape_relates : (o : Option Shape) (before after : List KindAndText) → Relates (opened_as o before after)
-shape_relates None before after = tt
-shape_relates (Some s) before after = marked_relates (line.Open s) before after tt
+template_name_relates : (o : Option TemplateName) (before after : List KindAndText) → Relates (opened_as o before after)
+template_name_relates None before after = tt
+template_name_relates (Some s) before after = marked_relates (line.Open s) before after tt
 
 opened_relates : (before after : List KindAndText) → Relates (opened before after)
 opened_relates before [] = tt
-opened_relates before (w ∷ after) = shape_relates (shape_of w.1) before after
+opened_relates before (w ∷ after) = template_name_relates (template_name_of w.1) before after
 
 mark_relates : (x : Token) (before after : List KindAndText) → Relates (mark_led x before after)
 mark_relates t.Stop before after = marked_relates line.Stop before after tt

@@ -41,7 +41,7 @@ has_narrow_number (line.Slot draft stop) = narrow_where draft.bare draft.insn.op
 has_narrow_number value = yes tt
 
 may_stand : (s : LooseParts) (value : Line) → Dec (MayStand s value)
-may_stand s (line.Open shape) = no (λ h. h)
+may_stand s (line.Open name) = no (λ h. h)
 may_stand s line.Close = no (λ h. h)
 may_stand s (line.Slot draft stop) = is_in section.Text s.declared
 may_stand s line.Stop = both (is_in section.Text s.declared) (dec_le 1 (length s.items))

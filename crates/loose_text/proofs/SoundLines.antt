@@ -175,7 +175,7 @@ sound_after s n (line.Numbers size values) listed passed h = data_sound s _ h re
 sound_after s n (line.Skip count) listed passed h =
     let zeros : length {A = ℕ} (replicate count 0) ≡ count = length-replicate count 0 in
     data_sound s _ h refl refl (longer s.declared.bytes (replicate count 0) (rw zeros passed.1.1.1.0))
-sound_after s n (line.Open shape) listed passed h = absurd passed.1.0
+sound_after s n (line.Open name) listed passed h = absurd passed.1.0
 sound_after s n (line.Slot draft stop) listed passed h = slot_sound s _ h refl (draft_listed draft listed passed.0)
 sound_after s n line.Stop listed passed h = stop_sound s h
 sound_after s n line.Close listed passed h = absurd passed.1.0

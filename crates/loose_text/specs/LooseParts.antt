@@ -90,7 +90,7 @@ HasNarrowNumber value = ⊤
 -- A line may stand here: there are no bundles, slots and relations stand in text and data in data, and a stop after a
 -- slot.
 abbrev pub MayStand : LooseParts → Line → Type 0
-MayStand s (line.Open shape) = ⊥
+MayStand s (line.Open name) = ⊥
 MayStand s line.Close = ⊥
 MayStand s (line.Slot draft stop) = IsIn section.Text s.declared
 MayStand s line.Stop = IsIn section.Text s.declared × (1 ≤ length s.items)

@@ -8,7 +8,7 @@ use Rattle.asm_build.specs.declared.reason.TextError.TheVariants.{Fault}
 use Rattle.asm_build.specs.Names.{named, all_declared, earlier, or_none, padded}
 use Rattle.asm_build.specs.Relations.{all_related, relation_stages}
 use Rattle.asm_build.specs.TextParts.{Labels, address_of, AreLabelsBelow}
-use Rattle.asm_build.specs.TextReading.{text_lines, found, first_of, Reading, AllSayBy, HasFaultBy}
+use Rattle.asm_build.specs.TextReading.{text_lines, found, first_of, LineReading, AllSayBy, HasFaultBy}
 use Rattle.loose_text.specs.declared.item.ItemLine.{ItemLine}
 use Rattle.loose_text.specs.LooseParts.{LooseParts, start, items_of, after, value_stages}
 use Rattle.loose_text.specs.LooseTexts.{Loose, IsItemEntry}
@@ -45,7 +45,7 @@ end_stages count s =
     ∷ []
 
 -- How a loose text is read.
-abbrev pub loose_reading : Reading LooseParts
+abbrev pub loose_reading : LineReading LooseParts
 loose_reading = record { start = start; after = after; stages = value_stages; ends = end_stages }
 
 -- The text reads as the loose text.

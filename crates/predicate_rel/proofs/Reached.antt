@@ -6,15 +6,15 @@ use Rattle.ia_insn.specs.declared.choices.CmpKind.{CmpKind}
 use Rattle.ia_insn.specs.declared.choices.CmpKind.TheVariants as cmp
 use Rattle.ia_insn.specs.declared.choices.BranchKind.{BranchKind}
 use Rattle.ia_insn.specs.declared.choices.BranchKind.TheVariants as branch
-use Rattle.ia_meaning.specs.declared.form.Form.{Form}
-use Rattle.ia_meaning.specs.declared.form.Form.TheVariants as form
+use Rattle.ia_meaning.specs.declared.action.Action.{Action}
+use Rattle.ia_meaning.specs.declared.action.Action.TheVariants as action
 use Rattle.predicate_rel.specs.declared.edge.Edge.{Edge}
 use Rattle.predicate_rel.specs.declared.edge.Edge.TheVariants.{Falls, Taken}
 use Rattle.predicate_rel.specs.declared.rows.Kept.{Kept}
 use Rattle.predicate_rel.specs.declared.rows.Kept.TheVariants.{Own, Guard, Both}
 use Rattle.predicate_rel.specs.Pairs.{Pairs, has_bit, in_range}
 use Rattle.predicate_rel.specs.Changes.{AgreeOutside}
-use Rattle.predicate_rel.specs.Rules.{PairRule, always, never, one, two, is_met, kept_rule, by_written, partner, written_rule, is_target, normal_targets, or_andcm_kept, test_rule, raised_rule, is_moved, falls_rule, static_rule, name_before, rotated_rule, loop_rule, form_rule, pairs_by}
+use Rattle.predicate_rel.specs.Rules.{PairRule, always, never, one, two, is_met, kept_rule, by_written, partner, written_rule, is_target, normal_targets, or_andcm_kept, test_rule, raised_rule, is_moved, falls_rule, static_rule, name_before, rotated_rule, loop_rule, action_rule, pairs_by}
 use Rattle.predicate_rel.proofs.PairLemmas.{in_range_parts}
 
 -- two pairs that are there in one set where they are in the other
@@ -80,10 +80,10 @@ falls_same : (g x y : ℕ) (f h : Pairs) → ((z : ℕ) → f x z ≡ h x z) →
 falls_same g x y f h own = choice_same (eqb x g || eqb y g || (eqb x y && eqb g 0)) always (one x y) f h refl (own y)
 
 -- Whether a row of the word has a part in the row x past an instruction.
-abbrev pub has_part : Form → (g w x : ℕ) → Bool
-has_part (form.Test kind p1 p2 r2 r3 c) g w x = (has_bit w x || (has_bit w p1 && eqb x p2)) || has_bit w g
-has_part (form.ToPredicates r2 mask word) g w x = has_bit w x || has_bit w g
-has_part (form.Loop kind disp) g w x = has_bit w x || has_bit w (x - 1)
+abbrev pub has_part : Action → (g w x : ℕ) → Bool
+has_part (action.Test kind p1 p2 r2 r3 c) g w x = (has_bit w x || (has_bit w p1 && eqb x p2)) || has_bit w g
+has_part (action.ToPredicates r2 mask word) g w x = has_bit w x || has_bit w g
+has_part (action.Loop kind disp) g w x = has_bit w x || has_bit w (x - 1)
 has_part a g w x = has_bit w x
 
 -- the name before a rotation is one that has a part
@@ -95,8 +95,8 @@ before_same w x f h agree own before z = by_bool (nat_lt x 16)
     by_bool false = agree.same (x - 1) z before
 
 -- rules are met by both sets in each row in which none of those that differ has a part
-form_same : (a : Form) (edge : Edge) (g w x y : ℕ) (f h : Pairs) → AgreeOutside w f h → has_part a g w x ≡ false → is_met (form_rule a edge g x y) f ≡ is_met (form_rule a edge g x y) h
-form_same (form.Test kind p1 p2 r2 r3 c) edge g w x y f h agree none =
+action_same : (a : Action) (edge : Edge) (g w x y : ℕ) (f h : Pairs) → AgreeOutside w f h → has_part a g w x ≡ false → is_met (action_rule a edge g x y) f ≡ is_met (action_rule a edge g x y) h
+action_same (action.Test kind p1 p2 r2 r3 c) edge g w x y f h agree none =
     let parts = or_parts (has_bit w x || (has_bit w p1 && eqb x p2)) (has_bit w g) none in
     let own = or_parts (has_bit w x) (has_bit w p1 && eqb x p2) parts.0 in
     test_same kind p1 p2 g x y f h (λ z. agree.same x z own.0) (λ z. agree.same g z parts.1) (λ e z. agree.same p1 z (second (and_cases (has_bit w p1) (eqb x p2) own.1) e))
@@ -104,27 +104,27 @@ form_same (form.Test kind p1 p2 r2 r3 c) edge g w x y f h agree none =
     second : (has_bit w p1 ≡ false) ⊎ (eqb x p2 ≡ false) → eqb x p2 ≡ true → has_bit w p1 ≡ false
     second (inl n) e = n
     second (inr n) e = absurd (true≢false (sym e ∙ n))
-form_same (form.ToPredicates r2 mask word) edge g w x y f h agree none =
+action_same (action.ToPredicates r2 mask word) edge g w x y f h agree none =
     let parts = or_parts (has_bit w x) (has_bit w g) none in
     raised_same (is_moved mask) g x y f h (λ z. agree.same x z parts.0) (λ z. agree.same g z parts.1)
-form_same (form.Jump disp) Falls g w x y f h agree none = falls_same g x y f h (λ z. agree.same x z none)
-form_same (form.Call b1 goal) Falls g w x y f h agree none = falls_same g x y f h (λ z. agree.same x z none)
-form_same (form.JumpIndirect b2) Falls g w x y f h agree none = falls_same g x y f h (λ z. agree.same x z none)
-form_same (form.Return b2) Falls g w x y f h agree none = falls_same g x y f h (λ z. agree.same x z none)
-form_same (form.Stop unit imm) Falls g w x y f h agree none = falls_same g x y f h (λ z. agree.same x z none)
-form_same (form.Call b1 goal) Taken g w x y f h agree none = static_same x y f h (λ z. agree.same x z none)
-form_same (form.ClearBases pred_only) edge g w x y f h agree none = static_same x y f h (λ z. agree.same x z none)
-form_same (form.Loop kind disp) edge g w x y f h agree none =
+action_same (action.Jump disp) Falls g w x y f h agree none = falls_same g x y f h (λ z. agree.same x z none)
+action_same (action.Call b1 goal) Falls g w x y f h agree none = falls_same g x y f h (λ z. agree.same x z none)
+action_same (action.JumpIndirect b2) Falls g w x y f h agree none = falls_same g x y f h (λ z. agree.same x z none)
+action_same (action.Return b2) Falls g w x y f h agree none = falls_same g x y f h (λ z. agree.same x z none)
+action_same (action.Stop unit imm) Falls g w x y f h agree none = falls_same g x y f h (λ z. agree.same x z none)
+action_same (action.Call b1 goal) Taken g w x y f h agree none = static_same x y f h (λ z. agree.same x z none)
+action_same (action.ClearBases pred_only) edge g w x y f h agree none = static_same x y f h (λ z. agree.same x z none)
+action_same (action.Loop kind disp) edge g w x y f h agree none =
     let parts = or_parts (has_bit w x) (has_bit w (x - 1)) none in
     loop_same kind edge x y f h (λ z. agree.same x z parts.0) (before_same w x f h agree parts.0 parts.1)
-form_same a edge g w x y f h agree none = agree.same x y none
+action_same a edge g w x y f h agree none = agree.same x y none
 
 -- So what follows from two sets agrees in the rows in which none has a part.
-pub agree_past : (a : Form) (g w r : ℕ) → ((x : ℕ) → x < 64 → has_bit r x ≡ false → has_part a g w x ≡ false) → (edge : Edge) (f h : Pairs) → AgreeOutside w f h → AgreeOutside r (pairs_by f (form_rule a edge g)) (pairs_by h (form_rule a edge g))
+pub agree_past : (a : Action) (g w r : ℕ) → ((x : ℕ) → x < 64 → has_bit r x ≡ false → has_part a g w x ≡ false) → (edge : Edge) (f h : Pairs) → AgreeOutside w f h → AgreeOutside r (pairs_by f (action_rule a edge g)) (pairs_by h (action_rule a edge g))
 agree_past a g w r parts edge f h agree = record { same = λ x y none. by_range x y none (in_range x y) refl }
   where
-    by_range : (x y : ℕ) → has_bit r x ≡ false → (b : Bool) → in_range x y ≡ b → (b && is_met (form_rule a edge g x y) f) ≡ (b && is_met (form_rule a edge g x y) h)
-    by_range x y none true e = form_same a edge g w x y f h agree (parts x (in_range_parts x y e).0 none)
+    by_range : (x y : ℕ) → has_bit r x ≡ false → (b : Bool) → in_range x y ≡ b → (b && is_met (action_rule a edge g x y) f) ≡ (b && is_met (action_rule a edge g x y) h)
+    by_range x y none true e = action_same a edge g w x y f h agree (parts x (in_range_parts x y e).0 none)
     by_range x y none false e = refl
 
 -- the row before has a part in a loop's where a word that is moved up has the bit

@@ -20,10 +20,10 @@ use Rattle.ia_meaning.specs.declared.next.Next.TheVariants as next
 use Rattle.ia_meaning.specs.State.{Registers, Memory, State}
 use Rattle.ia_meaning.specs.Landings.{is_entry, landing, arrival, breaks_relation}
 use Rattle.ia_meaning.specs.Outcomes.{Outcome}
-use Rattle.ia_meaning.specs.declared.form.Form.{Form}
-use Rattle.ia_meaning.specs.declared.form.Goal.TheVariants.{Indirect}
-use Rattle.ia_meaning.specs.declared.form.Form.TheVariants.{Test, JumpIndirect, Loop, Call, Return}
-use Rattle.ia_meaning.specs.Actions.{form_of, is_indirect}
+use Rattle.ia_meaning.specs.declared.action.Action.{Action}
+use Rattle.ia_meaning.specs.declared.action.Goal.TheVariants.{Indirect}
+use Rattle.ia_meaning.specs.declared.action.Action.TheVariants.{Test, JumpIndirect, Loop, Call, Return}
+use Rattle.ia_meaning.specs.Actions.{action_of, is_indirect}
 use Rattle.ia_meaning.specs.Effects.{Site, site, act, skip, effect}
 use Rattle.ia_meaning.specs.Sequence.{first_of, next_of, is_stopped}
 use Rattle.ia_meaning.specs.Steps.{Step, settled, registers_after, outcome_of, how_falling, place_after, step_by, step_of, seq_step}
@@ -45,7 +45,7 @@ abbrev closed : Site → Site
 closed s = record { bundle = s.bundle; arrival = λ _ _. Err BadLanding }
 
 -- what isn't an indirect branch does the same there
-act_closed : (s : Site) (o : Op) (r : Registers) (m : Memory) (unat : ℕ) → is_indirect (form_of o) ≡ false → act s (form_of o) r m unat ≡ act (closed s) (form_of o) r m unat
+act_closed : (s : Site) (o : Op) (r : Registers) (m : Memory) (unat : ℕ) → is_indirect (action_of o) ≡ false → act s (action_of o) r m unat ≡ act (closed s) (action_of o) r m unat
 act_closed s (op.BrInd b2 wh many clr) r m unat n = absurd (cc)
 act_closed s (op.BrRet b2 wh many clr) r m unat n = absurd (cc)
 act_closed s (op.BrCallInd b1 b2 wh many clr) r m unat n = absurd (cc)
@@ -53,18 +53,18 @@ act_closed s (op.Br Cond wh many clr disp) r m unat n = refl
 act_closed s (op.Br kind wh many clr disp) r m unat n = refl
 act_closed s o r m unat n = refl
 
-skip_closed : (s : Site) (form : Form) (r : Registers) (m : Memory) → skip s form r m ≡ skip (closed s) form r m
+skip_closed : (s : Site) (action : Action) (r : Registers) (m : Memory) → skip s action r m ≡ skip (closed s) action r m
 skip_closed s (Loop kind disp) r m = refl
-skip_closed s form r m = refl
+skip_closed s action r m = refl
 
-effect_closed : (s : Site) (insn : Insn) (r : Registers) (m : Memory) (unat : ℕ) → is_indirect (form_of insn.op) ≡ false → effect s insn r m unat ≡ effect (closed s) insn r m unat
-effect_closed s insn r m unat n = rw (act_closed s insn.op r m unat n, skip_closed s (form_of insn.op) r m) refl
+effect_closed : (s : Site) (insn : Insn) (r : Registers) (m : Memory) (unat : ℕ) → is_indirect (action_of insn.op) ≡ false → effect s insn r m unat ≡ effect (closed s) insn r m unat
+effect_closed s insn r m unat n = rw (act_closed s insn.op r m unat n, skip_closed s (action_of insn.op) r m) refl
 
 -- where an instruction in a bundle goes to: its target, or, where it is an indirect branch, an entry whose relations the
 -- first sixteen predicates don't break
 abbrev IsWayOf : Program → ℕ → List Bool → Insn → ℕ → Type 0
 IsWayOf p bundle low insn to =
-    (target_at bundle (displacement_of (form_of insn.op)) ≡ Some (first_of to))
+    (target_at bundle (displacement_of (action_of insn.op)) ≡ Some (first_of to))
     ⊎ (IsIndirect insn × IsEntry p to × (breaks_relation p low to ≡ false))
 
 -- an address on which a branch lands is that of an entry
@@ -84,18 +84,18 @@ module _ (p : Program) (bundle : ℕ) (insn : Insn) (r : Registers) (m : Memory)
   to_target : IsGoodTarget (IsWayOf p bundle Low insn) bundle (displacement insn.op)
   to_target = of (displacement insn.op) (same_displacement insn.op)
     where
-      of : (d : Option ℤ) → displacement_of (form_of insn.op) ≡ d → IsGoodTarget (IsWayOf p bundle Low insn) bundle d
+      of : (d : Option ℤ) → displacement_of (action_of insn.op) ≡ d → IsGoodTarget (IsWayOf p bundle Low insn) bundle d
       of None e = tt
       of (Some disp) e = inl (ap (target_at bundle) e)
 
-  to_entry : is_indirect (form_of insn.op) ≡ true → AreGoodLandings (IsWayOf p bundle Low insn) (site p bundle) Low
+  to_entry : is_indirect (action_of insn.op) ≡ true → AreGoodLandings (IsWayOf p bundle Low insn) (site p bundle) Low
   to_entry indirect address =
       IfOk-weaker (arrival p Low address) _ _ (λ to kept. inr (indirect, kept.0, kept.1)) (arrived_keeps p Low (landing p address) (IsEntry p) (landing_entry p address))
 
   effect_goes : IsGoodWay (IsWayOf p bundle Low insn) (effect (site p bundle) insn r m unat)
-  effect_goes = by_test (is_indirect (form_of insn.op)) refl
+  effect_goes = by_test (is_indirect (action_of insn.op)) refl
     where
-      by_test : (b : Bool) → is_indirect (form_of insn.op) ≡ b → IsGoodWay (IsWayOf p bundle Low insn) (effect (site p bundle) insn r m unat)
+      by_test : (b : Bool) → is_indirect (action_of insn.op) ≡ b → IsGoodWay (IsWayOf p bundle Low insn) (effect (site p bundle) insn r m unat)
       by_test true e = effect_on (IsWayOf p bundle Low insn) (site p bundle) insn r m unat (to_entry e) to_target
       by_test false e = subst (IsGoodWay (IsWayOf p bundle Low insn)) (sym (effect_closed (site p bundle) insn r m unat e))
           (effect_on (IsWayOf p bundle Low insn) (closed (site p bundle)) insn r m unat (λ address. tt) to_target)
@@ -104,30 +104,30 @@ module _ (p : Program) (bundle : ℕ) (insn : Insn) (r : Registers) (m : Memory)
 abbrev LeavesPredicates : Registers → Outcome → Type 0
 LeavesPredicates r o = (registers_after o r).predicates ≡ r.predicates
 
-indirect_act : (s : Site) (form : Form) (r : Registers) (m : Memory) (unat : ℕ) → is_indirect form ≡ true → LeavesPredicates r (act s form r m unat)
+indirect_act : (s : Site) (action : Action) (r : Registers) (m : Memory) (unat : ℕ) → is_indirect action ≡ true → LeavesPredicates r (act s action r m unat)
 indirect_act s (JumpIndirect b2) r m unat e = act_cases (LeavesPredicates r) s (JumpIndirect b2) r m unat (λ kind. refl, λ to k. refl)
 indirect_act s (Call b1 (Indirect b2)) r m unat e = act_cases (LeavesPredicates r) s (Call b1 (Indirect b2)) r m unat (λ kind. refl, λ to k. refl)
 indirect_act s (Return b2) r m unat e = act_cases (LeavesPredicates r) s (Return b2) r m unat (λ kind. refl, λ to k l. refl)
-indirect_act s form r m unat e = absurd (cc)
+indirect_act s action r m unat e = absurd (cc)
 
-indirect_skip : (s : Site) (form : Form) (r : Registers) (m : Memory) → is_indirect form ≡ true → LeavesPredicates r (skip s form r m)
+indirect_skip : (s : Site) (action : Action) (r : Registers) (m : Memory) → is_indirect action ≡ true → LeavesPredicates r (skip s action r m)
 indirect_skip s (Test kind p1 p2 r2 r3 c) r m e = absurd (cc)
 indirect_skip s (Loop kind disp) r m e = absurd (cc)
-indirect_skip s form r m e = refl
+indirect_skip s action r m e = refl
 
-indirect_leaves : (s : Site) (insn : Insn) (r : Registers) (m : Memory) (unat : ℕ) → is_indirect (form_of insn.op) ≡ true → LeavesPredicates r (effect s insn r m unat)
+indirect_leaves : (s : Site) (insn : Insn) (r : Registers) (m : Memory) (unat : ℕ) → is_indirect (action_of insn.op) ≡ true → LeavesPredicates r (effect s insn r m unat)
 indirect_leaves s insn r m unat e = by_guard (holds r insn.qp)
   where
-    by_guard : (b : Bool) → LeavesPredicates r (if b then act s (form_of insn.op) r m unat else skip s (form_of insn.op) r m)
-    by_guard true = indirect_act s (form_of insn.op) r m unat e
-    by_guard false = indirect_skip s (form_of insn.op) r m e
+    by_guard : (b : Bool) → LeavesPredicates r (if b then act s (action_of insn.op) r m unat else skip s (action_of insn.op) r m)
+    by_guard true = indirect_act s (action_of insn.op) r m unat e
+    by_guard false = indirect_skip s (action_of insn.op) r m e
 
 settled_leaves : (r : Registers) (next : Option Place) (m : Memory) (way : Next) (o : Outcome) → LeavesPredicates r o → LeavesPredicates r (settled next m way o)
 settled_leaves r None m next.Falls o h = refl
 settled_leaves r next m way o h = h
 
 -- an instruction that falls through may do so
-leaving_op : (o : Op) → leaves (form_of o) ≡ true → IsLeaving o
+leaving_op : (o : Op) → leaves (action_of o) ≡ true → IsLeaving o
 leaving_op (op.Br Cond wh many clr disp) h = tt
 leaving_op (op.Br kind wh many clr disp) h = absurd (cc)
 leaving_op (op.BrCall b1 wh many clr disp) h = tt
@@ -138,9 +138,9 @@ leaving_op (op.Break unit imm) h = tt
 leaving_op o h = absurd (cc)
 
 falling_may : (s : Site) (insn : Insn) (r : Registers) (m : Memory) (unat : ℕ) → (effect s insn r m unat).next ≡ next.Falls → may_fall insn ≡ true
-falling_may s insn r m unat e = by_tests (insn.qp == 0) (leaves (form_of insn.op)) refl refl
+falling_may s insn r m unat e = by_tests (insn.qp == 0) (leaves (action_of insn.op)) refl refl
   where
-    by_tests : (a b : Bool) → (insn.qp == 0) ≡ a → leaves (form_of insn.op) ≡ b → not (a && b) ≡ true
+    by_tests : (a b : Bool) → (insn.qp == 0) ≡ a → leaves (action_of insn.op) ≡ b → not (a && b) ≡ true
     by_tests false b i j = refl
     by_tests true false i j = refl
     by_tests true true i j =

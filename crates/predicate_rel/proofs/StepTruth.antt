@@ -15,7 +15,7 @@ use Rattle.ia_insn.specs.declared.insn.Insn.{Insn}
 use Rattle.ia_insn.specs.declared.place.Place.{Place}
 use Rattle.ia_insn.specs.Places.{insn_at}
 use Rattle.ia_insn.specs.Programs.{Program, IsProgram}
-use Rattle.ia_insn.specs.FormatsB.{IsQualifier}
+use Rattle.ia_insn.specs.Ranges.{IsQualifier}
 use Rattle.ia_insn.proofs.ListedSlots.{listed_at}
 use Rattle.ia_meaning.specs.declared.next.Next.{Next}
 use Rattle.ia_meaning.specs.declared.next.Next.TheVariants as next
@@ -24,7 +24,7 @@ use Rattle.ia_meaning.specs.declared.state.FrameShape.{FrameShape}
 use Rattle.ia_meaning.specs.declared.state.AlatKey.{AlatKey as Spot}
 use Rattle.ia_meaning.specs.declared.state.AlatKey.TheVariants.{Static, Stacked}
 use Rattle.ia_meaning.specs.declared.turn.Turn.{Turn}
-use Rattle.ia_meaning.specs.declared.form.Goal.TheVariants.{Direct, Indirect}
+use Rattle.ia_meaning.specs.declared.action.Goal.TheVariants.{Direct, Indirect}
 use Rattle.ia_meaning.specs.State.{zero_cell, Registers, Memory, State, IsFrame, IsState}
 use Rattle.ia_meaning.specs.declared.write.Write.{Write}
 use Rattle.ia_meaning.specs.declared.write.Write.TheVariants.{SetPredicate, SetBranch, SetUnat, SetPfs, SetLc, SetEc, SetFrame}
@@ -32,10 +32,10 @@ use Rattle.ia_meaning.specs.declared.write.FrameCause.TheVariants.{Resized, Rena
 use Rattle.ia_meaning.specs.Writes.{apply}
 use Rattle.ia_meaning.specs.Names.{predicate_place, holds, predicate_spot, set_spot, set_predicate}
 use Rattle.ia_meaning.specs.Outcomes.{Outcome}
-use Rattle.ia_meaning.specs.declared.form.MovedWord.{MovedWord}
-use Rattle.ia_meaning.specs.declared.form.Form.{Form}
-use Rattle.ia_meaning.specs.declared.form.Form.TheVariants.{Compute, Fetch, Test, ToPredicates, ToBranch, ToApplication, FromMemory, ToMemory, Exchange, CheckNat, CheckAlat, ForgetAll, Forget, Allocate, Jump, JumpIndirect, Loop, Call, Return, ClearBases, Stop, Idle}
-use Rattle.ia_meaning.specs.Actions.{form_of, result_of, moved}
+use Rattle.ia_meaning.specs.declared.action.MovedWord.{MovedWord}
+use Rattle.ia_meaning.specs.declared.action.Action.{Action}
+use Rattle.ia_meaning.specs.declared.action.Action.TheVariants.{Compute, Fetch, Test, ToPredicates, ToBranch, ToApplication, FromMemory, ToMemory, Exchange, CheckNat, CheckAlat, ForgetAll, Forget, Allocate, Jump, JumpIndirect, Loop, Call, Return, ClearBases, Stop, Idle}
+use Rattle.ia_meaning.specs.Actions.{action_of, result_of, moved}
 use Rattle.ia_meaning.specs.Moves.{test_writes}
 use Rattle.ia_meaning.specs.Loads.{base_writes}
 use Rattle.ia_meaning.specs.Frames.{with_sizes, call_writes, rotated, cleared}
@@ -52,7 +52,7 @@ use Rattle.ia_meaning.proofs.Inversions.{ApplicationCases, ActCases, SkipCases, 
 use Rattle.predicate_rel.specs.declared.edge.Edge.{Edge}
 use Rattle.predicate_rel.specs.declared.edge.Edge.TheVariants.{Falls, Taken}
 use Rattle.predicate_rel.specs.Pairs.{Pairs, in_range}
-use Rattle.predicate_rel.specs.Rules.{PairRule, always, never, one, is_met, is_moved, test_rule, falls_rule, static_rule, rotated_rule, form_rule, rule_of, pairs_after}
+use Rattle.predicate_rel.specs.Rules.{PairRule, always, never, one, is_met, is_moved, test_rule, falls_rule, static_rule, rotated_rule, action_rule, rule_of, pairs_after}
 use Rattle.predicate_rel.specs.Truth.{AreNeverBothOne}
 use Rattle.predicate_rel.specs.Edges.{displacement_of, target_at, edge_of, edge_end, HasEdge, pairs_past_insn, pairs_past}
 use Rattle.predicate_rel.specs.Steps.{edge_by, KeepsFacts}
@@ -63,15 +63,15 @@ use Rattle.predicate_rel.proofs.AfterWrites.{same_holds, IsPlain, apply_plain, s
 use Rattle.predicate_rel.proofs.StepEdges.{edge_falling}
 
 -- What a way of going on leaves is true: along a fall, and along a taken branch that has a target.
-abbrev KeepsOn : Pairs → Form → ℕ → Registers → Next → Type 0
-KeepsOn f form g now next.Falls = IsRuleApart (form_rule form Falls g) f now
-KeepsOn f form g now (next.Goes to) = IsSome (displacement_of form) → IsRuleApart (form_rule form Taken g) f now
-KeepsOn f form g now (next.Breaks imm) = ⊤
-KeepsOn f form g now (next.Faults kind) = ⊤
+abbrev KeepsOn : Pairs → Action → ℕ → Registers → Next → Type 0
+KeepsOn f action g now next.Falls = IsRuleApart (action_rule action Falls g) f now
+KeepsOn f action g now (next.Goes to) = IsSome (displacement_of action) → IsRuleApart (action_rule action Taken g) f now
+KeepsOn f action g now (next.Breaks imm) = ⊤
+KeepsOn f action g now (next.Faults kind) = ⊤
 
 -- so is what an outcome leaves
-abbrev Keeps : Pairs → Form → ℕ → Registers → Outcome → Type 0
-Keeps f form g r o = KeepsOn f form g (registers_after o r) o.next
+abbrev Keeps : Pairs → Action → ℕ → Registers → Outcome → Type 0
+Keeps f action g r o = KeepsOn f action g (registers_after o r) o.next
 
 -- writes of general registers touch no predicate
 spot_plain : (pr : ℕ) (d : Spot) (c : Cell) (ws : List Write) → Each (IsPlain pr) ws → Each (IsPlain pr) (set_spot d c ws)
@@ -202,8 +202,8 @@ module _ (f : Pairs) (g : ℕ) (r : Registers) (frame : IsFrame r.frame) (long :
   application_keeps ar.Lc r2 w v m = plain (SetLc v ∷ []) (tt, tt)
   application_keeps ar.Ec r2 w v m = plain (SetEc (v % 64) ∷ []) (tt, tt)
 
-  -- Of a form that is executed.
-  act_keeps : (s : Site) (form : Form) (m : Memory) (unat : ℕ) → HasNames g form → holds r g ≡ true → ActCases (Keeps f form g r) s form r m unat
+  -- Of an action that is executed.
+  act_keeps : (s : Site) (action : Action) (m : Memory) (unat : ℕ) → HasNames g action → holds r g ≡ true → ActCases (Keeps f action g r) s action r m unat
   act_keeps s (Compute r1 r2 r3 h) m unat n on = (λ k. tt, λ d b c _ _ _. plain _ (spot_plain _ d _ [] tt))
   act_keeps s (Fetch r1 source) m unat n on = (λ k. tt, λ d _. plain _ (spot_plain _ d _ [] tt))
   act_keeps s (Test kind p1 p2 r2 r3 h) m unat n on = (λ k. tt, λ b c _ _. test_on p1 p2 n.0 n.1 n.2 kind (result_of h b c) on)
@@ -237,7 +237,7 @@ module _ (f : Pairs) (g : ℕ) (r : Registers) (frame : IsFrame r.frame) (long :
   act_keeps s (Idle unit) m unat n on = still
 
   -- Of one that isn't.
-  skip_keeps : (s : Site) (form : Form) (m : Memory) → HasNames g form → holds r g ≡ false → SkipCases (Keeps f form g r) s form r m
+  skip_keeps : (s : Site) (action : Action) (m : Memory) → HasNames g action → holds r g ≡ false → SkipCases (Keeps f action g r) s action r m
   skip_keeps s (Test kind p1 p2 r2 r3 h) m n off = (λ e. test_cleared p1 p2 n.0 n.1 n.2 kind e, λ e. test_off kind p1 p2 g f r off e a)
   skip_keeps s (ToPredicates r2 mask w) m n off = raised_same (is_moved mask) g f r refl a
   skip_keeps s (Jump disp) m n off = fallen off
@@ -247,14 +247,14 @@ module _ (f : Pairs) (g : ℕ) (r : Registers) (frame : IsFrame r.frame) (long :
   skip_keeps s (Return b2) m n off = fallen off
   skip_keeps s (ClearBases pred_only) m n off = static [] tt
   skip_keeps s (Stop unit imm) m n off = fallen off
-  skip_keeps s form m n off = still
+  skip_keeps s action m n off = still
 
 -- the rules of all pairs, as the set that they leave
-rules_apart : (f : Pairs) (insn : Insn) (e : Edge) (now : Registers) → IsRuleApart (form_rule (form_of insn.op) e insn.qp) f now → AreNeverBothOne (pairs_after f insn e) now
+rules_apart : (f : Pairs) (insn : Insn) (e : Edge) (now : Registers) → IsRuleApart (action_rule (action_of insn.op) e insn.qp) f now → AreNeverBothOne (pairs_after f insn e) now
 unfolding pairs_after rule_of
 rules_apart f insn e now h = record {
   apart = λ x y m i j.
-      let both = and_parts (in_range x y) (is_met (form_rule (form_of insn.op) e insn.qp x y) f) m in
+      let both = and_parts (in_range x y) (is_met (action_rule (action_of insn.op) e insn.qp x y) f) m in
       let small = in_range_parts x y both.0 in
       h.apart x y small.0 small.1 both.1 i j;
 }
@@ -267,16 +267,16 @@ module _ (p : Program) (s : State) (f : Pairs) (insn : Insn) (program : IsProgra
   abbrev Here : Outcome
   Here = effect (site p s.place.bundle) insn s.registers s.memory s.registers.unat
 
-  here_keeps : Keeps f (form_of insn.op) insn.qp s.registers Here
+  here_keeps : Keeps f (action_of insn.op) insn.qp s.registers Here
   here_keeps =
       let n = has_names insn.qp insn.op (listed_at p s.place insn program here) in
       let frame = is.registers.frame in
       let long = is.registers.predicate_count in
-      guarded_cases (Keeps f (form_of insn.op) insn.qp s.registers) (site p s.place.bundle) insn.qp (form_of insn.op) s.registers s.memory s.registers.unat
-      (act_keeps f insn.qp s.registers frame long a (site p s.place.bundle) (form_of insn.op) s.memory s.registers.unat n)
-      (skip_keeps f insn.qp s.registers frame long a (site p s.place.bundle) (form_of insn.op) s.memory n)
+      guarded_cases (Keeps f (action_of insn.op) insn.qp s.registers) (site p s.place.bundle) insn.qp (action_of insn.op) s.registers s.memory s.registers.unat
+      (act_keeps f insn.qp s.registers frame long a (site p s.place.bundle) (action_of insn.op) s.memory s.registers.unat n)
+      (skip_keeps f insn.qp s.registers frame long a (site p s.place.bundle) (action_of insn.op) s.memory n)
 
-  settled_keeps : (to : Option Place) (way : Next) (o : Outcome) → o.next ≡ way → Keeps f (form_of insn.op) insn.qp s.registers o → Keeps f (form_of insn.op) insn.qp s.registers (settled to s.memory way o)
+  settled_keeps : (to : Option Place) (way : Next) (o : Outcome) → o.next ≡ way → Keeps f (action_of insn.op) insn.qp s.registers o → Keeps f (action_of insn.op) insn.qp s.registers (settled to s.memory way o)
   settled_keeps None next.Falls o e h = tt
   settled_keeps None (next.Goes bundle) o e h = h
   settled_keeps None (next.Breaks imm) o e h = h
@@ -284,8 +284,8 @@ module _ (p : Program) (s : State) (f : Pairs) (insn : Insn) (program : IsProgra
   settled_keeps (Some to) way o e h = h
 
   -- a taken edge has a target
-  has_target : (to : Place) → edge_of p.bundles s.place (Some insn) Taken ≡ Some to → IsSome (displacement_of (form_of insn.op))
-  has_target to leads = of (displacement_of (form_of insn.op)) leads
+  has_target : (to : Place) → edge_of p.bundles s.place (Some insn) Taken ≡ Some to → IsSome (displacement_of (action_of insn.op))
+  has_target to leads = of (displacement_of (action_of insn.op)) leads
     where
       of : (o : Option ℤ) → target_at s.place.bundle o ≡ Some to → IsSome o
       of None e = absurd (cc)
@@ -300,7 +300,7 @@ module _ (p : Program) (s : State) (f : Pairs) (insn : Insn) (program : IsProgra
   unfolding pairs_past
   past_here e now h = subst (λ (o : Option Insn). AreNeverBothOne (pairs_past_insn o e f) now) (sym here) h
 
-  stepping : (o : Outcome) (way : Next) → KeepsOn f (form_of insn.op) insn.qp (registers_after o s.registers) way → (step_by p s o way).end ≡ None → KeepsAlong p s f (step_by p s o way)
+  stepping : (o : Outcome) (way : Next) → KeepsOn f (action_of insn.op) insn.qp (registers_after o s.registers) way → (step_by p s o way).end ≡ None → KeepsAlong p s f (step_by p s o way)
   stepping o next.Falls h goes = λ edge. subst (λ (e : Edge). AreNeverBothOne (pairs_past p s.place e f) (registers_after o s.registers)) (sym (edge_falling (is_stopped p.bundles s.place))) (past_here Falls (registers_after o s.registers) (rules_apart f insn Falls (registers_after o s.registers) h))
   stepping o (next.Goes bundle) h goes = λ edge. past_here Taken (registers_after o s.registers) (rules_apart f insn Taken (registers_after o s.registers) (h (has_target (first_of bundle) (edge_leads Taken (first_of bundle) edge))))
   stepping o (next.Breaks imm) h goes = absurd (cc)

@@ -8,15 +8,15 @@ use Rattle.ia_insn.specs.declared.choices.CmpKind.TheVariants as cmp
 use Rattle.ia_insn.specs.declared.choices.BranchKind.{BranchKind}
 use Rattle.ia_insn.specs.declared.choices.BranchKind.TheVariants as branch
 use Rattle.ia_insn.specs.declared.insn.Insn.{Insn}
-use Rattle.ia_meaning.specs.declared.form.Form.{Form}
-use Rattle.ia_meaning.specs.declared.form.Form.TheVariants as form
-use Rattle.ia_meaning.specs.Actions.{form_of}
+use Rattle.ia_meaning.specs.declared.action.Action.{Action}
+use Rattle.ia_meaning.specs.declared.action.Action.TheVariants as action
+use Rattle.ia_meaning.specs.Actions.{action_of}
 use Rattle.predicate_rel.specs.declared.edge.Edge.{Edge}
 use Rattle.predicate_rel.specs.declared.edge.Edge.TheVariants.{Falls, Taken}
 use Rattle.predicate_rel.specs.declared.rows.Kept.{Kept}
 use Rattle.predicate_rel.specs.declared.rows.Kept.TheVariants.{Own, Guard, Both}
 use Rattle.predicate_rel.specs.Pairs.{Pairs, in_range, no_pairs, all_pairs, common, other_of, is_same_pair, with_pair, IsUnordered}
-use Rattle.predicate_rel.specs.Rules.{PairRule, always, never, one, two, is_met, kept_rule, by_written, partner, written_rule, is_target, normal_targets, or_andcm_kept, test_rule, raised_rule, is_moved, falls_rule, static_rule, name_before, rotated_rule, loop_rule, form_rule, rule_of, pairs_after}
+use Rattle.predicate_rel.specs.Rules.{PairRule, always, never, one, two, is_met, kept_rule, by_written, partner, written_rule, is_target, normal_targets, or_andcm_kept, test_rule, raised_rule, is_moved, falls_rule, static_rule, name_before, rotated_rule, loop_rule, action_rule, rule_of, pairs_after}
 
 -- Rules that are met for a pair in one order where they are in the other, and for (x, x) where they are for (x, p0).
 record KeepsOrder (r : ℕ → ℕ → PairRule) (f : Pairs) : Type 0 where
@@ -159,23 +159,23 @@ loop_keeps branch.Wtop Falls f un = static_keeps f un
 loop_keeps branch.Wexit Taken f un = static_keeps f un
 loop_keeps kind edge f un = one_keeps f un
 
-form_keeps : (a : Form) (edge : Edge) (g : ℕ) (f : Pairs) → IsUnordered f → KeepsOrder (form_rule a edge g) f
-form_keeps (form.Test kind p1 p2 r2 r3 c) edge g f un = test_keeps kind p1 p2 g f un
-form_keeps (form.ToPredicates r2 mask w) edge g f un = raised_keeps (is_moved mask) g f refl un
-form_keeps (form.Jump disp) Falls g f un = falls_keeps g f un
-form_keeps (form.Call b1 goal) Falls g f un = falls_keeps g f un
-form_keeps (form.JumpIndirect b2) Falls g f un = falls_keeps g f un
-form_keeps (form.Return b2) Falls g f un = falls_keeps g f un
-form_keeps (form.Stop unit imm) Falls g f un = falls_keeps g f un
-form_keeps (form.Call b1 goal) Taken g f un = static_keeps f un
-form_keeps (form.ClearBases pred_only) edge g f un = static_keeps f un
-form_keeps (form.Loop kind disp) edge g f un = loop_keeps kind edge f un
-form_keeps a edge g f un = one_keeps f un
+action_keeps : (a : Action) (edge : Edge) (g : ℕ) (f : Pairs) → IsUnordered f → KeepsOrder (action_rule a edge g) f
+action_keeps (action.Test kind p1 p2 r2 r3 c) edge g f un = test_keeps kind p1 p2 g f un
+action_keeps (action.ToPredicates r2 mask w) edge g f un = raised_keeps (is_moved mask) g f refl un
+action_keeps (action.Jump disp) Falls g f un = falls_keeps g f un
+action_keeps (action.Call b1 goal) Falls g f un = falls_keeps g f un
+action_keeps (action.JumpIndirect b2) Falls g f un = falls_keeps g f un
+action_keeps (action.Return b2) Falls g f un = falls_keeps g f un
+action_keeps (action.Stop unit imm) Falls g f un = falls_keeps g f un
+action_keeps (action.Call b1 goal) Taken g f un = static_keeps f un
+action_keeps (action.ClearBases pred_only) edge g f un = static_keeps f un
+action_keeps (action.Loop kind disp) edge g f un = loop_keeps kind edge f un
+action_keeps a edge g f un = one_keeps f un
 
 -- the law
 pub after_unordered : (f : Pairs) (i : Insn) (e : Edge) → IsUnordered f → IsUnordered (pairs_after f i e)
 unfolding pairs_after rule_of in_range
-after_unordered f i e un = let k = form_keeps (form_of i.op) e i.qp f un in record {
+after_unordered f i e un = let k = action_keeps (action_of i.op) e i.qp f un in record {
   swaps = λ x y. ap (λ (b : Bool). b && is_met (rule_of i e x y) f) (and_comm (nat_lt x 64) (nat_lt y 64)) ∙ ap (λ (b : Bool). (nat_lt y 64 && nat_lt x 64) && b) (k.swaps x y);
   alone = λ x. ap (λ (b : Bool). (nat_lt x 64 && nat_lt x 64) && b) (k.alone x) ∙ ap (λ (b : Bool). b && is_met (rule_of i e x 0) f) (twice (nat_lt x 64));
 }

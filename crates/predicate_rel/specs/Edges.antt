@@ -6,10 +6,10 @@ use Rattle.ia_insn.specs.declared.place.Place.{Place}
 use Rattle.ia_insn.specs.Bundles.{Bundle}
 use Rattle.ia_insn.specs.Places.{insn_at, IsPlaceOf}
 use Rattle.ia_insn.specs.Programs.{Program}
-use Rattle.ia_meaning.specs.declared.form.Goal.TheVariants.{Direct}
-use Rattle.ia_meaning.specs.declared.form.Form.{Form}
-use Rattle.ia_meaning.specs.declared.form.Form.TheVariants.{CheckNat, CheckAlat, Jump, JumpIndirect, Loop, Call, Return, Stop}
-use Rattle.ia_meaning.specs.Actions.{insn_form}
+use Rattle.ia_meaning.specs.declared.action.Goal.TheVariants.{Direct}
+use Rattle.ia_meaning.specs.declared.action.Action.{Action}
+use Rattle.ia_meaning.specs.declared.action.Action.TheVariants.{CheckNat, CheckAlat, Jump, JumpIndirect, Loop, Call, Return, Stop}
+use Rattle.ia_meaning.specs.Actions.{insn_action}
 use Rattle.ia_meaning.specs.Landings.{target_of}
 use Rattle.ia_meaning.specs.Sequence.{first_of, next_of}
 use Rattle.predicate_rel.specs.declared.edge.Edge.{Edge}
@@ -19,26 +19,26 @@ use Rattle.predicate_rel.specs.Rules.{pairs_after}
 
 -- a `br.cond`, `br.call` or `br.ret`, direct or indirect, or a `break`: where its qualifying predicate is 1, control
 -- doesn't fall through
-abbrev pub leaves : Form → Bool
+abbrev pub leaves : Action → Bool
 leaves (Jump disp) = true
 leaves (JumpIndirect b2) = true
 leaves (Call b1 goal) = true
 leaves (Return b2) = true
 leaves (Stop unit imm) = true
-leaves form = false
+leaves action = false
 
 -- Control may fall through: the instruction doesn't leave, or its qualifying predicate isn't p0.
 abbrev pub may_fall : Insn → Bool
-may_fall insn = not ((insn.qp == 0) && leaves (insn_form insn))
+may_fall insn = not ((insn.qp == 0) && leaves (insn_action insn))
 
 -- how many bundles from its own the target of a direct branch, loop branches among them, or of a check is
-abbrev pub displacement_of : Form → Option ℤ
+abbrev pub displacement_of : Action → Option ℤ
 displacement_of (CheckNat r2 disp) = Some disp
 displacement_of (CheckAlat clear r1 disp) = Some disp
 displacement_of (Jump disp) = Some disp
 displacement_of (Loop kind disp) = Some disp
 displacement_of (Call b1 (Direct disp)) = Some disp
-displacement_of form = None
+displacement_of action = None
 
 -- slot 0 of the bundle that is so many from this one
 abbrev pub target_at : ℕ → Option ℤ → Option Place
@@ -49,7 +49,7 @@ target_at bundle (Some disp) = Some (first_of (target_of bundle disp))
 abbrev pub edge_of : List Bundle → Place → Option Insn → Edge → Option Place
 edge_of bundles from None e = None
 edge_of bundles from (Some insn) Falls = if may_fall insn then next_of bundles from else None
-edge_of bundles from (Some insn) Taken = target_at from.bundle (displacement_of (insn_form insn))
+edge_of bundles from (Some insn) Taken = target_at from.bundle (displacement_of (insn_action insn))
 
 -- Where the edge of this sort leads from a place: a fall to the next place, a taken branch to its target. An indirect
 -- branch has no taken edge.

@@ -1,14 +1,14 @@
--- What is known of a pair of predicates after an instruction (volume 3, chapter 2): one rule for each pair, by the form
--- of the instruction's effect, its qualifying predicate g and the edge on which control goes on.
+-- What is known of a pair of predicates after an instruction (volume 3, chapter 2): one rule for each pair, by the action
+-- of the instruction, its qualifying predicate g and the edge on which control goes on.
 use Rattle.std.specs.Prelude.{ℕ, ◌-◌, Bool, true, false, ◌&&◌, ◌||◌, not, nat_lt, ◌==◌, if◌then◌else◌}
 use Rattle.ia_insn.specs.declared.choices.CmpKind.{CmpKind}
 use Rattle.ia_insn.specs.declared.choices.CmpKind.TheVariants as cmp
 use Rattle.ia_insn.specs.declared.choices.BranchKind.{BranchKind}
 use Rattle.ia_insn.specs.declared.choices.BranchKind.TheVariants as branch
 use Rattle.ia_insn.specs.declared.insn.Insn.{Insn}
-use Rattle.ia_meaning.specs.declared.form.Form.{Form}
-use Rattle.ia_meaning.specs.declared.form.Form.TheVariants as form
-use Rattle.ia_meaning.specs.Actions.{insn_form}
+use Rattle.ia_meaning.specs.declared.action.Action.{Action}
+use Rattle.ia_meaning.specs.declared.action.Action.TheVariants as action
+use Rattle.ia_meaning.specs.Actions.{insn_action}
 use Rattle.ia_meaning.specs.Moves.{is_masked}
 use Rattle.predicate_rel.specs.declared.edge.Edge.{Edge}
 use Rattle.predicate_rel.specs.declared.edge.Edge.TheVariants.{Falls, Taken}
@@ -122,24 +122,24 @@ loop_rule branch.Wtop Falls x y = static_rule x y
 loop_rule branch.Wexit Taken x y = static_rule x y
 loop_rule kind edge x y = one x y
 
--- The rule by the form of the effect. A call that is taken and `clrrrb` rename p16 to p63. All other forms, and taken branches,
+-- The rule by the action. A call that is taken and `clrrrb` rename p16 to p63. All other actions, and taken branches,
 -- leave the set as it is.
-abbrev pub form_rule : Form → Edge → (g x y : ℕ) → PairRule
-form_rule (form.Test kind p1 p2 r2 r3 c) edge g x y = test_rule kind p1 p2 g x y
-form_rule (form.ToPredicates r2 mask w) edge g x y = move_rule mask g x y
-form_rule (form.Jump disp) Falls g x y = falls_rule g x y
-form_rule (form.Call b1 goal) Falls g x y = falls_rule g x y
-form_rule (form.JumpIndirect b2) Falls g x y = falls_rule g x y
-form_rule (form.Return b2) Falls g x y = falls_rule g x y
-form_rule (form.Stop unit imm) Falls g x y = falls_rule g x y
-form_rule (form.Call b1 goal) Taken g x y = static_rule x y
-form_rule (form.ClearBases pred_only) edge g x y = static_rule x y
-form_rule (form.Loop kind disp) edge g x y = loop_rule kind edge x y
-form_rule f edge g x y = one x y
+abbrev pub action_rule : Action → Edge → (g x y : ℕ) → PairRule
+action_rule (action.Test kind p1 p2 r2 r3 c) edge g x y = test_rule kind p1 p2 g x y
+action_rule (action.ToPredicates r2 mask w) edge g x y = move_rule mask g x y
+action_rule (action.Jump disp) Falls g x y = falls_rule g x y
+action_rule (action.Call b1 goal) Falls g x y = falls_rule g x y
+action_rule (action.JumpIndirect b2) Falls g x y = falls_rule g x y
+action_rule (action.Return b2) Falls g x y = falls_rule g x y
+action_rule (action.Stop unit imm) Falls g x y = falls_rule g x y
+action_rule (action.Call b1 goal) Taken g x y = static_rule x y
+action_rule (action.ClearBases pred_only) edge g x y = static_rule x y
+action_rule (action.Loop kind disp) edge g x y = loop_rule kind edge x y
+action_rule f edge g x y = one x y
 
 -- the rule of a pair
 unfoldable pub rule_of : Insn → Edge → ℕ → ℕ → PairRule
-rule_of insn edge x y = form_rule (insn_form insn) edge insn.qp x y
+rule_of insn edge x y = action_rule (insn_action insn) edge insn.qp x y
 
 -- the pairs of predicates whose rules are met
 abbrev pub pairs_by : Pairs → (ℕ → ℕ → PairRule) → Pairs

@@ -7,7 +7,7 @@ use Rattle.ia_insn.specs.declared.ending.How.TheVariants as how
 use Rattle.ia_insn.specs.Places.{insn_at}
 use Rattle.ia_insn.specs.Programs.{Program, IsProgram}
 use Rattle.ia_meaning.specs.State.{State, IsState, IsStart}
-use Rattle.ia_meaning.specs.Actions.{insn_form, is_indirect}
+use Rattle.ia_meaning.specs.Actions.{insn_action, is_indirect}
 use Rattle.ia_meaning.specs.Steps.{seq_step}
 use Rattle.predicate_rel.specs.declared.edge.Edge.{Edge}
 use Rattle.predicate_rel.specs.declared.edge.Edge.TheVariants.{Falls, Taken}
@@ -27,7 +27,7 @@ FollowsEdge p s = HasEdge p s.place (edge_by (seq_step p s).how) (seq_step p s).
 
 -- an indirect branch, a return or an indirect call
 abbrev pub IsIndirect : Insn → Type 0
-IsIndirect insn = IsTrue (is_indirect (insn_form insn))
+IsIndirect insn = IsTrue (is_indirect (insn_action insn))
 
 -- The slot is an indirect branch that is taken, and it leaves a state from which a run may start.
 pub record LandsOnEntry (p : Program) (s : State) : Type 0 where

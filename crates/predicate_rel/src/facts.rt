@@ -4,13 +4,13 @@ ghost use Rattle.std.specs.Prelude.{◌≡◌, ◌≢◌, ℕ, ◌<◌, ◌&&◌
 ghost use Rattle.std.specs.Bool.{OnTrue, OnFalse};
 ghost use Rattle.predicate_rel.specs.Pairs.{Table, has_bit, pairs_of, no_pairs, all_pairs, common, other_of, is_same_pair, with_pair, IsWithin, HasMore};
 ghost use Rattle.predicate_rel.specs.Changes.{AgreeOutside};
-ghost use Rattle.predicate_rel.specs.Rules.{form_rule, pairs_by, pairs_after};
+ghost use Rattle.predicate_rel.specs.Rules.{action_rule, pairs_by, pairs_after};
 
 use crate::bits::{bit, both, is_within, lowest, with_bit, with_bit_where, without};
 use crate::edge::Edge;
 use crate::rows::keeps_pairs;
 use ia_insn::{Insn, Pr};
-use ia_meaning::{Form, form_of};
+use ia_meaning::{Action, action_of};
 use std::marker::Model;
 
 /// A set of pairs of predicates that are known not to be both 1 (volume 1, chapter 3, instruction
@@ -98,19 +98,19 @@ impl Facts {
     pub fn after(&self, insn: &Insn, edge: Edge) -> Facts
         ensures { pairs_of result ≡ pairs_after (pairs_of self.now) insn.now edge }
     {
-        self.after_form(&form_of(&insn.op), insn.qp, edge)
+        self.after_action(&action_of(&insn.op), insn.qp, edge)
     }
 
-    /// The same after an instruction of this form under this qualifying predicate.
-    pub fn after_form(&self, form: &Form, qp: Pr, edge: Edge) -> Facts
-        ensures { pairs_of result ≡ pairs_by (pairs_of self.now) (form_rule form.now edge qp) }
+    /// The same after an instruction of this action under this qualifying predicate.
+    pub fn after_action(&self, action: &Action, qp: Pr, edge: Edge) -> Facts
+        ensures { pairs_of result ≡ pairs_by (pairs_of self.now) (action_rule action.now edge qp) }
     {
-        if keeps_pairs(form, edge) {
+        if keeps_pairs(action, edge) {
             return *self;
         }
         let mut rows = [0; 64];
         for x in 0..64u8 {
-            rows[x as usize] = self.form_row(form, edge, qp, x);
+            rows[x as usize] = self.action_row(action, edge, qp, x);
         }
         Facts { rows }
     }

@@ -4,8 +4,8 @@
 //! `br`, `break` and `clrrrb`).
 //!
 //! A contract sees a set as 64 rows and reads the pairs off them (`pairs_of` in `specs/Pairs`). What an
-//! instruction leaves is one rule for each pair (`specs/Rules`), by the form of the instruction's effect
-//! (`ia_meaning::Form`). A pair that is missing says nothing: the two predicates may be both 1, or never.
+//! instruction leaves is one rule for each pair (`specs/Rules`), by the action of the instruction
+//! (`ia_meaning::Action`). A pair that is missing says nothing: the two predicates may be both 1, or never.
 #![tactic(auto)]
 
 mod bits;

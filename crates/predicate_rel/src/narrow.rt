@@ -4,35 +4,35 @@ ghost use Rattle.std.specs.Prelude.{◌≡◌, ◌≢◌, ℕ, ◌<◌, true};
 ghost use Rattle.predicate_rel.specs.declared.edge.Edge.{Edge};
 ghost use Rattle.predicate_rel.specs.Pairs.{Pairs, has_bit, pairs_of, common, IsWithin, HasMore};
 ghost use Rattle.predicate_rel.specs.Changes.{AgreeOutside, HasAllRows};
-ghost use Rattle.predicate_rel.specs.Rules.{form_rule, pairs_by};
+ghost use Rattle.predicate_rel.specs.Rules.{action_rule, pairs_by};
 
 use crate::bits::{all_if, bit, either, lowest, moved_up, with_bit, with_bit_where, without};
 use crate::edge::Edge;
 use crate::facts::Facts;
 use ia_insn::Pr;
-use ia_meaning::Form;
+use ia_meaning::Action;
 
-/// The rows that may be others past an instruction of this form where those of `changed` are others before it,
+/// The rows that may be others past an instruction of this action where those of `changed` are others before it,
 /// and those themselves. Each row asks for itself. What is written also asks for the row of the qualifying
 /// predicate, the second target of a test for the pair of both targets in the row of the first, and a
 /// rotation for the row before.
-fn reached(form: &Form, qp: Pr, changed: u64) -> u64
-    ensures reached { (edge : Edge) (f g : Pairs) → AgreeOutside changed f g → AgreeOutside result (pairs_by f (form_rule form.now edge qp)) (pairs_by g (form_rule form.now edge qp)) }
+fn reached(action: &Action, qp: Pr, changed: u64) -> u64
+    ensures reached { (edge : Edge) (f g : Pairs) → AgreeOutside changed f g → AgreeOutside result (pairs_by f (action_rule action.now edge qp)) (pairs_by g (action_rule action.now edge qp)) }
     ensures changed { (x : ℕ) → x < 64 → has_bit changed x ≡ true → has_bit result x ≡ true }
 {
-    match *form {
-        Form::Test { p1, p2, .. } => {
+    match *action {
+        Action::Test { p1, p2, .. } => {
             let own = with_bit_where(changed, p2.number(), bit(changed, p1.number()));
             either(own, all_if(bit(changed, qp.number())))
         }
-        Form::ToPredicates { .. } => either(changed, all_if(bit(changed, qp.number()))),
-        Form::Loop { .. } => either(changed, moved_up(changed)),
+        Action::ToPredicates { .. } => either(changed, all_if(bit(changed, qp.number()))),
+        Action::Loop { .. } => either(changed, moved_up(changed)),
         _ => changed,
     }
 }
 
 impl Facts {
-    /// Leaves of the set what is also known past an instruction of this form under this qualifying predicate,
+    /// Leaves of the set what is also known past an instruction of this action under this qualifying predicate,
     /// before which `before` is known, where control goes on along the edge. Answers a word of rows, bit x that
     /// of the pairs of the x-th predicate: the others lost nothing, and it is 0 where nothing was lost.
     ///
@@ -40,24 +40,31 @@ impl Facts {
     /// had other pairs than `before` in no rows but those of `changed`. Only the rows that these have a part
     /// in are looked at: else the set may keep more, but it never gets a pair, nor loses one that is also known
     /// past the instruction.
-    pub fn narrow(&mut self, before: &Facts, form: &Form, qp: Pr, edge: Edge, changed: u64) -> u64
-        ensures whole { HasAllRows changed → pairs_of self.new ≡ common (pairs_of self.old) (pairs_by (pairs_of before.now) (form_rule form.now edge qp)) }
-        ensures narrowed { (older : Pairs) → AgreeOutside changed older (pairs_of before.now) → IsWithin (pairs_of self.old) (pairs_by older (form_rule form.now edge qp)) → pairs_of self.new ≡ common (pairs_of self.old) (pairs_by (pairs_of before.now) (form_rule form.now edge qp)) }
+    pub fn narrow(
+        &mut self,
+        before: &Facts,
+        action: &Action,
+        qp: Pr,
+        edge: Edge,
+        changed: u64,
+    ) -> u64
+        ensures whole { HasAllRows changed → pairs_of self.new ≡ common (pairs_of self.old) (pairs_by (pairs_of before.now) (action_rule action.now edge qp)) }
+        ensures narrowed { (older : Pairs) → AgreeOutside changed older (pairs_of before.now) → IsWithin (pairs_of self.old) (pairs_by older (action_rule action.now edge qp)) → pairs_of self.new ≡ common (pairs_of self.old) (pairs_by (pairs_of before.now) (action_rule action.now edge qp)) }
         ensures within { IsWithin (pairs_of self.new) (pairs_of self.old) }
-        ensures keeps { IsWithin (common (pairs_of self.old) (pairs_by (pairs_of before.now) (form_rule form.now edge qp))) (pairs_of self.new) }
+        ensures keeps { IsWithin (common (pairs_of self.old) (pairs_by (pairs_of before.now) (action_rule action.now edge qp))) (pairs_of self.new) }
         ensures lost { AgreeOutside result (pairs_of self.old) (pairs_of self.new) }
         ensures more { result ≢ 0 → HasMore (pairs_of self.old) (pairs_of self.new) }
     {
-        let rows = reached(form, qp, changed);
+        let rows = reached(action, qp, changed);
         if rows == u64::MAX {
-            return self.intersect(&before.after_form(form, qp, edge));
+            return self.intersect(&before.after_action(action, qp, edge));
         }
         let mut rest = rows;
         let mut lost = 0;
         'narrowing: while rest != 0 {
             let x = lowest(rest);
             rest = without(rest, x);
-            if self.narrow_row(x, before.form_row(form, edge, qp, x)) {
+            if self.narrow_row(x, before.action_row(action, edge, qp, x)) {
                 lost = with_bit(lost, x, true);
             }
         }

@@ -3,14 +3,14 @@
 ghost use Rattle.std.specs.Prelude.{◌≡◌, ◌≢◌, ℕ, ◌-◌, ◌<◌, ◌||◌, ◌==◌, Bool, if◌then◌else◌, true, false};
 ghost use Rattle.ia_insn.specs.declared.choices.CmpKind.TheVariants.{Normal, Unc, OrAndcm};
 ghost use Rattle.predicate_rel.specs.Pairs.{has_bit, pairs_of};
-ghost use Rattle.predicate_rel.specs.Rules.{PairRule, one, always, never, is_met, kept_rule, written_rule, raised_rule, is_target, test_rule, is_moved, falls_rule, static_rule, name_before, rotated_rule, loop_rule, form_rule};
+ghost use Rattle.predicate_rel.specs.Rules.{PairRule, one, always, never, is_met, kept_rule, written_rule, raised_rule, is_target, test_rule, is_moved, falls_rule, static_rule, name_before, rotated_rule, loop_rule, action_rule};
 ghost use Rattle.predicate_rel.specs.Rows.{HasBits, IsRow};
 
 use crate::bits::{all_if, bit, both, chosen, joined, kept_if, moved_up, with_bit, with_bit_where};
 use crate::edge::Edge;
 use crate::facts::Facts;
 use ia_insn::{BranchKind, CmpKind, Pr};
-use ia_meaning::Form;
+use ia_meaning::Action;
 
 /// Where a pair of a predicate that is written and one that isn't is there after an instruction.
 #[derive(Clone, Copy, Debug, PartialEq, Eq)]
@@ -35,7 +35,7 @@ fn targets(p1: Pr, p2: Pr) -> u64
 
 /// The predicates that a move writes under its mask, but for p0.
 #[tactic(auto, using(crate::proofs::BitLemmas::moved_bits))]
-fn moved(mask: u64) -> u64
+fn masked_row(mask: u64) -> u64
     ensures { HasBits result (is_moved mask) }
 {
     with_bit(joined(mask, all_if(bit(mask, 16))), 0, false)
@@ -57,22 +57,25 @@ fn renamed(row: u64) -> u64
     joined(row, moved_up(row))
 }
 
-/// Whether the form is one whose instructions leave what is known as it is, where control goes on along the edge. Some
+/// Whether the action is one whose instructions leave what is known as it is, where control goes on along the edge. Some
 /// for which it answers false do so too.
-pub fn keeps_pairs(form: &Form, edge: Edge) -> bool
-    ensures { result ≡ true → (g x y : ℕ) → form_rule form.now edge g x y ≡ one x y }
+pub fn keeps_pairs(action: &Action, edge: Edge) -> bool
+    ensures { result ≡ true → (g x y : ℕ) → action_rule action.now edge g x y ≡ one x y }
 {
-    match (*form, edge) {
+    match (*action, edge) {
         (
-            Form::Test { .. }
-            | Form::ToPredicates { .. }
-            | Form::Call { .. }
-            | Form::ClearBases { .. }
-            | Form::Loop { .. },
+            Action::Test { .. }
+            | Action::ToPredicates { .. }
+            | Action::Call { .. }
+            | Action::ClearBases { .. }
+            | Action::Loop { .. },
             _,
         ) => false,
         (
-            Form::Jump { .. } | Form::JumpIndirect { .. } | Form::Return { .. } | Form::Stop { .. },
+            Action::Jump { .. }
+            | Action::JumpIndirect { .. }
+            | Action::Return { .. }
+            | Action::Stop { .. },
             Edge::Falls,
         ) => false,
         _ => true,
@@ -223,24 +226,30 @@ impl Facts {
         }
     }
 
-    /// The pairs of the x-th predicate, below 64, after an instruction of this form.
-    pub(crate) fn form_row(&self, form: &Form, edge: Edge, g: Pr, x: u8) -> u64
+    /// The pairs of the x-th predicate, below 64, after an instruction of this action.
+    pub(crate) fn action_row(&self, action: &Action, edge: Edge, g: Pr, x: u8) -> u64
         requires { x < 64 }
-        ensures { IsRow result (form_rule form.now edge g x) (pairs_of self.now) }
+        ensures { IsRow result (action_rule action.now edge g x) (pairs_of self.now) }
     {
-        match (*form, edge) {
-            (Form::Test { kind, p1, p2, .. }, _) => self.test_row(kind, p1, p2, g, x),
-            (Form::ToPredicates { mask, .. }, _) => self.raised_row(moved(u64::from(mask)), g, x),
+        match (*action, edge) {
+            (Action::Test { kind, p1, p2, .. }, _) => self.test_row(kind, p1, p2, g, x),
+            (Action::ToPredicates { mask, .. }, _) => self.raised_row(
+                masked_row(u64::from(mask)),
+                g,
+                x,
+            ),
             (
-                Form::Jump { .. }
-                | Form::Call { .. }
-                | Form::JumpIndirect { .. }
-                | Form::Return { .. }
-                | Form::Stop { .. },
+                Action::Jump { .. }
+                | Action::Call { .. }
+                | Action::JumpIndirect { .. }
+                | Action::Return { .. }
+                | Action::Stop { .. },
                 Edge::Falls,
             ) => self.falls_row(g, x),
-            (Form::Call { .. }, Edge::Taken) | (Form::ClearBases { .. }, _) => self.static_row(x),
-            (Form::Loop { kind, .. }, _) => self.loop_row(kind, edge, x),
+            (Action::Call { .. }, Edge::Taken) | (Action::ClearBases { .. }, _) => self.static_row(
+                x,
+            ),
+            (Action::Loop { kind, .. }, _) => self.loop_row(kind, edge, x),
             _ => self.row(x),
         }
     }

@@ -4,16 +4,16 @@ use Rattle.std.specs.Prelude.{Contains}
 use Rattle.std.specs.List.{list_any}
 use Rattle.std.proofs.lemmas.Bool.{and_parts, and_from, or_cases, or_left, or_right}
 use Rattle.std.proofs.lemmas.List.Elements.{Contains-append_left, Contains-append_right, Contains-append_cases}
-use Rattle.ia_meaning.specs.declared.form.Form.{Form}
-use Rattle.ia_meaning.specs.declared.form.Form.TheVariants as form
-use Rattle.ia_meaning.specs.declared.form.Source.TheVariants as source
-use Rattle.ia_meaning.specs.declared.form.Goal.TheVariants.{Indirect}
+use Rattle.ia_meaning.specs.declared.action.Action.{Action}
+use Rattle.ia_meaning.specs.declared.action.Action.TheVariants as action
+use Rattle.ia_meaning.specs.declared.action.FetchSource.TheVariants as source
+use Rattle.ia_meaning.specs.declared.action.Goal.TheVariants.{Indirect}
 use Rattle.resource_sets.specs.declared.access.Resource.{Resource}
 use Rattle.resource_sets.specs.declared.access.Resource.TheVariants.{Gr, Pr, Br, Unat, Pfs, Lc, Ec, Cfm}
 use Rattle.resource_sets.specs.declared.access.Kind.{Kind}
 use Rattle.resource_sets.specs.declared.access.Kind.TheVariants.{Read, BranchRead, Write}
 use Rattle.resource_sets.specs.declared.access.Access.{Access}
-use Rattle.resource_sets.specs.declared.row.Row.{Row}
+use Rattle.resource_sets.specs.declared.row.AccessRow.{AccessRow}
 use Rattle.resource_sets.specs.declared.access_sets.AccessSet.{AccessSet}
 use Rattle.resource_sets.specs.Rows.{access, listed}
 use Rattle.resource_sets.specs.Accesses.{place_rows, mask_rows, placed_rows, frame_row, qp_rows, own_rows, accesses_of}
@@ -76,11 +76,11 @@ sets_append xs ys sets more p q = record {
 }
 
 -- rows of one kind under the qualifying predicate
-abbrev pub AreAlike : Kind → List Row → Type 0
+abbrev pub AreAlike : Kind → List AccessRow → Type 0
 AreAlike kind [] = Unit {0}
 AreAlike kind (row ∷ rows) = (row.kind ≡ kind) × (row.guarded ≡ true) × AreAlike kind rows
 
-abbrev pub any_there : List Row → Resource → Bool
+abbrev pub any_there : List AccessRow → Resource → Bool
 any_there rows q = list_any (λ row. row.there && is_resource row.resource q) rows
 
 guard_of : (qp : ℕ) (b : Bool) → b ≡ true → (if b then qp else 0) ≡ qp
@@ -88,7 +88,7 @@ guard_of qp true e = refl
 guard_of qp false e = absurd (true≢false (sym e))
 
 -- their accesses differ by their resources
-in_alike : (qp : ℕ) (kind : Kind) (rows : List Row) → AreAlike kind rows → (a : Access) → Contains (listed qp rows) a → (kind ≡ a.kind) × (qp ≡ a.guard) × (any_there rows a.resource ≡ true)
+in_alike : (qp : ℕ) (kind : Kind) (rows : List AccessRow) → AreAlike kind rows → (a : Access) → Contains (listed qp rows) a → (kind ≡ a.kind) × (qp ≡ a.guard) × (any_there rows a.resource ≡ true)
 in_alike qp kind [] alike a c = absurd (not_in_none a c)
 in_alike qp kind (row ∷ rows) alike a c = of row.there refl c (λ d. in_alike qp kind rows alike.2 a d)
   where
@@ -105,7 +105,7 @@ in_alike qp kind (row ∷ rows) alike a c = of row.there refl c (λ d. in_alike 
     ]
     of false t d rest = let h = rest d in (h.0, h.1, or_right _ _ h.2)
 
-alike_in : (qp : ℕ) (kind : Kind) (rows : List Row) → AreAlike kind rows → (a : Access) → kind ≡ a.kind → qp ≡ a.guard → any_there rows a.resource ≡ true → Contains (listed qp rows) a
+alike_in : (qp : ℕ) (kind : Kind) (rows : List AccessRow) → AreAlike kind rows → (a : Access) → kind ≡ a.kind → qp ≡ a.guard → any_there rows a.resource ≡ true → Contains (listed qp rows) a
 alike_in qp kind [] alike a k g h = absurd (true≢false (sym h))
 alike_in qp kind (row ∷ rows) alike a k g h = elim (or_cases (row.there && is_resource row.resource a.resource) (any_there rows a.resource) h) [
   | inl e ↦ (let parts = and_parts row.there (is_resource row.resource a.resource) e in rw parts.0 (in_head (access qp row) a (listed qp rows) (same parts.1)))
@@ -120,7 +120,7 @@ alike_in qp kind (row ∷ rows) alike a k g h = elim (or_cases (row.there && is_
     on false c = c
 
 -- so they are one set
-pub set_of_alike : (qp : ℕ) (kind : Kind) (rows : List Row) (s : AccessSet) → AreAlike kind rows → s.kind ≡ kind → s.guard ≡ qp → ((q : Resource) → has_resource s.resources q ≡ any_there rows q) → AreSetsOf (listed qp rows) (s ∷ [])
+pub set_of_alike : (qp : ℕ) (kind : Kind) (rows : List AccessRow) (s : AccessSet) → AreAlike kind rows → s.kind ≡ kind → s.guard ≡ qp → ((q : Resource) → has_resource s.resources q ≡ any_there rows q) → AreSetsOf (listed qp rows) (s ∷ [])
 set_of_alike qp kind rows s alike k u h = record {
   has = λ a c. let i = in_alike qp kind rows alike a c in (s, in_head s s [] refl, record { kind = k ∙ i.0; guard = u ∙ i.1; resource = h a.resource ∙ i.2 });
   only = λ a (x, m, i). elim (cases_in s x [] m) [
@@ -130,7 +130,7 @@ set_of_alike qp kind rows s alike k u h = record {
 }
 
 -- and so is one row
-pub set_of_row : (qp : ℕ) (row : Row) (s : AccessSet) → row.there ≡ true → s.kind ≡ (access qp row).kind → s.guard ≡ (access qp row).guard → ((q : Resource) → has_resource s.resources q ≡ is_resource (access qp row).resource q) → AreSetsOf (listed qp (row ∷ [])) (s ∷ [])
+pub set_of_row : (qp : ℕ) (row : AccessRow) (s : AccessSet) → row.there ≡ true → s.kind ≡ (access qp row).kind → s.guard ≡ (access qp row).guard → ((q : Resource) → has_resource s.resources q ≡ is_resource (access qp row).resource q) → AreSetsOf (listed qp (row ∷ [])) (s ∷ [])
 set_of_row qp row s there k u h = rw there (record {
   has = λ a c. elim (cases_in (access qp row) a [] c) [
     | inl e ↦ (s, in_head s s [] refl, subst (λ (b : Access). IsIn b s) e (record { kind = k; guard = u; resource = h row.resource ∙ resource_itself row.resource }))
@@ -152,10 +152,10 @@ append_none [] = refl
 append_none (x ∷ xs) = ap (λ l. x ∷ l) (append_none xs)
 
 -- a row that isn't there is in no set
-pub row_apart : (qp : ℕ) (row : Row) (earlier : List Access) (sets : List AccessSet) → row.there ≡ false → AreSetsOf earlier sets → AreSetsOf (earlier ++ listed qp (row ∷ [])) sets
+pub row_apart : (qp : ℕ) (row : AccessRow) (earlier : List Access) (sets : List AccessSet) → row.there ≡ false → AreSetsOf earlier sets → AreSetsOf (earlier ++ listed qp (row ∷ [])) sets
 row_apart qp row earlier sets there h = rw (there, append_none earlier) h
 
-pub rows_apart : (qp : ℕ) (rows : List Row) (earlier : List Access) (sets : List AccessSet) → rows ≡ [] → AreSetsOf earlier sets → AreSetsOf (earlier ++ listed qp rows) sets
+pub rows_apart : (qp : ℕ) (rows : List AccessRow) (earlier : List Access) (sets : List AccessSet) → rows ≡ [] → AreSetsOf earlier sets → AreSetsOf (earlier ++ listed qp rows) sets
 rows_apart qp rows earlier sets none h = rw (none, append_none earlier) h
 
 -- the rows of predicates by place are alike
@@ -163,17 +163,17 @@ place_alike : (left n mask : ℕ) (kind : Kind) → AreAlike kind (place_rows le
 place_alike zero n mask kind = tt
 place_alike (suc left) n mask kind = (refl, refl, place_alike left (suc n) mask kind)
 
-pub placed_alike : (f : Form) → AreAlike (placed_kind f) (placed_rows f)
+pub placed_alike : (f : Action) → AreAlike (placed_kind f) (placed_rows f)
 unfolding mask_rows
-placed_alike (form.Fetch r1 source.Predicates) = place_alike 63 1 0x1ffff Read
-placed_alike (form.ToPredicates r2 mask w) = place_alike 63 1 mask Write
-placed_alike (form.JumpIndirect b2) = place_alike 63 1 0xfffe BranchRead
-placed_alike (form.Call b1 (Indirect b2)) = place_alike 63 1 0xfffe BranchRead
-placed_alike (form.Return b2) = place_alike 63 1 0xfffe BranchRead
+placed_alike (action.Fetch r1 source.Predicates) = place_alike 63 1 0x1ffff Read
+placed_alike (action.ToPredicates r2 mask w) = place_alike 63 1 mask Write
+placed_alike (action.JumpIndirect b2) = place_alike 63 1 0xfffe BranchRead
+placed_alike (action.Call b1 (Indirect b2)) = place_alike 63 1 0xfffe BranchRead
+placed_alike (action.Return b2) = place_alike 63 1 0xfffe BranchRead
 placed_alike f = tt
 
 -- the access sets of an instruction, part by part
-pub sets_of_all : (qp : ℕ) (f : Form) (frame : Row) (guards own : List Row) (sets : List AccessSet) → frame ≡ frame_row qp f → guards ≡ qp_rows qp f → own ≡ own_rows f
+pub sets_of_all : (qp : ℕ) (f : Action) (frame : AccessRow) (guards own : List AccessRow) (sets : List AccessSet) → frame ≡ frame_row qp f → guards ≡ qp_rows qp f → own ≡ own_rows f
     → AreSetsOf (((listed qp (frame ∷ []) ++ listed qp guards) ++ listed qp own) ++ listed qp (placed_rows f)) sets → AreSetsOf (accesses_of qp f) sets
 sets_of_all qp f frame guards own sets a b c h =
     let parts : (((listed qp (frame ∷ []) ++ listed qp guards) ++ listed qp own) ++ listed qp (placed_rows f)) ≡ (((listed qp (frame_row qp f ∷ []) ++ listed qp (qp_rows qp f)) ++ listed qp (own_rows f)) ++ listed qp (placed_rows f))

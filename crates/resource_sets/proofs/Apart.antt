@@ -9,14 +9,14 @@ use Rattle.ia_insn.specs.declared.choices.Update.{Update}
 use Rattle.ia_insn.specs.declared.choices.Update.TheVariants as update
 use Rattle.ia_insn.specs.declared.registers.Ar.{Ar}
 use Rattle.ia_insn.specs.declared.registers.Ar.TheVariants as ar
-use Rattle.ia_insn.specs.FormatsM.{IsLoadUpdate}
+use Rattle.ia_insn.specs.Ranges.{IsLoadUpdate}
 use Rattle.ia_meaning.specs.declared.state.Cell.{Cell}
 use Rattle.ia_meaning.specs.declared.state.FrameShape.{FrameShape}
 use Rattle.ia_meaning.specs.declared.state.AlatKey.{AlatKey as Spot}
 use Rattle.ia_meaning.specs.declared.state.AlatKey.TheVariants.{Static, Stacked}
 use Rattle.ia_meaning.specs.declared.turn.Turn.{Turn}
-use Rattle.ia_meaning.specs.declared.form.Form.{Form}
-use Rattle.ia_meaning.specs.declared.form.Goal.TheVariants.{Direct, Indirect}
+use Rattle.ia_meaning.specs.declared.action.Action.{Action}
+use Rattle.ia_meaning.specs.declared.action.Goal.TheVariants.{Direct, Indirect}
 use Rattle.ia_meaning.specs.State.{zero_cell, Registers, Memory, IsFrame}
 use Rattle.ia_meaning.specs.declared.write.Write.{Write}
 use Rattle.ia_meaning.specs.declared.write.Write.TheVariants.{SetPredicate, SetLc, SetEc, SetFrame}
@@ -24,8 +24,8 @@ use Rattle.ia_meaning.specs.declared.write.FrameCause.TheVariants.{Resized, Rena
 use Rattle.ia_meaning.specs.Names.{spot, predicate_spot, predicate_place, set_spot, set_predicate}
 use Rattle.ia_meaning.specs.Arithmetic.{bit}
 use Rattle.ia_meaning.specs.Outcomes.{Outcome}
-use Rattle.ia_meaning.specs.declared.form.Form.TheVariants.{Compute, Fetch, Test, ToPredicates, ToBranch, ToApplication, FromMemory, ToMemory, Exchange, CheckNat, CheckAlat, ForgetAll, Forget, Allocate, Jump, JumpIndirect, Loop, Call, Return, ClearBases, Stop, Idle}
-use Rattle.ia_meaning.specs.Actions.{form_of, result_of, moved}
+use Rattle.ia_meaning.specs.declared.action.Action.TheVariants.{Compute, Fetch, Test, ToPredicates, ToBranch, ToApplication, FromMemory, ToMemory, Exchange, CheckNat, CheckAlat, ForgetAll, Forget, Allocate, Jump, JumpIndirect, Loop, Call, Return, ClearBases, Stop, Idle}
+use Rattle.ia_meaning.specs.Actions.{action_of, result_of, moved}
 use Rattle.ia_meaning.specs.Moves.{test_writes, is_masked, masked_writes, predicate_writes}
 use Rattle.ia_meaning.specs.Loads.{base_writes}
 use Rattle.ia_meaning.specs.Frames.{with_sizes, call_writes, rotated}
@@ -134,7 +134,7 @@ turn_apart t f =
 call_apart : (bundle b1 : ℕ) (f : FrameShape) (ec : ℕ) → AreApart (call_writes bundle b1 f ec)
 call_apart bundle b1 f ec = ((λ same. cc, (λ same. cc, tt)), ((λ same. cc, tt), (tt, tt)))
 
--- Each form.
+-- Each action.
 abbrev WritesApart : Outcome → Type 0
 WritesApart o = AreApart o.writes
 
@@ -144,8 +144,8 @@ application_apart ar.Pfs x m = λ _. (tt, tt)
 application_apart ar.Lc x m = (tt, tt)
 application_apart ar.Ec x m = (tt, tt)
 
-act_apart : (s : Site) (qp : ℕ) (form : Form) (v : Registers) (m : Memory) (x : ℕ) → IsFrame v.frame → HasNames qp form
-    → ActCases WritesApart s form v m x
+act_apart : (s : Site) (qp : ℕ) (action : Action) (v : Registers) (m : Memory) (x : ℕ) → IsFrame v.frame → HasNames qp action
+    → ActCases WritesApart s action v m x
 act_apart s qp (Compute r1 r2 r3 f) v m x frame l = (λ _. tt, λ d a b _ _ _. one_spot d _)
 act_apart s qp (Fetch r1 source) v m x frame l = (λ _. tt, λ d _. one_spot d _)
 act_apart s qp (Test kind p1 p2 r2 r3 c) v m x frame l = (λ _. tt, λ a b _ _. test_apart v.frame frame kind p1 p2 (result_of c a b) l)
@@ -177,16 +177,16 @@ act_apart s qp (ClearBases pred_only) v m x frame l = (tt, tt)
 act_apart s qp (Stop unit imm) v m x frame l = tt
 act_apart s qp (Idle unit) v m x frame l = tt
 
-skip_apart : (s : Site) (qp : ℕ) (form : Form) (v : Registers) (m : Memory) → IsFrame v.frame → HasNames qp form
-    → SkipCases WritesApart s form v m
+skip_apart : (s : Site) (qp : ℕ) (action : Action) (v : Registers) (m : Memory) → IsFrame v.frame → HasNames qp action
+    → SkipCases WritesApart s action v m
 skip_apart s qp (Test kind p1 p2 r2 r3 c) v m frame l = (λ _. two_predicates v.frame frame p1 p2 false false l, λ _. tt)
 skip_apart s qp (Loop kind disp) v m frame l = either_way (turn_apart (turn_of kind false v.lc v.ec) v.frame)
-skip_apart s qp form v m frame l = tt
+skip_apart s qp action v m frame l = tt
 
 -- no two writes of a listed instruction go to one location
 pub apart : WritesAreApart
 apart s insn v m x listed frame =
-    let form : Form = form_of insn.op in
-    let l : HasNames insn.qp form = has_names insn.qp insn.op listed in
+    let action : Action = action_of insn.op in
+    let l : HasNames insn.qp action = has_names insn.qp insn.op listed in
     apart_pairs _
-    (guarded_cases WritesApart s insn.qp form v m x (λ _. act_apart s insn.qp form v m x frame l) (λ _. skip_apart s insn.qp form v m frame l))
+    (guarded_cases WritesApart s insn.qp action v m x (λ _. act_apart s insn.qp action v m x frame l) (λ _. skip_apart s insn.qp action v m frame l))

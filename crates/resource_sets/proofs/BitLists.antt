@@ -5,10 +5,10 @@ use Rattle.std.specs.List.{list_any, list_all}
 use Rattle.std.proofs.lemmas.Bool.{cases_Bool, and_parts, and_from, or_cases, or_left, or_right}
 use Rattle.std.proofs.lemmas.List.{take_more}
 use Rattle.std.proofs.lemmas.List.Folds.{list_any-append, list_all-append}
-use Rattle.ia_meaning.specs.declared.form.Form.{Form}
-use Rattle.ia_meaning.specs.declared.form.Form.TheVariants as form
-use Rattle.ia_meaning.specs.declared.form.Source.TheVariants as source
-use Rattle.ia_meaning.specs.declared.form.Goal.TheVariants as goal
+use Rattle.ia_meaning.specs.declared.action.Action.{Action}
+use Rattle.ia_meaning.specs.declared.action.Action.TheVariants as action
+use Rattle.ia_meaning.specs.declared.action.FetchSource.TheVariants as source
+use Rattle.ia_meaning.specs.declared.action.Goal.TheVariants as goal
 use Rattle.ia_insn.specs.declared.choices.CmpKind.TheVariants as cmp
 use Rattle.ia_insn.specs.declared.choices.BranchKind.TheVariants as branch
 use Rattle.ia_insn.specs.declared.registers.Ar.TheVariants as ar
@@ -17,7 +17,7 @@ use Rattle.resource_sets.specs.declared.access.Resource.TheVariants.{Pr}
 use Rattle.resource_sets.specs.declared.access.Kind.{Kind}
 use Rattle.resource_sets.specs.declared.access.Kind.TheVariants.{Read, BranchRead, Write, Spill}
 use Rattle.resource_sets.specs.declared.access.Access.{Access}
-use Rattle.resource_sets.specs.declared.row.Row.{Row}
+use Rattle.resource_sets.specs.declared.row.AccessRow.{AccessRow}
 use Rattle.resource_sets.specs.declared.bits.AccessBits.{AccessBits}
 use Rattle.resource_sets.specs.Rows.{access, listed}
 use Rattle.resource_sets.specs.Accesses.{own_rows, place_rows, mask_rows, placed_rows, frame_row, qp_rows, accesses_of}
@@ -42,7 +42,7 @@ bits_more earlier a made barred made_on barred_on f m b h = record {
     one_more p = list_any-append p earlier (a ∷ []) ∙ ap (λ (t : Bool). list_any p earlier || t) (or_false (p a))
 
 -- one more row that is there
-pub row_taken : (qp : ℕ) (earlier : List Access) (row : Row) (made barred made_on barred_on : AccessBits) → row.there ≡ true → fits row.resource row.kind ≡ true
+pub row_taken : (qp : ℕ) (earlier : List Access) (row : AccessRow) (made barred made_on barred_on : AccessBits) → row.there ≡ true → fits row.resource row.kind ≡ true
     → ((c : Column) → bit_of made_on c ≡ (bit_of made c || is_made c row.resource row.kind))
     → ((q : Resource) (k : Kind) → is_seen q k ≡ true → bit_of barred_on (column_of q k) ≡ (bit_of barred (column_of q k) || bars row.resource row.kind q k))
     → AreBits earlier made barred → AreBits (earlier ++ listed qp (row ∷ [])) made_on barred_on
@@ -57,28 +57,28 @@ pub rows_none : (earlier : List Access) (made barred : AccessBits) → AreBits e
 rows_none earlier made barred h = subst (λ (l : List Access). AreBits l made barred) (sym (append_none earlier)) h
 
 -- or isn't
-pub row_left : (qp : ℕ) (earlier : List Access) (row : Row) (made barred : AccessBits) → row.there ≡ false → AreBits earlier made barred → AreBits (earlier ++ listed qp (row ∷ [])) made barred
+pub row_left : (qp : ℕ) (earlier : List Access) (row : AccessRow) (made barred : AccessBits) → row.there ≡ false → AreBits earlier made barred → AreBits (earlier ++ listed qp (row ∷ [])) made barred
 row_left qp earlier row made barred there h = rw there (rows_none earlier made barred h)
 
 -- one more row of some
-pub rows_taken : (qp : ℕ) (earlier : List Access) (rows : List Row) (n : ℕ) (d : Row) → n < length rows
+pub rows_taken : (qp : ℕ) (earlier : List Access) (rows : List AccessRow) (n : ℕ) (d : AccessRow) → n < length rows
     → (earlier ++ listed qp (take n rows)) ++ listed qp (get_or rows n d ∷ []) ≡ earlier ++ listed qp (take (n + 1) rows)
 rows_taken qp earlier rows n d short =
     append_assoc earlier (listed qp (take n rows)) (listed qp (get_or rows n d ∷ []))
     ∙ ap (λ (l : List Access). earlier ++ l) (sym (ap (listed qp) (take_more rows n d short) ∙ listed_append qp (take n rows) (get_or rows n d ∷ [])))
 
-pub within_at : (rows : List Row) (n : ℕ) (d : Row) → AreWithin rows → n < length rows → IsWithin (get_or rows n d).resource
+pub within_at : (rows : List AccessRow) (n : ℕ) (d : AccessRow) → AreWithin rows → n < length rows → IsWithin (get_or rows n d).resource
 within_at [] n d w l = absurd (omega arith)
 within_at (x ∷ xs) zero d w l = w.0
 within_at (x ∷ xs) (suc n) d w l = within_at xs n d w.1 (omega arith)
 
-pub fits_at : (rows : List Row) (n : ℕ) (d : Row) → all_fit rows ≡ true → n < length rows → fits (get_or rows n d).resource (get_or rows n d).kind ≡ true
+pub fits_at : (rows : List AccessRow) (n : ℕ) (d : AccessRow) → all_fit rows ≡ true → n < length rows → fits (get_or rows n d).resource (get_or rows n d).kind ≡ true
 fits_at [] n d w l = absurd (omega arith)
 fits_at (x ∷ xs) zero d w l = (and_parts _ _ w).0
 fits_at (x ∷ xs) (suc n) d w l = fits_at xs n d (and_parts _ _ w).1 (omega arith)
 
 -- the rows of an instruction, part by part
-pub all_taken : (qp : ℕ) (f : Form) (frame : Row) (guards own placed : List Row) (made barred : AccessBits) → frame ≡ frame_row qp f → guards ≡ qp_rows qp f → own ≡ own_rows f → placed ≡ placed_rows f
+pub all_taken : (qp : ℕ) (f : Action) (frame : AccessRow) (guards own placed : List AccessRow) (made barred : AccessBits) → frame ≡ frame_row qp f → guards ≡ qp_rows qp f → own ≡ own_rows f → placed ≡ placed_rows f
     → AreBits (((listed qp (frame ∷ []) ++ listed qp guards) ++ listed qp own) ++ listed qp placed) made barred → AreBits (accesses_of qp f) made barred
 all_taken qp f frame guards own placed made barred a b c d h =
     let parts : (((listed qp (frame ∷ []) ++ listed qp guards) ++ listed qp own) ++ listed qp placed) ≡ (((listed qp (frame_row qp f ∷ []) ++ listed qp (qp_rows qp f)) ++ listed qp (own_rows f)) ++ listed qp (placed_rows f))
@@ -98,39 +98,39 @@ none_bits (and_target n) = bit_none n
 none_bits (branch n) = bit_none n
 none_bits (other n) = bit_none n
 
--- the rows of each form fit
-pub own_fit : (f : Form) → all_fit (own_rows f) ≡ true
-own_fit (form.Fetch r1 (source.Application ar.Unat)) = refl
-own_fit (form.ToApplication ar.Unat r2 w) = refl
-own_fit (form.Test cmp.Normal p1 p2 r2 r3 c) = refl
-own_fit (form.Loop branch.Cond disp) = refl
-own_fit (form.Call b1 (goal.Direct disp)) = refl
+-- the rows of each action fit
+pub own_fit : (f : Action) → all_fit (own_rows f) ≡ true
+own_fit (action.Fetch r1 (source.Application ar.Unat)) = refl
+own_fit (action.ToApplication ar.Unat r2 w) = refl
+own_fit (action.Test cmp.Normal p1 p2 r2 r3 c) = refl
+own_fit (action.Loop branch.Cond disp) = refl
+own_fit (action.Call b1 (goal.Direct disp)) = refl
 own_fit f = refl
 
 place_fit : (left n mask : ℕ) (kind : Kind) → ((p : ℕ) → fits (Pr p) kind ≡ true) → all_fit (place_rows left n mask kind) ≡ true
 place_fit zero n mask kind f = refl
 place_fit (suc left) n mask kind f = and_from _ _ (f n) (place_fit left (suc n) mask kind f)
 
-pub placed_fit : (f : Form) → all_fit (placed_rows f) ≡ true
+pub placed_fit : (f : Action) → all_fit (placed_rows f) ≡ true
 unfolding mask_rows
-placed_fit (form.Fetch r1 source.Predicates) = place_fit 63 1 0x1ffff Read (λ p. refl)
-placed_fit (form.ToPredicates r2 mask w) = place_fit 63 1 mask Write (λ p. refl)
-placed_fit (form.JumpIndirect b2) = place_fit 63 1 0xfffe BranchRead (λ p. refl)
-placed_fit (form.Call b1 (goal.Indirect b2)) = place_fit 63 1 0xfffe BranchRead (λ p. refl)
-placed_fit (form.Return b2) = place_fit 63 1 0xfffe BranchRead (λ p. refl)
+placed_fit (action.Fetch r1 source.Predicates) = place_fit 63 1 0x1ffff Read (λ p. refl)
+placed_fit (action.ToPredicates r2 mask w) = place_fit 63 1 mask Write (λ p. refl)
+placed_fit (action.JumpIndirect b2) = place_fit 63 1 0xfffe BranchRead (λ p. refl)
+placed_fit (action.Call b1 (goal.Indirect b2)) = place_fit 63 1 0xfffe BranchRead (λ p. refl)
+placed_fit (action.Return b2) = place_fit 63 1 0xfffe BranchRead (λ p. refl)
 placed_fit f = refl
 
 place_within : (left n mask : ℕ) (kind : Kind) → n + left ≤ 64 → AreWithin (place_rows left n mask kind)
 place_within zero n mask kind l = tt
 place_within (suc left) n mask kind l = (omega arith, place_within left (suc n) mask kind (omega arith))
 
-pub placed_within : (f : Form) → AreWithin (placed_rows f)
+pub placed_within : (f : Action) → AreWithin (placed_rows f)
 unfolding mask_rows
-placed_within (form.Fetch r1 source.Predicates) = place_within 63 1 0x1ffff Read (omega arith)
-placed_within (form.ToPredicates r2 mask w) = place_within 63 1 mask Write (omega arith)
-placed_within (form.JumpIndirect b2) = place_within 63 1 0xfffe BranchRead (omega arith)
-placed_within (form.Call b1 (goal.Indirect b2)) = place_within 63 1 0xfffe BranchRead (omega arith)
-placed_within (form.Return b2) = place_within 63 1 0xfffe BranchRead (omega arith)
+placed_within (action.Fetch r1 source.Predicates) = place_within 63 1 0x1ffff Read (omega arith)
+placed_within (action.ToPredicates r2 mask w) = place_within 63 1 mask Write (omega arith)
+placed_within (action.JumpIndirect b2) = place_within 63 1 0xfffe BranchRead (omega arith)
+placed_within (action.Call b1 (goal.Indirect b2)) = place_within 63 1 0xfffe BranchRead (omega arith)
+placed_within (action.Return b2) = place_within 63 1 0xfffe BranchRead (omega arith)
 placed_within f = tt
 
 -- An element of a list, by what holds of all and of some.

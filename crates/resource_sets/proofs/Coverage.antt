@@ -19,11 +19,11 @@ use Rattle.ia_meaning.specs.declared.state.FrameShape.{FrameShape}
 use Rattle.ia_meaning.specs.declared.state.AlatKey.{AlatKey as Spot}
 use Rattle.ia_meaning.specs.declared.state.AlatKey.TheVariants.{Static, Stacked}
 use Rattle.ia_meaning.specs.declared.turn.Turn.{Turn}
-use Rattle.ia_meaning.specs.declared.form.Condition.{Condition}
-use Rattle.ia_meaning.specs.declared.form.MovedWord.{MovedWord}
-use Rattle.ia_meaning.specs.declared.form.Form.{Form}
-use Rattle.ia_meaning.specs.declared.form.Goal.{Goal}
-use Rattle.ia_meaning.specs.declared.form.Goal.TheVariants.{Direct, Indirect}
+use Rattle.ia_meaning.specs.declared.action.Condition.{Condition}
+use Rattle.ia_meaning.specs.declared.action.MovedWord.{MovedWord}
+use Rattle.ia_meaning.specs.declared.action.Action.{Action}
+use Rattle.ia_meaning.specs.declared.action.Goal.{Goal}
+use Rattle.ia_meaning.specs.declared.action.Goal.TheVariants.{Direct, Indirect}
 use Rattle.ia_meaning.specs.State.{zero_cell, Registers, Memory}
 use Rattle.ia_meaning.specs.declared.write.Write.{Write}
 use Rattle.ia_meaning.specs.declared.write.Write.TheVariants.{SetPredicate, SetUnat, SetPfs, SetLc, SetEc, SetFrame}
@@ -31,8 +31,8 @@ use Rattle.ia_meaning.specs.declared.write.FrameCause.TheVariants.{Renamed}
 use Rattle.ia_meaning.specs.Names.{spot, holds, predicate_spot, predicate_place, set_spot, set_predicate}
 use Rattle.ia_meaning.specs.Arithmetic.{bit}
 use Rattle.ia_meaning.specs.Outcomes.{Outcome}
-use Rattle.ia_meaning.specs.declared.form.Form.TheVariants.{Compute, Fetch, Test, ToPredicates, ToBranch, ToApplication, FromMemory, ToMemory, Exchange, CheckNat, CheckAlat, ForgetAll, Forget, Allocate, Jump, JumpIndirect, Loop, Call, Return, ClearBases, Stop, Idle}
-use Rattle.ia_meaning.specs.Actions.{form_of, result_of, moved}
+use Rattle.ia_meaning.specs.declared.action.Action.TheVariants.{Compute, Fetch, Test, ToPredicates, ToBranch, ToApplication, FromMemory, ToMemory, Exchange, CheckNat, CheckAlat, ForgetAll, Forget, Allocate, Jump, JumpIndirect, Loop, Call, Return, ClearBases, Stop, Idle}
+use Rattle.ia_meaning.specs.Actions.{action_of, result_of, moved}
 use Rattle.ia_meaning.specs.Moves.{test_writes, is_masked, masked_writes, predicate_writes}
 use Rattle.ia_meaning.specs.Loads.{base_writes}
 use Rattle.ia_meaning.specs.Frames.{with_sizes, call_writes, rotated}
@@ -52,7 +52,7 @@ use Rattle.resource_sets.specs.AccessLaws.{location, spot_location, location_of,
 use Rattle.resource_sets.proofs.Renaming.{spot_inside}
 
 -- The rows of an instruction are those of its parts.
-module _ (qp : ℕ) (f : Form) (a : Access) where
+module _ (qp : ℕ) (f : Action) (a : Access) where
   in_own : HasRow qp a (own_rows f) → HasRow qp a (rows qp f)
   unfolding rows
   in_own h = has_left qp a (rows_by_name qp f) (placed_rows f) (inr (has_right qp a (qp_rows qp f) (own_rows f) h))
@@ -65,7 +65,7 @@ module _ (qp : ℕ) (f : Form) (a : Access) where
 abbrev under : ℕ → Resource → Kind → Access
 under guard q kind = record { resource = q; kind = kind; guard = guard }
 
-module _ (qp : ℕ) (f : Form) (v : Registers) where
+module _ (qp : ℕ) (f : Action) (v : Registers) where
   row_covered : (a : Access) (w : Write) → HasRow qp a (rows qp f) → writes_registers a.kind ≡ true → holds v a.guard ≡ true
       → location_of (naming_frame f v.frame) a.resource ≡ Some (location w) → MayPut a.kind w → IsCovered qp f v w
   row_covered a w h i g n p = record { access = a; has = h; writing = i; guarded = g; names = n; puts = p }
@@ -177,18 +177,18 @@ module _ (P : Write → Type 0) (f : FrameShape) where
   each_test kind p q x h i = tt
 
 module _ (qp : ℕ) (kind : CmpKind) (p1 p2 r2 r3 : ℕ) (c : Condition) (v : Registers) (g : holds v (test_guard kind qp) ≡ true) where
-  abbrev test_form : Form
-  test_form = Test kind p1 p2 r2 r3 c
+  abbrev test_action : Action
+  test_action = Test kind p1 p2 r2 r3 c
 
   target_covered : (p : ℕ) (k : Kind) → (is_named p ≡ true → TargetRow qp kind p1 p2 p k) → writes_registers k ≡ true
-      → PredicateWrites (IsCovered qp test_form v) v.frame k p
+      → PredicateWrites (IsCovered qp test_action v) v.frame k p
   target_covered p k row i b m n =
       let a : Access = under (test_guard kind qp) (Pr p) k in
-      row_covered qp test_form v a (SetPredicate (predicate_place v.frame p) b)
-      (in_own qp test_form a (inr (inr (row n)))) i g refl m
+      row_covered qp test_action v a (SetPredicate (predicate_place v.frame p) b)
+      (in_own qp test_action a (inr (inr (row n)))) i g refl m
 
   test_covered : (x : Option Bool)
-      → Each (IsCovered qp test_form v) (test_writes kind (predicate_spot v.frame p1) (predicate_spot v.frame p2) x)
+      → Each (IsCovered qp test_action v) (test_writes kind (predicate_spot v.frame p1) (predicate_spot v.frame p2) x)
   test_covered x =
       each_test _ v.frame kind p1 p2 x
       (target_covered p1 (first_kind kind) (first_row qp kind p1 p2) (first_writes kind))
@@ -222,17 +222,17 @@ masks_high : (mask k p : ℕ) → 16 ≤ k → 16 ≤ p → is_masked mask k ≡
 masks_high mask k p h i e = grind (arith, nat_tests)
 
 module _ (qp r2 mask : ℕ) (w : MovedWord) (v : Registers) (base : v.frame.rrbs.pr < 48) (g : holds v qp ≡ true) where
-  abbrev mask_form : Form
-  mask_form = ToPredicates r2 mask w
+  abbrev mask_action : Action
+  mask_action = ToPredicates r2 mask w
 
   named_place_covered : (p k : ℕ) (b : Bool) → predicate_place v.frame p ≡ k
       → HasRow qp (under qp (Pr p) Writes) (mask_rows mask Writes)
-      → IsCovered qp mask_form v (SetPredicate k b)
+      → IsCovered qp mask_action v (SetPredicate k b)
   named_place_covered p k b is h =
       let a : Access = under qp (Pr p) Writes in
-      row_covered qp mask_form v a (SetPredicate k b) (in_placed qp mask_form a h) refl g (ap (λ t. Some (PredicateAt t)) is) tt
+      row_covered qp mask_action v a (SetPredicate k b) (in_placed qp mask_action a h) refl g (ap (λ t. Some (PredicateAt t)) is) tt
 
-  place_covered : PlacesFrom (IsCovered qp mask_form v) 63 1 mask
+  place_covered : PlacesFrom (IsCovered qp mask_action v) 63 1 mask
   place_covered k b i j e =
       ⊎_elim (λ low. named_place_covered k k b (low_name v.frame k low) (mask_row qp k mask Writes i j e))
       (λ high.
@@ -262,21 +262,21 @@ no_count : {P : Type 0} (o : Option ℕ) (x : ℕ) → o ≡ None → o ≡ Some
 no_count o x e h = absurd (cc)
 
 module _ (qp : ℕ) (kind : BranchKind) (disp : ℤ) (v : Registers) where
-  abbrev loop_form : Form
-  loop_form = Loop kind disp
+  abbrev loop_action : Action
+  loop_action = Loop kind disp
 
   -- an access of a loop branch is under p0
-  loop_write_covered : (q : Resource) (k : Kind) (w : Write) → HasRow qp (under 0 q k) (own_rows loop_form)
-      → writes_registers k ≡ true → location_of v.frame q ≡ Some (location w) → MayPut k w → IsCovered qp loop_form v w
+  loop_write_covered : (q : Resource) (k : Kind) (w : Write) → HasRow qp (under 0 q k) (own_rows loop_action)
+      → writes_registers k ≡ true → location_of v.frame q ≡ Some (location w) → MayPut k w → IsCovered qp loop_action v w
   loop_write_covered q k w h i n p =
-      row_covered qp loop_form v (under 0 q k) w (in_own qp loop_form (under 0 q k) h) i (holds_zero v) n p
+      row_covered qp loop_action v (under 0 q k) w (in_own qp loop_action (under 0 q k) h) i (holds_zero v) n p
 
-  count_covered : HasRow qp (under 0 Lc Writes) (own_rows loop_form) → (x : ℕ) → IsCovered qp loop_form v (SetLc x)
+  count_covered : HasRow qp (under 0 Lc Writes) (own_rows loop_action) → (x : ℕ) → IsCovered qp loop_action v (SetLc x)
   count_covered h x = loop_write_covered Lc Writes (SetLc x) h refl refl tt
 
   -- one that rotates, given its write of LC
-  rotating_covered : (t : Turn) → ((a : Access) → HasRow qp a rotating_rows → HasRow qp a (own_rows loop_form))
-      → ((x : ℕ) → t.lc ≡ Some x → IsCovered qp loop_form v (SetLc x)) → Each (IsCovered qp loop_form v) (turn_writes t v.frame)
+  rotating_covered : (t : Turn) → ((a : Access) → HasRow qp a rotating_rows → HasRow qp a (own_rows loop_action))
+      → ((x : ℕ) → t.lc ≡ Some x → IsCovered qp loop_action v (SetLc x)) → Each (IsCovered qp loop_action v) (turn_writes t v.frame)
   rotating_covered t row lc =
       each_written _ SetLc t.lc _ lc
       (each_written _ SetEc t.ec _ (λ x _. loop_write_covered Ec Writes _ (row _ (inr (inl (refl, refl)))) refl refl tt)
@@ -285,8 +285,8 @@ module _ (qp : ℕ) (kind : BranchKind) (disp : ℤ) (v : Registers) where
       (each_rotation _ v.frame t.rotates
       (loop_write_covered Cfm Writes _ (row _ (inr (inr (inr (inl (refl, refl)))))) refl refl tt))))
 
-  while_covered : (top held : Bool) (ec : ℕ) → ((a : Access) → HasRow qp a rotating_rows → HasRow qp a (own_rows loop_form))
-      → Each (IsCovered qp loop_form v) (turn_writes (while_turn top held ec) v.frame)
+  while_covered : (top held : Bool) (ec : ℕ) → ((a : Access) → HasRow qp a rotating_rows → HasRow qp a (own_rows loop_action))
+      → Each (IsCovered qp loop_action v) (turn_writes (while_turn top held ec) v.frame)
   while_covered top held ec row = rotating_covered (while_turn top held ec) row (λ x e. no_count _ x (while_lc top held ec) e)
 
 loop_covered : (qp : ℕ) (kind : BranchKind) (disp : ℤ) (v : Registers) (held : Bool) (lc ec : ℕ)
@@ -306,8 +306,8 @@ loop_covered qp branch.Ctop disp v held lc ec =
     (λ a h. has_right qp a counting_rows rotating_rows h)
     (λ x _. count_covered qp branch.Ctop disp v (inr (inl (refl, refl))) x)
 
--- Each form.
-abbrev EachCovered : ℕ → Form → Registers → Outcome → Type 0
+-- Each action.
+abbrev EachCovered : ℕ → Action → Registers → Outcome → Type 0
 EachCovered qp f v o = Each (IsCovered qp f v) o.writes
 
 pub either_way : {A B P : Type 0} → P → (A → P) × (B → P)
@@ -330,8 +330,8 @@ call_covered qp bundle b1 goal v g = (
   ),
 )
 
-act_covered : (s : Site) (qp : ℕ) (form : Form) (v : Registers) (m : Memory) (x : ℕ) → v.frame.rrbs.pr < 48 → holds v qp ≡ true
-    → ActCases (EachCovered qp form v) s form v m x
+act_covered : (s : Site) (qp : ℕ) (action : Action) (v : Registers) (m : Memory) (x : ℕ) → v.frame.rrbs.pr < 48 → holds v qp ≡ true
+    → ActCases (EachCovered qp action v) s action v m x
 act_covered s qp (Compute r1 r2 r3 f) v m x base g =
     let named : WritesOf (IsCovered qp (Compute r1 r2 r3 f) v) v.frame r1 =
     λ w n. own_covered qp _ v (Gr r1) w g (inr (inr (inl (n, refl)))) in
@@ -348,14 +348,14 @@ act_covered s qp (ToBranch b1 r2) v m x base g =
     (λ _. tt, λ a _ _. (own_covered qp (ToBranch b1 r2) v (Br b1) _ g (inr (inl (refl, refl))) refl, tt))
 act_covered s qp (ToApplication a r2 w) v m x base g = (λ _. tt, λ c _ _. application_covered qp a r2 (moved w c.value) w v m g)
 act_covered s qp (FromMemory size kind r1 r3 u) v m x base g =
-    let form : Form = FromMemory size kind r1 r3 u in
-    let named : WritesOf (IsCovered qp form v) v.frame r1 =
-    λ w n. own_covered qp form v (Gr r1) w g (inr (inr (inl (n, refl)))) in
-    let updated : is_updated u ≡ true → WritesOf (IsCovered qp form v) v.frame r3 =
-    λ t w n. own_covered qp form v (Gr r3) w g (inr (inr (inr (inl (both _ _ t n, refl))))) in (
+    let action : Action = FromMemory size kind r1 r3 u in
+    let named : WritesOf (IsCovered qp action v) v.frame r1 =
+    λ w n. own_covered qp action v (Gr r1) w g (inr (inr (inl (n, refl)))) in
+    let updated : is_updated u ≡ true → WritesOf (IsCovered qp action v) v.frame r3 =
+    λ t w n. own_covered qp action v (Gr r3) w g (inr (inr (inr (inl (both _ _ t n, refl))))) in (
       λ _. tt,
       λ d e y z at_d at_e _ _.
-          let rest : Each (IsCovered qp form v) (base_writes u e y z) = each_base _ v.frame r3 u e y z at_e updated in
+          let rest : Each (IsCovered qp action v) (base_writes u e y z) = each_base _ v.frame r3 u e y z at_e updated in
           record {
             loads = λ _ _. each_spot _ v.frame r1 d _ _ at_d named rest;
             defers = λ _ es _. each_spot _ v.frame r1 d _ _ at_d named rest;
@@ -363,9 +363,9 @@ act_covered s qp (FromMemory size kind r1 r3 u) v m x base g =
           },
     )
 act_covered s qp (ToMemory size kind r3 r2 u) v m x base g =
-    let form : Form = ToMemory size kind r3 r2 u in
-    let updated : is_updated u ≡ true → WritesOf (IsCovered qp form v) v.frame r3 =
-    λ t w n. own_covered qp form v (Gr r3) w g (inr (inr (inl (both _ _ t n, refl)))) in
+    let action : Action = ToMemory size kind r3 r2 u in
+    let updated : is_updated u ≡ true → WritesOf (IsCovered qp action v) v.frame r3 =
+    λ t w n. own_covered qp action v (Gr r3) w g (inr (inr (inl (both _ _ t n, refl)))) in
     (λ _. tt, λ e y z at_e _ _ _ _ _. each_base _ v.frame r3 u e y zero_cell at_e updated)
 act_covered s qp (Exchange size r1 r3 r2 inc) v m x base g =
     let named : WritesOf (IsCovered qp (Exchange size r1 r3 r2 inc) v) v.frame r1 =
@@ -376,11 +376,11 @@ act_covered s qp (CheckAlat clear r1 disp) v m x base g = (λ _. tt, λ d _ _. t
 act_covered s qp ForgetAll v m x base g = tt
 act_covered s qp (Forget r1) v m x base g = (λ _. tt, λ d _. tt)
 act_covered s qp (Allocate r1 sof sol sor) v m x base g =
-    let form : Form = Allocate r1 sof sol sor in (
+    let action : Action = Allocate r1 sof sol sor in (
       λ _. tt,
       λ d at_d _ _. (
-        row_covered qp form v (under qp Cfm AllocWrite) _ (in_own qp form _ (inr (inr (inr (inl (refl, refl)))))) refl g refl tt,
-        each_spot _ (with_sizes v.frame sof sol sor) r1 d _ [] at_d (λ w n. own_covered qp form v (Gr r1) w g (inl (n, refl))) tt,
+        row_covered qp action v (under qp Cfm AllocWrite) _ (in_own qp action _ (inr (inr (inr (inl (refl, refl)))))) refl g refl tt,
+        each_spot _ (with_sizes v.frame sof sol sor) r1 d _ [] at_d (λ w n. own_covered qp action v (Gr r1) w g (inl (n, refl))) tt,
       ),
     )
 act_covered s qp (Jump disp) v m x base g = tt
@@ -400,35 +400,35 @@ act_covered s qp (ClearBases pred_only) v m x base g =
 act_covered s qp (Stop unit imm) v m x base g = tt
 act_covered s qp (Idle unit) v m x base g = tt
 
-skip_covered : (s : Site) (qp : ℕ) (form : Form) (v : Registers) (m : Memory) → SkipCases (EachCovered qp form v) s form v m
+skip_covered : (s : Site) (qp : ℕ) (action : Action) (v : Registers) (m : Memory) → SkipCases (EachCovered qp action v) s action v m
 skip_covered s qp (Test Unc p1 p2 r2 r3 c) v m = (λ _. test_covered qp Unc p1 p2 r2 r3 c v (holds_zero v) None, λ _. tt)
 skip_covered s qp (Test kind p1 p2 r2 r3 c) v m = (λ e. absurd (cc), λ _. tt)
 skip_covered s qp (Loop kind disp) v m = either_way (loop_covered qp kind disp v false v.lc v.ec)
-skip_covered s qp form v m = tt
+skip_covered s qp action v m = tt
 
 -- each write of an instruction is covered by an access
 pub covered : WritesAreAccesses
 covered s insn v m x base =
-    let form : Form = form_of insn.op in
+    let action : Action = action_of insn.op in
     All-from_recursion _ _
-    (guarded_cases (EachCovered insn.qp form v) s insn.qp form v m x (act_covered s insn.qp form v m x base)
-    (λ _. skip_covered s insn.qp form v m))
+    (guarded_cases (EachCovered insn.qp action v) s insn.qp action v m x (act_covered s insn.qp action v m x base)
+    (λ _. skip_covered s insn.qp action v m))
 
 -- Spills alone write a bit of UNAT.
-abbrev Spills : ℕ → Form → Registers → Outcome → Type 0
+abbrev Spills : ℕ → Action → Registers → Outcome → Type 0
 Spills qp f v o = (b : ℕ × Bool) → o.spills ≡ Some b → HasRow qp (under qp Unat Spill) (rows qp f) × (holds v qp ≡ true)
 
 no_spill : {P : Type 0} (b : ℕ × Bool) → None ≡ Some b → P
 no_spill b e = absurd (cc)
 
-application_spills : (qp : ℕ) (f : Form) (a : Ar) (x : ℕ) (v : Registers) (m : Memory) → ApplicationCases (Spills qp f v) a x m
+application_spills : (qp : ℕ) (f : Action) (a : Ar) (x : ℕ) (v : Registers) (m : Memory) → ApplicationCases (Spills qp f v) a x m
 application_spills qp f ar.Unat x v m = no_spill
 application_spills qp f ar.Pfs x v m = λ _. no_spill
 application_spills qp f ar.Lc x v m = no_spill
 application_spills qp f ar.Ec x v m = no_spill
 
-act_spills : (s : Site) (qp : ℕ) (form : Form) (v : Registers) (m : Memory) (x : ℕ) → holds v qp ≡ true
-    → ActCases (Spills qp form v) s form v m x
+act_spills : (s : Site) (qp : ℕ) (action : Action) (v : Registers) (m : Memory) (x : ℕ) → holds v qp ≡ true
+    → ActCases (Spills qp action v) s action v m x
 act_spills s qp (Compute r1 r2 r3 f) v m x g = (λ _. no_spill, λ d a b _ _ _. no_spill)
 act_spills s qp (Fetch r1 source) v m x g = (λ _. no_spill, λ d _. no_spill)
 act_spills s qp (Test kind p1 p2 r2 r3 c) v m x g = (λ _. no_spill, λ a b _ _. no_spill)
@@ -462,17 +462,17 @@ act_spills s qp (ClearBases pred_only) v m x g = no_spill
 act_spills s qp (Stop unit imm) v m x g = no_spill
 act_spills s qp (Idle unit) v m x g = no_spill
 
-skip_spills : (s : Site) (qp : ℕ) (form : Form) (v : Registers) (m : Memory) → SkipCases (Spills qp form v) s form v m
+skip_spills : (s : Site) (qp : ℕ) (action : Action) (v : Registers) (m : Memory) → SkipCases (Spills qp action v) s action v m
 skip_spills s qp (Test kind p1 p2 r2 r3 c) v m = either_way no_spill
 skip_spills s qp (Loop kind disp) v m = either_way no_spill
-skip_spills s qp form v m = no_spill
+skip_spills s qp action v m = no_spill
 
 -- a spill that is executed accesses UNAT so
 pub spills : SpillsAreAccesses
 spills s insn v m x b e =
-    let form : Form = form_of insn.op in
-    guarded_cases (Spills insn.qp form v) s insn.qp form v m x (act_spills s insn.qp form v m x)
-    (λ _. skip_spills s insn.qp form v m) b e
+    let action : Action = action_of insn.op in
+    guarded_cases (Spills insn.qp action v) s insn.qp action v m x (act_spills s insn.qp action v m x)
+    (λ _. skip_spills s insn.qp action v m) b e
 
 -- a cell that is written lies in the frame
 pub cells_inside : CellsAreInside

@@ -10,9 +10,9 @@ use Rattle.ia_insn.specs.declared.choices.BranchKind.TheVariants.{Cond, Wexit, W
 use Rattle.ia_insn.specs.declared.choices.Update.{Update}
 use Rattle.ia_insn.specs.declared.registers.Ar.TheVariants as ar
 use Rattle.ia_insn.specs.declared.ending.FaultKind.{FaultKind}
-use Rattle.ia_meaning.specs.declared.form.Source.TheVariants.{Branch, Application, Predicates, Ip}
-use Rattle.ia_meaning.specs.declared.form.Goal.TheVariants.{Direct, Indirect}
-use Rattle.ia_meaning.specs.declared.form.Form.{Form}
+use Rattle.ia_meaning.specs.declared.action.FetchSource.TheVariants.{Branch, Application, Predicates, Ip}
+use Rattle.ia_meaning.specs.declared.action.Goal.TheVariants.{Direct, Indirect}
+use Rattle.ia_meaning.specs.declared.action.Action.{Action}
 use Rattle.ia_meaning.specs.declared.state.Cell.{Cell}
 use Rattle.ia_meaning.specs.declared.state.FrameShape.{FrameShape}
 use Rattle.ia_meaning.specs.declared.state.AlatKey.{AlatKey as Spot}
@@ -20,8 +20,8 @@ use Rattle.ia_meaning.specs.declared.state.AlatEntry.{AlatEntry}
 use Rattle.ia_meaning.specs.State.{Registers, Memory}
 use Rattle.ia_meaning.specs.declared.write.Write.{Write}
 use Rattle.ia_meaning.specs.Names.{is_stacked, is_rotating, spot, look, predicate_place, holds, predicate_spot}
-use Rattle.ia_meaning.specs.declared.form.Form.TheVariants.{Compute, Fetch, Test, ToPredicates, ToBranch, ToApplication, FromMemory, ToMemory, Exchange, CheckNat, CheckAlat, ForgetAll, Forget, Allocate, Jump, JumpIndirect, Loop, Call, Return, ClearBases, Stop, Idle}
-use Rattle.ia_meaning.specs.Actions.{insn_form}
+use Rattle.ia_meaning.specs.declared.action.Action.TheVariants.{Compute, Fetch, Test, ToPredicates, ToBranch, ToApplication, FromMemory, ToMemory, Exchange, CheckNat, CheckAlat, ForgetAll, Forget, Allocate, Jump, JumpIndirect, Loop, Call, Return, ClearBases, Stop, Idle}
+use Rattle.ia_meaning.specs.Actions.{insn_action}
 use Rattle.ia_meaning.specs.Loads.{access_fault, load_nat, load_tried, base_writes, update_register, from_memory}
 use Rattle.ia_meaning.specs.Loops.{turn_of, turned}
 use Rattle.ia_meaning.specs.Landings.{target_of}
@@ -29,7 +29,7 @@ use Rattle.ia_meaning.specs.Effects.{Site, act, skip, guarded}
 use Rattle.ia_meaning.proofs.PredicatePlaces.{holds_zero}
 use Rattle.resource_sets.specs.declared.access.Resource.{Resource}
 use Rattle.resource_sets.specs.declared.access.Resource.TheVariants.{Gr, Pr}
-use Rattle.resource_sets.specs.declared.row.Row.{Row}
+use Rattle.resource_sets.specs.declared.row.AccessRow.{AccessRow}
 use Rattle.resource_sets.specs.Rows.{is_named}
 use Rattle.resource_sets.specs.Accesses.{rows_by_name, is_fill, is_framed, any_framed, other_name, test_rows, loop_rows, qp_rows, reads_plainly, reads_as_branch, own_rows}
 use Rattle.resource_sets.specs.AccessLaws.{AgreesAtEach, AgreesByPlace, DependsOnAccesses}
@@ -73,7 +73,7 @@ Names f g (Gr r) = spot f r ≡ spot g r
 Names f g (Pr p) = predicate_spot f p ≡ predicate_spot g p
 Names f g q = Unit {0}
 
-abbrev NamesEach : FrameShape → FrameShape → List Row → Type 0
+abbrev NamesEach : FrameShape → FrameShape → List AccessRow → Type 0
 NamesEach f g [] = Unit {0}
 NamesEach f g (row ∷ rows) = Names f g row.resource × NamesEach f g rows
 
@@ -82,13 +82,13 @@ names f g (Gr r) h = spot_same f g r h
 names f g (Pr p) h = predicate_spot_same f g p h
 names f g _ h = tt
 
-names_each : (f g : FrameShape) (rows : List Row) → (any_framed rows ≡ true → f ≡ g) → NamesEach f g rows
+names_each : (f g : FrameShape) (rows : List AccessRow) → (any_framed rows ≡ true → f ≡ g) → NamesEach f g rows
 names_each f g [] h = tt
 names_each f g (row ∷ rows) h =
     (names f g row.resource (λ e. h (or_left _ _ e)), names_each f g rows (λ e. h (or_right (is_framed row.resource) _ e)))
 
--- What registers that agree on the accesses of a form have in common, part by part.
-record Parts (qp : ℕ) (f : Form) (v w : Registers) (x y : ℕ) : Type 0 where
+-- What registers that agree on the accesses of an action have in common, part by part.
+record Parts (qp : ℕ) (f : Action) (v w : Registers) (x y : ℕ) : Type 0 where
   guard : holds v qp ≡ holds w qp
   names : NamesEach v.frame w.frame (own_rows f)
   other : spot v.frame (other_name f) ≡ spot w.frame (other_name f)
@@ -96,7 +96,7 @@ record Parts (qp : ℕ) (f : Form) (v w : Registers) (x y : ℕ) : Type 0 where
   placed : holds v qp ≡ true → AgreesByPlace f v w
 
 -- the qualifying predicate is read in one way or the other
-pub read_so : (f : Form) → (reads_plainly f ≡ true) ⊎ (reads_as_branch f ≡ true)
+pub read_so : (f : Action) → (reads_plainly f ≡ true) ⊎ (reads_as_branch f ≡ true)
 read_so (Jump disp) = inr refl
 read_so (JumpIndirect b2) = inr refl
 read_so (Loop kind disp) = inr refl
@@ -104,14 +104,14 @@ read_so (Call b1 goal) = inr refl
 read_so (Return b2) = inr refl
 read_so f = inl refl
 
-guard_same : (qp : ℕ) (f : Form) (v w : Registers) (x y : ℕ) → AgreesAtEach qp v w x y (qp_rows qp f) → holds v qp ≡ holds w qp
+guard_same : (qp : ℕ) (f : Action) (v w : Registers) (x y : ℕ) → AgreesAtEach qp v w x y (qp_rows qp f) → holds v qp ≡ holds w qp
 guard_same qp f v w x y h = go (read_so f)
   where
     go : (reads_plainly f ≡ true) ⊎ (reads_as_branch f ≡ true) → holds v qp ≡ holds w qp
     go (inl r) = holds_same v w qp (λ n. h.0 (and_from _ _ n r) (holds_zero v))
     go (inr r) = holds_same v w qp (λ n. h.1.0 (and_from _ _ n r) (holds_zero v))
 
-parts : (qp : ℕ) (f : Form) (v w : Registers) (x y : ℕ) → AgreesAtEach qp v w x y (rows_by_name qp f)
+parts : (qp : ℕ) (f : Action) (v w : Registers) (x y : ℕ) → AgreesAtEach qp v w x y (rows_by_name qp f)
     → (holds v qp ≡ true → AgreesByPlace f v w) → Parts qp f v w x y
 parts qp f v w x y h p =
     let framed : (is_stacked (other_name f) || any_framed (own_rows f)) ≡ true → v.frame ≡ w.frame =
@@ -180,9 +180,9 @@ loop_same Ctop b qp bundle v w m x y h =
     let f : v.frame ≡ w.frame = h.1.1.1.1.0 refl (holds_zero v) in
     cc
 
--- a form that is executed
-act_same : (s : Site) (qp : ℕ) (form : Form) (v w : Registers) (m : Memory) (x y : ℕ) → holds v qp ≡ true
-    → Parts qp form v w x y → act s form v m x ≡ act s form w m y
+-- an action that is executed
+act_same : (s : Site) (qp : ℕ) (action : Action) (v w : Registers) (m : Memory) (x y : ℕ) → holds v qp ≡ true
+    → Parts qp action v w x y → act s action v m x ≡ act s action w m y
 act_same s qp (Compute r1 r2 r3 f) v w m x y g h =
     let a : look v r2 ≡ look w r2 = look_same v w r2 (λ n. h.reads.0 n g) in
     let b : look v r3 ≡ look w r3 = look_same v w r3 (λ n. h.reads.1.0 n g) in
@@ -252,23 +252,23 @@ act_same s qp (Stop unit imm) v w m x y g h = refl
 act_same s qp (Idle unit) v w m x y g h = refl
 
 -- one whose qualifying predicate is 0
-skip_same : (s : Site) (qp : ℕ) (form : Form) (v w : Registers) (m : Memory) (x y : ℕ) → Parts qp form v w x y
-    → skip s form v m ≡ skip s form w m
+skip_same : (s : Site) (qp : ℕ) (action : Action) (v w : Registers) (m : Memory) (x y : ℕ) → Parts qp action v w x y
+    → skip s action v m ≡ skip s action w m
 skip_same s qp (Test kind p1 p2 r2 r3 c) v w m x y h =
     let t = test_names kind p1 p2 v.frame w.frame h.names.1.1 in
     cc
 skip_same s qp (Loop kind disp) v w m x y h = loop_same kind false qp (target_of s.bundle disp) v w m x y h.reads
 skip_same s qp _ v w m x y h = refl
 
-guarded_same : (s : Site) (qp : ℕ) (form : Form) (v w : Registers) (m : Memory) (x y : ℕ) → Parts qp form v w x y
-    → guarded s qp form v m x ≡ guarded s qp form w m y
-guarded_same s qp form v w m x y h = go (holds v qp) refl
+guarded_same : (s : Site) (qp : ℕ) (action : Action) (v w : Registers) (m : Memory) (x y : ℕ) → Parts qp action v w x y
+    → guarded s qp action v m x ≡ guarded s qp action w m y
+guarded_same s qp action v w m x y h = go (holds v qp) refl
   where
-    go : (b : Bool) → holds v qp ≡ b → guarded s qp form v m x ≡ guarded s qp form w m y
-    go true e = rw (e, sym h.guard ∙ e) (act_same s qp form v w m x y e h)
-    go false e = rw (e, sym h.guard ∙ e) (skip_same s qp form v w m x y h)
+    go : (b : Bool) → holds v qp ≡ b → guarded s qp action v m x ≡ guarded s qp action w m y
+    go true e = rw (e, sym h.guard ∙ e) (act_same s qp action v w m x y e h)
+    go false e = rw (e, sym h.guard ∙ e) (skip_same s qp action v w m x y h)
 
 -- what an instruction does is the same from registers that agree on its accesses
 pub depends : DependsOnAccesses
 depends s insn v w m x y h =
-    guarded_same s insn.qp (insn_form insn) v w m x y (parts insn.qp (insn_form insn) v w x y h.named h.placed)
+    guarded_same s insn.qp (insn_action insn) v w m x y (parts insn.qp (insn_action insn) v w x y h.named h.placed)

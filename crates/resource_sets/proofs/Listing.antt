@@ -6,20 +6,20 @@ use Rattle.ia_meaning.specs.Arithmetic.{bit}
 use Rattle.ia_meaning.specs.Moves.{is_masked}
 use Rattle.resource_sets.specs.declared.access.Resource.TheVariants.{Pr}
 use Rattle.resource_sets.specs.declared.access.Kind.{Kind}
-use Rattle.resource_sets.specs.declared.row.Row.{Row}
+use Rattle.resource_sets.specs.declared.row.AccessRow.{AccessRow}
 use Rattle.resource_sets.specs.declared.access.Access.{Access}
 use Rattle.resource_sets.specs.AccessLaws.{HasRow}
-use Rattle.ia_meaning.specs.declared.form.Form.{Form}
+use Rattle.ia_meaning.specs.declared.action.Action.{Action}
 use Rattle.resource_sets.specs.Rows.{access, listed}
 use Rattle.resource_sets.specs.Accesses.{frame_row, qp_rows, own_rows, place_rows, mask_rows, placed_rows, rows_by_name, rows}
 
 -- Rows of a list that is put together.
-pub has_left : (qp : ℕ) (a : Access) (front back : List Row) → HasRow qp a front → HasRow qp a (front ++ back)
+pub has_left : (qp : ℕ) (a : Access) (front back : List AccessRow) → HasRow qp a front → HasRow qp a (front ++ back)
 has_left qp a [] back h = absurd h
 has_left qp a (row ∷ front) back (inl h) = inl h
 has_left qp a (row ∷ front) back (inr h) = inr (has_left qp a front back h)
 
-pub has_right : (qp : ℕ) (a : Access) (front back : List Row) → HasRow qp a back → HasRow qp a (front ++ back)
+pub has_right : (qp : ℕ) (a : Access) (front back : List AccessRow) → HasRow qp a back → HasRow qp a (front ++ back)
 has_right qp a [] back h = h
 has_right qp a (row ∷ front) back h = inr (has_right qp a front back h)
 
@@ -37,7 +37,7 @@ pub mask_row : (qp p mask : ℕ) (kind : Kind) → 1 ≤ p → p < 64 → is_mas
 unfolding mask_rows
 mask_row qp p mask kind i j e = place_row qp 63 1 p mask kind i j e
 
-pub listed_append : (qp : ℕ) (xs ys : List Row) → listed qp (xs ++ ys) ≡ listed qp xs ++ listed qp ys
+pub listed_append : (qp : ℕ) (xs ys : List AccessRow) → listed qp (xs ++ ys) ≡ listed qp xs ++ listed qp ys
 listed_append qp [] ys = refl
 listed_append qp (x ∷ xs) ys = by_row x.there (listed_append qp xs ys)
   where
@@ -46,7 +46,7 @@ listed_append qp (x ∷ xs) ys = by_row x.there (listed_append qp xs ys)
     by_row false e = e
 
 -- the accesses of an instruction, part by part
-pub in_parts : (qp : ℕ) (f : Form)
+pub in_parts : (qp : ℕ) (f : Action)
     → listed qp (rows qp f) ≡ ((listed qp (frame_row qp f ∷ []) ++ listed qp (qp_rows qp f)) ++ listed qp (own_rows f)) ++ listed qp (placed_rows f)
 unfolding rows
 in_parts qp f =
@@ -57,7 +57,7 @@ in_parts qp f =
     ∙ sym (append_assoc (listed qp (frame_row qp f ∷ [])) (listed qp (qp_rows qp f)) (listed qp (own_rows f))))
 
 -- the row of the n-th predicate, and those of the later ones
-pub place_step : (old : List Row) (n mask : ℕ) (kind : Kind) (row : Row) → n < 64
+pub place_step : (old : List AccessRow) (n mask : ℕ) (kind : Kind) (row : AccessRow) → n < 64
     → row ≡ record { there = bit mask (min n 16); guarded = true; resource = Pr n; kind = kind }
     → old ++ place_rows (64 - n) n mask kind ≡ (old ++ row ∷ []) ++ place_rows (64 - (n + 1)) (n + 1) mask kind
 place_step old n mask kind row l is =

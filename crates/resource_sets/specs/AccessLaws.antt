@@ -4,10 +4,10 @@ use Rattle.std.specs.Prelude.{◌≡◌, ◌≢◌, ◌⊎◌, ◌≤◌, ◌+�
 use Rattle.ia_meaning.specs.declared.limits.TheConstants.{STACK_LIMIT}
 use Rattle.ia_insn.specs.declared.insn.Insn.{Insn}
 use Rattle.ia_insn.specs.Listed.{IsListed}
-use Rattle.ia_meaning.specs.declared.form.Form.{Form}
-use Rattle.ia_meaning.specs.declared.form.Form.TheVariants as form
-use Rattle.ia_meaning.specs.declared.form.Source.TheVariants.{Predicates}
-use Rattle.ia_meaning.specs.declared.form.Goal.TheVariants.{Indirect}
+use Rattle.ia_meaning.specs.declared.action.Action.{Action}
+use Rattle.ia_meaning.specs.declared.action.Action.TheVariants as action
+use Rattle.ia_meaning.specs.declared.action.FetchSource.TheVariants.{Predicates}
+use Rattle.ia_meaning.specs.declared.action.Goal.TheVariants.{Indirect}
 use Rattle.ia_meaning.specs.declared.next.Next.TheVariants.{Falls}
 use Rattle.ia_meaning.specs.declared.state.Cell.{Cell}
 use Rattle.ia_meaning.specs.declared.state.FrameShape.{FrameShape}
@@ -18,7 +18,7 @@ use Rattle.ia_meaning.specs.declared.write.Write.{Write}
 use Rattle.ia_meaning.specs.declared.write.Write.TheVariants.{SetStatic, SetCell, SetPredicate, SetBranch, SetUnat, SetPfs, SetLc, SetEc, SetFrame}
 use Rattle.ia_meaning.specs.declared.write.FrameCause.TheVariants.{Resized}
 use Rattle.ia_meaning.specs.Names.{spot, look, holds, predicate_place, set_spot}
-use Rattle.ia_meaning.specs.Actions.{insn_form, is_alloc}
+use Rattle.ia_meaning.specs.Actions.{insn_action, is_alloc}
 use Rattle.ia_meaning.specs.Outcomes.{Outcome}
 use Rattle.ia_meaning.specs.Frames.{with_sizes}
 use Rattle.ia_meaning.specs.Effects.{Site, effect}
@@ -27,7 +27,7 @@ use Rattle.resource_sets.specs.declared.access.Resource.TheVariants.{Gr, Pr, Br,
 use Rattle.resource_sets.specs.declared.access.Kind.{Kind}
 use Rattle.resource_sets.specs.declared.access.Kind.TheVariants.{Read, BranchRead, Write as Writes, AllocWrite, LoopWrite, OrWrite, AndWrite, Spill, Fill}
 use Rattle.resource_sets.specs.declared.access.Access.{Access}
-use Rattle.resource_sets.specs.declared.row.Row.{Row}
+use Rattle.resource_sets.specs.declared.row.AccessRow.{AccessRow}
 use Rattle.resource_sets.specs.Rows.{access}
 use Rattle.resource_sets.specs.Accesses.{rows_by_name, rows}
 
@@ -52,26 +52,26 @@ AgreesOn v w x y kind Cfm = v.frame ≡ w.frame
 AgreesOn v w x y kind q = Unit {0}
 
 -- A row that is there asks for agreement where its guard is 1.
-abbrev pub AgreesAt : ℕ → Registers → Registers → ℕ → ℕ → Row → Type 0
+abbrev pub AgreesAt : ℕ → Registers → Registers → ℕ → ℕ → AccessRow → Type 0
 AgreesAt qp v w x y row = row.there ≡ true → holds v (access qp row).guard ≡ true → AgreesOn v w x y row.kind row.resource
 
-abbrev pub AgreesAtEach : ℕ → Registers → Registers → ℕ → ℕ → List Row → Type 0
+abbrev pub AgreesAtEach : ℕ → Registers → Registers → ℕ → ℕ → List AccessRow → Type 0
 AgreesAtEach qp v w x y [] = Unit {0}
 AgreesAtEach qp v w x y (row ∷ rows) = AgreesAt qp v w x y row × AgreesAtEach qp v w x y rows
 
 -- A move from the predicates asks for all places, and an indirect branch for the first sixteen: those of p1 to p15,
 -- which it reads, and that of p0, which is always 1.
-abbrev pub AgreesByPlace : Form → Registers → Registers → Type 0
-AgreesByPlace (form.Fetch r1 Predicates) v w = v.predicates ≡ w.predicates
-AgreesByPlace (form.JumpIndirect b2) v w = take 16 v.predicates ≡ take 16 w.predicates
-AgreesByPlace (form.Call b1 (Indirect b2)) v w = take 16 v.predicates ≡ take 16 w.predicates
-AgreesByPlace (form.Return b2) v w = take 16 v.predicates ≡ take 16 w.predicates
+abbrev pub AgreesByPlace : Action → Registers → Registers → Type 0
+AgreesByPlace (action.Fetch r1 Predicates) v w = v.predicates ≡ w.predicates
+AgreesByPlace (action.JumpIndirect b2) v w = take 16 v.predicates ≡ take 16 w.predicates
+AgreesByPlace (action.Call b1 (Indirect b2)) v w = take 16 v.predicates ≡ take 16 w.predicates
+AgreesByPlace (action.Return b2) v w = take 16 v.predicates ≡ take 16 w.predicates
 AgreesByPlace f v w = Unit {0}
 
 -- Registers v and w, with UNATs x and y, agree on what an instruction accesses from v.
 pub record Agree (insn : Insn) (v w : Registers) (x y : ℕ) : Type 0 where
-  pub named : AgreesAtEach insn.qp v w x y (rows_by_name insn.qp (insn_form insn))
-  pub placed : holds v insn.qp ≡ true → AgreesByPlace (insn_form insn) v w
+  pub named : AgreesAtEach insn.qp v w x y (rows_by_name insn.qp (insn_action insn))
+  pub placed : holds v insn.qp ≡ true → AgreesByPlace (insn_action insn) v w
 
 -- What an instruction does is the same from registers that agree on its accesses.
 abbrev pub DependsOnAccesses : Type 0
@@ -118,8 +118,8 @@ location_of f Ec = Some TheEc
 location_of f Cfm = Some TheFrame
 
 -- the frame by which an instruction names its targets: the new one for `alloc`
-abbrev pub naming_frame : Form → FrameShape → FrameShape
-naming_frame (form.Allocate r1 sof sol sor) f = with_sizes f sof sol sor
+abbrev pub naming_frame : Action → FrameShape → FrameShape
+naming_frame (action.Allocate r1 sof sol sor) f = with_sizes f sof sol sor
 naming_frame g f = f
 
 -- Kinds under which an instruction writes registers.
@@ -140,16 +140,16 @@ MayPut AndWrite w = ⊥
 MayPut kind w = Unit {0}
 
 -- an access is one of the rows that are there
-abbrev pub HasRow : ℕ → Access → List Row → Type 0
+abbrev pub HasRow : ℕ → Access → List AccessRow → Type 0
 HasRow qp a [] = ⊥
 HasRow qp a (row ∷ rows) = ((row.there ≡ true) × (access qp row ≡ a)) ⊎ HasRow qp a rows
 
 -- an access of an instruction
 abbrev pub HasAccess : Insn → Access → Type 0
-HasAccess insn a = HasRow insn.qp a (rows insn.qp (insn_form insn))
+HasAccess insn a = HasRow insn.qp a (rows insn.qp (insn_action insn))
 
--- A write from registers v lies on a resource that an instruction of this form writes, under a guard that is 1.
-pub record IsCovered (qp : ℕ) (f : Form) (v : Registers) (w : Write) : Type 0 where
+-- A write from registers v lies on a resource that an instruction of this action writes, under a guard that is 1.
+pub record IsCovered (qp : ℕ) (f : Action) (v : Registers) (w : Write) : Type 0 where
   pub access : Access
   pub has : HasRow qp access (rows qp f)
   pub writing : writes_registers access.kind ≡ true
@@ -161,12 +161,12 @@ pub record IsCovered (qp : ℕ) (f : Form) (v : Registers) (w : Write) : Type 0 
 -- base is enough.
 abbrev pub WritesAreAccesses : Type 0
 WritesAreAccesses = (site : Site) (insn : Insn) (v : Registers) (m : Memory) (x : ℕ) → v.frame.rrbs.pr < 48
-    → All (IsCovered insn.qp (insn_form insn) v) (effect site insn v m x).writes
+    → All (IsCovered insn.qp (insn_action insn) v) (effect site insn v m x).writes
 
 -- A cell that an instruction writes lies in the frame by which it names its targets. Of that frame no more is asked than that
 -- its rotating part fits, which holds of the frame of a state and of the one that a listed `alloc` writes.
 abbrev pub CellsAreInside : Type 0
-CellsAreInside = (qp : ℕ) (f : Form) (v : Registers) (w : Write) (n : ℕ) → IsCovered qp f v w
+CellsAreInside = (qp : ℕ) (f : Action) (v : Registers) (w : Write) (n : ℕ) → IsCovered qp f v w
     → 8 * (naming_frame f v.frame).sor ≤ (naming_frame f v.frame).sof → location w ≡ CellAt n
     → ((naming_frame f v.frame).base ≤ n) × (n < (naming_frame f v.frame).base + (naming_frame f v.frame).sof)
 
@@ -197,11 +197,11 @@ pub record IsAllocated (new : FrameShape) (o : Outcome) : Type 0 where
 
 -- An `alloc` that writes at all writes its frame first.
 abbrev pub AllocWritesItsFrameFirst : Type 0
-AllocWritesItsFrameFirst = (site : Site) (insn : Insn) (v : Registers) (m : Memory) (x : ℕ) → is_alloc (insn_form insn) ≡ true
-    → IsAllocated (naming_frame (insn_form insn) v.frame) (effect site insn v m x)
+AllocWritesItsFrameFirst = (site : Site) (insn : Insn) (v : Registers) (m : Memory) (x : ℕ) → is_alloc (insn_action insn) ≡ true
+    → IsAllocated (naming_frame (insn_action insn) v.frame) (effect site insn v m x)
 
 -- The frame that a listed `alloc` writes has the sizes and bases of a frame: the rotating part changes only where all rename
 -- bases are 0.
 abbrev pub AllocatedFramesAreFrames : Type 0
-AllocatedFramesAreFrames = (site : Site) (insn : Insn) (v : Registers) (m : Memory) (x : ℕ) → is_alloc (insn_form insn) ≡ true
-    → IsListed insn → IsFrame v.frame → ((effect site insn v m x).writes ≡ []) ⊎ IsFrame (naming_frame (insn_form insn) v.frame)
+AllocatedFramesAreFrames = (site : Site) (insn : Insn) (v : Registers) (m : Memory) (x : ℕ) → is_alloc (insn_action insn) ≡ true
+    → IsListed insn → IsFrame v.frame → ((effect site insn v m x).writes ≡ []) ⊎ IsFrame (naming_frame (insn_action insn) v.frame)

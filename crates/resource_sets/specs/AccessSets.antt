@@ -1,8 +1,8 @@
 -- Sets of accesses of one kind under one guard.
 use Rattle.std.specs.Prelude.{◌≡◌, true, List, Contains}
-use Rattle.ia_meaning.specs.declared.form.Form.{Form}
-use Rattle.ia_meaning.specs.declared.form.Form.TheVariants as form
-use Rattle.ia_meaning.specs.declared.form.Goal.TheVariants.{Indirect}
+use Rattle.ia_meaning.specs.declared.action.Action.{Action}
+use Rattle.ia_meaning.specs.declared.action.Action.TheVariants as action
+use Rattle.ia_meaning.specs.declared.action.Goal.TheVariants.{Indirect}
 use Rattle.resource_sets.specs.declared.access.Kind.{Kind}
 use Rattle.resource_sets.specs.declared.access.Kind.TheVariants.{Read, BranchRead, Write}
 use Rattle.resource_sets.specs.declared.access.Access.{Access}
@@ -25,9 +25,9 @@ pub record AreSetsOf (accesses : List Access) (sets : List AccessSet) : Type 0 w
   pub only : (a : Access) → HasSetWith sets a → Contains accesses a
 
 -- how predicates by place are accessed
-abbrev pub placed_kind : Form → Kind
-placed_kind (form.ToPredicates r2 mask w) = Write
-placed_kind (form.JumpIndirect b2) = BranchRead
-placed_kind (form.Call b1 (Indirect b2)) = BranchRead
-placed_kind (form.Return b2) = BranchRead
+abbrev pub placed_kind : Action → Kind
+placed_kind (action.ToPredicates r2 mask w) = Write
+placed_kind (action.JumpIndirect b2) = BranchRead
+placed_kind (action.Call b1 (Indirect b2)) = BranchRead
+placed_kind (action.Return b2) = BranchRead
 placed_kind f = Read

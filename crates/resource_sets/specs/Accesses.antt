@@ -1,4 +1,4 @@
--- What an instruction reads and writes (volume 3, chapter 5, resource and dependency semantics): of each form
+-- What an instruction reads and writes (volume 3, chapter 5, resource and dependency semantics): of each action
 -- rows that are there or not.
 use Rattle.std.specs.Prelude.{ℕ, zero, suc, Bool, true, false, not, ◌||◌, ◌&&◌, List, [], ◌∷◌, ◌++◌}
 use Rattle.std.specs.List.{list_any}
@@ -17,14 +17,14 @@ use Rattle.ia_insn.specs.declared.choices.Update.TheVariants as update
 use Rattle.ia_insn.specs.declared.registers.Ar.{Ar}
 use Rattle.ia_insn.specs.declared.registers.Ar.TheVariants as ar
 use Rattle.ia_insn.specs.declared.insn.Insn.{Insn}
-use Rattle.ia_meaning.specs.declared.form.Source.{Source}
-use Rattle.ia_meaning.specs.declared.form.Source.TheVariants as source
-use Rattle.ia_meaning.specs.declared.form.Goal.{Goal}
-use Rattle.ia_meaning.specs.declared.form.Goal.TheVariants as goal
-use Rattle.ia_meaning.specs.declared.form.Form.{Form}
-use Rattle.ia_meaning.specs.declared.form.Form.TheVariants as form
+use Rattle.ia_meaning.specs.declared.action.FetchSource.{FetchSource}
+use Rattle.ia_meaning.specs.declared.action.FetchSource.TheVariants as source
+use Rattle.ia_meaning.specs.declared.action.Goal.{Goal}
+use Rattle.ia_meaning.specs.declared.action.Goal.TheVariants as goal
+use Rattle.ia_meaning.specs.declared.action.Action.{Action}
+use Rattle.ia_meaning.specs.declared.action.Action.TheVariants as action
 use Rattle.ia_meaning.specs.Names.{is_stacked, is_rotating}
-use Rattle.ia_meaning.specs.Actions.{insn_form}
+use Rattle.ia_meaning.specs.Actions.{insn_action}
 use Rattle.ia_meaning.specs.Moves.{is_masked}
 use Rattle.ia_meaning.specs.Loads.{update_register}
 use Rattle.resource_sets.specs.declared.access.Resource.{Resource}
@@ -32,11 +32,11 @@ use Rattle.resource_sets.specs.declared.access.Resource.TheVariants.{Gr, Pr, Br,
 use Rattle.resource_sets.specs.declared.access.Kind.{Kind}
 use Rattle.resource_sets.specs.declared.access.Kind.TheVariants.{Read, BranchRead, Write, AllocWrite, LoopWrite, OrWrite, AndWrite, Spill, Fill}
 use Rattle.resource_sets.specs.declared.access.Access.{Access}
-use Rattle.resource_sets.specs.declared.row.Row.{Row}
+use Rattle.resource_sets.specs.declared.row.AccessRow.{AccessRow}
 use Rattle.resource_sets.specs.Rows.{is_named, gr, pr, always, listed}
 
 -- the two targets of a test
-abbrev pub test_rows : CmpKind → ℕ → ℕ → List Row
+abbrev pub test_rows : CmpKind → ℕ → ℕ → List AccessRow
 test_rows cmp.Normal p q = pr true p Write ∷ pr true q Write ∷ []
 test_rows cmp.Unc p q = pr false p Write ∷ pr false q Write ∷ []
 test_rows cmp.Or p q = pr true p OrWrite ∷ pr true q OrWrite ∷ []
@@ -48,14 +48,14 @@ is_updated update.None = false
 is_updated u = true
 
 -- the base of a load or a store, which may be updated
-abbrev pub base_row : Update → ℕ → Row
+abbrev pub base_row : Update → ℕ → AccessRow
 base_row u r = record { there = is_updated u && is_named r; guarded = true; resource = Gr r; kind = Write }
 
 -- the register that an instruction names and neither reads nor writes, or r0
-abbrev pub other_name : Form → ℕ
-other_name (form.CheckAlat clear r1 disp) = r1
-other_name (form.Forget r1) = r1
-other_name form = 0
+abbrev pub other_name : Action → ℕ
+other_name (action.CheckAlat clear r1 disp) = r1
+other_name (action.Forget r1) = r1
+other_name action = 0
 
 abbrev pub application : Ar → Resource
 application ar.Unat = Unat
@@ -64,16 +64,16 @@ application ar.Lc = Lc
 application ar.Ec = Ec
 
 -- so many predicates from the n-th on, where a mask has them
-abbrev pub place_rows : (left n mask : ℕ) → Kind → List Row
+abbrev pub place_rows : (left n mask : ℕ) → Kind → List AccessRow
 place_rows zero n mask kind = []
 place_rows (suc left) n mask kind =
     record { there = is_masked mask n; guarded = true; resource = Pr n; kind = kind } ∷ place_rows left (suc n) mask kind
 
 -- p1 to p63, where a mask has them
-unfoldable pub mask_rows : ℕ → Kind → List Row
+unfoldable pub mask_rows : ℕ → Kind → List AccessRow
 mask_rows mask kind = place_rows 63 1 mask kind
 
-abbrev pub source_rows : Source → List Row
+abbrev pub source_rows : FetchSource → List AccessRow
 source_rows (source.Branch b) = always true (Br b) Read ∷ []
 source_rows (source.Application a) = always true (application a) Read ∷ []
 source_rows source = []
@@ -87,29 +87,29 @@ is_spill store.Spill = true
 is_spill kind = false
 
 -- what a fill or a spill accesses besides
-abbrev pub unat_row : Bool → Kind → Row
+abbrev pub unat_row : Bool → Kind → AccessRow
 unat_row there kind = record { there = there; guarded = true; resource = Unat; kind = kind }
 
 -- the branch register that an indirect call reads
-abbrev pub goal_row : Goal → Row
+abbrev pub goal_row : Goal → AccessRow
 goal_row (goal.Direct disp) = record { there = false; guarded = false; resource = Cfm; kind = Read }
 goal_row (goal.Indirect b2) = always true (Br b2) BranchRead
 
-abbrev pub call_rows : ℕ → Goal → List Row
+abbrev pub call_rows : ℕ → Goal → List AccessRow
 call_rows b1 goal =
     always true Cfm Read ∷ always true Cfm Write ∷ always true Pfs Write ∷ always true Ec Read
     ∷ always true (Br b1) Write ∷ goal_row goal ∷ []
 
 -- a loop that counts by EC and rotates
-abbrev pub rotating_rows : List Row
+abbrev pub rotating_rows : List AccessRow
 rotating_rows =
     always false Ec Read ∷ always false Ec Write ∷ always false Cfm Read ∷ always false Cfm Write
     ∷ always false (Pr 63) LoopWrite ∷ []
 
-abbrev pub counting_rows : List Row
+abbrev pub counting_rows : List AccessRow
 counting_rows = always false Lc Read ∷ always false Lc Write ∷ []
 
-abbrev pub loop_rows : BranchKind → List Row
+abbrev pub loop_rows : BranchKind → List AccessRow
 loop_rows branch.Cloop = counting_rows
 loop_rows branch.Ctop = counting_rows ++ rotating_rows
 loop_rows branch.Cexit = counting_rows ++ rotating_rows
@@ -119,64 +119,64 @@ loop_rows branch.Cond = []
 
 -- The rows of an instruction, but for those of its qualifying predicate, of the frame of its names, and of predicates by
 -- place.
-abbrev pub own_rows : Form → List Row
-own_rows (form.Compute r1 r2 r3 f) = gr r2 Read ∷ gr r3 Read ∷ gr r1 Write ∷ []
-own_rows (form.Fetch r1 source) = gr r1 Write ∷ source_rows source
-own_rows (form.Test kind p1 p2 r2 r3 c) = gr r2 Read ∷ gr r3 Read ∷ test_rows kind p1 p2
-own_rows (form.ToPredicates r2 mask w) = gr r2 Read ∷ []
-own_rows (form.ToBranch b1 r2) = gr r2 Read ∷ always true (Br b1) Write ∷ []
-own_rows (form.ToApplication a r2 w) = gr r2 Read ∷ always true (application a) Write ∷ []
-own_rows (form.FromMemory size kind r1 r3 u) =
+abbrev pub own_rows : Action → List AccessRow
+own_rows (action.Compute r1 r2 r3 f) = gr r2 Read ∷ gr r3 Read ∷ gr r1 Write ∷ []
+own_rows (action.Fetch r1 source) = gr r1 Write ∷ source_rows source
+own_rows (action.Test kind p1 p2 r2 r3 c) = gr r2 Read ∷ gr r3 Read ∷ test_rows kind p1 p2
+own_rows (action.ToPredicates r2 mask w) = gr r2 Read ∷ []
+own_rows (action.ToBranch b1 r2) = gr r2 Read ∷ always true (Br b1) Write ∷ []
+own_rows (action.ToApplication a r2 w) = gr r2 Read ∷ always true (application a) Write ∷ []
+own_rows (action.FromMemory size kind r1 r3 u) =
     gr r3 Read ∷ gr (update_register u) Read ∷ gr r1 Write ∷ base_row u r3 ∷ unat_row (is_fill kind) Fill ∷ []
-own_rows (form.ToMemory size kind r3 r2 u) =
+own_rows (action.ToMemory size kind r3 r2 u) =
     gr r3 Read ∷ gr r2 Read ∷ base_row u r3 ∷ unat_row (is_spill kind) Spill ∷ []
-own_rows (form.Exchange size r1 r3 r2 inc) = gr r3 Read ∷ gr r2 Read ∷ gr r1 Write ∷ []
-own_rows (form.CheckNat r2 disp) = gr r2 Read ∷ []
-own_rows (form.CheckAlat clear r1 disp) = []
-own_rows form.ForgetAll = []
-own_rows (form.Forget r1) = []
-own_rows (form.Allocate r1 sof sol sor) =
+own_rows (action.Exchange size r1 r3 r2 inc) = gr r3 Read ∷ gr r2 Read ∷ gr r1 Write ∷ []
+own_rows (action.CheckNat r2 disp) = gr r2 Read ∷ []
+own_rows (action.CheckAlat clear r1 disp) = []
+own_rows action.ForgetAll = []
+own_rows (action.Forget r1) = []
+own_rows (action.Allocate r1 sof sol sor) =
     gr r1 Write ∷ always true Pfs Read ∷ always true Cfm Read ∷ always true Cfm AllocWrite ∷ []
-own_rows (form.Jump disp) = []
-own_rows (form.JumpIndirect b2) = always true (Br b2) BranchRead ∷ []
-own_rows (form.Loop kind disp) = loop_rows kind
-own_rows (form.Call b1 goal) = call_rows b1 goal
-own_rows (form.Return b2) =
+own_rows (action.Jump disp) = []
+own_rows (action.JumpIndirect b2) = always true (Br b2) BranchRead ∷ []
+own_rows (action.Loop kind disp) = loop_rows kind
+own_rows (action.Call b1 goal) = call_rows b1 goal
+own_rows (action.Return b2) =
     always true (Br b2) BranchRead ∷ always true Pfs BranchRead ∷ always true Cfm Write ∷ always true Ec Write ∷ []
-own_rows (form.ClearBases pred_only) = always true Cfm Write ∷ []
-own_rows (form.Stop unit imm) = []
-own_rows (form.Idle unit) = []
+own_rows (action.ClearBases pred_only) = always true Cfm Write ∷ []
+own_rows (action.Stop unit imm) = []
+own_rows (action.Idle unit) = []
 
 -- The rows of predicates by place. A move from them reads all: the mask has all bits. An indirect branch reads p1 to
 -- p15, since an entry declares which of them are not both 1.
-abbrev pub placed_rows : Form → List Row
-placed_rows (form.Fetch r1 source.Predicates) = mask_rows 0x1ffff Read
-placed_rows (form.ToPredicates r2 mask w) = mask_rows mask Write
-placed_rows (form.JumpIndirect b2) = mask_rows 0xfffe BranchRead
-placed_rows (form.Call b1 (goal.Indirect b2)) = mask_rows 0xfffe BranchRead
-placed_rows (form.Return b2) = mask_rows 0xfffe BranchRead
-placed_rows form = []
+abbrev pub placed_rows : Action → List AccessRow
+placed_rows (action.Fetch r1 source.Predicates) = mask_rows 0x1ffff Read
+placed_rows (action.ToPredicates r2 mask w) = mask_rows mask Write
+placed_rows (action.JumpIndirect b2) = mask_rows 0xfffe BranchRead
+placed_rows (action.Call b1 (goal.Indirect b2)) = mask_rows 0xfffe BranchRead
+placed_rows (action.Return b2) = mask_rows 0xfffe BranchRead
+placed_rows action = []
 
 -- how the qualifying predicate is read
-abbrev pub reads_plainly : Form → Bool
-reads_plainly (form.Jump disp) = false
-reads_plainly (form.JumpIndirect b2) = false
-reads_plainly (form.Loop kind disp) = false
-reads_plainly (form.Call b1 goal) = false
-reads_plainly (form.Return b2) = false
-reads_plainly form = true
+abbrev pub reads_plainly : Action → Bool
+reads_plainly (action.Jump disp) = false
+reads_plainly (action.JumpIndirect b2) = false
+reads_plainly (action.Loop kind disp) = false
+reads_plainly (action.Call b1 goal) = false
+reads_plainly (action.Return b2) = false
+reads_plainly action = true
 
 abbrev pub is_branch_unit : ExecutionUnit → Bool
 is_branch_unit B = true
 is_branch_unit unit = false
 
 -- a `break`, `nop` or `hint` of unit B reads it in both ways
-abbrev pub reads_as_branch : Form → Bool
-reads_as_branch (form.Stop unit imm) = is_branch_unit unit
-reads_as_branch (form.Idle unit) = is_branch_unit unit
-reads_as_branch form = not (reads_plainly form)
+abbrev pub reads_as_branch : Action → Bool
+reads_as_branch (action.Stop unit imm) = is_branch_unit unit
+reads_as_branch (action.Idle unit) = is_branch_unit unit
+reads_as_branch action = not (reads_plainly action)
 
-abbrev pub qp_rows : ℕ → Form → List Row
+abbrev pub qp_rows : ℕ → Action → List AccessRow
 qp_rows qp f =
     record { there = is_named qp && reads_plainly f; guarded = false; resource = Pr qp; kind = Read }
     ∷ record { there = is_named qp && reads_as_branch f; guarded = false; resource = Pr qp; kind = BranchRead } ∷ []
@@ -187,11 +187,11 @@ is_framed (Gr r) = is_stacked r
 is_framed (Pr p) = is_rotating p
 is_framed resource = false
 
-abbrev pub any_framed : List Row → Bool
+abbrev pub any_framed : List AccessRow → Bool
 any_framed rows = list_any (λ row. is_framed row.resource) rows
 
 -- what a name of the frame depends on
-abbrev pub frame_row : ℕ → Form → Row
+abbrev pub frame_row : ℕ → Action → AccessRow
 frame_row qp f = record {
   there = is_rotating qp || (is_stacked (other_name f) || any_framed (own_rows f));
   guarded = false;
@@ -200,17 +200,17 @@ frame_row qp f = record {
 }
 
 -- The rows by name.
-abbrev pub rows_by_name : ℕ → Form → List Row
+abbrev pub rows_by_name : ℕ → Action → List AccessRow
 rows_by_name qp f = frame_row qp f ∷ (qp_rows qp f ++ own_rows f)
 
 -- All rows of an instruction: those by name, and those of predicates by place.
-unfoldable pub rows : ℕ → Form → List Row
+unfoldable pub rows : ℕ → Action → List AccessRow
 rows qp f = rows_by_name qp f ++ placed_rows f
 
--- The accesses of an instruction by its qualifying predicate and its form.
-abbrev pub accesses_of : ℕ → Form → List Access
+-- The accesses of an instruction by its qualifying predicate and its action.
+abbrev pub accesses_of : ℕ → Action → List Access
 accesses_of qp f = listed qp (rows qp f)
 
 -- The accesses of an instruction.
 abbrev pub accesses : Insn → List Access
-accesses insn = accesses_of insn.qp (insn_form insn)
+accesses insn = accesses_of insn.qp (insn_action insn)

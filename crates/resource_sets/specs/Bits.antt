@@ -8,7 +8,7 @@ use Rattle.resource_sets.specs.declared.access.Resource.TheVariants.{Gr, Pr, Br,
 use Rattle.resource_sets.specs.declared.access.Kind.{Kind}
 use Rattle.resource_sets.specs.declared.access.Kind.TheVariants.{Read, BranchRead, Write, AllocWrite, LoopWrite, OrWrite, AndWrite, Spill, Fill}
 use Rattle.resource_sets.specs.declared.access.Access.{Access}
-use Rattle.resource_sets.specs.declared.row.Row.{Row}
+use Rattle.resource_sets.specs.declared.row.AccessRow.{AccessRow}
 use Rattle.resource_sets.specs.declared.bits.AccessBits.{AccessBits}
 use Rattle.resource_sets.specs.Clashes.{is_resource, clash_of}
 
@@ -19,7 +19,7 @@ IsWithin (Pr p) = p < 64
 IsWithin (Br b) = b < 8
 IsWithin q = Unit {0}
 
-abbrev pub AreWithin : List Row → Type 0
+abbrev pub AreWithin : List AccessRow → Type 0
 AreWithin [] = Unit {0}
 AreWithin (row ∷ rows) = IsWithin row.resource × AreWithin rows
 
@@ -50,7 +50,7 @@ fits Cfm Write = true
 fits Cfm AllocWrite = true
 fits q kind = false
 
-abbrev pub all_fit : List Row → Bool
+abbrev pub all_fit : List AccessRow → Bool
 all_fit rows = list_all (λ row. fits row.resource row.kind) rows
 
 -- what one bit stands for

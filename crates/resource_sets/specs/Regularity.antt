@@ -2,20 +2,20 @@
 use Rattle.std.specs.Prelude.{◌≡◌, ◌≢◌, ◌⊎◌, ◌↔◌, ℕ, ◌<◌, ◌≤◌, true, false, List, Contains, take, Some, None}
 use Rattle.ia_insn.specs.declared.insn.Insn.{Insn}
 use Rattle.ia_insn.specs.Listed.{IsListed}
-use Rattle.ia_meaning.specs.declared.form.Source.TheVariants.{Predicates}
-use Rattle.ia_meaning.specs.declared.form.Goal.TheVariants.{Indirect}
-use Rattle.ia_meaning.specs.declared.form.Form.{Form}
-use Rattle.ia_meaning.specs.declared.form.Form.TheVariants as form
+use Rattle.ia_meaning.specs.declared.action.FetchSource.TheVariants.{Predicates}
+use Rattle.ia_meaning.specs.declared.action.Goal.TheVariants.{Indirect}
+use Rattle.ia_meaning.specs.declared.action.Action.{Action}
+use Rattle.ia_meaning.specs.declared.action.Action.TheVariants as action
 use Rattle.ia_meaning.specs.declared.state.FrameShape.{FrameShape}
 use Rattle.ia_meaning.specs.State.{Registers, IsFrame}
 use Rattle.ia_meaning.specs.Names.{is_rotating, holds}
-use Rattle.ia_meaning.specs.Actions.{insn_form, is_branch, is_indirect, is_alloc}
+use Rattle.ia_meaning.specs.Actions.{insn_action, is_branch, is_indirect, is_alloc}
 use Rattle.resource_sets.specs.declared.access.Resource.{Resource}
 use Rattle.resource_sets.specs.declared.access.Resource.TheVariants.{Gr, Pr, Br, Unat, Pfs, Lc, Ec, Cfm}
 use Rattle.resource_sets.specs.declared.access.Kind.{Kind}
 use Rattle.resource_sets.specs.declared.access.Kind.TheVariants.{Read, BranchRead, Write, AllocWrite, LoopWrite, OrWrite, AndWrite, Spill, Fill}
 use Rattle.resource_sets.specs.declared.access.Access.{Access}
-use Rattle.resource_sets.specs.declared.row.Row.{Row}
+use Rattle.resource_sets.specs.declared.row.AccessRow.{AccessRow}
 use Rattle.resource_sets.specs.declared.clashes.Rule.TheVariants.{Raw, Waw}
 use Rattle.resource_sets.specs.Rows.{is_named, listed}
 use Rattle.resource_sets.specs.Accesses.{rows_by_name, is_framed, accesses}
@@ -24,20 +24,20 @@ use Rattle.resource_sets.specs.AccessLaws.{AgreesOn, Agree, Location, PredicateA
 
 -- an access by name
 abbrev pub HasNamedAccess : Insn → Access → Type 0
-HasNamedAccess insn a = HasRow insn.qp a (rows_by_name insn.qp (insn_form insn))
+HasNamedAccess insn a = HasRow insn.qp a (rows_by_name insn.qp (insn_action insn))
 
 -- a predicate that a test names
-abbrev pub IsTarget : Form → ℕ → Type 0
-IsTarget (form.Test kind p1 p2 r2 r3 c) p = (p ≡ p1) ⊎ (p ≡ p2)
+abbrev pub IsTarget : Action → ℕ → Type 0
+IsTarget (action.Test kind p1 p2 r2 r3 c) p = (p ≡ p1) ⊎ (p ≡ p2)
 IsTarget f p = ⊥
 
 -- a loop branch
-abbrev pub IsLoop : Form → Type 0
-IsLoop (form.Loop kind disp) = Unit {0}
+abbrev pub IsLoop : Action → Type 0
+IsLoop (action.Loop kind disp) = Unit {0}
 IsLoop f = ⊥
 
 -- r0 and p0 are no resources, and a predicate by name is the qualifying one, the target of a test, or p63 of a loop branch
-abbrev pub IsName : ℕ → Form → Resource → Type 0
+abbrev pub IsName : ℕ → Action → Resource → Type 0
 IsName qp f (Gr r) = 1 ≤ r
 IsName qp f (Pr p) = (1 ≤ p) × ((p ≡ qp) ⊎ (IsTarget f p ⊎ (IsLoop f × (p ≡ 63))))
 IsName qp f q = Unit {0}
@@ -54,10 +54,10 @@ IsCountOrFrame Cfm = Unit {0}
 IsCountOrFrame q = ⊥
 
 -- what a branch goes by: the branch register that it jumps through, and of a return the previous function state too
-abbrev pub GoesBy : Form → Resource → Type 0
-GoesBy (form.JumpIndirect b2) q = q ≡ Br b2
-GoesBy (form.Call b1 (Indirect b2)) q = q ≡ Br b2
-GoesBy (form.Return b2) q = (q ≡ Br b2) ⊎ (q ≡ Pfs)
+abbrev pub GoesBy : Action → Resource → Type 0
+GoesBy (action.JumpIndirect b2) q = q ≡ Br b2
+GoesBy (action.Call b1 (Indirect b2)) q = q ≡ Br b2
+GoesBy (action.Return b2) q = (q ≡ Br b2) ⊎ (q ≡ Pfs)
 GoesBy f q = ⊥
 
 abbrev pub frame_read : Access
@@ -67,21 +67,21 @@ frame_read = record { resource = Cfm; kind = Read; guard = 0 }
 pub record IsRegular (insn : Insn) (a : Access) : Type 0 where
   -- it is made under p0 or under the qualifying predicate
   pub guard : (a.guard ≡ 0) ⊎ (a.guard ≡ insn.qp)
-  pub name : IsName insn.qp (insn_form insn) a.resource
+  pub name : IsName insn.qp (insn_action insn) a.resource
   -- a name of the frame comes with a read of the frame
   pub framed : is_framed a.resource ≡ true → HasNamedAccess insn frame_read
   -- what a branch reads as other instructions do
-  pub branch_read : is_branch (insn_form insn) ≡ true → a.kind ≡ Read → IsCountOrFrame a.resource
+  pub branch_read : is_branch (insn_action insn) ≡ true → a.kind ≡ Read → IsCountOrFrame a.resource
   -- what a branch reads as branches do
-  pub branch_goes : is_branch (insn_form insn) ≡ true → a.kind ≡ BranchRead
-      → (a.resource ≡ Pr insn.qp) ⊎ GoesBy (insn_form insn) a.resource
+  pub branch_goes : is_branch (insn_action insn) ≡ true → a.kind ≡ BranchRead
+      → (a.resource ≡ Pr insn.qp) ⊎ GoesBy (insn_action insn) a.resource
   -- what other instructions read as branches do, they read as others do too
-  pub reads_too : is_branch (insn_form insn) ≡ false → a.kind ≡ BranchRead → HasNamedAccess insn (record a { kind = Read })
-  pub alloc_write : a.kind ≡ AllocWrite → (is_alloc (insn_form insn) ≡ true) × (a.resource ≡ Cfm)
+  pub reads_too : is_branch (insn_action insn) ≡ false → a.kind ≡ BranchRead → HasNamedAccess insn (record a { kind = Read })
+  pub alloc_write : a.kind ≡ AllocWrite → (is_alloc (insn_action insn) ≡ true) × (a.resource ≡ Cfm)
   pub loop_write : a.kind ≡ LoopWrite → a.resource ≡ Pr 63
   pub or_write : a.kind ≡ OrWrite → IsPredicate a.resource
   pub and_write : a.kind ≡ AndWrite → IsPredicate a.resource
-  pub spill : a.kind ≡ Spill → (is_alloc (insn_form insn) ≡ false) × (a.resource ≡ Unat)
+  pub spill : a.kind ≡ Spill → (is_alloc (insn_action insn) ≡ false) × (a.resource ≡ Unat)
   pub fill : a.kind ≡ Fill → a.resource ≡ Unat
 
 abbrev pub AccessesAreRegular : Type 0
@@ -93,8 +93,8 @@ qp_read qp kind = record { resource = Pr qp; kind = kind; guard = 0 }
 
 -- The qualifying predicate is an access under p0: of a branch a BranchRead, of any other instruction a Read.
 pub record ReadsGuard (insn : Insn) : Type 0 where
-  pub plain : is_named insn.qp ≡ true → is_branch (insn_form insn) ≡ false → HasNamedAccess insn (qp_read insn.qp Read)
-  pub branch : is_named insn.qp ≡ true → is_branch (insn_form insn) ≡ true
+  pub plain : is_named insn.qp ≡ true → is_branch (insn_action insn) ≡ false → HasNamedAccess insn (qp_read insn.qp Read)
+  pub branch : is_named insn.qp ≡ true → is_branch (insn_action insn) ≡ true
       → HasNamedAccess insn (qp_read insn.qp BranchRead)
   pub framed : is_rotating insn.qp ≡ true → HasNamedAccess insn frame_read
 
@@ -109,7 +109,7 @@ pub record IsPlaced (insn : Insn) (a : Access) : Type 0 where
   pub below : name < 64
   pub resource : a.resource ≡ Pr name
   pub kind : (a.kind ≡ Read) ⊎ ((a.kind ≡ BranchRead) ⊎ (a.kind ≡ Write))
-  pub branch_read : a.kind ≡ BranchRead → (is_indirect (insn_form insn) ≡ true) × (name < 16)
+  pub branch_read : a.kind ≡ BranchRead → (is_indirect (insn_action insn) ≡ true) × (name < 16)
   pub guard : a.guard ≡ insn.qp
 
 abbrev pub NamedAccessesAreAccesses : Type 0
@@ -125,21 +125,21 @@ AccessesAreGuarded = (insn : Insn) (a : Access) → HasAccess insn a → (a.guar
 -- Only an `alloc` writes as an `alloc` does, and only the frame.
 abbrev pub AllocWritesAreOfAlloc : Type 0
 AllocWritesAreOfAlloc = (insn : Insn) (a : Access) → HasAccess insn a → a.kind ≡ AllocWrite
-    → (is_alloc (insn_form insn) ≡ true) × (a.resource ≡ Cfm)
+    → (is_alloc (insn_action insn) ≡ true) × (a.resource ≡ Cfm)
 
 -- `mov r1=pr` reads each predicate
 abbrev pub PredicatesAreRead : Type 0
-PredicatesAreRead = (insn : Insn) (r1 p : ℕ) → insn_form insn ≡ form.Fetch r1 Predicates → 1 ≤ p → p < 64
+PredicatesAreRead = (insn : Insn) (r1 p : ℕ) → insn_action insn ≡ action.Fetch r1 Predicates → 1 ≤ p → p < 64
     → HasAccess insn (record { resource = Pr p; kind = Read; guard = insn.qp })
 
 -- an indirect branch reads p1 to p15 as branches do
 abbrev pub StaticsAreRead : Type 0
-StaticsAreRead = (insn : Insn) (p : ℕ) → is_indirect (insn_form insn) ≡ true → 1 ≤ p → p < 16
+StaticsAreRead = (insn : Insn) (p : ℕ) → is_indirect (insn_action insn) ≡ true → 1 ≤ p → p < 16
     → HasAccess insn (record { resource = Pr p; kind = BranchRead; guard = insn.qp })
 
 -- The list of the accesses of rows holds those of the rows that are there.
 abbrev pub ListedAreRows : Type 0
-ListedAreRows = (qp : ℕ) (a : Access) (rows : List Row) → Contains (listed qp rows) a ↔ HasRow qp a rows
+ListedAreRows = (qp : ℕ) (a : Access) (rows : List AccessRow) → Contains (listed qp rows) a ↔ HasRow qp a rows
 
 abbrev pub AccessesAreListed : Type 0
 AccessesAreListed = (insn : Insn) (a : Access) → Contains (accesses insn) a ↔ HasAccess insn a
@@ -200,7 +200,7 @@ ChangesClash = (a b : Access) → a.resource ≡ b.resource → IsChange a.kind
 
 -- An instruction other than `alloc` names its targets by the frame that it finds.
 abbrev pub NamedAsFound : Type 0
-NamedAsFound = (f : Form) (shape : FrameShape) → is_alloc f ≡ false → naming_frame f shape ≡ shape
+NamedAsFound = (f : Action) (shape : FrameShape) → is_alloc f ≡ false → naming_frame f shape ≡ shape
 
 -- Registers agree on what an instruction accesses where they agree on each access by name whose guard is 1, on the
 -- predicates by place where it reads each of them, and on the first sixteen of these where it is an indirect branch,
@@ -208,10 +208,10 @@ NamedAsFound = (f : Form) (shape : FrameShape) → is_alloc f ≡ false → nami
 abbrev pub AgreeByAccesses : Type 0
 AgreeByAccesses = (insn : Insn) (v w : Registers) (x y : ℕ)
     → ((a : Access) → HasNamedAccess insn a → holds v a.guard ≡ true → AgreesOn v w x y a.kind a.resource)
-    → (is_branch (insn_form insn) ≡ false → holds v insn.qp ≡ true
+    → (is_branch (insn_action insn) ≡ false → holds v insn.qp ≡ true
     → ((p : ℕ) → 1 ≤ p → p < 64 → HasAccess insn (record { resource = Pr p; kind = Read; guard = insn.qp }))
     → v.predicates ≡ w.predicates)
-    → (is_indirect (insn_form insn) ≡ true → holds v insn.qp ≡ true
+    → (is_indirect (insn_action insn) ≡ true → holds v insn.qp ≡ true
     → ((p : ℕ) → 1 ≤ p → p < 16 → HasAccess insn (record { resource = Pr p; kind = BranchRead; guard = insn.qp }))
     → take 16 v.predicates ≡ take 16 w.predicates)
     → Agree insn v w x y

@@ -14,11 +14,11 @@ ghost use Rattle.resource_sets.specs.AccessSets.{AreSetsOf, placed_kind};
 
 use crate::access::Kind;
 use crate::insn_accesses::{frame_row, own_rows, placed_rows, qp_rows};
-use crate::row::Row;
+use crate::row::AccessRow;
 use crate::sets::ResourceSet;
 use arrayvec::ArrayVec;
 use ia_insn::Pr;
-use ia_meaning::{Form, Goal};
+use ia_meaning::{Action, Goal};
 
 /// Accesses of an instruction, of one kind and under one guard.
 #[derive(Clone, Copy, Debug)]
@@ -55,7 +55,7 @@ pub const ACCESS_SET_LIMIT: usize = 12;
 type AccessSets = ArrayVec<AccessSet, ACCESS_SET_LIMIT>;
 
 /// Appends the set of the one access of a row, where it is there.
-fn push_set(out: &mut AccessSets, qp: Pr, row: Row)
+fn push_set(out: &mut AccessSets, qp: Pr, row: AccessRow)
     requires within { IsWithin row.resource }
     requires room { array_vec_len out.old < ACCESS_SET_LIMIT }
     ensures sets { (earlier : List Access) → AreSetsOf earlier out.old.items → AreSetsOf (earlier ++ listed qp (row ∷ [])) out.new.items }
@@ -74,7 +74,7 @@ fn push_set(out: &mut AccessSets, qp: Pr, row: Row)
 }
 
 /// Appends the sets of rows, one for each that is there.
-fn push_sets(out: &mut AccessSets, qp: Pr, rows: &[Row])
+fn push_sets(out: &mut AccessSets, qp: Pr, rows: &[AccessRow])
     requires within { AreWithin rows.now }
     requires room { array_vec_len out.old + length rows.now ≤ ACCESS_SET_LIMIT }
     ensures sets { (earlier : List Access) → AreSetsOf earlier out.old.items → AreSetsOf (earlier ++ listed qp rows.now) out.new.items }
@@ -86,7 +86,7 @@ fn push_sets(out: &mut AccessSets, qp: Pr, rows: &[Row])
 }
 
 /// Adds the resource of a row, where it is there.
-fn insert_row(resources: &mut ResourceSet, row: Row)
+fn insert_row(resources: &mut ResourceSet, row: AccessRow)
     requires { IsWithin row.resource }
     ensures { (q : Resource) → has_resource resources.new q ≡ (has_resource resources.old q || (row.there && is_resource row.resource q)) }
 {
@@ -96,7 +96,7 @@ fn insert_row(resources: &mut ResourceSet, row: Row)
 }
 
 /// The resources of the rows that are there.
-fn resources_of(rows: &[Row]) -> ResourceSet
+fn resources_of(rows: &[AccessRow]) -> ResourceSet
     requires { AreWithin rows.now }
     ensures { (q : Resource) → has_resource result q ≡ list_any (λ row. row.there && is_resource row.resource q) rows.now }
 {
@@ -107,47 +107,47 @@ fn resources_of(rows: &[Row]) -> ResourceSet
     resources
 }
 
-/// How an instruction of this form accesses predicates by place.
-fn placed_kind(form: &Form) -> Kind
-    ensures { result ≡ placed_kind form.now }
+/// How an instruction of this action accesses predicates by place.
+fn placed_kind(action: &Action) -> Kind
+    ensures { result ≡ placed_kind action.now }
 {
-    match form {
-        Form::ToPredicates { .. } => Kind::Write,
-        Form::JumpIndirect { .. }
-        | Form::Call {
+    match action {
+        Action::ToPredicates { .. } => Kind::Write,
+        Action::JumpIndirect { .. }
+        | Action::Call {
             goal: Goal::Indirect(_),
             ..
         }
-        | Form::Return { .. } => Kind::BranchRead,
+        | Action::Return { .. } => Kind::BranchRead,
         _ => Kind::Read,
     }
 }
 
 /// Appends the set of the predicates that an instruction accesses by place, if there are any.
-fn push_placed(out: &mut AccessSets, qp: Pr, form: &Form)
+fn push_placed(out: &mut AccessSets, qp: Pr, action: &Action)
     requires { array_vec_len out.old < ACCESS_SET_LIMIT }
-    ensures { (earlier : List Access) → AreSetsOf earlier out.old.items → AreSetsOf (earlier ++ listed qp (placed_rows form.now)) out.new.items }
+    ensures { (earlier : List Access) → AreSetsOf earlier out.old.items → AreSetsOf (earlier ++ listed qp (placed_rows action.now)) out.new.items }
 {
-    let rows = placed_rows(form);
+    let rows = placed_rows(action);
     if rows.is_empty() {
         return;
     }
     out.push(AccessSet {
         resources: resources_of(rows.as_slice()),
-        kind: placed_kind(form),
+        kind: placed_kind(action),
         guard: qp,
     });
 }
 
-/// The access sets of an instruction by its qualifying predicate and its form.
-pub(crate) fn access_sets_of(qp: Pr, form: &Form) -> ArrayVec<AccessSet, ACCESS_SET_LIMIT>
-    ensures { AreSetsOf (accesses_of qp form.now) result.items }
+/// The access sets of an instruction by its qualifying predicate and its action.
+pub(crate) fn access_sets_of(qp: Pr, action: &Action) -> ArrayVec<AccessSet, ACCESS_SET_LIMIT>
+    ensures { AreSetsOf (accesses_of qp action.now) result.items }
 {
-    let own = own_rows(form);
+    let own = own_rows(action);
     let mut out = ArrayVec::new();
-    push_set(&mut out, qp, frame_row(qp, form, own.as_slice()));
-    push_sets(&mut out, qp, &qp_rows(qp, form));
+    push_set(&mut out, qp, frame_row(qp, action, own.as_slice()));
+    push_sets(&mut out, qp, &qp_rows(qp, action));
     push_sets(&mut out, qp, own.as_slice());
-    push_placed(&mut out, qp, form);
+    push_placed(&mut out, qp, action);
     out
 }

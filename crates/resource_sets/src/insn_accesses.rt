@@ -2,7 +2,7 @@
 
 ghost use Rattle.std.specs.Prelude.{◌≡◌, ◌+◌, ◌-◌, ◌≤◌, ◌<◌, ◌++◌, ◌∷◌, true, length};
 ghost use Rattle.arrayvec.specs.ArrayVec.{array_vec_len};
-ghost use Rattle.ia_meaning.specs.Actions.{form_of};
+ghost use Rattle.ia_meaning.specs.Actions.{action_of};
 ghost use Rattle.resource_sets.specs.Rows.{gr, always};
 ghost use Rattle.resource_sets.specs.Bits.{AreWithin};
 ghost use Rattle.resource_sets.specs.declared.access.Resource.TheVariants as spec;
@@ -10,17 +10,17 @@ ghost use Rattle.resource_sets.specs.declared.access.Kind.TheVariants.{Read, Wri
 ghost use Rattle.resource_sets.specs.Accesses.{test_rows, base_row, own_rows, other_name, application, source_rows, unat_row, loop_rows, call_rows, place_rows, mask_rows, placed_rows, reads_plainly, reads_as_branch, qp_rows, is_framed, any_framed, frame_row, accesses_of, accesses};
 
 use crate::access::{ACCESS_LIMIT, Access, Kind, Resource};
-use crate::row::{Row, always, gr, pr, push, push_all};
+use crate::row::{AccessRow, always, gr, pr, push, push_all};
 use arrayvec::ArrayVec;
 use ia_insn::{Ar, Br, BranchKind, CmpKind, Gr, Insn, LoadKind, Pr, StoreKind, Unit, Update};
-use ia_meaning::{Form, Goal, Source, form_of, update_register};
+use ia_meaning::{Action, FetchSource, Goal, action_of, update_register};
 use integer_ops::bit;
 
 /// At most eight rows.
-pub(crate) type Rows = ArrayVec<Row, 8>;
+pub(crate) type Rows = ArrayVec<AccessRow, 8>;
 
 /// The rows of a slice.
-fn list(rows: &[Row]) -> Rows
+fn list(rows: &[AccessRow]) -> Rows
     requires few { length rows.now ≤ 8 }
     requires within { AreWithin rows.now }
     ensures rows { result.items ≡ rows.now }
@@ -34,7 +34,7 @@ fn list(rows: &[Row]) -> Rows
 }
 
 /// The two targets of a test.
-fn test_rows(kind: CmpKind, p1: Pr, p2: Pr) -> [Row; 2]
+fn test_rows(kind: CmpKind, p1: Pr, p2: Pr) -> [AccessRow; 2]
     ensures rows { result ≡ test_rows kind p1 p2 }
     ensures within { AreWithin result }
 {
@@ -48,7 +48,7 @@ fn test_rows(kind: CmpKind, p1: Pr, p2: Pr) -> [Row; 2]
 }
 
 /// The base of a load or a store, which may be updated.
-fn base_row(update: &Update, r3: Gr) -> Row
+fn base_row(update: &Update, r3: Gr) -> AccessRow
     ensures row { result ≡ base_row update.now r3 }
     ensures within { r3 < 128 }
 {
@@ -60,11 +60,11 @@ fn base_row(update: &Update, r3: Gr) -> Row
 }
 
 /// The register that an instruction names and neither reads nor writes, or r0.
-fn other_name(form: &Form) -> Gr
-    ensures { result ≡ other_name form.now }
+fn other_name(action: &Action) -> Gr
+    ensures { result ≡ other_name action.now }
 {
-    match *form {
-        Form::CheckAlat { r1, .. } | Form::Forget { r1 } => r1,
+    match *action {
+        Action::CheckAlat { r1, .. } | Action::Forget { r1 } => r1,
         _ => Gr::of_field(0),
     }
 }
@@ -82,7 +82,7 @@ fn application(ar: Ar) -> Resource
 }
 
 /// A branch register under the qualifying predicate.
-fn br(b: Br, kind: Kind) -> Row
+fn br(b: Br, kind: Kind) -> AccessRow
     ensures row { result ≡ always true (spec.Br b) kind }
     ensures within { b < 8 }
 {
@@ -90,20 +90,20 @@ fn br(b: Br, kind: Kind) -> Row
 }
 
 /// A copy into a general register.
-fn fetch_rows(r1: Gr, source: Source) -> Rows
+fn fetch_rows(r1: Gr, source: FetchSource) -> Rows
     ensures rows { result.items ≡ gr r1 Write ∷ source_rows source }
     ensures within { AreWithin result.items }
 {
     let target = gr(r1, Kind::Write);
     match source {
-        Source::Branch(b) => list(&[target, br(b, Kind::Read)]),
-        Source::Application(ar) => list(&[target, always(true, application(ar), Kind::Read)]),
+        FetchSource::Branch(b) => list(&[target, br(b, Kind::Read)]),
+        FetchSource::Application(ar) => list(&[target, always(true, application(ar), Kind::Read)]),
         _ => list(&[target]),
     }
 }
 
 /// What a fill or a spill accesses besides.
-fn unat_row(there: bool, kind: Kind) -> Row
+fn unat_row(there: bool, kind: Kind) -> AccessRow
     ensures { result ≡ unat_row there kind }
 {
     let mut row = always(true, Resource::Unat, kind);
@@ -149,7 +149,7 @@ fn call_rows(b1: Br, goal: Goal) -> Rows
 {
     let own = |resource, kind| always(true, resource, kind);
     let b2 = match goal {
-        Goal::Direct(_) => Row::default(),
+        Goal::Direct(_) => AccessRow::default(),
         Goal::Indirect(b2) => br(b2, Kind::BranchRead),
     };
     list(&[
@@ -163,19 +163,19 @@ fn call_rows(b1: Br, goal: Goal) -> Rows
 }
 
 /// The rows of an instruction, but for those of its qualifying predicate and of predicates by place.
-pub(crate) fn own_rows(form: &Form) -> Rows
-    ensures rows { result.items ≡ own_rows form.now }
+pub(crate) fn own_rows(action: &Action) -> Rows
+    ensures rows { result.items ≡ own_rows action.now }
     ensures within { AreWithin result.items }
 {
     let own = |resource, kind| always(true, resource, kind);
-    match *form {
-        Form::Compute { r1, r2, r3, .. } => list(&[
+    match *action {
+        Action::Compute { r1, r2, r3, .. } => list(&[
             gr(r2, Kind::Read),
             gr(r3, Kind::Read),
             gr(r1, Kind::Write),
         ]),
-        Form::Fetch { r1, source } => fetch_rows(r1, source),
-        Form::Test {
+        Action::Fetch { r1, source } => fetch_rows(r1, source),
+        Action::Test {
             kind,
             p1,
             p2,
@@ -191,13 +191,16 @@ pub(crate) fn own_rows(form: &Form) -> Rows
                 targets[1],
             ])
         }
-        Form::ToPredicates { r2, .. } | Form::CheckNat { r2, .. } => list(&[gr(r2, Kind::Read)]),
-        Form::ToBranch { b1, r2 } => list(&[gr(r2, Kind::Read), br(b1, Kind::Write)]),
-        Form::ToApplication { ar, r2, .. } => list(&[
+        Action::ToPredicates { r2, .. } | Action::CheckNat { r2, .. } => list(&[gr(
+            r2,
+            Kind::Read,
+        )]),
+        Action::ToBranch { b1, r2 } => list(&[gr(r2, Kind::Read), br(b1, Kind::Write)]),
+        Action::ToApplication { ar, r2, .. } => list(&[
             gr(r2, Kind::Read),
             own(application(ar), Kind::Write),
         ]),
-        Form::FromMemory {
+        Action::FromMemory {
             kind,
             r1,
             r3,
@@ -210,7 +213,7 @@ pub(crate) fn own_rows(form: &Form) -> Rows
             base_row(&update, r3),
             unat_row(kind == LoadKind::Fill, Kind::Fill),
         ]),
-        Form::ToMemory {
+        Action::ToMemory {
             kind,
             r3,
             r2,
@@ -222,64 +225,64 @@ pub(crate) fn own_rows(form: &Form) -> Rows
             base_row(&update, r3),
             unat_row(kind == StoreKind::Spill, Kind::Spill),
         ]),
-        Form::Exchange { r1, r3, r2, .. } => list(&[
+        Action::Exchange { r1, r3, r2, .. } => list(&[
             gr(r3, Kind::Read),
             gr(r2, Kind::Read),
             gr(r1, Kind::Write),
         ]),
-        Form::Allocate { r1, .. } => list(&[
+        Action::Allocate { r1, .. } => list(&[
             gr(r1, Kind::Write),
             own(Resource::Pfs, Kind::Read),
             own(Resource::Cfm, Kind::Read),
             own(Resource::Cfm, Kind::AllocWrite),
         ]),
-        Form::JumpIndirect { b2 } => list(&[br(b2, Kind::BranchRead)]),
-        Form::Loop { kind, .. } => loop_rows(kind),
-        Form::Call { b1, goal } => call_rows(b1, goal),
-        Form::Return { b2 } => list(&[
+        Action::JumpIndirect { b2 } => list(&[br(b2, Kind::BranchRead)]),
+        Action::Loop { kind, .. } => loop_rows(kind),
+        Action::Call { b1, goal } => call_rows(b1, goal),
+        Action::Return { b2 } => list(&[
             br(b2, Kind::BranchRead),
             own(Resource::Pfs, Kind::BranchRead),
             own(Resource::Cfm, Kind::Write),
             own(Resource::Ec, Kind::Write),
         ]),
-        Form::ClearBases { .. } => list(&[own(Resource::Cfm, Kind::Write)]),
+        Action::ClearBases { .. } => list(&[own(Resource::Cfm, Kind::Write)]),
         _ => list(&[]),
     }
 }
 
 /// Whether the qualifying predicate is read as registers are.
-fn reads_plainly(form: &Form) -> bool
-    ensures { result ≡ reads_plainly form.now }
+fn reads_plainly(action: &Action) -> bool
+    ensures { result ≡ reads_plainly action.now }
 {
     !matches!(
-        form,
-        Form::Jump { .. }
-            | Form::JumpIndirect { .. }
-            | Form::Loop { .. }
-            | Form::Call { .. }
-            | Form::Return { .. }
+        action,
+        Action::Jump { .. }
+            | Action::JumpIndirect { .. }
+            | Action::Loop { .. }
+            | Action::Call { .. }
+            | Action::Return { .. }
     )
 }
 
 /// Whether the qualifying predicate is read as branches read it.
-fn reads_as_branch(form: &Form) -> bool
-    ensures { result ≡ reads_as_branch form.now }
+fn reads_as_branch(action: &Action) -> bool
+    ensures { result ≡ reads_as_branch action.now }
 {
-    match *form {
-        Form::Stop { unit, .. } | Form::Idle { unit } => unit == Unit::B,
-        _ => !reads_plainly(form),
+    match *action {
+        Action::Stop { unit, .. } | Action::Idle { unit } => unit == Unit::B,
+        _ => !reads_plainly(action),
     }
 }
 
 /// The reads of the qualifying predicate.
-pub(crate) fn qp_rows(qp: Pr, form: &Form) -> [Row; 2]
-    ensures rows { result ≡ qp_rows qp form.now }
+pub(crate) fn qp_rows(qp: Pr, action: &Action) -> [AccessRow; 2]
+    ensures rows { result ≡ qp_rows qp action.now }
     ensures within { AreWithin result }
 {
     let mut plain = pr(false, qp, Kind::Read);
-    plain.there = plain.there && reads_plainly(form);
+    plain.there = plain.there && reads_plainly(action);
     let mut branch = pr(false, qp, Kind::BranchRead);
-    branch.there = branch.there && reads_as_branch(form);
+    branch.there = branch.there && reads_as_branch(action);
     [plain, branch]
 }
 
@@ -295,24 +298,24 @@ fn is_framed(resource: Resource) -> bool
 }
 
 /// Whether one of the rows names the frame.
-fn any_framed(rows: &[Row]) -> bool
+fn any_framed(rows: &[AccessRow]) -> bool
     ensures { result ≡ any_framed rows.now }
 {
     rows.iter().any(|row| is_framed(row.resource))
 }
 
 /// The read of the frame by names that depend on it.
-pub(crate) fn frame_row(qp: Pr, form: &Form, own: &[Row]) -> Row
-    requires { own.now ≡ own_rows form.now }
-    ensures { result ≡ frame_row qp form.now }
+pub(crate) fn frame_row(qp: Pr, action: &Action, own: &[AccessRow]) -> AccessRow
+    requires { own.now ≡ own_rows action.now }
+    ensures { result ≡ frame_row qp action.now }
 {
     let mut row = always(false, Resource::Cfm, Kind::Read);
-    row.there = qp.number() >= 16 || other_name(form).number() >= 32 || any_framed(own);
+    row.there = qp.number() >= 16 || other_name(action).number() >= 32 || any_framed(own);
     row
 }
 
 /// The rows of predicates by place, at most 63.
-type PlacedRows = ArrayVec<Row, 63>;
+type PlacedRows = ArrayVec<AccessRow, 63>;
 
 /// Appends the row of the n-th predicate, which is there where a mask has it.
 fn push_place(out: &mut PlacedRows, mask: u64, kind: Kind, n: u64)
@@ -341,37 +344,37 @@ fn mask_rows(mask: u64, kind: Kind) -> PlacedRows
 
 /// The rows of predicates by place. A move from them reads all: the mask has all bits. An indirect branch reads p1 to
 /// p15.
-pub(crate) fn placed_rows(form: &Form) -> PlacedRows
-    ensures { result.items ≡ placed_rows form.now }
+pub(crate) fn placed_rows(action: &Action) -> PlacedRows
+    ensures { result.items ≡ placed_rows action.now }
 {
-    match *form {
-        Form::Fetch {
-            source: Source::Predicates,
+    match *action {
+        Action::Fetch {
+            source: FetchSource::Predicates,
             ..
         } => mask_rows(0x1ffff, Kind::Read),
-        Form::ToPredicates { mask, .. } => mask_rows(u64::from(mask), Kind::Write),
-        Form::JumpIndirect { .. }
-        | Form::Call {
+        Action::ToPredicates { mask, .. } => mask_rows(u64::from(mask), Kind::Write),
+        Action::JumpIndirect { .. }
+        | Action::Call {
             goal: Goal::Indirect(_),
             ..
         }
-        | Form::Return { .. } => mask_rows(0xfffe, Kind::BranchRead),
+        | Action::Return { .. } => mask_rows(0xfffe, Kind::BranchRead),
         _ => ArrayVec::new(),
     }
 }
 
-/// The accesses of an instruction by its qualifying predicate and its form: what it reads and writes, and under
+/// The accesses of an instruction by its qualifying predicate and its action: what it reads and writes, and under
 /// which guard.
 #[tactic(auto, using(crate::proofs::Listing::in_parts))]
-pub fn accesses_of(qp: Pr, form: &Form) -> ArrayVec<Access, ACCESS_LIMIT>
-    ensures { result.items ≡ accesses_of qp form.now }
+pub fn accesses_of(qp: Pr, action: &Action) -> ArrayVec<Access, ACCESS_LIMIT>
+    ensures { result.items ≡ accesses_of qp action.now }
 {
-    let own = own_rows(form);
+    let own = own_rows(action);
     let mut out = ArrayVec::new();
-    push(&mut out, qp, frame_row(qp, form, own.as_slice()));
-    push_all(&mut out, qp, &qp_rows(qp, form));
+    push(&mut out, qp, frame_row(qp, action, own.as_slice()));
+    push_all(&mut out, qp, &qp_rows(qp, action));
     push_all(&mut out, qp, own.as_slice());
-    push_all(&mut out, qp, placed_rows(form).as_slice());
+    push_all(&mut out, qp, placed_rows(action).as_slice());
     out
 }
 
@@ -379,5 +382,5 @@ pub fn accesses_of(qp: Pr, form: &Form) -> ArrayVec<Access, ACCESS_LIMIT>
 pub fn accesses(insn: &Insn) -> ArrayVec<Access, ACCESS_LIMIT>
     ensures { result.items ≡ accesses insn.now }
 {
-    accesses_of(insn.qp, &form_of(&insn.op))
+    accesses_of(insn.qp, &action_of(&insn.op))
 }

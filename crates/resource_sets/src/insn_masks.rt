@@ -5,11 +5,11 @@ ghost use Rattle.resource_sets.specs.Accesses.{accesses};
 
 use crate::masking::{Masks, masks_of};
 use ia_insn::Insn;
-use ia_meaning::form_of;
+use ia_meaning::action_of;
 
 /// The masks of an instruction.
 pub fn masks(insn: &Insn) -> Masks
     ensures { result ≡ accesses insn.now }
 {
-    masks_of(insn.qp, &form_of(&insn.op))
+    masks_of(insn.qp, &action_of(&insn.op))
 }

@@ -2,9 +2,9 @@
 //! Architecture Software Developer's Manual, volume 1, chapter 3, instruction dependencies, and volume 3,
 //! chapter 5, resource and dependency semantics).
 //!
-//! `accesses_of` is a function of an instruction's qualifying predicate and the form of its effect
-//! (`ia_meaning::Form`); `clash` is a table of two accesses. The laws say that no instruction depends on more than its
-//! accesses name, or writes more than they name.
+//! `accesses_of` is a function of an instruction's qualifying predicate and its action (`ia_meaning::Action`);
+//! `clash` is a table of two accesses. The laws say that no instruction depends on more than its accesses name, or
+//! writes more than they name.
 #![tactic(auto)]
 
 mod access;

@@ -13,10 +13,10 @@ ghost use Rattle.resource_sets.specs.AccessSets.{AreSetsOf};
 use crate::access_sets::{ACCESS_SET_LIMIT, AccessSet, access_sets_of};
 use crate::bits::AccessBits;
 use crate::insn_accesses::{frame_row, own_rows, placed_rows, qp_rows};
-use crate::row::Row;
+use crate::row::AccessRow;
 use arrayvec::ArrayVec;
 use ia_insn::Pr;
-use ia_meaning::Form;
+use ia_meaning::Action;
 use integer_ops::bit;
 use std::marker::Model;
 
@@ -31,7 +31,7 @@ const FRAME: u8 = 5;
 #[derive(Debug, Drop)]
 pub struct Masks {
     qp: Pr,
-    form: Form,
+    action: Action,
     /// The accesses themselves.
     made: AccessBits,
     /// What a later slot of the group may not access.
@@ -46,9 +46,9 @@ impl Model for Masks {
 
     ghost Value = { List Access };
 
-    ghost view = { λ m. accesses_of m.qp m.form };
+    ghost view = { λ m. accesses_of m.qp m.action };
 
-    ghost invariant = { λ m. AreBits (accesses_of m.qp m.form) m.made m.barred };
+    ghost invariant = { λ m. AreBits (accesses_of m.qp m.action) m.made m.barred };
 }
 
 impl Masks {
@@ -56,7 +56,7 @@ impl Masks {
     pub fn access_sets(&self) -> ArrayVec<AccessSet, ACCESS_SET_LIMIT>
         ensures { AreSetsOf self.now result.items }
     {
-        access_sets_of(self.qp, &self.form)
+        access_sets_of(self.qp, &self.action)
     }
 
     /// The predicates that the instruction may write, by their names: those that it writes, and from p16 on all if it
@@ -73,7 +73,7 @@ impl Masks {
 }
 
 /// Takes in one more row.
-fn take_row(made: &mut AccessBits, barred: &mut AccessBits, row: Row)
+fn take_row(made: &mut AccessBits, barred: &mut AccessBits, row: AccessRow)
     requires within { IsWithin row.resource }
     requires fits { fits row.resource row.kind ≡ true }
     ensures { (qp : ℕ) (earlier : List Access) → AreBits earlier made.old barred.old → AreBits (earlier ++ listed qp (row ∷ [])) made.new barred.new }
@@ -86,7 +86,7 @@ fn take_row(made: &mut AccessBits, barred: &mut AccessBits, row: Row)
 }
 
 /// Takes in more rows.
-fn take_rows(made: &mut AccessBits, barred: &mut AccessBits, rows: &[Row])
+fn take_rows(made: &mut AccessBits, barred: &mut AccessBits, rows: &[AccessRow])
     requires within { AreWithin rows.now }
     requires fits { all_fit rows.now ≡ true }
     ensures { (qp : ℕ) (earlier : List Access) → AreBits earlier made.old barred.old → AreBits (earlier ++ listed qp rows.now) made.new barred.new }
@@ -96,20 +96,24 @@ fn take_rows(made: &mut AccessBits, barred: &mut AccessBits, rows: &[Row])
     }
 }
 
-/// The masks of an instruction by its qualifying predicate and its form.
-pub fn masks_of(qp: Pr, form: &Form) -> Masks
-    ensures { result ≡ accesses_of qp form.now }
+/// The masks of an instruction by its qualifying predicate and its action.
+pub fn masks_of(qp: Pr, action: &Action) -> Masks
+    ensures { result ≡ accesses_of qp action.now }
 {
-    let own = own_rows(form);
+    let own = own_rows(action);
     let mut made = AccessBits::NONE;
     let mut barred = AccessBits::NONE;
-    take_row(&mut made, &mut barred, frame_row(qp, form, own.as_slice()));
-    take_rows(&mut made, &mut barred, &qp_rows(qp, form));
+    take_row(
+        &mut made,
+        &mut barred,
+        frame_row(qp, action, own.as_slice()),
+    );
+    take_rows(&mut made, &mut barred, &qp_rows(qp, action));
     take_rows(&mut made, &mut barred, own.as_slice());
-    take_rows(&mut made, &mut barred, placed_rows(form).as_slice());
+    take_rows(&mut made, &mut barred, placed_rows(action).as_slice());
     Masks {
         qp,
-        form: *form,
+        action: *action,
         made,
         barred,
     }

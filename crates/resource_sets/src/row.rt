@@ -10,7 +10,7 @@ use ia_insn::{Gr, Pr};
 
 /// An access that is there or not.
 #[derive(Clone, Copy, Debug, PartialEq, Eq)]
-pub(crate) struct Row {
+pub(crate) struct AccessRow {
     /// Whether it is there.
     pub there: bool,
     /// Whether it is made under the qualifying predicate, and else under p0.
@@ -21,7 +21,7 @@ pub(crate) struct Row {
     pub kind: Kind,
 }
 
-impl Default for Row {
+impl Default for AccessRow {
     ghost use Rattle.std.specs.Prelude.{◌≡◌, false};
     ghost use Rattle.resource_sets.specs.declared.access.Resource.TheVariants.{Cfm};
     ghost use Rattle.resource_sets.specs.declared.access.Kind.TheVariants.{Read};
@@ -30,7 +30,7 @@ impl Default for Row {
 
     /// A read of the frame that isn't there.
     fn default() -> Self {
-        Row {
+        AccessRow {
             there: false,
             guarded: false,
             resource: Resource::Cfm,
@@ -40,11 +40,11 @@ impl Default for Row {
 }
 
 /// A general register under the qualifying predicate. r0 is no resource.
-pub(crate) fn gr(r: Gr, kind: Kind) -> Row
+pub(crate) fn gr(r: Gr, kind: Kind) -> AccessRow
     ensures row { result ≡ gr r kind }
     ensures within { r < 128 }
 {
-    Row {
+    AccessRow {
         there: !r.is_zero(),
         guarded: true,
         resource: Resource::Gr(r.number()),
@@ -53,11 +53,11 @@ pub(crate) fn gr(r: Gr, kind: Kind) -> Row
 }
 
 /// A predicate. p0 is no resource.
-pub(crate) fn pr(guarded: bool, p: Pr, kind: Kind) -> Row
+pub(crate) fn pr(guarded: bool, p: Pr, kind: Kind) -> AccessRow
     ensures row { result ≡ pr guarded p kind }
     ensures within { p < 64 }
 {
-    Row {
+    AccessRow {
         there: !p.is_zero(),
         guarded,
         resource: Resource::Pr(p.number()),
@@ -66,10 +66,10 @@ pub(crate) fn pr(guarded: bool, p: Pr, kind: Kind) -> Row
 }
 
 /// A resource that has no number that leaves it out, as r0 and p0 are left out.
-pub(crate) fn always(guarded: bool, resource: Resource, kind: Kind) -> Row
+pub(crate) fn always(guarded: bool, resource: Resource, kind: Kind) -> AccessRow
     ensures { result ≡ always guarded resource kind }
 {
-    Row {
+    AccessRow {
         there: true,
         guarded,
         resource,
@@ -77,7 +77,7 @@ pub(crate) fn always(guarded: bool, resource: Resource, kind: Kind) -> Row
     }
 }
 
-impl Row {
+impl AccessRow {
     /// The access of a row that is there.
     pub fn access(self, qp: Pr) -> Access
         ensures { result ≡ access qp self }
@@ -91,7 +91,7 @@ impl Row {
 }
 
 /// Appends a row's access, where it is there.
-pub(crate) fn push(out: &mut ArrayVec<Access, ACCESS_LIMIT>, qp: Pr, row: Row)
+pub(crate) fn push(out: &mut ArrayVec<Access, ACCESS_LIMIT>, qp: Pr, row: AccessRow)
     requires { array_vec_len out.old < ACCESS_LIMIT }
     ensures items { out.new.items ≡ out.old.items ++ listed qp (row ∷ []) }
     ensures len { array_vec_len out.new ≤ array_vec_len out.old + 1 }
@@ -102,7 +102,7 @@ pub(crate) fn push(out: &mut ArrayVec<Access, ACCESS_LIMIT>, qp: Pr, row: Row)
 }
 
 /// Appends the accesses of rows.
-pub(crate) fn push_all(out: &mut ArrayVec<Access, ACCESS_LIMIT>, qp: Pr, rows: &[Row])
+pub(crate) fn push_all(out: &mut ArrayVec<Access, ACCESS_LIMIT>, qp: Pr, rows: &[AccessRow])
     requires { array_vec_len out.old + length rows.now ≤ ACCESS_LIMIT }
     ensures items { out.new.items ≡ out.old.items ++ listed qp rows.now }
     ensures len { array_vec_len out.new ≤ array_vec_len out.old + length rows.now }

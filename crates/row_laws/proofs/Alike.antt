@@ -10,7 +10,7 @@ use Rattle.ia_meaning.specs.Sequence.{first_of}
 use Rattle.resource_sets.specs.declared.access.Resource.{Resource}
 use Rattle.resource_sets.specs.declared.access.Access.{Access}
 use Rattle.resource_sets.specs.declared.clashes.Rule.{Rule}
-use Rattle.flow_facts.specs.Graphs.{Graph, Row, over_program, over_row, row_insn}
+use Rattle.flow_facts.specs.Graphs.{Graph, InsnRow, over_program, over_row, row_insn}
 use Rattle.flow_facts.specs.Walks.{Walk, end_of}
 use Rattle.group_checker.specs.Excuses.{accesses_in, accesses_at, IsExcused}
 use Rattle.group_checker.specs.Violations.{Clashes, ClashesUnexcused, clears_in, allocates_at, clears_at}
@@ -21,22 +21,22 @@ use Rattle.row_laws.proofs.Fillers.{filler_accesses, filler_no_alloc, filler_no_
 use Rattle.row_laws.proofs.Between.{IsThere}
 
 -- Both access the same,
-pub accesses_same : (row : Row) (p : Program) (at : ℕ → Place) (n : ℕ) → IsThere row p at n → accesses_at (over_row row) (first_of n) ≡ accesses_at (over_program p) (at n)
+pub accesses_same : (row : InsnRow) (p : Program) (at : ℕ → Place) (n : ℕ) → IsThere row p at n → accesses_at (over_row row) (first_of n) ≡ accesses_at (over_program p) (at n)
 unfolding accesses_at
 accesses_same row p at n t = ap accesses_in t.in_row ∙ t.like.accesses ∙ sym (ap accesses_in t.in_program)
 
 -- both are an `alloc` or none,
-pub allocates_same : (row : Row) (p : Program) (at : ℕ → Place) (n : ℕ) → IsThere row p at n → allocates_at (over_row row) (first_of n) ≡ allocates_at (over_program p) (at n)
+pub allocates_same : (row : InsnRow) (p : Program) (at : ℕ → Place) (n : ℕ) → IsThere row p at n → allocates_at (over_row row) (first_of n) ≡ allocates_at (over_program p) (at n)
 unfolding allocates_at
 allocates_same row p at n t = ap allocates t.in_row ∙ t.like.allocates ∙ sym (ap allocates t.in_program)
 
 -- and both are a `clrrrb` or none.
-pub clears_same : (row : Row) (p : Program) (at : ℕ → Place) (n : ℕ) → IsThere row p at n → clears_at (over_row row) (first_of n) ≡ clears_at (over_program p) (at n)
+pub clears_same : (row : InsnRow) (p : Program) (at : ℕ → Place) (n : ℕ) → IsThere row p at n → clears_at (over_row row) (first_of n) ≡ clears_at (over_program p) (at n)
 unfolding clears_at
 clears_same row p at n t = ap clears_in t.in_row ∙ t.like.clears ∙ sym (ap clears_in t.in_program)
 
 -- The place is that of an instruction of the row.
-pub record IsOwn (row : Row) (at : ℕ → Place) (place : Place) : Type 0 where
+pub record IsOwn (row : InsnRow) (at : ℕ → Place) (place : Place) : Type 0 where
   pub number : ℕ
   pub inside : number < length row.insns
   pub is : place ≡ at number
@@ -47,7 +47,7 @@ pub record IsIdle (p : Program) (place : Place) : Type 0 where
   pub allocates : allocates_at (over_program p) place ≡ false
   pub clears : clears_at (over_program p) place ≡ false
 
-pub own_or_idle : (row : Row) (p : Program) (at : ℕ → Place) (place : Place) → IsSpread row p at → IsOwn row at place ⊎ IsIdle p place
+pub own_or_idle : (row : InsnRow) (p : Program) (at : ℕ → Place) (place : Place) → IsSpread row p at → IsOwn row at place ⊎ IsIdle p place
 unfolding accesses_at allocates_at clears_at
 own_or_idle row p at place spread = of (insn_at p.bundles place) refl
   where
@@ -63,14 +63,14 @@ own_or_idle row p at place spread = of (insn_at p.bundles place) refl
     ]
 
 -- so a place with an access is an instruction's
-pub accessing_own : (row : Row) (p : Program) (at : ℕ → Place) (place : Place) (a : Access) → IsSpread row p at → Contains (accesses_at (over_program p) place) a → IsOwn row at place
+pub accessing_own : (row : InsnRow) (p : Program) (at : ℕ → Place) (place : Place) (a : Access) → IsSpread row p at → Contains (accesses_at (over_program p) place) a → IsOwn row at place
 accessing_own row p at place a spread c = elim (own_or_idle row p at place spread) [
   | inl is ↦ is
   | inr idle ↦ absurd (not_in_none a (subst (λ (l : List Access). Contains l a) idle.accesses c))
 ]
 
 -- A place that is none of the row accesses nothing.
-pub numbered_or_idle : (row : Row) (place : Place) → IsNumbered row.insns place ⊎ (accesses_at (over_row row) place ≡ [])
+pub numbered_or_idle : (row : InsnRow) (place : Place) → IsNumbered row.insns place ⊎ (accesses_at (over_row row) place ≡ [])
 unfolding accesses_at
 numbered_or_idle row place = of (row_insn row.insns place) refl
   where
@@ -78,7 +78,7 @@ numbered_or_idle row place = of (row_insn row.insns place) refl
     of None here = inr (ap accesses_in here)
     of (Some i) here = inl (row_numbered row.insns place (subst IsSome (sym here) refl))
 
-pub accessing_numbered : (row : Row) (place : Place) (a : Access) → Contains (accesses_at (over_row row) place) a → IsNumbered row.insns place
+pub accessing_numbered : (row : InsnRow) (place : Place) (a : Access) → Contains (accesses_at (over_row row) place) a → IsNumbered row.insns place
 accessing_numbered row place a c = elim (numbered_or_idle row place) [
   | inl is ↦ is
   | inr none ↦ absurd (not_in_none a (subst (λ (l : List Access). Contains l a) none c))

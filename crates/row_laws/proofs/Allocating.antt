@@ -9,7 +9,7 @@ use Rattle.ia_meaning.specs.Sequence.{first_of}
 use Rattle.predicate_rel.specs.declared.edge.Edge.TheVariants.{Falls, Taken}
 use Rattle.predicate_rel.specs.Edges.{HasEdge}
 use Rattle.predicate_rel.proofs.EdgeEnds.{falls_next}
-use Rattle.flow_facts.specs.Graphs.{Row, over_program, over_row}
+use Rattle.flow_facts.specs.Graphs.{InsnRow, over_program, over_row}
 use Rattle.flow_facts.specs.Walks.{Walk, begins, goes_on, end_of, IsWalkIn, group_since}
 use Rattle.group_checker.specs.Violations.{allocates_at}
 use Rattle.group_checker.proofs.Falling.{before_trans, not_before_itself, same_place, place_cases}
@@ -20,7 +20,7 @@ use Rattle.row_laws.proofs.Edges.{walk_place, taken_to_first, filler_untaken}
 use Rattle.row_laws.proofs.Groups.{joins}
 use Rattle.row_laws.proofs.Back.{IsClear}
 
-module _ (row : Row) (p : Program) (at : ℕ → Place) (has_stop : Place → Bool) (spread : IsSpread row p at) (rules : KeepsSlotRules row p at has_stop) where
+module _ (row : InsnRow) (p : Program) (at : ℕ → Place) (has_stop : Place → Bool) (spread : IsSpread row p at) (rules : KeepsSlotRules row p at has_stop) where
   -- The first instruction of the row, where it is an `alloc`, has no place before it.
   pub none_before_first : (place : Place) → IsProgram p → allocates_at (over_row row) (first_of 0) ≡ true → IsBefore place (at 0) → ⊥
   none_before_first place program allocates before =

@@ -10,7 +10,7 @@ use Rattle.ia_meaning.specs.Sequence.{first_of}
 use Rattle.predicate_rel.specs.declared.edge.Edge.TheVariants.{Falls, Taken}
 use Rattle.predicate_rel.specs.Edges.{HasEdge, may_fall}
 use Rattle.predicate_rel.proofs.EdgeEnds.{falls_next}
-use Rattle.flow_facts.specs.Graphs.{Row, over_program, over_row, known_at_entry, HasRowEdge}
+use Rattle.flow_facts.specs.Graphs.{InsnRow, over_program, over_row, known_at_entry, HasRowEdge}
 use Rattle.flow_facts.specs.Walks.{Walk, begins, goes_on, end_of, IsWalkIn, EndsIn, facts_in, group_since}
 use Rattle.group_checker.proofs.Falling.{fall_edge, fall_is, place_cases}
 use Rattle.group_checker.proofs.Members.{not_in_none}
@@ -40,13 +40,13 @@ clear_before p at has_stop from next n is unstopped clear = record { unstopped =
 
 -- A walk of the row goes to its n-th instruction with what is known on a walk of the program, and with the
 -- instructions of that walk's group where no stop comes up to the n-th.
-pub record HasCounterpart (row : Row) (p : Program) (at : ℕ → Place) (row_stop has_stop : Place → Bool) (w : Walk) (n : ℕ) : Type 0 where
+pub record HasCounterpart (row : InsnRow) (p : Program) (at : ℕ → Place) (row_stop has_stop : Place → Bool) (w : Walk) (n : ℕ) : Type 0 where
   pub walk : Walk
   pub there : EndsIn (over_row row) (first_of n) walk
   pub facts : facts_in (over_row row) walk ≡ facts_in (over_program p) w
   pub group : IsClear p at has_stop (end_of w) n → (k : ℕ) → k < length row.insns → Contains (group_since has_stop w) (at k) → Contains (group_since row_stop walk) (first_of k)
 
-module _ (row : Row) (p : Program) (at : ℕ → Place) (row_stop has_stop : Place → Bool) (program : IsProgram p) (spread : IsSpread row p at) (stops : AreStops row p at row_stop has_stop) where
+module _ (row : InsnRow) (p : Program) (at : ℕ → Place) (row_stop has_stop : Place → Bool) (program : IsProgram p) (spread : IsSpread row p at) (stops : AreStops row p at row_stop has_stop) where
   abbrev Counterpart : Walk → ℕ → Type 0
   Counterpart w n = HasCounterpart row p at row_stop has_stop w n
 

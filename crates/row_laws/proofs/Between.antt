@@ -8,14 +8,14 @@ use Rattle.ia_insn.specs.declared.place.Place.{Place}
 use Rattle.ia_insn.specs.Places.{insn_at, IsBefore, IsNext, IsPlaceOf}
 use Rattle.ia_insn.specs.Programs.{Program}
 use Rattle.ia_meaning.specs.Sequence.{first_of}
-use Rattle.flow_facts.specs.Graphs.{Row, row_insn}
+use Rattle.flow_facts.specs.Graphs.{InsnRow, row_insn}
 use Rattle.group_checker.proofs.Falling.{before_trans, not_before_itself, place_cases}
 use Rattle.flow_facts.proofs.Numbering.{cases_place}
 use Rattle.row_laws.specs.Spreads.{IsSpread, DoesLike, IsFiller, IsHead}
 use Rattle.row_laws.proofs.Rows.{row_insn_is}
 
 -- The n-th instruction of the row stands in the program too, and does the same there.
-pub record IsThere (row : Row) (p : Program) (at : ℕ → Place) (n : ℕ) : Type 0 where
+pub record IsThere (row : InsnRow) (p : Program) (at : ℕ → Place) (n : ℕ) : Type 0 where
   pub insn : Insn
   pub other : Insn
   pub in_row : row_insn row.insns (first_of n) ≡ Some insn
@@ -23,13 +23,13 @@ pub record IsThere (row : Row) (p : Program) (at : ℕ → Place) (n : ℕ) : Ty
   pub like : DoesLike insn other
 
 -- The n-th instruction is the first one at or after the place.
-pub record IsFirstFrom (row : Row) (at : ℕ → Place) (n : ℕ) (place : Place) : Type 0 where
+pub record IsFirstFrom (row : InsnRow) (at : ℕ → Place) (n : ℕ) (place : Place) : Type 0 where
   pub inside : n < length row.insns
   pub from : ¬ IsBefore (at n) place
   pub first : (k : ℕ) → k < n → IsBefore (at k) place
 
 -- What stands at a place of the program: an instruction of the row, or a `nop` where the row has none.
-pub data Stands (row : Row) (p : Program) (at : ℕ → Place) (place : Place) : Type 0 where
+pub data Stands (row : InsnRow) (p : Program) (at : ℕ → Place) (place : Place) : Type 0 where
   own : (n : ℕ) → n < length row.insns → place ≡ at n → Stands row p at place
   filler : (i : Insn) → insn_at p.bundles place ≡ Some i → IsFiller i → ((n : ℕ) → n < length row.insns → place ≡ at n → ⊥) → Stands row p at place
 
@@ -49,7 +49,7 @@ own_or_none at place (suc bound) = of (own_or_none at place bound) (cases_place 
     of (inr none) (inl same) = inl (bound, omega arith, same)
     of (inr none) (inr apart) = inr (above none apart)
 
-module _ (row : Row) (p : Program) (at : ℕ → Place) (spread : IsSpread row p at) where
+module _ (row : InsnRow) (p : Program) (at : ℕ → Place) (spread : IsSpread row p at) where
   -- each instruction of the row has a place in the program,
   pub there : (n : ℕ) → n < length row.insns → IsThere row p at n
   there n inside = of (slice_get_cases row.insns n).1

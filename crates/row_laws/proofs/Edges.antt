@@ -6,7 +6,7 @@ use Rattle.ia_insn.specs.declared.place.Place.{Place}
 use Rattle.ia_insn.specs.Bundles.{Bundle}
 use Rattle.ia_insn.specs.Places.{insn_at, IsBefore, IsNext, IsPlaceOf}
 use Rattle.ia_insn.specs.Programs.{Program}
-use Rattle.ia_meaning.specs.Actions.{insn_form}
+use Rattle.ia_meaning.specs.Actions.{insn_action}
 use Rattle.ia_meaning.specs.Landings.{target_of}
 use Rattle.ia_meaning.specs.Sequence.{first_of, next_of}
 use Rattle.ia_meaning.proofs.Inside.{first_is_place}
@@ -15,14 +15,14 @@ use Rattle.predicate_rel.specs.declared.edge.Edge.{Edge}
 use Rattle.predicate_rel.specs.declared.edge.Edge.TheVariants.{Taken}
 use Rattle.predicate_rel.specs.Pairs.{Pairs}
 use Rattle.predicate_rel.specs.Edges.{HasEdge, displacement_of, target_at, edge_of, edge_end, pairs_past, pairs_past_insn}
-use Rattle.flow_facts.specs.Graphs.{Row, over_program, over_row, row_past}
+use Rattle.flow_facts.specs.Graphs.{InsnRow, over_program, over_row, row_past}
 use Rattle.flow_facts.specs.Walks.{Walk, begins, goes_on, end_of, IsWalkIn, facts_in}
 use Rattle.row_laws.specs.Spreads.{IsFiller}
 use Rattle.row_laws.proofs.Fillers.{filler_stays}
 use Rattle.row_laws.proofs.Between.{IsThere}
 
 -- what is known past the n-th instruction is the same in the row and in the program
-same_past : (row : Row) (p : Program) (at : ℕ → Place) (n : ℕ) (e : Edge) (f : Pairs) → IsThere row p at n → row_past row.insns (first_of n) e f ≡ pairs_past p (at n) e f
+same_past : (row : InsnRow) (p : Program) (at : ℕ → Place) (n : ℕ) (e : Edge) (f : Pairs) → IsThere row p at n → row_past row.insns (first_of n) e f ≡ pairs_past p (at n) e f
 unfolding row_past pairs_past
 same_past row p at n e f t =
     ap (λ (o : Option Insn). pairs_past_insn o e f) t.in_row
@@ -30,7 +30,7 @@ same_past row p at n e f t =
     ∙ sym (ap (λ (o : Option Insn). pairs_past_insn o e f) t.in_program)
 
 -- and so on two walks that come to it with the same facts
-pub same_facts : (row : Row) (p : Program) (at : ℕ → Place) (n : ℕ) (u w : Walk) (e : Edge) (to_row to : Place) → IsThere row p at n → end_of u ≡ first_of n → end_of w ≡ at n → facts_in (over_row row) u ≡ facts_in (over_program p) w
+pub same_facts : (row : InsnRow) (p : Program) (at : ℕ → Place) (n : ℕ) (u w : Walk) (e : Edge) (to_row to : Place) → IsThere row p at n → end_of u ≡ first_of n → end_of w ≡ at n → facts_in (over_row row) u ≡ facts_in (over_program p) w
     → facts_in (over_row row) (goes_on u e to_row) ≡ facts_in (over_program p) (goes_on w e to)
 same_facts row p at n u w e to_row to t ends_row ends same =
     ap (λ (q : Place). row_past row.insns q e (facts_in (over_row row) u)) ends_row
@@ -64,7 +64,7 @@ taken_to_first p from to edge = of (insn_at p.bundles from) edge.leads
 
     of : (o : Option Insn) → edge_of p.bundles from o Taken ≡ Some to → to ≡ first_of to.bundle
     of None h = absurd cc
-    of (Some i) h = target (displacement_of (insn_form i)) h
+    of (Some i) h = target (displacement_of (insn_action i)) h
 
 -- and none from a `nop`
 pub filler_untaken : (p : Program) (from to : Place) (i : Insn) → insn_at p.bundles from ≡ Some i → IsFiller i → HasEdge p from Taken to → ⊥

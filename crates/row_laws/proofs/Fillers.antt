@@ -11,7 +11,7 @@ use Rattle.ia_insn.specs.declared.place.Place.{Place}
 use Rattle.ia_insn.specs.declared.relations.Relation.{Relation}
 use Rattle.ia_insn.specs.Places.{insn_at}
 use Rattle.ia_insn.specs.Programs.{Program, IsProgram, no_relation, relations_at}
-use Rattle.ia_meaning.specs.Actions.{insn_form, is_alloc}
+use Rattle.ia_meaning.specs.Actions.{insn_action, is_alloc}
 use Rattle.resource_sets.specs.Accesses.{accesses, rows}
 use Rattle.predicate_rel.specs.declared.edge.Edge.{Edge}
 use Rattle.predicate_rel.specs.Pairs.{Pairs, in_range, no_pairs, other_of, is_same_pair, with_pair}
@@ -32,15 +32,15 @@ pub filler_falls : (i : Insn) → IsFiller i → may_fall i ≡ true
 filler_falls i (unit, is) = rw is refl
 
 -- and goes nowhere else.
-pub filler_stays : (i : Insn) → IsFiller i → displacement_of (insn_form i) ≡ None
+pub filler_stays : (i : Insn) → IsFiller i → displacement_of (insn_action i) ≡ None
 filler_stays i (unit, is) = rw is refl
 
 -- It is no `alloc`,
-pub filler_no_alloc : (i : Insn) → IsFiller i → is_alloc (insn_form i) ≡ false
+pub filler_no_alloc : (i : Insn) → IsFiller i → is_alloc (insn_action i) ≡ false
 filler_no_alloc i (unit, is) = rw is refl
 
 -- and no `clrrrb`.
-pub filler_no_clear : (i : Insn) → IsFiller i → clears (insn_form i) ≡ false
+pub filler_no_clear : (i : Insn) → IsFiller i → clears (insn_action i) ≡ false
 filler_no_clear i (unit, is) = rw is refl
 
 -- The pairs are of predicates.

@@ -10,7 +10,7 @@ use Rattle.ia_meaning.specs.Sequence.{first_of}
 use Rattle.ia_meaning.proofs.Follows.{next_is}
 use Rattle.predicate_rel.specs.declared.edge.Edge.TheVariants.{Falls, Taken}
 use Rattle.predicate_rel.specs.Edges.{HasEdge, may_fall}
-use Rattle.flow_facts.specs.Graphs.{Row, over_program, over_row, HasRowEdge, IsRowEntry}
+use Rattle.flow_facts.specs.Graphs.{InsnRow, over_program, over_row, HasRowEdge, IsRowEntry}
 use Rattle.flow_facts.specs.Walks.{Walk, begins, goes_on, end_of, IsWalkIn, EndsIn, facts_in, group_since}
 use Rattle.group_checker.proofs.Falling.{before_trans, fall_edge, fall_is, place_cases, number_rises, not_before_itself}
 use Rattle.group_checker.proofs.Members.{not_in_none}
@@ -31,14 +31,14 @@ pub record GoesOnTo (p : Program) (at : ℕ → Place) (has_stop : Place → Boo
 
 -- A walk of the program goes to the n-th instruction with what is known on a walk of the row, and with the
 -- instructions of that walk's group.
-pub record IsFollowed (row : Row) (p : Program) (at : ℕ → Place) (row_stop has_stop : Place → Bool) (u : Walk) (n : ℕ) : Type 0 where
+pub record IsFollowed (row : InsnRow) (p : Program) (at : ℕ → Place) (row_stop has_stop : Place → Bool) (u : Walk) (n : ℕ) : Type 0 where
   pub walk : Walk
   pub there : EndsIn (over_program p) (at n) walk
   pub facts : facts_in (over_row row) u ≡ facts_in (over_program p) walk
   pub group : (k : ℕ) → k < length row.insns → Contains (group_since row_stop u) (first_of k) → Contains (group_since has_stop walk) (at k)
 
 -- A place from which the n-th instruction is the first is its place, or comes before it.
-at_or_before : (row : Row) (at : ℕ → Place) (n : ℕ) (place : Place) → IsFirstFrom row at n place → (place ≡ at n) ⊎ IsBefore place (at n)
+at_or_before : (row : InsnRow) (at : ℕ → Place) (n : ℕ) (place : Place) → IsFirstFrom row at n place → (place ≡ at n) ⊎ IsBefore place (at n)
 at_or_before row at n place first = of (place_cases place (at n))
   where
     of : IsBefore place (at n) ⊎ ((place ≡ at n) ⊎ IsBefore (at n) place) → (place ≡ at n) ⊎ IsBefore place (at n)
@@ -46,7 +46,7 @@ at_or_before row at n place first = of (place_cases place (at n))
     of (inr (inl same)) = inl same
     of (inr (inr after)) = absurd (first.from after)
 
-module _ (row : Row) (p : Program) (at : ℕ → Place) (has_stop : Place → Bool) (program : IsProgram p) (spread : IsSpread row p at) where
+module _ (row : InsnRow) (p : Program) (at : ℕ → Place) (has_stop : Place → Bool) (program : IsProgram p) (spread : IsSpread row p at) where
   -- the walk is there
   is_there : (w : Walk) (n : ℕ) → IsWalkIn (over_program p) w → end_of w ≡ at n → GoesOnTo p at has_stop w n
   is_there w n is same = record { walk = w; there = record { walks = is; ends = same }; facts = refl; group = λ clear i c. c }
@@ -100,7 +100,7 @@ pub record HasFall (p : Program) (at : ℕ → Place) (w : Walk) (n : ℕ) : Typ
   pub is : IsNext p.bundles (at n) next
   pub edge : HasEdge p (end_of w) Falls next
 
-module _ (row : Row) (p : Program) (at : ℕ → Place) (row_stop has_stop : Place → Bool) (program : IsProgram p) (spread : IsSpread row p at) (stops : AreStops row p at row_stop has_stop) where
+module _ (row : InsnRow) (p : Program) (at : ℕ → Place) (row_stop has_stop : Place → Bool) (program : IsProgram p) (spread : IsSpread row p at) (stops : AreStops row p at row_stop has_stop) where
   abbrev Followed : Walk → ℕ → Type 0
   Followed u n = IsFollowed row p at row_stop has_stop u n
 

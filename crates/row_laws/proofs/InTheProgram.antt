@@ -13,7 +13,7 @@ use Rattle.resource_sets.specs.declared.clashes.Rule.TheVariants.{Raw, Waw, War6
 use Rattle.resource_sets.specs.Clashes.{may_write_guard}
 use Rattle.predicate_rel.specs.declared.edge.Edge.TheVariants.{Falls}
 use Rattle.predicate_rel.specs.Pairs.{Pairs}
-use Rattle.flow_facts.specs.Graphs.{Row, over_program, over_row, HasRowEdge}
+use Rattle.flow_facts.specs.Graphs.{InsnRow, over_program, over_row, HasRowEdge}
 use Rattle.flow_facts.specs.Walks.{Walk, goes_on, end_of, IsWalkIn, group_since}
 use Rattle.group_checker.specs.declared.violation.Violation.{Violation}
 use Rattle.group_checker.specs.Excuses.{accesses_at, IsExcused, IsLatest}
@@ -28,7 +28,7 @@ use Rattle.row_laws.proofs.Alike.{numbered_or_idle, accessing_numbered, accesses
 use Rattle.row_laws.proofs.Groups.{has_latest}
 use Rattle.row_laws.proofs.Forth.{IsFollowed, HasFall, forth, falls_forth, unstopped_at}
 
-module _ (row : Row) (p : Program) (at : ℕ → Place) (row_stop has_stop : Place → Bool) (program : IsProgram p) (spread : IsSpread row p at) (stops : AreStops row p at row_stop has_stop) where
+module _ (row : InsnRow) (p : Program) (at : ℕ → Place) (row_stop has_stop : Place → Bool) (program : IsProgram p) (spread : IsSpread row p at) (stops : AreStops row p at row_stop has_stop) where
   abbrev Violated : Type 0
   Violated = (v : Violation) × ViolatesIn (over_program p) has_stop v
 

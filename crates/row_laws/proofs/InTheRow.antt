@@ -16,7 +16,7 @@ use Rattle.resource_sets.specs.declared.clashes.Rule.TheVariants.{Raw, Waw, War6
 use Rattle.resource_sets.specs.Clashes.{may_write_guard}
 use Rattle.predicate_rel.specs.declared.edge.Edge.TheVariants.{Falls}
 use Rattle.predicate_rel.specs.Pairs.{Pairs}
-use Rattle.flow_facts.specs.Graphs.{Row, over_program, over_row, IsEdgeIn}
+use Rattle.flow_facts.specs.Graphs.{InsnRow, over_program, over_row, IsEdgeIn}
 use Rattle.flow_facts.specs.Walks.{Walk, end_of, IsWalkIn, group_since}
 use Rattle.group_checker.specs.declared.violation.Violation.{Violation}
 use Rattle.group_checker.specs.Excuses.{accesses_at, IsExcused, IsLatest}
@@ -33,16 +33,16 @@ use Rattle.row_laws.proofs.Alike.{IsOwn, IsIdle, own_or_idle, accessing_own, acc
 use Rattle.row_laws.proofs.Back.{HasCounterpart, IsClear, clear_at, back}
 
 -- The row has a violation.
-abbrev IsViolated : Row → (Place → Bool) → Type 0
+abbrev IsViolated : InsnRow → (Place → Bool) → Type 0
 IsViolated row row_stop = (u : Violation) × ViolatesIn (over_row row) row_stop u
 
 -- A slot of a walk's group and the walk's last one are instructions of the row, and the walk has a counterpart.
-pub record IsOfOwn (row : Row) (p : Program) (at : ℕ → Place) (row_stop has_stop : Place → Bool) (w : Walk) (i : Place) : Type 0 where
+pub record IsOfOwn (row : InsnRow) (p : Program) (at : ℕ → Place) (row_stop has_stop : Place → Bool) (w : Walk) (i : Place) : Type 0 where
   pub first : IsOwn row at i
   pub second : IsOwn row at (end_of w)
   pub counterpart : HasCounterpart row p at row_stop has_stop w second.number
 
-module _ (row : Row) (p : Program) (at : ℕ → Place) (row_stop has_stop : Place → Bool) (program : IsProgram p) (spread : IsSpread row p at) (stops : AreStops row p at row_stop has_stop) where
+module _ (row : InsnRow) (p : Program) (at : ℕ → Place) (row_stop has_stop : Place → Bool) (program : IsProgram p) (spread : IsSpread row p at) (stops : AreStops row p at row_stop has_stop) where
   -- so it is where both access something
   both_own : (w : Walk) (i : Place) (a b : Access) → IsWalkIn (over_program p) w → Contains (accesses_at (over_program p) i) a → Contains (accesses_at (over_program p) (end_of w)) b → IsOfOwn row p at row_stop has_stop w i
   both_own w i a b is of_first of_second = record {
@@ -111,7 +111,7 @@ module _ (row : Row) (p : Program) (at : ℕ → Place) (row_stop has_stop : Pla
       unexcused_along (over_program p) (over_row row) has_stop row_stop w both.counterpart.walk i (first_of both.first.number) rule q
       (first_same w i both) (second_same w i both) (excused_forth w i both) c
 
-module _ (row : Row) (p : Program) (at : ℕ → Place) (row_stop has_stop : Place → Bool) (program : IsProgram p) (spread : IsSpread row p at) (stops : AreStops row p at row_stop has_stop) (rules : KeepsSlotRules row p at has_stop) (w : Walk) (walks : IsWalkIn (over_program p) w) (i : Place) (q : Resource) (inside : Contains (group_since has_stop w) i) where
+module _ (row : InsnRow) (p : Program) (at : ℕ → Place) (row_stop has_stop : Place → Bool) (program : IsProgram p) (spread : IsSpread row p at) (stops : AreStops row p at row_stop has_stop) (rules : KeepsSlotRules row p at has_stop) (w : Walk) (walks : IsWalkIn (over_program p) w) (i : Place) (q : Resource) (inside : Contains (group_since has_stop w) i) where
   -- Two slots clash.
   clash_in_row : (rule : Rule) → (c : Clashes (over_program p) i (end_of w) rule q) → ((both : IsOfOwn row p at row_stop has_stop w i) → Breaks (over_row row) row_stop both.counterpart.walk (first_of both.first.number) rule q) → IsViolated row row_stop
   clash_in_row rule c breaks =

@@ -5,7 +5,7 @@ use Rattle.ia_insn.specs.declared.place.Place.{Place}
 use Rattle.ia_insn.specs.Programs.{Program, IsProgram}
 use Rattle.ia_meaning.specs.Sequence.{first_of}
 use Rattle.predicate_rel.specs.Pairs.{Pairs, pairs_of, IsWithin}
-use Rattle.flow_facts.specs.Graphs.{Row, over_program, over_row}
+use Rattle.flow_facts.specs.Graphs.{InsnRow, over_program, over_row}
 use Rattle.flow_facts.specs.Walks.{Walk, EndsIn, IsMeetIn, Known, facts_in}
 use Rattle.group_checker.specs.Windows.{IsKnownAt}
 use Rattle.row_laws.specs.Spreads.{IsSpread, AreStops}
@@ -18,13 +18,13 @@ use Rattle.row_laws.proofs.Forth.{IsFollowed, forth}
 abbrev unstopped : Place → Bool
 unstopped place = false
 
-none_stops : (row : Row) (p : Program) (at : ℕ → Place) → AreStops row p at unstopped unstopped
+none_stops : (row : InsnRow) (p : Program) (at : ℕ → Place) → AreStops row p at unstopped unstopped
 none_stops row p at = record {
   stopped = λ n inside stop. absurd (true≢false (sym stop));
   unstopped = λ n inside none place between. refl;
 }
 
-module _ (row : Row) (p : Program) (at : ℕ → Place) (n : ℕ) (program : IsProgram p) (spread : IsSpread row p at) (inside : n < length row.insns) where
+module _ (row : InsnRow) (p : Program) (at : ℕ → Place) (n : ℕ) (program : IsProgram p) (spread : IsSpread row p at) (inside : n < length row.insns) where
   -- the walk of the row for one of the program to the instruction
   back_at : (w : Walk) → EndsIn (over_program p) (at n) w → HasCounterpart row p at unstopped unstopped w n
   back_at w there =

@@ -8,7 +8,7 @@ use Rattle.ia_insn.specs.declared.insn.Insn.{Insn}
 use Rattle.ia_insn.specs.declared.place.Place.{Place}
 use Rattle.ia_meaning.specs.Sequence.{first_of}
 use Rattle.predicate_rel.specs.declared.edge.Edge.TheVariants.{Falls}
-use Rattle.flow_facts.specs.Graphs.{Row, over_row, row_insn, row_next, HasRowEdge}
+use Rattle.flow_facts.specs.Graphs.{InsnRow, over_row, row_insn, row_next, HasRowEdge}
 use Rattle.flow_facts.specs.Walks.{Walk, begins, goes_on, end_of, IsWalkIn}
 use Rattle.group_checker.proofs.Falling.{same_place, falls_next}
 
@@ -45,7 +45,7 @@ row_inside insns n is =
     omega (arith, numbered.inside)
 
 -- a walk of the row ends at one of its places
-pub row_walk_place : (row : Row) (u : Walk) → IsWalkIn (over_row row) u → IsNumbered row.insns (end_of u)
+pub row_walk_place : (row : InsnRow) (u : Walk) → IsWalkIn (over_row row) u → IsNumbered row.insns (end_of u)
 row_walk_place row (begins n) is = record { number = n; inside = is.inside; is = refl }
 row_walk_place row (goes_on u e place) is = row_numbered row.insns place is.1.lands
 
@@ -55,11 +55,11 @@ unfolding row_next
 row_next_is insns n inside = rw (lt-ltb (n + 1) (length insns) inside) refl
 
 -- What a fall of the row from the n-th instruction is.
-pub record IsRowFall (row : Row) (n : ℕ) (to : Place) : Type 0 where
+pub record IsRowFall (row : InsnRow) (n : ℕ) (to : Place) : Type 0 where
   pub inside : n + 1 < length row.insns
   pub leads : to ≡ first_of (n + 1)
 
-pub row_fall_is : (row : Row) (n : ℕ) (to : Place) → HasRowEdge row (first_of n) Falls to → IsRowFall row n to
+pub row_fall_is : (row : InsnRow) (n : ℕ) (to : Place) → HasRowEdge row (first_of n) Falls to → IsRowFall row n to
 unfolding row_next
 row_fall_is row n to edge = of (nat_lt (n + 1) (length row.insns)) refl (falls_next (over_row row) (first_of n) to edge)
   where

@@ -7,7 +7,7 @@ use Rattle.ia_insn.specs.declared.choices.Unit.{Unit as ExecutionUnit}
 use Rattle.ia_insn.specs.declared.place.Place.{Place}
 use Rattle.ia_insn.specs.Places.{insn_at, IsPlaceOf, IsBefore}
 use Rattle.ia_insn.specs.Programs.{Program, IsEntry}
-use Rattle.ia_meaning.specs.Actions.{insn_form, is_alloc}
+use Rattle.ia_meaning.specs.Actions.{insn_action, is_alloc}
 use Rattle.ia_meaning.specs.Sequence.{first_of, next_of}
 use Rattle.resource_sets.specs.Accesses.{accesses}
 use Rattle.predicate_rel.specs.declared.edge.Edge.{Edge}
@@ -15,7 +15,7 @@ use Rattle.predicate_rel.specs.declared.edge.Edge.TheVariants.{Taken}
 use Rattle.predicate_rel.specs.Pairs.{Pairs}
 use Rattle.predicate_rel.specs.Rules.{pairs_after}
 use Rattle.predicate_rel.specs.Edges.{HasEdge, may_fall}
-use Rattle.flow_facts.specs.Graphs.{Row, over_row, IsRowEntry, HasRowEdge, known_at_entry}
+use Rattle.flow_facts.specs.Graphs.{InsnRow, over_row, IsRowEntry, HasRowEdge, known_at_entry}
 use Rattle.group_checker.specs.Violations.{allocates_at, clears_at, clears}
 
 -- Two instructions do the same within a group: they may differ in where they lead.
@@ -23,8 +23,8 @@ pub record DoesLike (i j : Insn) : Type 0 where
   pub accesses : accesses i ≡ accesses j
   pub falls : may_fall i ≡ may_fall j
   pub pairs : (f : Pairs) (e : Edge) → pairs_after f i e ≡ pairs_after f j e
-  pub allocates : is_alloc (insn_form i) ≡ is_alloc (insn_form j)
-  pub clears : clears (insn_form i) ≡ clears (insn_form j)
+  pub allocates : is_alloc (insn_action i) ≡ is_alloc (insn_action j)
+  pub clears : clears (insn_action i) ≡ clears (insn_action j)
 
 -- a `nop` with immediate 0 under p0
 abbrev pub IsFiller : Insn → Type 0
@@ -35,7 +35,7 @@ abbrev pub IsHead : (ℕ → Place) → ℕ → Type 0
 IsHead at n = (k : ℕ) → k < n → (at k).bundle < (at n).bundle
 
 -- The program has the instructions of the row at these places.
-pub record IsSpread (row : Row) (p : Program) (at : ℕ → Place) : Type 0 where
+pub record IsSpread (row : InsnRow) (p : Program) (at : ℕ → Place) : Type 0 where
   -- each does the same there, and they are in order
   pub there : (n : ℕ) (i : Insn) → slice_get row.insns n ≡ Some i → (j : Insn) × (insn_at p.bundles (at n) ≡ Some j) × DoesLike i j
   pub rises : (n m : ℕ) → n < m → m < length row.insns → IsBefore (at n) (at m)
@@ -58,14 +58,14 @@ pub record IsBetween (p : Program) (at : ℕ → Place) (n : ℕ) (place : Place
 
 -- The stops of the program are those of the row: one follows a place between two neighbours exactly where the row has one
 -- behind the first of them.
-pub record AreStops (row : Row) (p : Program) (at : ℕ → Place) (row_stop has_stop : Place → Bool) : Type 0 where
+pub record AreStops (row : InsnRow) (p : Program) (at : ℕ → Place) (row_stop has_stop : Place → Bool) : Type 0 where
   pub stopped : (n : ℕ) → n + 1 < length row.insns → row_stop (first_of n) ≡ true → (place : Place) × IsBetween p at n place × (has_stop place ≡ true)
   pub unstopped : (n : ℕ) → n + 1 < length row.insns → row_stop (first_of n) ≡ false → (place : Place) → IsBetween p at n place → has_stop place ≡ false
 
 -- An `alloc` that is first in its bundle stands in slot 0, and a stop between it and the instruction before it follows the
 -- place right before it. A stop behind a `clrrrb` follows it right away, and after the last instruction of the row it has
 -- no place behind it.
-pub record KeepsSlotRules (row : Row) (p : Program) (at : ℕ → Place) (has_stop : Place → Bool) : Type 0 where
+pub record KeepsSlotRules (row : InsnRow) (p : Program) (at : ℕ → Place) (has_stop : Place → Bool) : Type 0 where
   pub alloc_head : (n : ℕ) → allocates_at (over_row row) (first_of n) ≡ true → IsHead at n → (at n).slot ≡ 0
   pub alloc_stop : (n : ℕ) → n + 1 < length row.insns → allocates_at (over_row row) (first_of (n + 1)) ≡ true
       → (place : Place) → IsBetween p at n place → has_stop place ≡ true → next_of p.bundles place ≡ Some (at (n + 1))

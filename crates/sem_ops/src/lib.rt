@@ -10,10 +10,10 @@
 
 ghost use Rattle.std.specs.Prelude.{◌≡◌, ◌<◌, ◌^◌, ◌↔◌, IsTrue, IfSome, Some, SomeIff};
 ghost use Rattle.std.specs.Option.{SomeIff};
-ghost use Rattle.ia_insn.specs.FormatsM.{CodeM, IsListedM, word_m};
+ghost use Rattle.ia_insn.specs.Listed.{IsListedM};
+ghost use Rattle.ia_insn.specs.Codes.{word_m, OneInstruction};
 ghost use Rattle.ia_insn.specs.declared.insn.Insn.{Insn};
-ghost use Rattle.sem_ops.specs.Semaphores.{IsSemaphore};
-ghost use Rattle.sem_ops.specs.Laws.{OneInstruction};
+ghost use Rattle.sem_ops.specs.Semaphores.{IsSemaphore, CodeOfSemaphore};
 
 mod reading;
 mod values;
@@ -27,10 +27,10 @@ pub use values::{exchanged, new_value};
 #[tactic(auto, using(crate::proofs::Rows::read_back))]
 pub fn decode_sem(word: u64) -> Option<Insn>
     // What is answered has this word.
-    ensures found { IfSome result (λ i. CodeM i word × IsSemaphore i.op) }
+    ensures found { IfSome result (λ i. CodeOfSemaphore i word) }
 
     // An instruction that has this word is answered, so None comes only where none has it.
-    ensures only { (i : Insn) → CodeM i word → IsSemaphore i.op → result ≡ Some i }
+    ensures only { (i : Insn) → CodeOfSemaphore i word → result ≡ Some i }
 {
     let insn = reading::read(word);
     if has_word(&insn, word) {
@@ -42,7 +42,7 @@ pub fn decode_sem(word: u64) -> Option<Insn>
 
 /// Whether this is the word of the instruction, an exchange or a fetch-and-add.
 fn has_word(insn: &Insn, word: u64) -> bool
-    ensures { IsTrue result ↔ CodeM insn.now word × IsSemaphore insn.now.op }
+    ensures { IsTrue result ↔ CodeOfSemaphore insn.now word }
 {
     encode_sem(insn) == Some(word)
 }
@@ -72,5 +72,5 @@ pub fn encode_sem(insn: &Insn) -> Option<u64>
 
 /// The law that a word is that of at most one exchange or fetch-and-add. It does nothing.
 pub fn one_instruction()
-    ensures { OneInstruction }
+    ensures { OneInstruction CodeOfSemaphore }
 {}

@@ -5,22 +5,10 @@
 
 ghost use Rattle.std.specs.Prelude.{◌≡◌};
 ghost use Rattle.bundle_bits.specs.Words.{the};
-ghost use Rattle.sem_ops.specs.Reading.{size_of, increment_in, op_in, candidate};
+ghost use Rattle.sem_ops.specs.Reading.{increment_in, op_in, candidate};
 
 use ia_insn::fields::{HintM1, I2b, Qp, R1, R2, R3, SM17, X6M1};
-use ia_insn::{Gr, Insn, Op, Pr};
-
-/// How many bytes an exchange or a fetch-and-add has, by x6.
-fn read_size(x6: u64) -> u8
-    ensures { result ≡ size_of x6 }
-{
-    match x6 % 4 {
-        0 => 1,
-        1 => 2,
-        2 => 4,
-        _ => 8,
-    }
-}
+use ia_insn::{Gr, Insn, Op, Pr, size_of_code};
 
 /// The increment (inc3), by s and i2b.
 fn read_increment(word: u64) -> i16
@@ -45,7 +33,7 @@ fn read_op(word: u64) -> Op
     ensures { result ≡ op_in (the word) }
 {
     let x6 = X6M1::get(word);
-    let size = read_size(x6);
+    let size = size_of_code(x6);
     let hint = HintM1::get(word) as u8;
     let r1 = Gr::of_field(R1::get(word));
     let r3 = Gr::of_field(R3::get(word));

@@ -1,47 +1,20 @@
-//! The word of an instruction: its codes, and a row of fields for each format.
+//! The word of an instruction: the code of an increment, and a row of fields for each format.
 
-ghost use Rattle.std.specs.Prelude.{◌≡◌, ◌<◌, ◌^◌, IsSome, unwrap_or, unsigned_abs};
-ghost use Rattle.ia_insn.specs.FormatsM.{exchange_code, fetch_add_code, increment_code, IsListedM, word_m};
+ghost use Rattle.std.specs.Prelude.{◌≡◌, ◌<◌, ◌^◌, unsigned_abs};
+ghost use Rattle.ia_insn.specs.FormatsM.{increment_code};
+ghost use Rattle.ia_insn.specs.Ranges.{IsIncrement};
+ghost use Rattle.ia_insn.specs.Listed.{IsListedM};
+ghost use Rattle.ia_insn.specs.Codes.{word_m};
 ghost use Rattle.sem_ops.specs.Semaphores.{IsSemaphore};
 
 use bundle_bits::word_of_parts;
 use ia_insn::fields::{HintM1, I2b, M, Major, Qp, R1, R2, R3, SM17, X6M1, XM1};
-use ia_insn::{Insn, Op};
-
-/// x6 of an exchange, by its size.
-fn code_of_exchange(size: u8) -> u64
-    requires { IsSome (exchange_code size) }
-    ensures value { result ≡ unwrap_or (exchange_code size) 0 }
-    ensures within { result < 2 ^ 6 }
-{
-    match size {
-        1 => 0x08,
-        2 => 0x09,
-        4 => 0x0a,
-        8 => 0x0b,
-        _ => unreachable!(),
-    }
-}
-
-/// x6 of a fetch-and-add, by its size and its semaphore type (sem).
-fn code_of_fetch_add(size: u8, release: bool) -> u64
-    requires { IsSome (fetch_add_code size release) }
-    ensures value { result ≡ unwrap_or (fetch_add_code size release) 0 }
-    ensures within { result < 2 ^ 6 }
-{
-    match (size, release) {
-        (4, false) => 0x12,
-        (8, false) => 0x13,
-        (4, true) => 0x16,
-        (8, true) => 0x17,
-        _ => unreachable!(),
-    }
-}
+use ia_insn::{Insn, Op, code_of_size};
 
 /// i2b of an increment (inc3), whose sign is in s.
 fn code_of_increment(inc: i16) -> u64
-    requires { IsSome (increment_code (unsigned_abs inc)) }
-    ensures value { result ≡ unwrap_or (increment_code (unsigned_abs inc)) 0 }
+    requires { IsIncrement inc }
+    ensures value { result ≡ increment_code (unsigned_abs inc) }
     ensures within { result < 2 ^ 2 }
 {
     match inc.unsigned_abs() {
@@ -72,7 +45,7 @@ pub(crate) fn write(insn: &Insn) -> u64
         } => word_of_parts(&[
             Major::of(4),
             M::of(0),
-            X6M1::of(code_of_exchange(size)),
+            X6M1::of(0x08 + code_of_size(size)),
             HintM1::of(u64::from(hint)),
             XM1::of(1),
             R3::of(u64::from(r3.number())),
@@ -91,7 +64,7 @@ pub(crate) fn write(insn: &Insn) -> u64
         } => word_of_parts(&[
             Major::of(4),
             M::of(0),
-            X6M1::of(code_of_fetch_add(size, release)),
+            X6M1::of(0x10 + 4 * u64::from(release) + code_of_size(size)),
             HintM1::of(u64::from(hint)),
             XM1::of(1),
             R3::of(u64::from(r3.number())),

@@ -1,7 +1,7 @@
-//! What a slot does, by the form of its instruction. Nothing is written here.
+//! What a slot does, by the action of its instruction. Nothing is written here.
 
 ghost use Rattle.std.specs.Prelude.{◌≡◌, ◌<◌, ◌^◌};
-ghost use Rattle.ia_meaning.specs.FormRanges.{HasFormRanges};
+ghost use Rattle.ia_meaning.specs.ActionRanges.{HasActionRanges};
 ghost use Rattle.ia_meaning.specs.Effects.{site, act, skip, guarded};
 ghost use Rattle.slot_effects.specs.Changes.{MayMake};
 ghost use Rattle.slot_effects.specs.Outcomes.{outcome_of_effect};
@@ -14,25 +14,25 @@ use crate::moves::{compute, fetch, skip_test, test, to_application, to_branch, t
 use crate::sees::Sees;
 use crate::slot_effect::SlotEffect;
 use ia_insn::{Pr, Program};
-use ia_meaning::{Form, target_of};
+use ia_meaning::{Action, target_of};
 
 /// What an instruction does that is executed.
 #[inline(always)]
-fn act<S: Sees>(seen: &S, program: &Program, bundle: u32, form: &Form) -> SlotEffect
+fn act<S: Sees>(seen: &S, program: &Program, bundle: u32, action: &Action) -> SlotEffect
     requires place { bundle < 2 ^ 31 }
-    requires ranges { HasFormRanges form.now }
-    ensures value { outcome_of_effect (S.registers seen.now) (S.memory seen.now) result ≡ act (site program.now bundle) form.now (S.registers seen.now) (S.memory seen.now) (S.unat seen.now) }
+    requires ranges { HasActionRanges action.now }
+    ensures value { outcome_of_effect (S.registers seen.now) (S.memory seen.now) result ≡ act (site program.now bundle) action.now (S.registers seen.now) (S.memory seen.now) (S.unat seen.now) }
     ensures may { MayMake (S.registers seen.now) (S.memory seen.now) result.change }
 {
-    match *form {
-        Form::Compute {
+    match *action {
+        Action::Compute {
             r1,
             r2,
             r3,
             function,
         } => compute(seen, r1, r2, r3, &function),
-        Form::Fetch { r1, source } => fetch(seen, bundle, r1, source),
-        Form::Test {
+        Action::Fetch { r1, source } => fetch(seen, bundle, r1, source),
+        Action::Test {
             kind,
             p1,
             p2,
@@ -40,71 +40,77 @@ fn act<S: Sees>(seen: &S, program: &Program, bundle: u32, form: &Form) -> SlotEf
             r3,
             condition,
         } => test(seen, kind, (p1, p2), (r2, r3), &condition),
-        Form::ToPredicates { r2, mask, word } => to_predicates(seen, r2, mask, &word),
-        Form::ToBranch { b1, r2 } => to_branch(seen, b1, r2),
-        Form::ToApplication { ar, r2, word } => to_application(seen, ar, r2, &word),
-        Form::FromMemory {
+        Action::ToPredicates { r2, mask, word } => to_predicates(seen, r2, mask, &word),
+        Action::ToBranch { b1, r2 } => to_branch(seen, b1, r2),
+        Action::ToApplication { ar, r2, word } => to_application(seen, ar, r2, &word),
+        Action::FromMemory {
             size,
             kind,
             r1,
             r3,
             update,
         } => load(seen, size, kind, r1, r3, update),
-        Form::ToMemory {
+        Action::ToMemory {
             size,
             kind,
             r3,
             r2,
             update,
         } => store(seen, size, kind, r3, r2, update),
-        Form::Exchange {
+        Action::Exchange {
             size,
             r1,
             r3,
             r2,
             inc,
         } => exchange(seen, size, r1, r3, r2, inc),
-        Form::CheckNat { r2, disp } => check_nat(seen, bundle, r2, disp),
-        Form::CheckAlat { clear, r1, disp } => check_alat(seen, bundle, clear, r1, disp),
-        Form::ForgetAll => SlotEffect::falls(Change::AllForgotten),
-        Form::Forget { r1 } => forget(seen, r1),
-        Form::Allocate { r1, sof, sol, sor } => allocate(seen, r1, sof, sol, sor),
-        Form::Jump { disp } => SlotEffect::goes(Change::Nothing, target_of(bundle, disp)),
-        Form::JumpIndirect { b2 } => land(seen, program, b2, Change::Nothing),
-        Form::Loop { kind, disp } => turn(seen, kind, true, target_of(bundle, disp)),
-        Form::Call { b1, goal } => call(seen, program, bundle, b1, goal),
-        Form::Return { b2 } => ret(seen, program, b2),
-        Form::ClearBases { pred_only } => SlotEffect::falls(Change::Cleared { pred_only }),
-        Form::Stop { imm, .. } => SlotEffect::breaks(imm),
-        Form::Idle { .. } => SlotEffect::falls(Change::Nothing),
+        Action::CheckNat { r2, disp } => check_nat(seen, bundle, r2, disp),
+        Action::CheckAlat { clear, r1, disp } => check_alat(seen, bundle, clear, r1, disp),
+        Action::ForgetAll => SlotEffect::falls(Change::AllForgotten),
+        Action::Forget { r1 } => forget(seen, r1),
+        Action::Allocate { r1, sof, sol, sor } => allocate(seen, r1, sof, sol, sor),
+        Action::Jump { disp } => SlotEffect::goes(Change::Nothing, target_of(bundle, disp)),
+        Action::JumpIndirect { b2 } => land(seen, program, b2, Change::Nothing),
+        Action::Loop { kind, disp } => turn(seen, kind, true, target_of(bundle, disp)),
+        Action::Call { b1, goal } => call(seen, program, bundle, b1, goal),
+        Action::Return { b2 } => ret(seen, program, b2),
+        Action::ClearBases { pred_only } => SlotEffect::falls(Change::Cleared { pred_only }),
+        Action::Stop { imm, .. } => SlotEffect::breaks(imm),
+        Action::Idle { .. } => SlotEffect::falls(Change::Nothing),
     }
 }
 
 /// What an instruction does whose qualifying predicate is 0: nothing but for `unc` tests and loop branches.
 #[inline(always)]
-fn skip<S: Sees>(seen: &S, program: &Program, bundle: u32, form: &Form) -> SlotEffect
+fn skip<S: Sees>(seen: &S, program: &Program, bundle: u32, action: &Action) -> SlotEffect
     requires { bundle < 2 ^ 31 }
-    ensures value { outcome_of_effect (S.registers seen.now) (S.memory seen.now) result ≡ skip (site program.now bundle) form.now (S.registers seen.now) (S.memory seen.now) }
+    ensures value { outcome_of_effect (S.registers seen.now) (S.memory seen.now) result ≡ skip (site program.now bundle) action.now (S.registers seen.now) (S.memory seen.now) }
     ensures may { MayMake (S.registers seen.now) (S.memory seen.now) result.change }
 {
-    match *form {
-        Form::Test { kind, p1, p2, .. } => skip_test(kind, p1, p2),
-        Form::Loop { kind, disp } => turn(seen, kind, false, target_of(bundle, disp)),
+    match *action {
+        Action::Test { kind, p1, p2, .. } => skip_test(kind, p1, p2),
+        Action::Loop { kind, disp } => turn(seen, kind, false, target_of(bundle, disp)),
         _ => SlotEffect::falls(Change::Nothing),
     }
 }
 
-/// What an instruction of this form does under a qualifying predicate (volume 3, chapter 2).
+/// What an instruction of this action does under a qualifying predicate (volume 3, chapter 2).
 #[inline(always)]
-pub fn effect<S: Sees>(seen: &S, program: &Program, bundle: u32, qp: Pr, form: &Form) -> SlotEffect
+pub fn effect<S: Sees>(
+    seen: &S,
+    program: &Program,
+    bundle: u32,
+    qp: Pr,
+    action: &Action,
+) -> SlotEffect
     requires place { bundle < 2 ^ 31 }
-    requires ranges { HasFormRanges form.now }
-    ensures value { outcome_of_effect (S.registers seen.now) (S.memory seen.now) result ≡ guarded (site program.now bundle) qp form.now (S.registers seen.now) (S.memory seen.now) (S.unat seen.now) }
+    requires ranges { HasActionRanges action.now }
+    ensures value { outcome_of_effect (S.registers seen.now) (S.memory seen.now) result ≡ guarded (site program.now bundle) qp action.now (S.registers seen.now) (S.memory seen.now) (S.unat seen.now) }
     ensures may { MayMake (S.registers seen.now) (S.memory seen.now) result.change }
 {
     if seen.holds(qp) {
-        act(seen, program, bundle, form)
+        act(seen, program, bundle, action)
     } else {
-        skip(seen, program, bundle, form)
+        skip(seen, program, bundle, action)
     }
 }

@@ -3,7 +3,7 @@
 //!
 //! A slot reads registers and memory through [`Sees`], and what it does is a small value, a [`SlotEffect`]: a
 //! [`Change`], and how the run goes on. Nothing is written here. The contracts tie an effect to the outcomes that
-//! `ia_meaning` speaks of, whatever it is that the slot sees: [`effect`] is the effect of a form under its
+//! `ia_meaning` speaks of, whatever it is that the slot sees: [`effect`] is the effect of an action under its
 //! qualifying predicate.
 //!
 //! The functions on the way of every slot are marked to be inlined always, as is each that hands the effect of

@@ -4,7 +4,7 @@ ghost use Rattle.std.specs.Prelude.{◌≡◌, ◌<◌, ◌^◌};
 ghost use Rattle.ia_meaning.specs.State.{Registers, Memory};
 ghost use Rattle.ia_meaning.specs.Names.{spot, look, predicate_spot};
 ghost use Rattle.ia_meaning.specs.Actions.{value_of, result_of, moved};
-ghost use Rattle.ia_meaning.specs.FormRanges.{IsFunction, IsCondition};
+ghost use Rattle.ia_meaning.specs.ActionRanges.{IsFunction, IsCondition};
 ghost use Rattle.ia_meaning.specs.Moves.{has_reserved_zeros, computed, fetched, source_value, test_made, test_writes, test_skipped, to_predicates, to_branch, application_written, to_application};
 ghost use Rattle.slot_effects.specs.Changes.{writes_of, MayMake};
 ghost use Rattle.slot_effects.specs.Outcomes.{outcome_of_effect, IsPlain};
@@ -14,8 +14,8 @@ use crate::operands::operands;
 use crate::sees::Sees;
 use crate::slot_effect::SlotEffect;
 use ia_insn::{Ar, Br, CmpKind, FaultKind, Gr, Pr, bundle_address};
-use ia_meaning::{Cell, Condition, Function, MovedWord, Source};
-use integer_ops::{computed, moved, tested};
+use ia_meaning::{Cell, Condition, FetchSource, Function, MovedWord};
+use integer_ops::{moved, result_of, value_of};
 
 /// A computation.
 #[tactic(auto, using(crate::proofs::Named::computed_missing))]
@@ -28,27 +28,27 @@ pub(crate) fn compute<S: Sees>(seen: &S, r1: Gr, r2: Gr, r3: Gr, function: &Func
         return SlotEffect::faults(FaultKind::OutOfFrame);
     };
     let cell = Cell {
-        value: computed(function, found.first.value, found.second.value),
+        value: value_of(function, found.first.value, found.second.value),
         nat: found.first.nat || found.second.nat,
     };
     SlotEffect::falls(Change::General { r1, cell })
 }
 
 /// What is copied in a bundle.
-fn source_value<S: Sees>(seen: &S, bundle: u32, source: Source) -> u64
+fn source_value<S: Sees>(seen: &S, bundle: u32, source: FetchSource) -> u64
     requires { bundle < 2 ^ 31 }
     ensures { result ≡ source_value bundle (S.registers seen.now) source }
 {
     match source {
-        Source::Branch(b) => seen.branch(b),
-        Source::Application(ar) => seen.application(ar),
-        Source::Predicates => seen.predicate_word(),
-        Source::Ip => bundle_address(bundle),
+        FetchSource::Branch(b) => seen.branch(b),
+        FetchSource::Application(ar) => seen.application(ar),
+        FetchSource::Predicates => seen.predicate_word(),
+        FetchSource::Ip => bundle_address(bundle),
     }
 }
 
 /// A copy into a general register.
-pub(crate) fn fetch<S: Sees>(seen: &S, bundle: u32, r1: Gr, source: Source) -> SlotEffect
+pub(crate) fn fetch<S: Sees>(seen: &S, bundle: u32, r1: Gr, source: FetchSource) -> SlotEffect
     requires { bundle < 2 ^ 31 }
     ensures value { outcome_of_effect (S.registers seen.now) (S.memory seen.now) result ≡ fetched (spot (S.registers seen.now).frame r1) (source_value bundle (S.registers seen.now) source) (S.memory seen.now) }
     ensures may { MayMake (S.registers seen.now) (S.memory seen.now) result.change }
@@ -102,7 +102,7 @@ pub(crate) fn test<S: Sees>(
     let (Some(a), Some(b)) = (seen.general(sources.0), seen.general(sources.1)) else {
         return SlotEffect::faults(FaultKind::OutOfFrame);
     };
-    SlotEffect::falls(test_change(kind, targets.0, targets.1, tested(condition, a, b)))
+    SlotEffect::falls(test_change(kind, targets.0, targets.1, result_of(condition, a, b)))
 }
 
 /// A test whose qualifying predicate is 0: `unc` clears both targets.

@@ -120,15 +120,15 @@ content-other u slot (k ∷ ks) (i ∷ is) none = of (eqb slot k) refl (content-
 
 -- nops fit
 nop_fits : (u : ExecutionUnit) (k : ℕ) → k < 3 → is_narrow u ≡ true → Fits (nop_of u) u k
-nop_fits units.M k h narrow = record { place = h; kind = inr (record { range = lit< tt; fit = search rules }) }
-nop_fits units.I k h narrow = record { place = h; kind = inr (record { range = lit< tt; fit = search rules }) }
-nop_fits units.F k h narrow = record { place = h; kind = record { range = lit< tt; fit = search rules } }
-nop_fits units.B k h narrow = record { place = h; kind = (record { range = lit< tt; fit = search rules }, tt) }
+nop_fits units.M k h narrow = record { place = h; kind = inr (record { row = tt; ranges = lit< tt; qualifier = tt; fit = search rules }) }
+nop_fits units.I k h narrow = record { place = h; kind = inr (record { row = tt; ranges = lit< tt; qualifier = tt; fit = search rules }) }
+nop_fits units.F k h narrow = record { place = h; kind = record { row = tt; ranges = lit< tt; qualifier = tt; fit = search rules } }
+nop_fits units.B k h narrow = record { place = h; kind = (record { row = tt; ranges = lit< tt; qualifier = tt; fit = search rules }, tt) }
 nop_fits units.L k h narrow = absurd (cc)
 nop_fits units.X k h narrow = absurd (cc)
 
 long_nop_fits : Fits (nop_of units.L) units.L 1
-long_nop_fits = record { place = lit< tt; kind = (record { range = lit< tt; fit = search rules }, refl) }
+long_nop_fits = record { place = lit< tt; kind = (record { row = tt; ranges = lit< tt; qualifier = tt; fit = search rules }, refl) }
 
 -- what stands in a slot fits it, where the nop does
 content_fits : (us : List ExecutionUnit) (ws : List Wanted) (ks : List ℕ) (is : List Insn) (k : ℕ) (u : ExecutionUnit) → slice_get us k ≡ Some u → k < 3

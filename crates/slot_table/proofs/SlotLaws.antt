@@ -12,13 +12,13 @@ use Rattle.ia_insn.specs.Programs.{Program, IsProgram}
 use Rattle.ia_insn.proofs.InOrder.{bundle_small, slot_small}
 use Rattle.ia_insn.proofs.OperandRanges.{ranges_of_listed}
 use Rattle.ia_insn.proofs.ListedSlots.{listed_at}
-use Rattle.ia_meaning.specs.Actions.{insn_form}
-use Rattle.ia_meaning.specs.FormRanges.{HasFormRanges}
-use Rattle.ia_meaning.proofs.FormRanges.{form_ranges}
+use Rattle.ia_meaning.specs.Actions.{insn_action}
+use Rattle.ia_meaning.specs.ActionRanges.{HasActionRanges}
+use Rattle.ia_meaning.proofs.ActionRanges.{action_ranges}
 use Rattle.predicate_rel.specs.declared.edge.Edge.{Edge}
 use Rattle.predicate_rel.specs.declared.edge.Edge.TheVariants.{Falls, Taken}
 use Rattle.predicate_rel.specs.Pairs.{Pairs}
-use Rattle.predicate_rel.specs.Rules.{form_rule, pairs_by, rule_of, pairs_after}
+use Rattle.predicate_rel.specs.Rules.{action_rule, pairs_by, rule_of, pairs_after}
 use Rattle.predicate_rel.specs.Edges.{edge_of, edge_end, HasEdge, pairs_past, pairs_past_insn}
 use Rattle.predicate_rel.proofs.EdgeEnds.{is_edge_end}
 use Rattle.slot_table.specs.declared.slot.Slot.{Slot}
@@ -33,13 +33,13 @@ pub record IsSlotOf (bundles : List Bundle) (place : Place) (slot : Slot) : Type
 -- Its numbers are in their ranges.
 pub record IsInRange (place : Place) (insn : Insn) : Type 0 where
   pub bundle : place.bundle < 2 ^ 31
-  pub ranges : HasFormRanges (insn_form insn)
+  pub ranges : HasActionRanges (insn_action insn)
 
 pub in_range : (p : Program) (place : Place) (insn : Insn) → IsProgram p → insn_at p.bundles place ≡ Some insn → IsInRange place insn
 in_range p place insn program here =
     let inside = bundle_small p.bundles place (subst IsSome (sym here) refl) in
     let most = program.counts.bundles in
-    record { bundle = omega (arith, inside, most); ranges = form_ranges insn.op (ranges_of_listed insn (listed_at p place insn program here)) }
+    record { bundle = omega (arith, inside, most); ranges = action_ranges insn.op (ranges_of_listed insn (listed_at p place insn program here)) }
 
 -- a slot at a place is that of the instruction there
 pub slot_is : (bundles : List Bundle) (place : Place) (slot : Slot) → slot_at bundles place ≡ Some slot → IsSlotOf bundles place slot
@@ -86,11 +86,11 @@ slot_edges p from slot e r program at leads =
     is_edge_end p from s.insn e r program s.here (leads ∙ ap (λ (q : Slot). edge_from q e) (sym s.is) ∙ edge_of-slot p.bundles from s.insn e)
 
 -- what is known past a slot is what is known past its place
-pub pairs_by-slot : (p : Program) (from : Place) (slot : Slot) (e : Edge) (f : Pairs) → slot_at p.bundles from ≡ Some slot → pairs_by f (form_rule slot.form e slot.qp) ≡ pairs_past p from e f
+pub pairs_by-slot : (p : Program) (from : Place) (slot : Slot) (e : Edge) (f : Pairs) → slot_at p.bundles from ≡ Some slot → pairs_by f (action_rule slot.action e slot.qp) ≡ pairs_past p from e f
 unfolding pairs_past pairs_after rule_of
 pairs_by-slot p from slot e f at =
     let s = slot_is p.bundles from slot at in
-    ap (λ (q : Slot). pairs_by f (form_rule q.form e q.qp)) (sym s.is) ∙ ap (λ (o : Option Insn). pairs_past_insn o e f) (sym s.here)
+    ap (λ (q : Slot). pairs_by f (action_rule q.action e q.qp)) (sym s.is) ∙ ap (λ (o : Option Insn). pairs_past_insn o e f) (sym s.here)
 
 -- a slot above 2 is at no place
 pub no_slot_above : (bundles : List Bundle) (place : Place) → 2 < place.slot → None ≡ slot_at bundles place

@@ -5,7 +5,7 @@ use Rattle.ia_insn.specs.declared.insn.Insn.{Insn}
 use Rattle.ia_insn.specs.declared.place.Place.{Place}
 use Rattle.ia_insn.specs.Bundles.{Bundle}
 use Rattle.ia_insn.specs.Places.{insn_at}
-use Rattle.ia_meaning.specs.Actions.{insn_form}
+use Rattle.ia_meaning.specs.Actions.{insn_action}
 use Rattle.ia_meaning.specs.Sequence.{next_of, is_stopped}
 use Rattle.predicate_rel.specs.declared.edge.Edge.{Edge}
 use Rattle.predicate_rel.specs.declared.edge.Edge.TheVariants.{Falls, Taken}
@@ -15,12 +15,12 @@ use Rattle.slot_table.specs.declared.slot.Slot.{Slot}
 -- the slot of an instruction at a place
 abbrev pub slot_of : List Bundle → Place → Insn → Slot
 slot_of bundles place insn = record {
-  form = insn_form insn;
+  action = insn_action insn;
   qp = insn.qp;
   stop = is_stopped bundles place;
   falls = may_fall insn;
   next = next_of bundles place;
-  target = target_at place.bundle (displacement_of (insn_form insn));
+  target = target_at place.bundle (displacement_of (insn_action insn));
 }
 
 -- the slot of the instruction at a place, and None where there is none

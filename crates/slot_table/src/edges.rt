@@ -5,42 +5,42 @@ ghost use Rattle.ia_meaning.specs.Sequence.{next_of, is_stopped};
 ghost use Rattle.predicate_rel.specs.Edges.{leaves, displacement_of, target_at};
 
 use ia_insn::{Place, Pr, Program};
-use ia_meaning::{Form, Goal, target_of};
+use ia_meaning::{Action, Goal, target_of};
 
 /// Whether it is a `br.cond`, `br.call` or `br.ret`, direct or indirect, or a `break`: where the
 /// qualifying predicate is 1, control doesn't fall through.
-fn leaves(form: &Form) -> bool
-    ensures { result ≡ leaves form.now }
+fn leaves(action: &Action) -> bool
+    ensures { result ≡ leaves action.now }
 {
     matches!(
-        form,
-        Form::Jump { .. }
-            | Form::JumpIndirect { .. }
-            | Form::Call { .. }
-            | Form::Return { .. }
-            | Form::Stop { .. }
+        action,
+        Action::Jump { .. }
+            | Action::JumpIndirect { .. }
+            | Action::Call { .. }
+            | Action::Return { .. }
+            | Action::Stop { .. }
     )
 }
 
-/// Whether control may fall through an instruction with this qualifying predicate and form: not from a branch
+/// Whether control may fall through an instruction with this qualifying predicate and action: not from a branch
 /// or `break` under p0, but for loop branches (volume 1, chapter 3, instruction sequencing).
-pub fn may_fall(qp: Pr, form: &Form) -> bool
-    ensures { result ≡ not ((qp == 0) && leaves form.now) }
+pub fn may_fall(qp: Pr, action: &Action) -> bool
+    ensures { result ≡ not ((qp == 0) && leaves action.now) }
 {
-    !(qp.is_zero() && leaves(form))
+    !(qp.is_zero() && leaves(action))
 }
 
 /// How many bundles from its own the target of a direct branch or check is. None exactly for other
 /// instructions.
-fn displacement(form: &Form) -> Option<i32>
-    ensures { result ≡ displacement_of form.now }
+fn displacement(action: &Action) -> Option<i32>
+    ensures { result ≡ displacement_of action.now }
 {
-    match *form {
-        Form::CheckNat { disp, .. }
-        | Form::CheckAlat { disp, .. }
-        | Form::Jump { disp }
-        | Form::Loop { disp, .. } => Some(disp),
-        Form::Call {
+    match *action {
+        Action::CheckNat { disp, .. }
+        | Action::CheckAlat { disp, .. }
+        | Action::Jump { disp }
+        | Action::Loop { disp, .. } => Some(disp),
+        Action::Call {
             goal: Goal::Direct(disp),
             ..
         } => Some(disp),
@@ -48,12 +48,12 @@ fn displacement(form: &Form) -> Option<i32>
     }
 }
 
-/// Slot 0 of the target of an instruction of this form. None exactly where it has no target.
-pub(crate) fn target(bundle: u32, form: &Form) -> Option<Place>
+/// Slot 0 of the target of an instruction of this action. None exactly where it has no target.
+pub(crate) fn target(bundle: u32, action: &Action) -> Option<Place>
     requires { bundle < 2 ^ 31 }
-    ensures { result ≡ target_at bundle (displacement_of form.now) }
+    ensures { result ≡ target_at bundle (displacement_of action.now) }
 {
-    let disp = displacement(form)?;
+    let disp = displacement(action)?;
     Some(Place {
         bundle: target_of(bundle, disp),
         slot: 0,

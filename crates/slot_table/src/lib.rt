@@ -1,4 +1,4 @@
-//! What stands at each place of a program, looked at once: the form of the instruction there, its qualifying
+//! What stands at each place of a program, looked at once: the action of the instruction there, its qualifying
 //! predicate, whether a stop follows, and where control goes on (Intel Itanium Architecture Software
 //! Developer's Manual, volume 1, chapter 3, instruction sequencing).
 //!

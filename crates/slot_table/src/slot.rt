@@ -5,14 +5,14 @@ ghost use Rattle.slot_table.specs.Slots.{slot_at, edge_from};
 
 use crate::edges::{is_stopped, may_fall, next, target};
 use ia_insn::{Place, Pr, Program};
-use ia_meaning::{Form, form_of};
+use ia_meaning::{Action, action_of};
 use predicate_rel::Edge;
 
 /// What can be said of the instruction at a place before it runs.
 #[derive(Clone, Copy, Debug, PartialEq, Eq)]
 pub struct Slot {
-    /// The form of the instruction.
-    pub form: Form,
+    /// The action of the instruction.
+    pub action: Action,
     /// Its qualifying predicate.
     pub qp: Pr,
     /// Whether a stop follows.
@@ -33,14 +33,14 @@ impl Slot {
     {
         program.is_program();
         let insn = program.insn_at(place)?;
-        let form = form_of(&insn.op);
+        let action = action_of(&insn.op);
         Some(Slot {
-            form,
+            action,
             qp: insn.qp,
             stop: is_stopped(program, place),
-            falls: may_fall(insn.qp, &form),
+            falls: may_fall(insn.qp, &action),
             next: next(program, place),
-            target: target(place.bundle, &form),
+            target: target(place.bundle, &action),
         })
     }
 

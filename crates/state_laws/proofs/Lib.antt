@@ -1,6 +1,6 @@
 pub mod Words
 pub mod Values
-pub mod FormWords
+pub mod ActionWords
 pub mod FrameParts
 pub mod InRange
 pub mod Memories

@@ -32,7 +32,7 @@ use Rattle.ia_meaning.specs.declared.state.FrameShape.{FrameShape}
 use Rattle.ia_meaning.specs.declared.state.AlatKey.{AlatKey as Spot}
 use Rattle.ia_meaning.specs.declared.state.AlatEntry.{AlatEntry}
 use Rattle.ia_meaning.specs.declared.turn.Turn.{Turn}
-use Rattle.ia_meaning.specs.declared.form.Goal.TheVariants.{Direct, Indirect}
+use Rattle.ia_meaning.specs.declared.action.Goal.TheVariants.{Direct, Indirect}
 use Rattle.ia_meaning.specs.State.{zero_cell, Registers, Memory, State, IsWord, HasReservedZeros, AreRegisters, IsKey, IsAlatEntry, IsMemory, IsState}
 use Rattle.ia_meaning.specs.declared.write.Write.{Write}
 use Rattle.ia_meaning.specs.declared.write.Write.TheVariants.{SetPredicate, SetFrame}
@@ -40,9 +40,9 @@ use Rattle.ia_meaning.specs.declared.write.FrameCause.TheVariants.{Renamed}
 use Rattle.ia_meaning.specs.Names.{spot, predicate_spot}
 use Rattle.ia_meaning.specs.Arithmetic.{immediate, bit}
 use Rattle.ia_meaning.specs.Outcomes.{Outcome, falls, goes, faults}
-use Rattle.ia_meaning.specs.declared.form.Form.{Form}
-use Rattle.ia_meaning.specs.declared.form.Form.TheVariants.{Compute, Fetch, Test, ToPredicates, ToBranch, ToApplication, FromMemory, ToMemory, Exchange, CheckNat, CheckAlat, ForgetAll, Forget, Allocate, Jump, JumpIndirect, Loop, Call, Return, ClearBases, Stop, Idle}
-use Rattle.ia_meaning.specs.Actions.{form_of, result_of, moved}
+use Rattle.ia_meaning.specs.declared.action.Action.{Action}
+use Rattle.ia_meaning.specs.declared.action.Action.TheVariants.{Compute, Fetch, Test, ToPredicates, ToBranch, ToApplication, FromMemory, ToMemory, Exchange, CheckNat, CheckAlat, ForgetAll, Forget, Allocate, Jump, JumpIndirect, Loop, Call, Return, ClearBases, Stop, Idle}
+use Rattle.ia_meaning.specs.Actions.{action_of, result_of, moved}
 use Rattle.ia_meaning.specs.Moves.{test_writes, is_masked, masked_writes, predicate_writes, has_reserved_zeros}
 use Rattle.ia_meaning.specs.Loads.{base_writes, store_spills, load_alat}
 use Rattle.ia_meaning.specs.Frames.{call_writes, rotated}
@@ -62,7 +62,7 @@ use Rattle.state_laws.proofs.Values.{look_word, spot_key, source_word}
 use Rattle.state_laws.proofs.InRange.{IsInRange, apply_keeps, spilled_keeps, spot_in_range, predicate_in_range}
 use Rattle.state_laws.proofs.Memories.{AreEntries, forgotten_entries, load_entries, entries_of, with_entries, stored_memory}
 use Rattle.state_laws.proofs.FrameParts.{IsFrameWithin, sized_frame, rotated_within, cleared_within, called_within, returned_within, call_state_in_range}
-use Rattle.state_laws.proofs.FormWords.{HasFormWords, form_words}
+use Rattle.state_laws.proofs.ActionWords.{HasActionWords, action_words}
 
 -- an outcome that keeps a state
 record IsOutcomeInRange (p : Program) (o : Outcome) : Type 0 where
@@ -195,7 +195,7 @@ module _ (p : Program) (s : Site) (r : Registers) (m : Memory) (unat : ℕ) (bel
   turned_in_range : (kind : BranchKind) (qp : Bool) → Each IsInRange (turn_writes (turn_of kind qp r.lc r.ec) r.frame)
   turned_in_range kind qp = turn_in_range (turn_of kind qp r.lc r.ec) r.frame (turn_counts kind qp r.lc r.ec h.lc h.ec) frame
 
-  act_in_range : (form : Form) → HasFormWords form → ActCases (IsOutcomeInRange p) s form r m unat
+  act_in_range : (action : Action) → HasActionWords action → ActCases (IsOutcomeInRange p) s action r m unat
   act_in_range (Compute r1 r2 r3 f) l = (failed, λ d a b i j k. fell _ (spot_in_range d _ [] (l a.value b.value (look_word r h r2 a j) (look_word r h r3 b k)) tt))
   act_in_range (Fetch r1 source) l = (failed, λ d i. fell _ (spot_in_range d _ [] (source_word s.bundle r source below h) tt))
   act_in_range (Test kind p1 p2 r2 r3 c) l = (failed, λ a b i j. fell _ (test_in_range r.frame kind p1 p2 (result_of c a b)))
@@ -223,15 +223,15 @@ module _ (p : Program) (s : Site) (r : Registers) (m : Memory) (unat : ℕ) (bel
   act_in_range (Stop unit imm) l = record { writes = tt; memory = mem; spills = tt }
   act_in_range (Idle unit) l = fell [] tt
 
-  skip_in_range : (form : Form) → SkipCases (IsOutcomeInRange p) s form r m
+  skip_in_range : (action : Action) → SkipCases (IsOutcomeInRange p) s action r m
   skip_in_range (Test kind p1 p2 r2 r3 c) = (λ e. fell _ (predicate_in_range r.frame p1 _ _ (predicate_in_range r.frame p2 _ [] tt)), λ e. fell [] tt)
   skip_in_range (Loop kind disp) = (λ t. went _ _ (turned_in_range kind false), λ t. fell _ (turned_in_range kind false))
-  skip_in_range form = fell [] tt
+  skip_in_range action = fell [] tt
 
   effect_in_range : (insn : Insn) → IsListed insn → IsOutcomeInRange p (effect s insn r m unat)
   effect_in_range insn listed =
-      guarded_cases (IsOutcomeInRange p) s insn.qp (form_of insn.op) r m unat
-      (λ _. act_in_range (form_of insn.op) (form_words insn.op (ranges_of_listed insn listed))) (λ _. skip_in_range (form_of insn.op))
+      guarded_cases (IsOutcomeInRange p) s insn.qp (action_of insn.op) r m unat
+      (λ _. act_in_range (action_of insn.op) (action_words insn.op (ranges_of_listed insn listed))) (λ _. skip_in_range (action_of insn.op))
 
   settled_in_range : (next : Option Place) (way : Next) (o : Outcome) → IsOutcomeInRange p o → IsOutcomeInRange p (settled next m way o)
   settled_in_range None Falls o f = record { writes = tt; memory = mem; spills = tt }

@@ -11,8 +11,8 @@ use Rattle.ia_meaning.specs.declared.state.Cell.{Cell}
 use Rattle.ia_meaning.specs.declared.state.FrameShape.{FrameShape}
 use Rattle.ia_meaning.specs.declared.state.AlatKey.{AlatKey as Spot}
 use Rattle.ia_meaning.specs.declared.state.AlatKey.TheVariants.{Static, Stacked}
-use Rattle.ia_meaning.specs.declared.form.Source.{Source}
-use Rattle.ia_meaning.specs.declared.form.Source.TheVariants as source
+use Rattle.ia_meaning.specs.declared.action.FetchSource.{FetchSource}
+use Rattle.ia_meaning.specs.declared.action.FetchSource.TheVariants as source
 use Rattle.ia_meaning.specs.State.{zero_cell, Registers, IsWord, AreWords, AreCells, IsFrame, AreRegisters, IsKey}
 use Rattle.ia_meaning.specs.Names.{is_stacked, frame_place, spot, cell_at, look}
 use Rattle.ia_meaning.specs.Moves.{application, source_value}
@@ -72,7 +72,7 @@ application_word r ar.Pfs h = h.pfs
 application_word r ar.Lc h = h.lc
 application_word r ar.Ec h = let e = h.ec in omega arith
 
-pub source_word : (bundle : ℕ) (r : Registers) (x : Source) → bundle < 2 ^ 31 → AreRegisters r → IsWord (source_value bundle r x)
+pub source_word : (bundle : ℕ) (r : Registers) (x : FetchSource) → bundle < 2 ^ 31 → AreRegisters r → IsWord (source_value bundle r x)
 source_word bundle r (source.Branch b) k h = branch_word r.branches h.branches b
 source_word bundle r (source.Application a) k h = application_word r a h
 source_word bundle r source.Predicates k h = predicates_word r.predicates h.predicate_count

@@ -47,13 +47,13 @@ without_other p out place apart = of (is_stopped p.bundles place) (place.bundle 
         absurd (apart (same_place place out bundle slot))
 
 with_stop : (g : Graph) (has_stop other : Place → Bool) (j : Place) (s : Slot) → other j ≡ has_stop j → Describes g has_stop j s → Describes g other j s
-with_stop g has_stop other j s e d = record { insn = d.insn; here = d.here; form = d.form; qp = d.qp; falls = d.falls; stop = d.stop ∙ sym e }
+with_stop g has_stop other j s e d = record { insn = d.insn; here = d.here; action = d.action; qp = d.qp; falls = d.falls; stop = d.stop ∙ sym e }
 
 -- so the slot of a place describes it, with its stop left out there
 pub describes_here : (p : Program) (j out : Place) (s : Slot) → j ≡ out → slot_at p.bundles j ≡ Some s → Describes (over_program p) (without_stop p out) j (unstopped s)
 describes_here p j out s e at =
     let d = slot_describes p j s at in
-    record { insn = d.insn; here = d.here; form = d.form; qp = d.qp; falls = d.falls; stop = sym (ap (without_stop p out) e ∙ without_here p out) }
+    record { insn = d.insn; here = d.here; action = d.action; qp = d.qp; falls = d.falls; stop = sym (ap (without_stop p out) e ∙ without_here p out) }
 
 pub describes_other : (p : Program) (j out : Place) (s : Slot) → (j ≡ out → ⊥) → slot_at p.bundles j ≡ Some s → Describes (over_program p) (without_stop p out) j s
 describes_other p j out s apart at =

@@ -11,7 +11,7 @@ use Rattle.ia_insn.specs.Places.{IsBefore}
 use Rattle.ia_insn.specs.Programs.{Program, IsProgram}
 use Rattle.ia_meaning.specs.Sequence.{first_of, is_stopped}
 use Rattle.predicate_rel.specs.declared.edge.Edge.TheVariants.{Falls}
-use Rattle.flow_facts.specs.Graphs.{Row, over_program, over_row, IsEdgeIn}
+use Rattle.flow_facts.specs.Graphs.{InsnRow, over_program, over_row, IsEdgeIn}
 use Rattle.flow_facts.specs.Walks.{end_of}
 use Rattle.group_checker.specs.declared.violation.Violation.{Violation}
 use Rattle.group_checker.specs.Violations.{ViolatesIn}
@@ -50,13 +50,13 @@ pack_is_program s k is pack few =
     bundled_is_program s (all_chunks s k) is chunks (quiet_is_short s (all_chunks s k) is chunks (pack_is_quiet s k pack))
 
 -- How a violation of a row comes about: by a fall from the instruction before, behind which no stop stands.
-record IsFallenTo (row : Row) (has_stop : Place → Bool) (second : Place) : Type 0 where
+record IsFallenTo (row : InsnRow) (has_stop : Place → Bool) (second : Place) : Type 0 where
   number : ℕ
   inside : number + 1 < length row.insns
   is : second ≡ first_of (number + 1)
   unstopped : has_stop (first_of number) ≡ false
 
-fallen_to : (row : Row) (has_stop : Place → Bool) (u : Violation) → ViolatesIn (over_row row) has_stop u → IsFallenTo row has_stop u.second
+fallen_to : (row : InsnRow) (has_stop : Place → Bool) (u : Violation) → ViolatesIn (over_row row) has_stop u → IsFallenTo row has_stop u.second
 fallen_to row has_stop u x =
     let from = comes_from (over_row row) has_stop x.walk u.first x.there.walks x.inside in
     let numbered = row_walk_place row from.before from.walks in
@@ -118,7 +118,7 @@ pack_is_free s k is pack few v x =
     row_free s k is pack u.0 u.1
 
 -- What is before the next instruction is before each later one.
-not_from_later : (row : Row) (p : Program) (at : ℕ → Place) (m n : ℕ) (x : Place) → IsSpread row p at → m < n → n < length row.insns → IsBefore x (at (m + 1)) → ¬ IsBefore x (at n) → ⊥
+not_from_later : (row : InsnRow) (p : Program) (at : ℕ → Place) (m n : ℕ) (x : Place) → IsSpread row p at → m < n → n < length row.insns → IsBefore x (at (m + 1)) → ¬ IsBefore x (at n) → ⊥
 not_from_later row p at m n x spread less inside below from = of (cases_lt (m + 1) n)
   where
     of : (m + 1 < n) ⊎ (n ≤ m + 1) → ⊥
@@ -126,7 +126,7 @@ not_from_later row p at m n x spread less inside below from = of (cases_lt (m + 
     of (inr h) = from (subst (λ (c : ℕ). IsBefore x (at c)) (let same : m + 1 ≡ n = omega arith in same) below)
 
 -- A place between two neighbours is between no other two.
-between_one : (row : Row) (p : Program) (at : ℕ → Place) (m n : ℕ) (x : Place) → IsSpread row p at → m + 1 < length row.insns → n + 1 < length row.insns → IsBetween p at m x → IsBetween p at n x → m ≡ n
+between_one : (row : InsnRow) (p : Program) (at : ℕ → Place) (m n : ℕ) (x : Place) → IsSpread row p at → m + 1 < length row.insns → n + 1 < length row.insns → IsBetween p at m x → IsBetween p at n x → m ≡ n
 between_one row p at m n x spread inside room one two = of (cases_order m n)
   where
     of : (m ≡ n) ⊎ ((m < n) ⊎ (n < m)) → m ≡ n
@@ -180,7 +180,7 @@ but_for_elsewhere n has_stop place other = of (has_stop place) (place.bundle == 
     of true true x = absurd (other (grind (arith, nat_tests)))
 
 -- Without one stop of the program the row has its stops but for that.
-stops_without : (row : Row) (p : Program) (at : ℕ → Place) (has_stop : Place → Bool) (n : ℕ) (q : Place) → IsSpread row p at → AreStops row p at has_stop (is_stopped p.bundles) → HasStopsApart p at
+stops_without : (row : InsnRow) (p : Program) (at : ℕ → Place) (has_stop : Place → Bool) (n : ℕ) (q : Place) → IsSpread row p at → AreStops row p at has_stop (is_stopped p.bundles) → HasStopsApart p at
     → n + 1 < length row.insns → IsBetween p at n q → is_stopped p.bundles q ≡ true → AreStops row p at (but_for n has_stop) (without_stop p q)
 stops_without row p at has_stop n q spread stops one room between stopped = record {
   stopped = λ m inside e.

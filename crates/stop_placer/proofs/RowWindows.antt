@@ -10,7 +10,7 @@ use Rattle.ia_meaning.specs.Sequence.{first_of}
 use Rattle.resource_sets.specs.declared.access.Access.{Access}
 use Rattle.resource_sets.specs.Accesses.{accesses_of}
 use Rattle.slot_table.specs.declared.slot.Slot.{Slot}
-use Rattle.flow_facts.specs.Graphs.{Graph, Row, over_row, insn_in, row_insn, row_next}
+use Rattle.flow_facts.specs.Graphs.{Graph, InsnRow, over_row, insn_in, row_insn, row_next}
 use Rattle.group_checker.specs.declared.window.EarlierSlot.{EarlierSlot}
 use Rattle.group_checker.specs.Windows.{IsWindow, Describes, IsUnderWay}
 use Rattle.group_checker.proofs.Slots.{slot_accesses}
@@ -19,7 +19,7 @@ use Rattle.stop_placer.specs.declared.packing.Cause.{Cause}
 use Rattle.stop_placer.specs.Packs.{stopped_by}
 
 -- a slot that is described is under way with its accesses
-pub described_under_way : (g : Graph) (has_stop : Place → Bool) (es : List EarlierSlot) (j : Place) (s : Slot) (seconds : List Access) → Describes g has_stop j s → seconds ≡ accesses_of s.qp s.form
+pub described_under_way : (g : Graph) (has_stop : Place → Bool) (es : List EarlierSlot) (j : Place) (s : Slot) (seconds : List Access) → Describes g has_stop j s → seconds ≡ accesses_of s.qp s.action
     → IsWindow g has_stop es j → IsUnderWay g has_stop es j s seconds
 described_under_way g has_stop es j s seconds slot accesses win =
     record { slot = slot; accesses = accesses ∙ sym (slot_accesses g has_stop j s slot); window = win }
@@ -29,8 +29,8 @@ pub row_here : (insns : List Insn) (n : ℕ) (i : Insn) → n < length insns →
 unfolding row_insn
 row_here insns n i inside is = slice_get_read insns (length insns) n i refl inside is
 
-pub row_under_way : (row : Row) (insns : List Insn) (has_stop : Place → Bool) (es : List EarlierSlot) (n : ℕ) (i : Insn) (s : Slot) (seconds : List Access) → insns ≡ row.insns → n < length insns → i ≡ get_or insns n i
-    → has_stop (first_of n) ≡ false → ((g : Graph) (stops : Place → Bool) (place : Place) → insn_in g place ≡ Some i → stops place ≡ false → Describes g stops place s) → seconds ≡ accesses_of s.qp s.form
+pub row_under_way : (row : InsnRow) (insns : List Insn) (has_stop : Place → Bool) (es : List EarlierSlot) (n : ℕ) (i : Insn) (s : Slot) (seconds : List Access) → insns ≡ row.insns → n < length insns → i ≡ get_or insns n i
+    → has_stop (first_of n) ≡ false → ((g : Graph) (stops : Place → Bool) (place : Place) → insn_in g place ≡ Some i → stops place ≡ false → Describes g stops place s) → seconds ≡ accesses_of s.qp s.action
     → IsWindow (over_row row) has_stop es (first_of n) → IsUnderWay (over_row row) has_stop es (first_of n) s seconds
 row_under_way row insns has_stop es n i s seconds e inside is unstopped describes accesses win =
     let here = subst (λ (l : List Insn). row_insn l (first_of n) ≡ Some i) e (row_here insns n i inside is) in
@@ -69,7 +69,7 @@ open_gap causes n few = ap (λ (c : Option Cause). is_some c) (past causes n few
     past (x ∷ l) (suc m) h = past l m (omega (arith, h))
 
 -- The window at the next instruction, with the gap before it.
-pub window_with_gap : (row : Row) (causes : List (Option Cause)) (cause : Option Cause) (n : ℕ) (es : List EarlierSlot) (r : Bool) → length causes ≡ n → n + 1 < length row.insns
+pub window_with_gap : (row : InsnRow) (causes : List (Option Cause)) (cause : Option Cause) (n : ℕ) (es : List EarlierSlot) (r : Bool) → length causes ≡ n → n + 1 < length row.insns
     → IsWindow (over_row row) (stopped_by causes) es (first_of (n + 1)) → r ≡ stopped_by (causes ++ cause ∷ []) (first_of n)
     → IsWindow (over_row row) (stopped_by (causes ++ cause ∷ [])) (cond r [] es) (first_of (n + 1))
 window_with_gap row causes cause n es r e inside win is = of cause refl
@@ -89,7 +89,7 @@ window_with_gap row causes cause n es r e inside win is = of cause refl
         (parted_window (over_row row) (stopped_by (causes ++ cause ∷ [])) (first_of n) (first_of (n + 1)) (row_is_place row.insns n (omega (arith, inside))) (row_follows row.insns n inside) (λ edge. sym is ∙ high))
 
 -- the same by the number of the next instruction
-pub window_at_next : (row : Row) (causes : List (Option Cause)) (cause : Option Cause) (m n : ℕ) (es : List EarlierSlot) (r : Bool) → m + 1 ≡ n → length causes ≡ m → n < length row.insns
+pub window_at_next : (row : InsnRow) (causes : List (Option Cause)) (cause : Option Cause) (m n : ℕ) (es : List EarlierSlot) (r : Bool) → m + 1 ≡ n → length causes ≡ m → n < length row.insns
     → IsWindow (over_row row) (stopped_by causes) es (first_of n) → r ≡ stopped_by (causes ++ cause ∷ []) (first_of m)
     → IsWindow (over_row row) (stopped_by (causes ++ cause ∷ [])) (cond r [] es) (first_of n)
 window_at_next row causes cause m n es r e gaps inside win is =

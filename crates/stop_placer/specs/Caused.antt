@@ -18,7 +18,7 @@ use Rattle.stop_placer.specs.Placing.{without_stop, IsReason}
 -- the slot without its stop
 abbrev pub unstopped : Slot → Slot
 unstopped slot =
-    record { form = slot.form; qp = slot.qp; stop = false; falls = slot.falls; next = slot.next; target = slot.target }
+    record { action = slot.action; qp = slot.qp; stop = false; falls = slot.falls; next = slot.next; target = slot.target }
 
 -- The place is the first of the program, or the one right behind a stop.
 abbrev pub IsAfterStop : Program → Place → Type 0

@@ -2,11 +2,11 @@
 use Rattle.std.specs.Prelude.{◌≡◌, ℕ, ◌<◌, List, length, slice_index_or}
 use Rattle.ia_insn.specs.declared.place.Place.{Place}
 use Rattle.ia_meaning.specs.Sequence.{first_of}
-use Rattle.flow_facts.specs.Graphs.{Row, over_row}
+use Rattle.flow_facts.specs.Graphs.{InsnRow, over_row}
 use Rattle.flow_facts.specs.Walks.{Known, known_at}
 use Rattle.group_checker.specs.Windows.{IsKnownAt}
 
 -- What is known at an instruction's place is known before it in the row.
-pub record AreKnown (row : Row) (facts : List Known) (places : List Place) : Type 0 where
+pub record AreKnown (row : InsnRow) (facts : List Known) (places : List Place) : Type 0 where
   pub count : length places ≡ length row.insns
   pub known : (n : ℕ) → n < length row.insns → IsKnownAt (over_row row) (first_of n) (known_at facts (slice_index_or places n (first_of 0)))

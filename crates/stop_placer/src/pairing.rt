@@ -26,7 +26,7 @@ use flow_facts::{InFacts, solve};
 use group_checker::Window;
 use ia_insn::limits::BUNDLE_LIMIT;
 use ia_insn::{Insn, Place};
-use ia_meaning::form_of;
+use ia_meaning::action_of;
 use loose_text::{Item, LooseText};
 use predicate_rel::Facts;
 use resource_sets::{Masks, masks_of};
@@ -78,12 +78,12 @@ impl RowFacts {
 fn slot_of(insn: &Insn) -> Slot
     ensures { (g : Graph) (has_stop : Place → Bool) (place : Place) → insn_in g place ≡ Some insn.now → has_stop place ≡ false → Describes g has_stop place result }
 {
-    let form = form_of(&insn.op);
+    let action = action_of(&insn.op);
     Slot {
-        form,
+        action,
         qp: insn.qp,
         stop: false,
-        falls: may_fall(insn.qp, &form),
+        falls: may_fall(insn.qp, &action),
         next: None,
         target: None,
     }
@@ -136,13 +136,13 @@ pub(crate) fn pack(alloc: Global, text: &LooseText) -> Result<Packing, TextError
     let mut packing = Packing::begun_with(alloc, &items[0]);
     let mut window = Window::new(alloc);
     let first = slot_of(&insns[0]);
-    let accesses = masks_of(first.qp, &first.form);
+    let accesses = masks_of(first.qp, &first.action);
     window.move_on(known.at(0), row_place(0), &first, accesses)?;
     for n in 1..items.len() {
         let before = &items[n - 1];
         let item = &items[n];
         let slot = slot_of(&insns[n]);
-        let masks = masks_of(slot.qp, &slot.form);
+        let masks = masks_of(slot.qp, &slot.action);
         let pair = is_pair(&window, before, &slot, &masks);
         packing.next(before, item, pair)?;
         if packing.closed_count() == BUNDLE_LIMIT {

@@ -25,7 +25,7 @@ fn unstopped(slot: &Slot) -> Slot
     ensures { result ≡ unstopped slot.now }
 {
     Slot {
-        form: slot.form,
+        action: slot.action,
         qp: slot.qp,
         stop: false,
         falls: slot.falls,
@@ -67,7 +67,7 @@ fn first_without(
             unreachable!();
         };
         let slot = slot_without(there, second, out);
-        let masks = masks_of(slot.qp, &slot.form);
+        let masks = masks_of(slot.qp, &slot.action);
         if let Some(violation) = window.first_violation(second, &slot, &masks) {
             return Ok(violation);
         }

@@ -5,7 +5,7 @@
 
 ghost use Rattle.std.specs.Prelude.{◌≡◌};
 ghost use Rattle.bundle_bits.specs.Words.{the};
-ghost use Rattle.formats_b.specs.ReadingB.{kind_of, indirect_in, nop_or_hint_in, op_in, candidate};
+ghost use Rattle.formats_b.specs.ReadingB.{branch_kind_of, indirect_in, nop_or_hint_in, op_in, candidate};
 
 use ia_insn::fields::{B1, B2, Btype, D, Major, P, Qp, Wh, X6};
 use ia_insn::immediates::{branch_displacement, imm21};
@@ -13,7 +13,7 @@ use ia_insn::{Br, BranchKind, Insn, Op, Pr, Unit};
 
 /// The kind of a direct branch, by btype.
 fn read_kind(btype: u64) -> BranchKind
-    ensures { result ≡ kind_of btype }
+    ensures { result ≡ branch_kind_of btype }
 {
     match btype {
         0 => BranchKind::Cond,

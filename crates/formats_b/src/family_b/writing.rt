@@ -1,7 +1,9 @@
 //! The word of a B instruction: a row for each format, with its fields from the top down.
 
 ghost use Rattle.std.specs.Prelude.{◌≡◌};
-ghost use Rattle.ia_insn.specs.FormatsB.{btype, IsListedB, word_b};
+ghost use Rattle.ia_insn.specs.FormatsB.{btype};
+ghost use Rattle.ia_insn.specs.Listed.{IsListedB};
+ghost use Rattle.ia_insn.specs.Codes.{word_b};
 
 use crate::numbered::number_parts;
 use bundle_bits::{Field, word_of_parts};

@@ -1,7 +1,8 @@
 //! The word of an F instruction: a row for each format, with its fields from the top down.
 
 ghost use Rattle.std.specs.Prelude.{◌≡◌};
-ghost use Rattle.ia_insn.specs.FormatsF.{IsListedF, word_f};
+ghost use Rattle.ia_insn.specs.Listed.{IsListedF};
+ghost use Rattle.ia_insn.specs.Codes.{word_f};
 
 use crate::numbered::number_parts;
 use bundle_bits::word_of_parts;

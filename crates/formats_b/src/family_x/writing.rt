@@ -1,7 +1,9 @@
 //! The words of a long instruction, of its L and of its X slot.
 
 ghost use Rattle.std.specs.Prelude.{◌≡◌};
-ghost use Rattle.ia_insn.specs.FormatsX.{low_of, IsListedX, word_x};
+ghost use Rattle.ia_insn.specs.FormatsX.{low_of};
+ghost use Rattle.ia_insn.specs.Listed.{IsListedX};
+ghost use Rattle.ia_insn.specs.Codes.{word_x};
 
 use crate::numbered::number_parts;
 use bundle_bits::{Field, word_of_parts};

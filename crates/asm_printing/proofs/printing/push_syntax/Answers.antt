@@ -2,7 +2,7 @@ use Rattle.std.proofs.Common.{◌≡◌, ◌∙◌, ap, ℕ, List, ◌++◌, cod
 use Rattle.std.specs.Prelude.{OnOk}
 use Rattle.asm_forms.specs.declared.form.Form.{Form}
 use Rattle.asm_forms.specs.declared.completer.Completer.{Completer}
-use Rattle.asm_forms.specs.declared.items.Item.{Item}
+use Rattle.asm_forms.specs.declared.items.FormItem.{FormItem}
 use Rattle.asm_forms.specs.Rows.{row_of}
 use Rattle.asm_words.specs.declared.tokens.Token.{Token}
 use Rattle.asm_printing.specs.SlotTexts.{predicate_text, mnemonic_text, spaced, operands_text, stop_text}
@@ -24,7 +24,7 @@ where_ok (Err e) f h = tt
 of_mnemonic : (old new : List ℕ) (f g : Form) (cs ds : List Completer) → f ≡ g → cs ≡ ds → new ≡ old ++ mnemonic_text f cs → new ≡ old ++ mnemonic_text g ds
 of_mnemonic old new f g cs ds d e h = h ∙ ap (λ k. old ++ mnemonic_text k cs) d ∙ ap (λ k. old ++ mnemonic_text g k) e
 
-of_operands : (target : ℕ) (old new : List ℕ) (is js : List Item) (ts us : List Token) → is ≡ js → ts ≡ us → new ≡ old ++ spaced (operands_text target is ts) → new ≡ old ++ spaced (operands_text target js us)
+of_operands : (target : ℕ) (old new : List ℕ) (is js : List FormItem) (ts us : List Token) → is ≡ js → ts ≡ us → new ≡ old ++ spaced (operands_text target is ts) → new ≡ old ++ spaced (operands_text target js us)
 of_operands target old new is js ts us d e h = h ∙ ap (λ k. old ++ spaced (operands_text target k ts)) d ∙ ap (λ k. old ++ spaced (operands_text target js k)) e
 
 pub returns-clause-ok : goal.returns-clause-ok

@@ -1,7 +1,7 @@
 use Rattle.std.proofs.Common.{◌∙◌, refl}
 use Rattle.predicate_rel.specs.declared.edge.Edge.TheVariants.{Falls}
 use Rattle.predicate_rel.specs.Pairs.{pairs_of}
-use Rattle.predicate_rel.specs.Rules.{form_rule}
+use Rattle.predicate_rel.specs.Rules.{action_rule}
 use Rattle.predicate_rel.proofs.PairLemmas.{pairs_kept}
 use Rattle.group_checker.proofs.Slots.{slot_past}
 use Rattle.group_checker.proofs.moves.pass.Goals as goal
@@ -11,7 +11,7 @@ returns c g has_stop j is = record {
   place = refl;
   clears = refl;
   accesses = refl;
-  known = c.after_form-earlier.ensures ∙ slot_past g has_stop j c.args.slot.now is (pairs_of c.args.earlier.now.known);
+  known = c.after_action-earlier.ensures ∙ slot_past g has_stop j c.args.slot.now is (pairs_of c.args.earlier.now.known);
   written = refl;
 }
 
@@ -20,6 +20,6 @@ returns-then-keeps c g has_stop j is = record {
   place = refl;
   clears = refl;
   accesses = refl;
-  known = pairs_kept c.args.earlier.now.known (form_rule c.args.slot.now.form Falls c.args.slot.now.qp) (c.requires c.if-keeps.true) ∙ slot_past g has_stop j c.args.slot.now is (pairs_of c.args.earlier.now.known);
+  known = pairs_kept c.args.earlier.now.known (action_rule c.args.slot.now.action Falls c.args.slot.now.qp) (c.requires c.if-keeps.true) ∙ slot_past g has_stop j c.args.slot.now is (pairs_of c.args.earlier.now.known);
   written = refl;
 }

@@ -10,5 +10,5 @@ returns c =
     let frame = c.push_set.ensures.sets [] none in
     let guards = c.push_sets.ensures.sets _ frame in
     let own = c.push_sets-2.ensures.sets _ guards in
-    sets_of_all c.args.qp c.args.form.now c.frame_row.result c.qp_rows.result c.as_slice-2.result.now _
+    sets_of_all c.args.qp c.args.action.now c.frame_row.result c.qp_rows.result c.as_slice-2.result.now _
     c.frame_row.ensures c.qp_rows.ensures.rows (c.as_slice-2.ensures.value ∙ c.own_rows-own.ensures.rows) (c.push_placed.ensures _ own)

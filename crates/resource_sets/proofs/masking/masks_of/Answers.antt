@@ -3,18 +3,18 @@ use Rattle.resource_sets.proofs.BitLists.{own_fit, placed_fit, placed_within, no
 use Rattle.resource_sets.proofs.masking.masks_of.Goals as goal
 
 pub take_rows-requires-2-clause-fits : goal.take_rows-requires-2-clause-fits
-take_rows-requires-2-clause-fits c = rw (c.as_slice-2.ensures.value, c.own_rows-own.ensures.rows) (own_fit c.args.form.now)
+take_rows-requires-2-clause-fits c = rw (c.as_slice-2.ensures.value, c.own_rows-own.ensures.rows) (own_fit c.args.action.now)
 
 pub take_rows-requires-3-clause-within : goal.take_rows-requires-3-clause-within
-take_rows-requires-3-clause-within c = rw (c.as_slice-3.ensures.value, c.placed_rows.ensures) (placed_within c.args.form.now)
+take_rows-requires-3-clause-within c = rw (c.as_slice-3.ensures.value, c.placed_rows.ensures) (placed_within c.args.action.now)
 
 pub take_rows-requires-3-clause-fits : goal.take_rows-requires-3-clause-fits
-take_rows-requires-3-clause-fits c = rw (c.as_slice-3.ensures.value, c.placed_rows.ensures) (placed_fit c.args.form.now)
+take_rows-requires-3-clause-fits c = rw (c.as_slice-3.ensures.value, c.placed_rows.ensures) (placed_fit c.args.action.now)
 
 pub invariant_of-result : goal.invariant_of-result
 invariant_of-result c =
     let qp = c.args.qp in
-    let f = c.args.form.now in
+    let f = c.args.action.now in
     let frame = c.take_row.ensures qp [] (no_bits _ none_bits) in
     let guards = c.take_rows.ensures qp _ frame in
     let own = c.take_rows-2.ensures qp _ guards in

@@ -1,20 +1,20 @@
-//! The forms of instructions: what each does.
+//! The actions of instructions: what each does.
 
 ghost use Rattle.std.specs.Prelude.{◌≡◌};
 ghost use Rattle.ia_insn.specs.Ranges.{HasRanges};
-ghost use Rattle.ia_meaning.specs.FormRanges.{HasFormRanges};
-ghost use Rattle.ia_meaning.specs.Actions.{test_kind, addition, filling, branch_form, form_of};
+ghost use Rattle.ia_meaning.specs.ActionRanges.{HasActionRanges};
+ghost use Rattle.ia_meaning.specs.Actions.{test_kind, addition, filling, branch_action, action_of};
 ghost use Rattle.ia_meaning.specs.Loads.{update_register};
-ghost use Rattle.ia_meaning.specs.declared.form.Form.TheVariants.{Compute, Test};
+ghost use Rattle.ia_meaning.specs.declared.action.Action.TheVariants.{Compute, Test};
 
 use ia_insn::{
     AluFn, Ar, Br, BranchKind, CmpKind, Gr, LaneFn, LoadKind, Op, Pr, Rel, ShiftFn, StoreKind,
     Unit, Update,
 };
 
-/// What a [`Form::Fetch`] copies into a general register.
+/// What an [`Action::Fetch`] copies into a general register.
 #[derive(Clone, Copy, Debug, PartialEq, Eq)]
-pub enum Source {
+pub enum FetchSource {
     /// A branch register.
     Branch(Br),
     /// An application register.
@@ -25,7 +25,7 @@ pub enum Source {
     Ip,
 }
 
-/// Where a [`Form::Call`] goes.
+/// Where an [`Action::Call`] goes.
 #[derive(Clone, Copy, Debug, PartialEq, Eq)]
 pub enum Goal {
     /// So many bundles from its own.
@@ -34,7 +34,7 @@ pub enum Goal {
     Indirect(Br),
 }
 
-/// What a [`Form::Compute`] computes of the values of its first and second operand.
+/// What an [`Action::Compute`] computes of the values of its first and second operand.
 #[derive(Clone, Copy, Debug, PartialEq, Eq)]
 pub enum Function {
     /// An operation of the arithmetic and logic unit on both.
@@ -64,7 +64,7 @@ pub enum Function {
     Immediate(u64),
 }
 
-/// What a [`Form::Test`] tests of its first and second operand.
+/// What an [`Action::Test`] tests of its first and second operand.
 #[derive(Clone, Copy, Debug, PartialEq, Eq)]
 pub enum Condition {
     /// The relation of both or, where `four` is set, of their low four bytes.
@@ -77,7 +77,7 @@ pub enum Condition {
     NatIsZero,
 }
 
-/// What a [`Form::ToPredicates`] or a [`Form::ToApplication`] moves.
+/// What an [`Action::ToPredicates`] or an [`Action::ToApplication`] moves.
 #[derive(Clone, Copy, Debug, PartialEq, Eq)]
 pub enum MovedWord {
     /// The value of the source.
@@ -86,11 +86,11 @@ pub enum MovedWord {
     Immediate(i64),
 }
 
-/// The form of an instruction: what it reads, what it computes, what it writes and how it goes on. r0 stands
-/// for an operand that the form has and the instruction lacks: it reads 0. A displacement `disp` is in
-/// bundles from the instruction's own. The small fields stand first, which keeps a form at 24 bytes.
+/// The action of an instruction: what it reads, what it computes, what it writes and how it goes on. r0 stands
+/// for an operand that the action has and the instruction lacks: it reads 0. A displacement `disp` is in
+/// bundles from the instruction's own. The small fields stand first, which keeps an action at 24 bytes.
 #[derive(Clone, Copy, Debug, PartialEq, Eq)]
-pub enum Form {
+pub enum Action {
     /// The function of `r2` and `r3` goes into `r1`.
     Compute {
         r1: Gr,
@@ -101,7 +101,7 @@ pub enum Form {
     /// A copy goes into `r1`.
     Fetch {
         r1: Gr,
-        source: Source,
+        source: FetchSource,
     },
     /// The condition on `r2` and `r3` goes into `p1` and `p2`, by the kind of the test.
     Test {
@@ -248,21 +248,21 @@ fn filling(ones: bool) -> i64
     if ones { -1 } else { 0 }
 }
 
-/// The form of a direct branch.
-fn branch_form(kind: BranchKind, disp: i32) -> Form
-    ensures { result ≡ branch_form kind disp }
+/// The action of a direct branch.
+fn branch_action(kind: BranchKind, disp: i32) -> Action
+    ensures { result ≡ branch_action kind disp }
 {
     match kind {
-        BranchKind::Cond => Form::Jump { disp },
-        kind => Form::Loop { kind, disp },
+        BranchKind::Cond => Action::Jump { disp },
+        kind => Action::Loop { kind, disp },
     }
 }
 
-/// The form of a computation.
-fn compute(r1: Gr, r2: Gr, r3: Gr, function: Function) -> Form
+/// The action of a computation.
+fn compute(r1: Gr, r2: Gr, r3: Gr, function: Function) -> Action
     ensures { result ≡ Compute r1 r2 r3 function }
 {
-    Form::Compute {
+    Action::Compute {
         r1,
         r2,
         r3,
@@ -270,11 +270,11 @@ fn compute(r1: Gr, r2: Gr, r3: Gr, function: Function) -> Form
     }
 }
 
-/// The form of a test.
-fn test(kind: CmpKind, p1: Pr, p2: Pr, r2: Gr, r3: Gr, condition: Condition) -> Form
+/// The action of a test.
+fn test(kind: CmpKind, p1: Pr, p2: Pr, r2: Gr, r3: Gr, condition: Condition) -> Action
     ensures { result ≡ Test kind p1 p2 r2 r3 condition }
 {
-    Form::Test {
+    Action::Test {
         kind,
         p1,
         p2,
@@ -284,12 +284,12 @@ fn test(kind: CmpKind, p1: Pr, p2: Pr, r2: Gr, r3: Gr, condition: Condition) -> 
     }
 }
 
-/// The form of an operation. That of one whose operands have their ranges, as those of a listed
+/// The action of an operation. That of one whose operands have their ranges, as those of a listed
 /// instruction have, has its own.
-#[tactic(auto, using(crate::proofs::FormRanges::form_ranges))]
-pub fn form_of(op: &Op) -> Form
-    ensures form { result ≡ form_of op.now }
-    ensures ranges { HasRanges op.now → HasFormRanges result }
+#[tactic(auto, using(crate::proofs::ActionRanges::action_ranges))]
+pub fn action_of(op: &Op) -> Action
+    ensures action { result ≡ action_of op.now }
+    ensures ranges { HasRanges op.now → HasActionRanges result }
 {
     let r0 = Gr::of_field(0);
     match *op {
@@ -397,43 +397,43 @@ pub fn form_of(op: &Op) -> Form
             pos,
         } => test(test_kind(unc), p1, p2, r0, r3, Condition::BitIsZero { pos }),
         Op::Tnat { unc, p1, p2, r3 } => test(test_kind(unc), p1, p2, r0, r3, Condition::NatIsZero),
-        Op::ChkS { r2, disp, .. } => Form::CheckNat { r2, disp },
-        Op::MovToBr { b1, r2, .. } => Form::ToBranch { b1, r2 },
-        Op::MovFromBr { r1, b2 } => Form::Fetch {
+        Op::ChkS { r2, disp, .. } => Action::CheckNat { r2, disp },
+        Op::MovToBr { b1, r2, .. } => Action::ToBranch { b1, r2 },
+        Op::MovFromBr { r1, b2 } => Action::Fetch {
             r1,
-            source: Source::Branch(b2),
+            source: FetchSource::Branch(b2),
         },
-        Op::MovToPr { r2, mask } => Form::ToPredicates {
+        Op::MovToPr { r2, mask } => Action::ToPredicates {
             r2,
             mask,
             word: MovedWord::Register,
         },
-        Op::MovToPrRot { imm } => Form::ToPredicates {
+        Op::MovToPrRot { imm } => Action::ToPredicates {
             r2: r0,
             mask: 1 << 16,
             word: MovedWord::Immediate(imm),
         },
-        Op::MovFromIp { r1 } => Form::Fetch {
+        Op::MovFromIp { r1 } => Action::Fetch {
             r1,
-            source: Source::Ip,
+            source: FetchSource::Ip,
         },
-        Op::MovFromPr { r1 } => Form::Fetch {
+        Op::MovFromPr { r1 } => Action::Fetch {
             r1,
-            source: Source::Predicates,
+            source: FetchSource::Predicates,
         },
-        Op::MovToAr { ar, r2 } => Form::ToApplication {
+        Op::MovToAr { ar, r2 } => Action::ToApplication {
             ar,
             r2,
             word: MovedWord::Register,
         },
-        Op::MovToArImm { ar, imm } => Form::ToApplication {
+        Op::MovToArImm { ar, imm } => Action::ToApplication {
             ar,
             r2: r0,
             word: MovedWord::Immediate(imm),
         },
-        Op::MovFromAr { r1, ar } => Form::Fetch {
+        Op::MovFromAr { r1, ar } => Action::Fetch {
             r1,
-            source: Source::Application(ar),
+            source: FetchSource::Application(ar),
         },
         Op::Ext {
             signed,
@@ -448,7 +448,7 @@ pub fn form_of(op: &Op) -> Form
             r3,
             update,
             ..
-        } => Form::FromMemory {
+        } => Action::FromMemory {
             size,
             kind,
             r1,
@@ -462,7 +462,7 @@ pub fn form_of(op: &Op) -> Form
             r2,
             update,
             ..
-        } => Form::ToMemory {
+        } => Action::ToMemory {
             size,
             kind,
             r3,
@@ -475,7 +475,7 @@ pub fn form_of(op: &Op) -> Form
             r3,
             r2,
             ..
-        } => Form::Exchange {
+        } => Action::Exchange {
             size,
             r1,
             r3,
@@ -488,32 +488,32 @@ pub fn form_of(op: &Op) -> Form
             r3,
             inc,
             ..
-        } => Form::Exchange {
+        } => Action::Exchange {
             size,
             r1,
             r3,
             r2: r0,
             inc: Some(inc),
         },
-        Op::ChkA { clear, r1, disp } => Form::CheckAlat { clear, r1, disp },
-        Op::Invala => Form::ForgetAll,
-        Op::Mf => Form::Idle { unit: Unit::M },
-        Op::InvalaE { r1 } => Form::Forget { r1 },
-        Op::Alloc { r1, sof, sol, sor } => Form::Allocate { r1, sof, sol, sor },
-        Op::Br { kind, disp, .. } => branch_form(kind, disp),
-        Op::BrCall { b1, disp, .. } => Form::Call {
+        Op::ChkA { clear, r1, disp } => Action::CheckAlat { clear, r1, disp },
+        Op::Invala => Action::ForgetAll,
+        Op::Mf => Action::Idle { unit: Unit::M },
+        Op::InvalaE { r1 } => Action::Forget { r1 },
+        Op::Alloc { r1, sof, sol, sor } => Action::Allocate { r1, sof, sol, sor },
+        Op::Br { kind, disp, .. } => branch_action(kind, disp),
+        Op::BrCall { b1, disp, .. } => Action::Call {
             b1,
             goal: Goal::Direct(disp),
         },
-        Op::BrInd { b2, .. } => Form::JumpIndirect { b2 },
-        Op::BrRet { b2, .. } => Form::Return { b2 },
-        Op::BrCallInd { b1, b2, .. } => Form::Call {
+        Op::BrInd { b2, .. } => Action::JumpIndirect { b2 },
+        Op::BrRet { b2, .. } => Action::Return { b2 },
+        Op::BrCallInd { b1, b2, .. } => Action::Call {
             b1,
             goal: Goal::Indirect(b2),
         },
-        Op::Clrrrb { pred_only } => Form::ClearBases { pred_only },
+        Op::Clrrrb { pred_only } => Action::ClearBases { pred_only },
         Op::Movl { r1, imm } => compute(r1, r0, r0, Function::Immediate(imm)),
-        Op::Break { unit, imm } => Form::Stop { unit, imm },
-        Op::Nop { unit, .. } | Op::Hint { unit, .. } => Form::Idle { unit },
+        Op::Break { unit, imm } => Action::Stop { unit, imm },
+        Op::Nop { unit, .. } | Op::Hint { unit, .. } => Action::Idle { unit },
     }
 }
