@@ -235,9 +235,3 @@ alike r q rest o = by_word (bytes_eq r.word q.word) o
         or_true true = refl
         or_true false = refl
     by_word false h = rw (not-true (begins (r.word ++ rest) q.word) h) refl
-
-pub named_alike : (f : Form) (cs : List Completer) → list_all (λ q. not (is_named ((row_of f).word ++ flat_map text_of cs) q) || bytes_eq (row_of f).word q.word) rows ≡ true
-named_alike f cs =
-    let rest = flat_map text_of cs in
-    let other = of_row (λ r. list_all (is_other rest r) rows) f (others rest (ends rest (dots cs))) in
-    all_both (is_other rest (row_of f)) (is_other rest (row_of f)) _ (λ q o p. alike (row_of f) q rest o) rows other other

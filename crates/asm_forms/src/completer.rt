@@ -1,6 +1,6 @@
 //! The completers of a mnemonic: their texts, and which may stand at one place.
 
-ghost use Rattle.std.specs.Prelude.{◌≡◌, ◌≤◌, length};
+ghost use Rattle.std.specs.Prelude.{◌≡◌, ◌≤◌};
 ghost use Rattle.asm_forms.specs.declared.completer.Completer.TheVariants as c;
 ghost use Rattle.asm_forms.specs.Completers.{text_of, members};
 

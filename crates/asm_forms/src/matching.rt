@@ -1,10 +1,9 @@
 //! Which form a line's operands have, and the first fault where they have none.
 
-ghost use Rattle.std.specs.Prelude.{◌≡◌, ◌≤◌, ◌<◌, length, drop, slice_get, IsTrue, Some};
+ghost use Rattle.std.specs.Prelude.{◌≡◌, ◌≤◌, ◌<◌, length, drop, IsTrue, Some};
 ghost use Rattle.std.specs.Cmp.Lexicographic.{pointwise};
 ghost use Rattle.std.specs.List.{find};
 ghost use Rattle.asm_forms.specs.Items.{accepts};
-ghost use Rattle.asm_forms.specs.Rows.{row_of};
 ghost use Rattle.asm_forms.specs.Matching.{agreed, agreed_items, is_stop_next, is_spelled, reach, wants, wants_next, fault_at, fault_of, number_fault, read_form, is_of};
 
 use crate::form::Form;

@@ -3,7 +3,6 @@ use Rattle.std.proofs.Common.{◌≡◌, inl, inr, refl, ℕ, suc, ◌-◌, ◌/
 use Rattle.std.proofs.lemmas.Bool.{le-leb}
 use Rattle.ia_insn.specs.Signed.{twos, FitsSigned}
 use Rattle.ia_insn.specs.Ranges.{IsIncrement}
-use Rattle.ia_insn.specs.Ranges.{IsIncrement}
 use Rattle.asm_forms.specs.declared.items.NumberField.TheVariants.{Imm8, Imm9, Imm14, Imm22, Tag, RotatingMask, Increment}
 use Rattle.asm_forms.specs.Items.{within, has_room}
 use Rattle.asm_printing.specs.Canonical.{negative}

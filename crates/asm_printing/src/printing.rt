@@ -1,11 +1,11 @@
 //! The canonical slot line.
 
-ghost use Rattle.std.specs.Prelude.{◌≡◌, ◌++◌, ◌∷◌, ◌<◌, OnOk, OnErr, Some, false, codes, decimal, flat_map};
+ghost use Rattle.std.specs.Prelude.{◌≡◌, ◌++◌, ◌∷◌, ◌<◌, OnOk, OnErr, Some, false, decimal, flat_map};
 ghost use Rattle.std.specs.Io.{StartsWith};
 ghost use Rattle.asm_forms.specs.Completers.{text_of};
 ghost use Rattle.ia_insn.specs.Listed.{IsListed};
 ghost use Rattle.asm_printing.specs.Canonical.{syntax_of};
-ghost use Rattle.asm_printing.specs.SlotTexts.{is_hex, ar_text, number_text, label_text, token_text, operands_text, spaced, mnemonic_text, predicate_text, stop_text, target_of, or_zero, HasTarget, line_text, slot_text};
+ghost use Rattle.asm_printing.specs.SlotTexts.{is_hex, ar_text, number_text, token_text, operands_text, spaced, mnemonic_text, predicate_text, stop_text, target_of, or_zero, HasTarget, line_text, slot_text};
 
 use crate::canonical::{Syntax, syntax_of};
 use crate::numerals::{push_bytes, push_decimal, push_hex};

@@ -1,6 +1,6 @@
 //! The numbers of a data line.
 
-ghost use Rattle.std.specs.Prelude.{◌≡◌, ◌≤◌, ◌<◌, ◌+◌, ◌*◌, ◌^◌, ◌%◌, length, drop, slice_get};
+ghost use Rattle.std.specs.Prelude.{◌≡◌, ◌≤◌, ◌<◌, ◌+◌, ◌*◌, ◌^◌, ◌%◌, length};
 ghost use Rattle.asm_reading.specs.Lines.{data_field, data_item, agreed_data, numbers_of, wants_number, data_fault, data_of};
 ghost use Rattle.asm_reading.specs.Operands.{wrapped, bytes, is_negative, magnitude};
 

@@ -40,7 +40,3 @@ words_lexed line = cut_same line [] 0 0 line refl refl
 tokens_same : (line : List ℕ) (ws : List Word) → map (token_in line) ws ≡ map (λ w. token_of w.0 w.1) (map (pair_in line) ws)
 tokens_same line [] = refl
 tokens_same line (w ∷ ws) = ap (λ x. token_in line w ∷ x) (tokens_same line ws)
-
--- and so what they may be read as
-pub tokens_lexed : (line : List ℕ) → map (token_in line) (words_from 0 0 line) ≡ map (λ w. token_of w.0 w.1) (lexed 0 line)
-tokens_lexed line = tokens_same line (words_from 0 0 line) ∙ ap (map (λ w. token_of w.0 w.1)) (words_lexed line)

@@ -12,7 +12,7 @@ use Rattle.asm_words.specs.declared.limits.TheConstants.{NAME_LIMIT}
 use Rattle.asm_words.specs.declared.tokens.Token.{Token}
 use Rattle.asm_words.specs.declared.tokens.Token.TheVariants as t
 use Rattle.asm_words.specs.declared.word.WordKind.TheVariants as word
-use Rattle.asm_words.specs.Bytes.{begins_digit, is_name_byte, is_digit_byte, is_plain_byte, has_only_plain}
+use Rattle.asm_words.specs.Bytes.{is_name_byte, is_digit_byte, is_plain_byte, has_only_plain}
 use Rattle.asm_words.proofs.Lexed.{lexed, is_end}
 use Rattle.asm_words.specs.Numbers.{number_token, unsigned_token, based, are_digits, numeral}
 use Rattle.asm_words.specs.Tokens.{token_of, name_token}
@@ -148,14 +148,6 @@ decimal_is_name_bytes n l = decimal_digits_are_name_bytes (decimal n) (decimal_i
 
 pub hex_is_name_bytes : (n : ℕ) → n < 2 ^ 64 → list_all is_name_byte (digits 16 false n) ≡ true
 hex_is_name_bytes n l = hex_digits_are_name_bytes (digits 16 false n) (hex_is_numeral n l).0.1
-
--- decimal digits begin with a digit
-begins_with_digit : (ds : List ℕ) → IsNumeral 10 ds → begins_digit ds ≡ true
-begins_with_digit [] h = absurd (omega (arith, h.0))
-begins_with_digit (c ∷ cs) h = is_decimal_byte c h.1.0
-
-pub decimal_begins_digit : (n : ℕ) → n < 2 ^ 64 → begins_digit (decimal n) ≡ true
-decimal_begins_digit n l = begins_with_digit (decimal n) (decimal_is_IsNumeral n l).0
 
 -- `L` and a number below 2^32
 pub label_is_short : (n : ℕ) → n < 2 ^ 32 → length (76 ∷ decimal n) ≤ 63

@@ -1,5 +1,5 @@
 -- Adding up the fields of a word, one after the other.
-use Rattle.std.proofs.Common.{◌≡◌, ℕ, zero, suc, ◌+◌, ◌*◌, ◌^◌, ◌<◌, ◌≤◌, List, [], ◌∷◌, Bool, true, false, leb, length, drop, get_or, arith, refl, add-one, sym, subst}
+use Rattle.std.proofs.Common.{◌≡◌, ℕ, zero, suc, ◌+◌, ◌*◌, ◌^◌, ◌<◌, ◌≤◌, List, [], ◌∷◌, true, leb, length, drop, get_or, arith, refl, add-one, sym, subst}
 use Rattle.std.proofs.lemmas.Bool.{leb-true}
 use Rattle.std.proofs.Math.Seq.{drop-cons}
 use Rattle.bundle_bits.specs.Words.{Part, word_of, is_layout}

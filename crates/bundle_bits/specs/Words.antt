@@ -1,5 +1,5 @@
 -- A word as the sum of its fields (volume 3, chapter 4, instruction formats).
-use Rattle.std.specs.Prelude.{ℕ, ◌+◌, ◌*◌, ◌/◌, ◌%◌, ◌^◌, ◌<◌, ◌&&◌, nat_le, List, [], ◌∷◌, Bool, true, false}
+use Rattle.std.specs.Prelude.{ℕ, ◌+◌, ◌*◌, ◌/◌, ◌%◌, ◌^◌, ◌<◌, ◌&&◌, nat_le, List, [], ◌∷◌, Bool, true}
 
 -- A field: its lowest bit, how many bits it has, and its value.
 pub record Part : Type 0 where

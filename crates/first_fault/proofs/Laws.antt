@@ -1,6 +1,5 @@
 -- What each list of stages gives.
-use Rattle.std.proofs.Common.{◌≡◌, ◌⊎◌, inl, inr, List, [], ◌∷◌, Ok, Err, Result, refl, sym, ap, ◌∙◌}
-use Rattle.std.specs.Prelude.{IfOk, IfErr}
+use Rattle.std.proofs.Common.{◌≡◌, ◌⊎◌, inl, inr, List, [], ◌∷◌, refl, sym, ap, ◌∙◌}
 use Rattle.first_fault.specs.Stages.{Stage, unless, IsFirstFault, ArePassed}
 
 -- A stage finds at most one fault, and none where it is passed.
@@ -57,13 +56,3 @@ not_without (s ∷ later) closed none go =
     closed.0
     (λ key finds. none (s.fault key) (inl (key, refl, finds)))
     (λ passed. not_without later closed.1 (λ f is. none f (inr (passed, is))) (λ others. go (passed, others)))
-
--- an answer that is a fault only where it is the first is no fault where every stage is passed
-pub answers_ok : {Fault T : Type 0} (stages : List (Stage Fault)) (r : Result T Fault) → AreSound stages → IfErr r (IsFirstFault stages) → ArePassed stages → (t : T) × (r ≡ Ok t)
-answers_ok stages (Ok t) sound faults passed = (t, refl)
-answers_ok stages (Err f) sound faults passed = absurd (no_fault stages sound passed f faults)
-
--- and where there is a first fault, it is that fault
-pub answers_err : {Fault T : Type 0} (stages : List (Stage Fault)) (r : Result T Fault) → AreSound stages → IfOk r (λ t. ArePassed stages) → IfErr r (IsFirstFault stages) → (f : Fault) → IsFirstFault stages f → r ≡ Err f
-answers_err stages (Ok t) sound found faults f is = absurd (no_fault stages sound found f is)
-answers_err stages (Err g) sound found faults f is = ap Err (one_fault stages sound g f faults is)

@@ -2,9 +2,10 @@
 use Rattle.std.proofs.Common.{◌≡◌, ℕ, ◌+◌, ◌-◌, ◌*◌, ◌^◌, ◌<◌, ◌≤◌, Bool, true, false, leb, ltb, eqb, sym, ap, ◌∙◌, refl, arith}
 use Rattle.std.proofs.lemmas.Bool.{leb-true}
 use Rattle.std.specs.Prelude.{IsSome, unwrap_or}
-use Rattle.bundle_bits.specs.Words.{is_layout, the}
+use Rattle.bundle_bits.specs.Words.{bits, is_layout, the}
+use Rattle.ia_insn.specs.Sizes.{code_of_size, size_of_code}
 use Rattle.ia_insn.specs.Signed.{flag}
-use Rattle.ia_insn.specs.FormatsA.{x4_of, x2b_of, imm8_codes, compare, parallel_op, zero_codes, lane_size_codes, lane_codes, fields}
+use Rattle.ia_insn.specs.FormatsA.{x4_of, x2b_of, imm8_codes, compare, parallel_op, zero_codes, lane_codes, fields}
 use Rattle.ia_insn.specs.Ranges.{IsPartSize, HasRanges}
 use Rattle.ia_insn.specs.Listed.{HasFields, IsListedA}
 use Rattle.ia_insn.specs.Codes.{word_a, CodeA, OneInstruction}
@@ -21,7 +22,7 @@ use Rattle.ia_insn.specs.declared.choices.Rel.{Rel}
 use Rattle.ia_insn.specs.declared.choices.Rel.TheVariants.{Eq, Ne, Lt, Ltu, Gt, Ge, Le}
 use Rattle.ia_insn.specs.declared.choices.CmpKind.{CmpKind}
 use Rattle.ia_insn.specs.declared.choices.CmpKind.TheVariants as kinds
-use Rattle.formats_a.specs.Reading.{alu_of, imm8_of, lane_size_of, lane_fn_of, parallel_kind_of, rel_of, compare_kind_of, zero_rel_of, integer_in, add_imm22_in, compare_in, op_in, candidate}
+use Rattle.formats_a.specs.Reading.{alu_of, imm8_of, lane_fn_of, parallel_kind_of, rel_of, compare_kind_of, zero_rel_of, integer_in, add_imm22_in, compare_in, op_in, candidate}
 
 -- Each table of codes read backwards, and what of the codes tells formats apart.
 
@@ -74,7 +75,7 @@ zero-back Ge listed = refl
 zero-back Lt listed = refl
 zero-back rel listed = absurd cc
 
-lane_size-back : (size : ℕ) → IsPartSize size → (let z = lane_size_codes size in lane_size_of z.0 z.1) ≡ size
+lane_size-back : (size : ℕ) → IsPartSize size → (let z = code_of_size size in size_of_code (2 * bits 1 1 z + bits 0 1 z)) ≡ size
 lane_size-back size listed = grind arith
 
 lane_fn-back : (f : LaneFn) → (let x = lane_codes f in lane_fn_of x.0 x.1) ≡ f

@@ -1,10 +1,11 @@
 -- What the decoder reads out of a word before it looks whether the word is that of an instruction:
 -- the one A instruction that the word can be, or any where it is that of none
 -- (volume 3, chapter 4, instruction formats, A1 to A9).
-use Rattle.std.specs.Prelude.{ℕ, ◌+◌, ◌==◌, nat_lt, if◌then◌else◌}
+use Rattle.std.specs.Prelude.{ℕ, ◌+◌, ◌*◌, ◌==◌, nat_lt, if◌then◌else◌}
 use Rattle.bundle_bits.specs.Words.{Part}
 use Rattle.ia_insn.specs.Fields.{Major, Qp, Za, Tb, X2, X2a, Zb, Ta, X4, X2b, C, P2, R3, R3A5, R2, R1, P1, Ct2d}
 use Rattle.ia_insn.specs.Immediates.{imm8_in, imm14_in, imm22_in}
+use Rattle.ia_insn.specs.Sizes.{size_of_code}
 use Rattle.ia_insn.specs.declared.insn.Insn.{Insn}
 use Rattle.ia_insn.specs.declared.insn.Op.{Op}
 use Rattle.ia_insn.specs.declared.insn.Op.TheVariants.{Alu, ShlAdd, AluImm8, AddImm14, AddImm22, Cmp, CmpZero, CmpImm, Lane}
@@ -51,10 +52,6 @@ compare_kind_of major ta c = if ta == 0 then (if c == 0 then kinds.Normal else k
 abbrev pub zero_rel_of : ℕ → ℕ → Rel
 zero_rel_of ta c = if ta == 0 then (if c == 0 then Gt else Le) else (if c == 0 then Ge else Lt)
 
--- the size of lanes with this za and zb
-abbrev pub lane_size_of : ℕ → ℕ → ℕ
-lane_size_of za zb = if za == 0 then (if zb == 0 then 1 else 2) else 4
-
 -- the operation on lanes with this x4 and x2b
 abbrev pub lane_fn_of : ℕ → ℕ → LaneFn
 lane_fn_of x4 x2b = if x4 == 0 then Padd else if x4 == 1 then Psub else if x2b == 0 then PcmpEq else PcmpGt
@@ -63,7 +60,7 @@ lane_fn_of x4 x2b = if x4 == 0 then Padd else if x4 == 1 then Psub else if x2b =
 unfoldable pub integer_in : ((ℕ → Part) → ℕ) → Op
 integer_in the =
     if nat_lt 1 (the X2a) then AddImm14 (the X2a == 3) (the R1) (imm14_in the) (the R3)
-    else if the X2a == 1 then Lane (lane_fn_of (the X4) (the X2b)) (lane_size_of (the Za) (the Zb)) (the R1) (the R2) (the R3)
+    else if the X2a == 1 then Lane (lane_fn_of (the X4) (the X2b)) (size_of_code (2 * the Za + the Zb)) (the R1) (the R2) (the R3)
     else if nat_lt (the X4) 4 then Alu (alu_of (the X4) (the X2b)) (the R1) (the R2) (the R3)
     else if nat_lt (the X4) 8 then ShlAdd (the X4 == 6) (the R1) (the R2) (the Ct2d + 1) (the R3)
     else AluImm8 (imm8_of (the X4) (the X2b)) (the R1) (imm8_in the) (the R3)

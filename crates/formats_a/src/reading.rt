@@ -5,13 +5,13 @@
 
 ghost use Rattle.std.specs.Prelude.{◌≡◌};
 ghost use Rattle.bundle_bits.specs.Words.{the};
-ghost use Rattle.formats_a.specs.Reading.{logic_of, alu_of, imm8_of, parallel_kind_of, rel_of, compare_kind_of, zero_rel_of, lane_size_of, lane_fn_of, integer_in, add_imm22_in, compare_in, op_in, candidate};
+ghost use Rattle.formats_a.specs.Reading.{logic_of, alu_of, imm8_of, parallel_kind_of, rel_of, compare_kind_of, zero_rel_of, lane_fn_of, integer_in, add_imm22_in, compare_in, op_in, candidate};
 
 use ia_insn::fields::{
     C, Ct2d, Major, P1, P2, Qp, R1, R2, R3, R3A5, Ta, Tb, X2, X2a, X2b, X4, Za, Zb,
 };
 use ia_insn::immediates::{imm8, imm14, imm22};
-use ia_insn::{AluFn, CmpKind, Gr, Insn, LaneFn, Op, Pr, Rel};
+use ia_insn::{AluFn, CmpKind, Gr, Insn, LaneFn, Op, Pr, Rel, size_of_code};
 
 /// A logical operation, by x2b.
 fn read_logic(x2b: u64) -> AluFn
@@ -93,17 +93,6 @@ fn read_zero_rel(ta: u64, c: u64) -> Rel
     }
 }
 
-/// The size of lanes in bytes, by za and zb.
-fn read_lane_size(za: u64, zb: u64) -> u8
-    ensures { result ≡ lane_size_of za zb }
-{
-    match (za, zb) {
-        (0, 0) => 1,
-        (0, _) => 2,
-        _ => 4,
-    }
-}
-
 /// The operation on lanes, by x4 and x2b.
 fn read_lane_fn(x4: u64, x2b: u64) -> LaneFn
     ensures { result ≡ lane_fn_of x4 x2b }
@@ -133,7 +122,7 @@ fn read_integer(word: u64) -> Op
         },
         (1, _) => Op::Lane {
             f: read_lane_fn(x4, x2b),
-            size: read_lane_size(Za::get(word), Zb::get(word)),
+            size: size_of_code(2 * Za::get(word) + Zb::get(word)),
             r1,
             r2: Gr::of_field(R2::get(word)),
             r3,

@@ -2,8 +2,7 @@
 //! format.
 
 ghost use Rattle.std.specs.Prelude.{◌≡◌, IsSome, unwrap_or};
-ghost use Rattle.ia_insn.specs.FormatsA.{x4_of, x2b_of, imm8_codes, compare, parallel_op, zero_codes, lane_size_codes, lane_codes};
-ghost use Rattle.ia_insn.specs.Ranges.{IsPartSize};
+ghost use Rattle.ia_insn.specs.FormatsA.{x4_of, x2b_of, imm8_codes, compare, parallel_op, zero_codes, lane_codes};
 ghost use Rattle.ia_insn.specs.Listed.{IsListedA};
 ghost use Rattle.ia_insn.specs.Codes.{word_a};
 
@@ -12,7 +11,7 @@ use ia_insn::fields::{
     C, Ct2d, Imm5c, Imm6d, Imm7b, Imm9d, Major, P1, P2, Qp, R1, R2, R3, R3A5, S, Ta, Tb, Ve, X2,
     X2a, X2b, X4, Za, Zb,
 };
-use ia_insn::{AluFn, CmpKind, Insn, LaneFn, Op, Rel, twos_complement};
+use ia_insn::{AluFn, CmpKind, Insn, LaneFn, Op, Rel, code_of_size, twos_complement};
 
 /// x4 and x2b of an operation on two registers.
 fn codes_of_alu(f: AluFn) -> (u64, u64)
@@ -91,19 +90,6 @@ fn codes_of_zero(rel: Rel) -> (u64, u64)
         Rel::Le => (0, 1),
         Rel::Ge => (1, 0),
         Rel::Lt => (1, 1),
-        _ => unreachable!(),
-    }
-}
-
-/// za and zb of lanes of a size in bytes.
-fn codes_of_lane_size(size: u8) -> (u64, u64)
-    requires { IsPartSize size }
-    ensures { result ≡ lane_size_codes size }
-{
-    match size {
-        1 => (0, 0),
-        2 => (0, 1),
-        4 => (1, 0),
         _ => unreachable!(),
     }
 }
@@ -286,13 +272,13 @@ pub(crate) fn write(insn: &Insn) -> u64
             r2,
             r3,
         } => {
-            let (za, zb) = codes_of_lane_size(size);
+            let code = code_of_size(size);
             let (x4, x2b) = codes_of_lane(f);
             word_of_parts(&[
                 Major::of(8),
-                Za::of(za),
+                Za::of(code / 2),
                 X2a::of(1),
-                Zb::of(zb),
+                Zb::of(code % 2),
                 X4::of(x4),
                 X2b::of(x2b),
                 R3::of(u64::from(r3.number())),

@@ -2,7 +2,7 @@
 //! each format but M16 and M17.
 
 ghost use Rattle.std.specs.Prelude.{◌≡◌, ◌<◌, ◌≤◌};
-ghost use Rattle.ia_insn.specs.FormatsM.{load_base, load_code, store_code};
+ghost use Rattle.ia_insn.specs.FormatsM.{load_type_code, load_code, store_type_code, store_code};
 ghost use Rattle.ia_insn.specs.Ranges.{IsLoadSize, IsStoreSize};
 ghost use Rattle.ia_insn.specs.Listed.{IsListedM};
 ghost use Rattle.ia_insn.specs.Codes.{word_m};
@@ -13,11 +13,11 @@ use ia_insn::fields::{
     Sol, Sor, X2M24, X3, X4M24, X6, X6M1, XM1, Y,
 };
 use ia_insn::{Ar, Insn, LoadKind, Op, StoreKind, Unit, Update, code_of_size, twos_complement};
-use sem_ops::encode_sem;
+use sem_ops::word_of_semaphore;
 
-/// x6 of a load of one byte, by its type (ldtype), and 0 for a fill, which has 8 bytes.
-fn base_of_load(kind: LoadKind) -> u64
-    ensures value { result ≡ load_base kind }
+/// x6 of a load of this type (ldtype) where its two low bits, those of the size, are 0.
+fn load_type_code(kind: LoadKind) -> u64
+    ensures value { result ≡ load_type_code kind }
     ensures within { result ≤ 0x28 }
 {
     match kind {
@@ -27,10 +27,10 @@ fn base_of_load(kind: LoadKind) -> u64
         LoadKind::Sa => 0x0c,
         LoadKind::Bias => 0x10,
         LoadKind::Acq => 0x14,
+        LoadKind::Fill => 0x18,
         LoadKind::CClr => 0x20,
         LoadKind::CNc => 0x24,
         LoadKind::CClrAcq => 0x28,
-        LoadKind::Fill => 0,
     }
 }
 
@@ -39,9 +39,18 @@ fn code_of_load(kind: LoadKind, size: u8) -> u64
     requires { IsLoadSize kind size }
     ensures { result ≡ load_code kind size }
 {
+    load_type_code(kind) + code_of_size(size)
+}
+
+/// x6 of a store of this type (sttype) where its two low bits, those of the size, are 0.
+fn store_type_code(kind: StoreKind) -> u64
+    ensures value { result ≡ store_type_code kind }
+    ensures within { result ≤ 0x38 }
+{
     match kind {
-        LoadKind::Fill => 0x1b,
-        _ => base_of_load(kind) + code_of_size(size),
+        StoreKind::Plain => 0x30,
+        StoreKind::Rel => 0x34,
+        StoreKind::Spill => 0x38,
     }
 }
 
@@ -50,11 +59,7 @@ fn code_of_store(kind: StoreKind, size: u8) -> u64
     requires { IsStoreSize kind size }
     ensures { result ≡ store_code kind size }
 {
-    match kind {
-        StoreKind::Plain => 0x30 + code_of_size(size),
-        StoreKind::Rel => 0x34 + code_of_size(size),
-        StoreKind::Spill => 0x3b,
-    }
+    store_type_code(kind) + code_of_size(size)
 }
 
 /// The word of an M instruction whose operands are in their ranges: a row for each format, with its
@@ -165,10 +170,7 @@ pub(crate) fn write(insn: &Insn) -> u64
             ])
         }
         // M16 and M17: exchange, and fetch and add an increment
-        Op::Xchg { .. } | Op::FetchAdd { .. } => match encode_sem(insn) {
-            Some(word) => word,
-            None => unreachable!(),
-        },
+        Op::Xchg { .. } | Op::FetchAdd { .. } => word_of_semaphore(insn),
         // M20: speculation check
         Op::ChkS {
             unit: Unit::M,

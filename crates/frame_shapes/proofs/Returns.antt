@@ -1,11 +1,12 @@
 -- The fault of a return.
-use Rattle.std.proofs.Common.{◌≡◌, ℕ, ◌+◌, ◌-◌, ◌≤◌, Bool, true, false, not, if◌then◌else◌, nat_lt, Some, None, refl, arith}
+use Rattle.std.proofs.Common.{◌≡◌, ℕ, ◌+◌, ◌-◌, ◌≤◌, Bool, true, false, not, if◌then◌else◌, nat_lt, Option, Some, None, refl, ◌∙◌, arith}
 use Rattle.std.specs.Option.{option_map}
 use Rattle.ia_meaning.specs.declared.limits.TheConstants.{STACK_LIMIT}
 use Rattle.ia_insn.specs.declared.ending.FaultKind.TheVariants as kind
 use Rattle.ia_meaning.specs.declared.state.FrameShape.{FrameShape}
 use Rattle.ia_meaning.specs.Frames.{is_frame, marked_frame, return_fault}
 use Rattle.ia_meaning.proofs.ReturnFrames.{MayReturn, unrefused}
+use Rattle.frame_shapes.specs.declared.fault.StackFault.{StackFault}
 use Rattle.frame_shapes.specs.declared.fault.StackFault.TheVariants.{BadFrame, Underflow, StackLimit}
 use Rattle.frame_shapes.specs.Faults.{kind_of, return_fault_within, returned_frame, ReturnFaultIsThat}
 
@@ -18,6 +19,14 @@ by_tests false false false = refl
 pub return_fault_is : ReturnFaultIsThat
 unfolding return_fault_within return_fault
 return_fault_is base f = by_tests (not (is_frame f)) (nat_lt base f.sol) (nat_lt STACK_LIMIT (base - f.sol + f.sof))
+
+-- a return that has no fault has none in a stack of that limit
+pub return_free : (limit base : ℕ) (f : FrameShape) → limit ≡ STACK_LIMIT → return_fault base f ≡ None → return_fault_within limit base f ≡ None
+return_free limit base f e free = rw e (none_of (return_fault_within STACK_LIMIT base f) (return_fault_is base f ∙ free))
+  where
+    none_of : (o : Option StackFault) → option_map kind_of o ≡ None → o ≡ None
+    none_of None h = refl
+    none_of (Some k) h = absurd (cc)
 
 pub may_return : (limit base : ℕ) (f : FrameShape) → return_fault_within limit base f ≡ None → MayReturn limit base f
 unfolding return_fault_within

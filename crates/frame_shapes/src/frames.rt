@@ -1,6 +1,6 @@
 //! Frames (volume 1, chapter 4, register stack frames).
 
-ghost use Rattle.std.specs.Prelude.{◌≡◌, ◌+◌, ◌*◌, ◌<◌, ◌≤◌, ◌⊎◌, ◌==◌, ◌&&◌, not, false, IfOk, Some, None, MatchOption};
+ghost use Rattle.std.specs.Prelude.{◌≡◌, ℕ, ◌+◌, ◌*◌, ◌<◌, ◌≤◌, ◌⊎◌, ◌==◌, ◌&&◌, not, false, IfOk, Some, None, MatchOption};
 ghost use Rattle.ia_meaning.specs.declared.state.AlatKey.TheVariants.{Stacked};
 ghost use Rattle.std.specs.Result.{result_err};
 ghost use Rattle.ia_meaning.specs.declared.limits.TheConstants.{STACK_LIMIT};
@@ -74,6 +74,27 @@ fn is_reserved(frame: &FrameShape, sor: u8) -> bool
     frame.sor != sor && !has_zero_bases(frame)
 }
 
+/// A frame with other sizes: `sof` registers, at most 96, of which the first `sol` are local and the first 8 times `sor`
+/// rotate. Where [`allocated`] has no fault, this is its frame.
+pub fn with_sizes(frame: &FrameShape, sof: u8, sol: u8, sor: u8) -> FrameShape
+    requires frame { IsFrame frame.now }
+    requires size { sof ≤ 96 }
+    requires locals { sol ≤ sof }
+    requires rotating { 8 * sor ≤ sof }
+    ensures value { result ≡ with_sizes frame.now sof sol sor }
+
+    // In a stack in which that has no fault it is a frame, and has room.
+    ensures free { (limit : ℕ) → alloc_fault_within limit frame.now result ≡ None → IsFrame result × (result.base + result.sof ≤ limit) }
+{
+    FrameShape {
+        base: frame.base,
+        sof,
+        sol,
+        sor,
+        rrbs: frame.rrbs,
+    }
+}
+
 /// The frame that `alloc` gives in place of another, in a stack of at most `limit` cells: it has `sof` registers, at
 /// most 96, of which the first `sol` are local and the first 8 times `sor` rotate, and the base and the rename
 /// bases of the other (volume 3, chapter 2, `alloc`).
@@ -103,13 +124,7 @@ pub fn allocated(
     } else if limit < frame.base + u32::from(sof) {
         Err(StackFault::StackLimit)
     } else {
-        Ok(FrameShape {
-            base: frame.base,
-            sof,
-            sol,
-            sor,
-            rrbs: frame.rrbs,
-        })
+        Ok(with_sizes(frame, sof, sol, sor))
     }
 }
 

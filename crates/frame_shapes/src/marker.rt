@@ -1,7 +1,7 @@
 //! The layout of a frame marker (volume 1, chapter 3, current frame marker), and the frames of those that
 //! stand in previous function states.
 
-ghost use Rattle.std.specs.Prelude.{◌≡◌, ◌+◌, ◌^◌, ◌<◌, ◌≤◌, IfOk};
+ghost use Rattle.std.specs.Prelude.{◌≡◌, ℕ, ◌+◌, ◌^◌, ◌<◌, ◌≤◌, None, IfOk};
 ghost use Rattle.std.specs.Result.{result_err};
 ghost use Rattle.ia_meaning.specs.declared.limits.TheConstants.{STACK_LIMIT};
 ghost use Rattle.ia_meaning.specs.State.{IsFrame};
@@ -81,6 +81,19 @@ fn return_fault_within(limit: u32, base: u32, frame: &FrameShape) -> Option<Stac
     }
 }
 
+/// The frame whose marker is in the low 38 bits of a previous function state, where its locals end at `base`. Where
+/// [`returned`] has no fault, this is its frame.
+pub fn returned_frame(base: u32, pfs: u64) -> FrameShape
+    requires { (marked_frame base pfs).sol ≤ base }
+    ensures value { result ≡ returned_frame base pfs }
+
+    // In a stack in which that has no fault it is a frame, has room, and begins at most at `base`.
+    ensures free { (limit : ℕ) → return_fault_within limit base (marked_frame base pfs) ≡ None → IsFrame result × (result.base + result.sof ≤ limit) × (result.base ≤ base) }
+{
+    let sol = marked_frame(base, pfs).sol;
+    marked_frame(base - u32::from(sol), pfs)
+}
+
 /// The frame that a return enters by a previous function state, from a frame at `base`, at most 65,536, in a stack of
 /// at most `limit` cells. Its marker is in the low 38 bits, and its locals end where the frame begins that returns
 /// (volume 3, chapter 2, `br.ret`).
@@ -97,7 +110,7 @@ pub fn returned(limit: u32, base: u32, pfs: u64) -> Result<FrameShape, StackFaul
     let marked = marked_frame(base, pfs);
     match return_fault_within(limit, base, &marked) {
         Some(fault) => Err(fault),
-        None => Ok(marked_frame(base - u32::from(marked.sol), pfs)),
+        None => Ok(returned_frame(base, pfs)),
     }
 }
 

@@ -2,7 +2,7 @@
 
 ghost use Rattle.std.specs.Prelude.{◌≡◌, ◌/◌, ◌%◌, ◌^◌, ◌<◌};
 ghost use Rattle.ia_meaning.specs.State.{HasReservedZeros, IsFrame};
-ghost use Rattle.ia_meaning.specs.Frames.{call_state};
+ghost use Rattle.ia_meaning.specs.Frames.{epilog_of, call_state};
 
 use crate::marker::frame_marker;
 use ia_meaning::FrameShape;
@@ -17,7 +17,7 @@ pub fn marker_of(pfs: u64) -> u64
 
 /// The epilog count of a previous function state, in bits 57:52: 0 to 63.
 pub fn epilog_of(pfs: u64) -> u64
-    ensures value { result ≡ (pfs / 2 ^ 52) % 2 ^ 6 }
+    ensures value { result ≡ epilog_of pfs }
     ensures within { result < 64 }
 {
     (pfs >> 52) % (1 << 6)

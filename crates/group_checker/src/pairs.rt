@@ -3,7 +3,6 @@
 ghost use Rattle.std.specs.Prelude.{◌≡◌, ◌<◌, ◌↔◌, Bool, true, false, IsTrue, length, ◌&&◌, MatchOption};
 ghost use Rattle.ia_insn.specs.declared.place.Place.{Place};
 ghost use Rattle.ia_meaning.specs.Actions.{is_alloc};
-ghost use Rattle.predicate_rel.specs.Pairs.{has_bit};
 ghost use Rattle.slot_table.specs.declared.slot.Slot.{Slot};
 ghost use Rattle.flow_facts.specs.Graphs.{Graph};
 ghost use Rattle.group_checker.specs.declared.violation.Violation.{Violation};
@@ -17,6 +16,7 @@ use crate::violation::Violation;
 use crate::window::EarlierSlot;
 use ia_insn::{Place, Pr};
 use ia_meaning::Action;
+use predicate_rel::bit;
 use resource_sets::{AccessSet, Masks, Rule, clash_of, may_clash};
 use slot_table::Slot;
 
@@ -36,20 +36,12 @@ fn may_be_excused(rule: Rule) -> bool
     matches!(rule, Rule::Raw | Rule::Waw)
 }
 
-/// Whether the word has the bit of the predicate.
-#[tactic(auto, using(predicate_rel::proofs::BitLemmas::has_bit_test))]
-fn has_predicate(word: u64, guard: Pr) -> bool
-    ensures { result ≡ has_bit word guard }
-{
-    (word >> guard.number()) & 1 == 1
-}
-
 /// Whether each walk through the first slot excuses accesses under these guards, if the rule is one that may
 /// be excused.
 fn is_excused(first: &EarlierSlot, rule: Rule, a: Pr, b: Pr) -> bool
     ensures { result ≡ (may_be_excused rule && excused_by first.now a b) }
 {
-    may_be_excused(rule) && first.known.has(a, b) && !has_predicate(first.written, a)
+    may_be_excused(rule) && first.known.has(a, b) && !bit(first.written, a.number())
 }
 
 /// Notes the rule that the accesses of two sets break, where some walk doesn't excuse them.

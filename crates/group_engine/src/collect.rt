@@ -7,7 +7,7 @@ ghost use Rattle.ia_meaning.specs.declared.write.FrameCause.TheVariants.{Resized
 ghost use Rattle.ia_meaning.specs.State.{Memory, IsFrame};
 ghost use Rattle.ia_meaning.specs.Names.{spot, predicate_place, predicate_spot, set_predicate};
 ghost use Rattle.ia_meaning.specs.Moves.{is_masked, masked_writes, predicate_writes};
-ghost use Rattle.ia_meaning.specs.Frames.{with_sizes, rotated, cleared, call_state, call_frame, marked_frame, return_fault};
+ghost use Rattle.ia_meaning.specs.Frames.{with_sizes, rotated, cleared, epilog_of, call_state, call_frame, marked_frame, return_fault};
 ghost use Rattle.ia_meaning.specs.Loops.{written, turn_writes};
 ghost use Rattle.slot_effects.specs.Changes.{application_write, set_at, held, update_at, load_update, writes_of, FitsApplication, MayAllocate, MayMake};
 ghost use Rattle.group_engine.specs.declared.limits.TheConstants.{SLOT_WRITE_LIMIT, WRITE_LIMIT};
@@ -16,11 +16,9 @@ ghost use Rattle.group_engine.specs.Kept.{keeping};
 use crate::kept::KeptWrites;
 use crate::registers::GroupRegisters;
 use frame_shapes::{
-    allocated, call_state, called, cell_of, cleared, epilog_of, return_fault_is_that, returned,
-    rotated,
+    call_state, called, cell_of, cleared, epilog_of, returned_frame, rotated, with_sizes,
 };
 use ia_insn::{Ar, Br, Gr, Pr, Update};
-use ia_meaning::limits::STACK_LIMIT;
 use ia_meaning::{Cell, FrameCause, FrameShape, Turn, Write, update_register};
 use integer_ops::bit;
 use slot_effects::{Change, turn_of};
@@ -169,17 +167,13 @@ impl KeptWrites {
         ensures value { self.new ≡ keeping (SetFrame Resized (with_sizes frame.now sof sol sor) ∷ set_at (spot (with_sizes frame.now sof sol sor) r1) (record { value = pfs; nat = false }) []) self.old }
         ensures few { length self.new.writes ≤ length self.old.writes + 2 }
     {
-        match allocated(STACK_LIMIT, frame, sof, sol, sor) {
-            Ok(new) => {
-                self.keep(Write::SetFrame(FrameCause::Resized, new));
-                let previous = Cell {
-                    value: pfs,
-                    nat: false,
-                };
-                self.keep_general(&new, r1, previous);
-            }
-            Err(_) => unreachable!(),
-        }
+        let new = with_sizes(frame, sof, sol, sor);
+        self.keep(Write::SetFrame(FrameCause::Resized, new));
+        let previous = Cell {
+            value: pfs,
+            nat: false,
+        };
+        self.keep_general(&new, r1, previous);
     }
 
     /// Keeps the write of the loop count, where there is a new one.
@@ -253,17 +247,12 @@ impl KeptWrites {
         requires base { base ≤ STACK_LIMIT }
         requires may { return_fault base (marked_frame base pfs) ≡ None }
         requires room { length self.old.writes + 2 ≤ WRITE_LIMIT }
-        ensures value { self.new ≡ keeping (SetFrame Resized (marked_frame (base - (marked_frame base pfs).sol) pfs) ∷ SetEc ((pfs / 2 ^ 52) % 2 ^ 6) ∷ []) self.old }
+        ensures value { self.new ≡ keeping (SetFrame Resized (marked_frame (base - (marked_frame base pfs).sol) pfs) ∷ SetEc (epilog_of pfs) ∷ []) self.old }
         ensures few { length self.new.writes ≤ length self.old.writes + 2 }
     {
-        return_fault_is_that();
-        match returned(STACK_LIMIT, base, pfs) {
-            Ok(frame) => {
-                self.keep(Write::SetFrame(FrameCause::Resized, frame));
-                self.keep(Write::SetEc(epilog_of(pfs)));
-            }
-            Err(_) => unreachable!(),
-        }
+        let frame = returned_frame(base, pfs);
+        self.keep(Write::SetFrame(FrameCause::Resized, frame));
+        self.keep(Write::SetEc(epilog_of(pfs)));
     }
 
     /// Keeps the writes of a change of these registers, with this previous function state in place of theirs.

@@ -1,6 +1,6 @@
 //! A group whose slots are gathered.
 
-ghost use Rattle.std.specs.Prelude.{◌≡◌, ◌≤◌, ◌%◌, ◌+◌, ℕ, suc, true, false, ◌&&◌, Some, None, [], ◌++◌, length, MatchOption, IfOk, IfNone, IfSome};
+ghost use Rattle.std.specs.Prelude.{◌≡◌, ◌≤◌, ◌%◌, ◌+◌, ℕ, suc, true, false, ◌&&◌, Some, None, [], ◌++◌, length, MatchOption, IfOk, IfNone};
 ghost use Rattle.ia_insn.specs.declared.limits.TheConstants.{DATA_LIMIT};
 ghost use Rattle.ia_insn.specs.declared.insn.Insn.{Insn};
 ghost use Rattle.ia_insn.specs.Places.{insn_at, IsPlaceOf};

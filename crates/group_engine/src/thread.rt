@@ -79,10 +79,7 @@ impl Thread {
         ensures { self.new ≡ record { «data» = stored self.old.data address size cell.value; alat = untouched self.old.alat address size; unat = unat_after (if spills then Some (unat_bit address, cell.nat) else None) self.old.unat } }
     {
         if spills {
-            match self.data.spill(address, cell, self.unat) {
-                Ok(unat) => self.unat = unat,
-                Err(_) => unreachable!(),
-            }
+            self.unat = self.data.put_spill(address, cell, self.unat);
         } else {
             self.data.put(address, size, cell.value);
         }

@@ -29,16 +29,6 @@ use Rattle.ia64_top.specs.Output.{is_too_long, IsSilent, IsRunAs, IsCommandOutpu
 pub same_command : (words : List (List ℕ)) (c d : Command) → command_of words ≡ Some c → command_of words ≡ Some d → c ≡ d
 same_command words c d e f = let same : Some c ≡ Some d = sym e ∙ f in cc
 
--- a command other than `trial` reads all
-pub read_all_of : (command : Command) (left : Option (List ℕ)) (input : List ℕ) → ¬ IsTrial (Some command) → IfSome left (λ l. input ≡ l) → IfSome left (IsReadOf command input)
-read_all_of command None input other whole = tt
-read_all_of (Trial seed bundles) (Some l) input other whole = absurd (other tt)
-read_all_of command (Some l) input other whole = whole
-
-pub read_none_of : (seed bundles : ℕ) (left : Option (List ℕ)) → IfSome left (IsReadOf (Trial seed bundles) [])
-read_none_of seed bundles None = tt
-read_none_of seed bundles (Some l) = refl
-
 -- what a command writes of what it reads is the output for all that there is
 output_within : (command : Command) (ws : List WatchState) (all read bytes : List ℕ) (status : Status) → IsReadOf command read all → length read ≤ INPUT_LIMIT → IsCommandOutput command ws read bytes status
     → MatchBool (is_too_long command all) (IsSilent TooLong bytes status) (IsCommandOutput command ws all bytes status)

@@ -127,10 +127,6 @@ none_beyond P words c None e other beyond = tt
 none_beyond P words c (Some l) e other beyond =
     λ d f short. absurd (long_enough d l (subst (λ k. ¬ IsTrial (Some k)) (same_command words c d e f) other) beyond short)
 
-pub whatever_is_left : (left : Option (List ℕ)) (P : List ℕ → Type 0) → ((l : List ℕ) → P l) → IfSome left P
-whatever_is_left None P h = tt
-whatever_is_left (Some l) P h = h l
-
 -- A verdict with violations prints clashes alone.
 prints : (p : Program) (bytes : List ℕ) (v : Verdict) → IsVerdict p v → bytes ≡ verdict_text v → Violated ≡ verdict_status v → PrintsClashes p bytes
 prints p bytes Accepted exact printed is = cc

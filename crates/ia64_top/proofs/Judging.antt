@@ -11,7 +11,7 @@ use Rattle.ia64_top.specs.declared.status.Status.{Status}
 use Rattle.ia64_top.specs.declared.status.Status.TheVariants.{Done, Violated, Refused}
 use Rattle.ia64_top.specs.Judgements.{verdict_status, IsJudgement}
 use Rattle.ia64_top.specs.Texts.{verdict_text}
-use Rattle.ia64_top.specs.Readings.{InputReading, IsRefusal}
+use Rattle.ia64_top.specs.Readings.{InputReading}
 use Rattle.ia64_top.specs.Output.{IsCheckedAs}
 use Rattle.ia64_top.proofs.Outputs.{GivesOne, RefusesNone, IsTold, holds_where_told}
 
@@ -41,19 +41,6 @@ done_of_judgement p bytes status j = subst (λ s. (s ≡ Done) ↔ IsFree p) (sy
 
 pub violated_of_judgement : (p : Program) (bytes : List ℕ) (status : Status) → IsJudgement p bytes status → ((status ≡ Violated) ↔ (¬ IsFree p))
 violated_of_judgement p bytes status j = subst (λ s. (s ≡ Violated) ↔ (¬ IsFree p)) (sym j.tells) (violated_of_verdict p j.verdict j.exact)
-
--- what is checked of an input that is refused
-pub is_checked_refusal : (r : InputReading) (input bytes : List ℕ) (status : Status) → IsRefusal r input bytes status → IsCheckedAs r input bytes status
-is_checked_refusal r input bytes status refused = subst (IsCheckedAs r input bytes) (sym refused.1) refused.0
-
--- the verdict tells the row of its status
-by_verdict : (r : InputReading) (input : List ℕ) (p : Program) (bytes : List ℕ) (status : Status) (v : Verdict) → r.Gives input p → status ≡ verdict_status v → IsJudgement p bytes status → IsCheckedAs r input bytes status
-by_verdict r input p bytes status Accepted g is = subst (λ s. IsJudgement p bytes s → IsCheckedAs r input bytes s) (sym is) (λ o. (p, g, o))
-by_verdict r input p bytes status (Violations report) g is = subst (λ s. IsJudgement p bytes s → IsCheckedAs r input bytes s) (sym is) (λ o. (p, g, o))
-
--- the judgement of the program that an input is read as is that of the input
-pub check_of_program : (r : InputReading) (input : List ℕ) (p : Program) (bytes : List ℕ) (status : Status) → r.Gives input p → IsJudgement p bytes status → IsCheckedAs r input bytes status
-check_of_program r input p bytes status g o = by_verdict r input p bytes status o.verdict g o.tells o
 
 -- each row tells the judgement of the program, or the refusal
 pub told_of_check : (r : InputReading) (input bytes : List ℕ) (status : Status) → IsCheckedAs r input bytes status → IsTold r IsJudgement input bytes status

@@ -23,7 +23,7 @@ use Rattle.ia64_top.specs.declared.status.Status.TheVariants.{Done, TooLong, Lim
 use Rattle.ia64_top.specs.Words.{command_of, run_words}
 use Rattle.ia64_top.specs.Inputs.{IsReadOf}
 use Rattle.ia64_top.specs.Runs.{run_of, numbered_run_of, end_status, IsRunOf, IsNumberedRunOf}
-use Rattle.ia64_top.specs.Readings.{InputReading, IsRefusal, as_either}
+use Rattle.ia64_top.specs.Readings.{InputReading, as_either}
 use Rattle.ia64_top.specs.Output.{IsNumberedRunAs, IsCommandOutput, GivesOutput}
 use Rattle.ia64_top.proofs.Numerals.{number_of_numeral}
 use Rattle.ia64_top.proofs.Ranges.{in_range}
@@ -34,9 +34,6 @@ use Rattle.ia64_top.proofs.Answering.{output_of, TellsOfGroups, groups_beyond, g
 -- the answer of a program
 abbrev pub IsNumberedRunAnswer : (groups number : ℕ) → Program → List ℕ → Status → Type 0
 IsNumberedRunAnswer groups number p bytes status = IsNumberedRunOf p groups number bytes status
-
-pub numbered_refusal_is : (groups number : ℕ) (r : InputReading) (input bytes : List ℕ) (status : Status) → IsRefusal r input bytes status → IsNumberedRunAs groups number r input bytes status
-numbered_refusal_is groups number r input bytes status refused = subst (IsNumberedRunAs groups number r input bytes) (sym refused.1) refused.0
 
 -- the end of the run tells the row of its status
 by_end : (groups number : ℕ) (r : InputReading) (input : List ℕ) (p : Program) (bytes : List ℕ) (status : Status) (e : End) → r.Gives input p → status ≡ end_status e → IsNumberedRunOf p groups number bytes status → IsNumberedRunAs groups number r input bytes status

@@ -10,7 +10,6 @@ use Rattle.image_form.specs.declared.version.Version.TheVariants.{Two}
 use Rattle.image_form.specs.Laws.{OneProgram, OneImage, OneRawProgram, OneFault, OneRawFault, NoFaultWhereSpelled, NoFaultWhereRaw}
 use Rattle.asm_build.specs.CanonicalText.{slots_text}
 use Rattle.asm_build.specs.Laws.{OneTextProgram, OneTextFault, NoFaultWhereRead}
-use Rattle.stop_placer.specs.Packed.{Packed}
 use Rattle.stop_placer.specs.Laws.{OnePlaced, OnePlacingFault, NoFaultWherePlaced}
 use Rattle.asm_build.specs.Listing.{head_listed, IsBundleListing, AreBundleListings, IsListing}
 use Rattle.group_checker.specs.Reports.{OneVerdict}

@@ -21,7 +21,7 @@ use Rattle.ia64_top.specs.Runs.{run_of, end_status, watch_text, IsRunOf}
 use Rattle.watch_seam.specs.Watchers.{WatchState}
 use Rattle.watch_seam.specs.Watching.{staying}
 use Rattle.ia64_top.specs.Watching.{IsNotRun, HaveWatched}
-use Rattle.ia64_top.specs.Readings.{InputReading, IsRefusal, as_either}
+use Rattle.ia64_top.specs.Readings.{InputReading, as_either}
 use Rattle.std.specs.Prelude.{Some}
 use Rattle.ia64_top.specs.declared.words.Command.{Command}
 use Rattle.ia64_top.specs.declared.words.Command.TheVariants as command
@@ -33,9 +33,6 @@ use Rattle.ia64_top.proofs.Judging.{violated_of_judgement, done_where_free, viol
 -- What is answered of a program: its run, or its verdict where it has violations.
 abbrev pub IsRunAnswer : (Run → List ℕ) → ℕ → Program → List ℕ → Status → Type 0
 IsRunAnswer text groups p bytes status = IsRunOf text p groups bytes status ⊎ IsJudgedViolated p bytes status
-
-pub is_run_refusal : (text : Run → List ℕ) (groups : ℕ) (r : InputReading) (input bytes : List ℕ) (status : Status) → IsRefusal r input bytes status → IsRunAs text groups r input bytes status
-is_run_refusal text groups r input bytes status refused = subst (IsRunAs text groups r input bytes) (sym refused.1) refused.0
 
 -- the end of the run tells the row of its status
 by_end : (text : Run → List ℕ) (groups : ℕ) (r : InputReading) (input : List ℕ) (p : Program) (bytes : List ℕ) (status : Status) (e : End) → r.Gives input p → status ≡ end_status e → IsRunOf text p groups bytes status → IsRunAs text groups r input bytes status
@@ -82,11 +79,6 @@ run_violated_where_not_free : (text : Run → List ℕ) (groups : ℕ) (r : Inpu
     → (p : Program) → r.Gives input p → ((status ≡ Violated) ↔ (¬ IsFree p))
 run_violated_where_not_free text groups r one none input bytes status o =
     holds_where_told r (IsRunAnswer text groups) (λ p s. (s ≡ Violated) ↔ (¬ IsFree p)) (violated_of_answer text groups) one none input bytes status (told_of_run text groups r input bytes status o)
-
--- What is answered to an input that isn't run, and of the accepted program that is.
-pub unrun_is : (text : Run → List ℕ) (groups : ℕ) (r : InputReading) (input bytes : List ℕ) (status : Status) → IsUnrunAs r input bytes status → IsRunAs text groups r input bytes status
-unrun_is text groups r input bytes status (inl refused) = is_run_refusal text groups r input bytes status refused
-unrun_is text groups r input bytes status (inr o) = run_of_program text groups r input o.0 bytes status o.1 (inr o.2)
 
 pub run_is : (text : Run → List ℕ) (groups : ℕ) (r : InputReading) (input : List ℕ) (p : Program) (bytes : List ℕ) (status : Status) → IsAcceptedAs r input p → IsRunOf text p groups bytes status → IsRunAs text groups r input bytes status
 run_is text groups r input p bytes status accepted o = run_of_program text groups r input p bytes status accepted.0 (inl o)

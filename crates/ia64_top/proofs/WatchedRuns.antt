@@ -153,11 +153,6 @@ pub events_of_start : EventsAreOfRun → (groups : ℕ) (p : Program) (m : Execu
     → events_further groups m.program m.progress ≡ (run_of p groups).events
 events_of_start law groups p m program is = ap (λ (x : Execution). events_further groups x.program x.progress) is ∙ law groups p (zero_state p) program (zero_is_place p program)
 
--- The progress of that machine after the run.
-pub progress_of_start : (groups : ℕ) (p : Program) (m now : Execution) → m ≡ record { program = p; progress = begun (zero_state p) } → now ≡ record m { progress = groups_further groups m.program m.progress }
-    → now.progress ≡ groups_further groups p (begun (zero_state p))
-progress_of_start groups p m now is came = ap (λ (x : Execution). x.progress) came ∙ ap (λ (x : Execution). groups_further groups x.program x.progress) is
-
 -- The same, where the events have another name.
 pub stay_over : (events other : List GroupEvent) (old now : List WatchState) → events ≡ other → now ≡ staying events old → now ≡ staying other old
 stay_over events other old now same is = subst (λ es. now ≡ staying es old) same is

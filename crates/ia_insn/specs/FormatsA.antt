@@ -1,8 +1,9 @@
 -- The A formats, of M and I slots: the fields of each instruction
 -- (volume 3, chapter 4, instruction formats, A1 to A9).
-use Rattle.std.specs.Prelude.{ℕ, ◌+◌, ◌-◌, ◌*◌, ◌==◌, if◌then◌else◌, List, [], ◌∷◌, Option, Some, None, unwrap_or}
+use Rattle.std.specs.Prelude.{ℕ, ◌+◌, ◌-◌, ◌*◌, List, [], ◌∷◌, Option, Some, None, unwrap_or}
 use Rattle.ia_insn.specs.Fields.{Major, Qp, Za, Tb, X2, X2a, Ve, Zb, Ta, X4, X2b, C, P2, R3, R3A5, R2, R1, P1, S, Imm9d, Imm6d, Imm5c, Imm7b, Ct2d}
 use Rattle.bundle_bits.specs.Words.{Part, bits}
+use Rattle.ia_insn.specs.Sizes.{code_of_size}
 use Rattle.ia_insn.specs.Signed.{twos, flag}
 use Rattle.ia_insn.specs.declared.insn.Op.{Op}
 use Rattle.ia_insn.specs.declared.insn.Op.TheVariants.{Alu, ShlAdd, AluImm8, AddImm14, AddImm22, Cmp, CmpZero, CmpImm, Lane}
@@ -78,10 +79,6 @@ zero_codes Ge = Some (1, 0)
 zero_codes Lt = Some (1, 1)
 zero_codes rel = None
 
--- za and zb of lanes of 1, 2 or 4 bytes, A9
-abbrev pub lane_size_codes : ℕ → ℕ × ℕ
-lane_size_codes size = if size == 1 then (0, 0) else if size == 2 then (0, 1) else (1, 0)
-
 -- x4 and x2b of the operations on lanes, A9
 abbrev pub lane_codes : LaneFn → ℕ × ℕ
 lane_codes Padd = (0, 0)
@@ -128,9 +125,9 @@ fields qp (CmpImm four rel kind p1 p2 imm r3) =
     let x = unwrap_or (compare kind rel) (0, 0, 0) in
     Major x.0 ∷ S (bits 7 1 u) ∷ X2 (2 + flag four) ∷ Ta x.1 ∷ P2 p2 ∷ R3 r3 ∷ Imm7b (bits 0 7 u) ∷ C x.2 ∷ P1 p1
     ∷ Qp qp ∷ []
--- A9: lanes of two registers
+-- A9: lanes of two registers, where za and zb are the two bits of the code of their size
 fields qp (Lane f size r1 r2 r3) =
-    let z = lane_size_codes size in
+    let z = code_of_size size in
     let x = lane_codes f in
-    Major 8 ∷ Za z.0 ∷ X2a 1 ∷ Zb z.1 ∷ X4 x.0 ∷ X2b x.1 ∷ R3 r3 ∷ R2 r2 ∷ R1 r1 ∷ Qp qp ∷ []
+    Major 8 ∷ Za (bits 1 1 z) ∷ X2a 1 ∷ Zb (bits 0 1 z) ∷ X4 x.0 ∷ X2b x.1 ∷ R3 r3 ∷ R2 r2 ∷ R1 r1 ∷ Qp qp ∷ []
 fields qp op = []

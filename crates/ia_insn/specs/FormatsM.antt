@@ -16,29 +16,32 @@ use Rattle.ia_insn.specs.declared.choices.StoreKind.TheVariants as stores
 use Rattle.ia_insn.specs.declared.choices.Unit.TheVariants as units
 use Rattle.ia_insn.specs.declared.choices.Update.TheVariants as updates
 
--- x6 of a load of one byte; a fill, which has 8 bytes, has none
-abbrev pub load_base : LoadKind → ℕ
-load_base loads.Plain = 0x00
-load_base loads.S = 0x04
-load_base loads.A = 0x08
-load_base loads.Sa = 0x0c
-load_base loads.Bias = 0x10
-load_base loads.Acq = 0x14
-load_base loads.CClr = 0x20
-load_base loads.CNc = 0x24
-load_base loads.CClrAcq = 0x28
-load_base loads.Fill = 0
+-- x6 of a load of this type where its two low bits, those of the size, are 0
+abbrev pub load_type_code : LoadKind → ℕ
+load_type_code loads.Plain = 0x00
+load_type_code loads.S = 0x04
+load_type_code loads.A = 0x08
+load_type_code loads.Sa = 0x0c
+load_type_code loads.Bias = 0x10
+load_type_code loads.Acq = 0x14
+load_type_code loads.Fill = 0x18
+load_type_code loads.CClr = 0x20
+load_type_code loads.CNc = 0x24
+load_type_code loads.CClrAcq = 0x28
 
 -- x6 of a load, M1 to M3
 abbrev pub load_code : LoadKind → ℕ → ℕ
-load_code loads.Fill size = 0x1b
-load_code kind size = load_base kind + code_of_size size
+load_code kind size = load_type_code kind + code_of_size size
+
+-- and of a store of this type
+abbrev pub store_type_code : StoreKind → ℕ
+store_type_code stores.Plain = 0x30
+store_type_code stores.Rel = 0x34
+store_type_code stores.Spill = 0x38
 
 -- x6 of a store, M4 and M5
 abbrev pub store_code : StoreKind → ℕ → ℕ
-store_code stores.Plain size = 0x30 + code_of_size size
-store_code stores.Rel size = 0x34 + code_of_size size
-store_code stores.Spill size = 0x3b
+store_code kind size = store_type_code kind + code_of_size size
 
 -- x6 of an exchange, M16
 abbrev pub exchange_code : ℕ → ℕ

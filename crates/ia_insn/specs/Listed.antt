@@ -52,3 +52,8 @@ IsListedX = IsListedIn x.fields
 abbrev pub IsListed : Insn → Type 0
 IsListed insn =
     IsListedA insn ⊎ (IsListedI insn ⊎ (IsListedM insn ⊎ (IsListedB insn ⊎ (IsListedF insn ⊎ IsListedX insn))))
+
+-- The instruction has a row in the family with these fields, and its operands and its qualifying predicate are in range. That
+-- then the parts of the row fit, where it names registers that there are, is `in_range` of `is_listed_a` and of its kin.
+abbrev pub HasRowInRange : (ℕ → Op → List Part) → Insn → Type 0
+HasRowInRange fields insn = HasFields (fields insn.qp insn.op) × HasRanges insn.op × MayQualify insn.qp insn.op

@@ -30,6 +30,10 @@ IsAccessSize size = (size ≡ 1) ⊎ ((size ≡ 2) ⊎ ((size ≡ 4) ⊎ (size �
 abbrev pub IsPartSize : ℕ → Type 0
 IsPartSize size = (size ≡ 1) ⊎ ((size ≡ 2) ⊎ (size ≡ 4))
 
+-- 4 or 8 bytes: what a fetch-and-add adds to
+abbrev pub IsFetchAddSize : ℕ → Type 0
+IsFetchAddSize size = (size ≡ 4) ⊎ (size ≡ 8)
+
 -- an increment of a fetch-and-add: 1, 4, 8, 16, or one of these with a minus sign
 abbrev pub IsIncrement : ℤ → Type 0
 IsIncrement inc =
@@ -77,8 +81,8 @@ IsCheckOf I = Unit {0}
 IsCheckOf unit = ⊥
 
 -- r0 is no target and two predicate targets differ; each number has its range, and each choice is one
--- that the formats have a code for. Which units and updates an operation has is said by the rows of fields, too; it stands
--- here for who asks of the operands alone.
+-- that the formats have a code for. Which units and updates an operation has is said by the rows of fields, too: here it is
+-- said of the operands alone, and `ranges` of `is_listed` says that the two agree.
 abbrev pub HasRanges : Op → Type 0
 HasRanges (ops.Alu f r1 r2 r3) = r1 ≢ 0
 HasRanges (ops.ShlAdd p4 r1 r2 count r3) = (r1 ≢ 0) × (1 ≤ count) × (count ≤ 4)
@@ -116,7 +120,7 @@ HasRanges (ops.Store size kind hint r3 r2 update) =
     IsStoreSize kind size × ((hint ≡ 0) ⊎ (hint ≡ 3)) × IsStoreUpdate r3 update
 HasRanges (ops.Xchg size hint r1 r3 r2) = (r1 ≢ 0) × IsAccessSize size × (hint ≤ 3) × (hint ≢ 2)
 HasRanges (ops.FetchAdd size release hint r1 r3 inc) =
-    (r1 ≢ 0) × ((size ≡ 4) ⊎ (size ≡ 8)) × (hint ≤ 3) × (hint ≢ 2) × IsIncrement inc
+    (r1 ≢ 0) × IsFetchAddSize size × (hint ≤ 3) × (hint ≢ 2) × IsIncrement inc
 HasRanges (ops.ChkA clear r1 disp) = FitsSigned 21 disp
 HasRanges ops.Invala = Unit {0}
 HasRanges ops.Mf = Unit {0}

@@ -1,4 +1,5 @@
--- Sizes in bytes as codes (volume 3, chapter 4: x6 of loads, stores, exchanges, fetch-and-adds and extensions).
+-- Sizes in bytes as codes (volume 3, chapter 4: x6 of loads, stores, exchanges, fetch-and-adds and extensions, and
+-- za with zb of lanes).
 use Rattle.std.specs.Prelude.{ℕ, ◌%◌, ◌==◌, if◌then◌else◌}
 
 -- the low bits of the code of 1, 2, 4 or 8 bytes: the logarithm

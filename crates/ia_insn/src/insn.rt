@@ -8,10 +8,10 @@ use crate::choices::{
 use crate::registers::{Ar, Br, Gr, Pr};
 
 /// An instruction with its qualifying predicate (volume 1, chapter 3, instruction encoding). A
-/// value need not be an instruction of the machine: `fits` says which are, and in which slots.
+/// value need not be an instruction of the machine: `is_listed` says which are, and `fits` in which slots.
 #[derive(Clone, Copy, Debug, PartialEq, Eq)]
 pub struct Insn {
-    /// The qualifying predicate: where it is 0, the instruction does nothing.
+    /// The qualifying predicate: where it is 0, only tests of type `unc` and loop branches do anything.
     pub qp: Pr,
     /// The rest of the instruction.
     pub op: Op,

@@ -45,7 +45,7 @@ pub use choices::{
 pub use ending::{End, FaultKind, GroupEvent, How};
 pub use entries::{are_in_range, is_entry, misplaced_entry};
 pub use insn::{Insn, Op};
-pub use listed::{is_listed, operands_in_range};
+pub use listed::is_listed;
 pub use listed_a::is_listed_a;
 pub use listed_b::is_listed_b;
 pub use listed_f::is_listed_f;

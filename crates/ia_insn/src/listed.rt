@@ -2,7 +2,7 @@
 
 ghost use Rattle.std.specs.Prelude.{◌↔◌, IsTrue};
 ghost use Rattle.ia_insn.specs.Listed.{IsListed};
-ghost use Rattle.ia_insn.specs.Ranges.{HasRanges};
+ghost use Rattle.ia_insn.specs.Ranges.{HasRanges, MayQualify};
 
 use crate::insn::Insn;
 use crate::listed_a::is_listed_a;
@@ -14,8 +14,12 @@ use crate::listed_x::is_listed_x;
 
 /// Whether the instruction is one of the A, I, M, B, F or X formats, with its operands in their ranges.
 /// Those are the instructions that some slot of some template takes.
+#[tactic(auto, using(crate::proofs::OperandRanges::row_of_ranges, crate::proofs::OperandRanges::ranges_of_listed, crate::proofs::OperandRanges::qualifier_of_listed))]
 pub fn is_listed(insn: &Insn) -> bool
-    ensures { IsTrue result ↔ IsListed insn.now }
+    ensures exact { IsTrue result ↔ IsListed insn.now }
+
+    // The ranges and the qualifying predicate decide it: what is in range has a row of fields, and its parts fit.
+    ensures ranges { IsTrue result ↔ HasRanges insn.now.op × MayQualify insn.now.qp insn.now.op }
 {
     is_listed_a(insn)
         || is_listed_i(insn)
@@ -24,10 +28,3 @@ pub fn is_listed(insn: &Insn) -> bool
         || is_listed_f(insn)
         || is_listed_x(insn)
 }
-
-/// The law that a listed instruction has its operands in the ranges that [`Op`](crate::Op) names: r0
-/// is no target, two predicate targets differ, each number has its range, and each choice is one that
-/// the formats have a code for. It does nothing.
-pub fn operands_in_range(insn: Insn)
-    ensures { IsListed insn → HasRanges insn.op }
-{}

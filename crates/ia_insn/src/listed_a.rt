@@ -4,8 +4,8 @@
 //! field.
 
 ghost use Rattle.std.specs.Prelude.{◌↔◌, IsTrue, IsSome};
-ghost use Rattle.ia_insn.specs.FormatsA.{imm8_codes, compare, parallel_op, zero_codes};
-ghost use Rattle.ia_insn.specs.Listed.{IsListedA};
+ghost use Rattle.ia_insn.specs.FormatsA.{imm8_codes, compare, parallel_op, zero_codes, fields};
+ghost use Rattle.ia_insn.specs.Listed.{HasRowInRange, IsListedA};
 
 use crate::choices::{AluFn, CmpKind, Rel};
 use crate::insn::{Insn, Op};
@@ -42,7 +42,10 @@ fn is_zero_compare(kind: CmpKind, rel: Rel) -> bool
 
 /// Whether the instruction is an A instruction whose operands are in their ranges.
 pub fn is_listed_a(insn: &Insn) -> bool
-    ensures { IsTrue result ↔ IsListedA insn.now }
+    ensures exact { IsTrue result ↔ IsListedA insn.now }
+
+    // Each part of what is in range fits its field.
+    ensures in_range { HasRowInRange fields insn.now → IsTrue result }
 {
     insn.qp.has_six_bits();
     match insn.op {

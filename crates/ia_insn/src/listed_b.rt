@@ -4,7 +4,8 @@
 //! field.
 
 ghost use Rattle.std.specs.Prelude.{◌↔◌, IsTrue};
-ghost use Rattle.ia_insn.specs.Listed.{IsListedB};
+ghost use Rattle.ia_insn.specs.FormatsB.{fields};
+ghost use Rattle.ia_insn.specs.Listed.{HasRowInRange, IsListedB};
 
 use crate::choices::{BranchKind, Unit};
 use crate::insn::{Insn, Op};
@@ -12,7 +13,10 @@ use crate::signed::fits_signed;
 
 /// Whether the instruction is a B instruction whose operands are in their ranges.
 pub fn is_listed_b(insn: &Insn) -> bool
-    ensures { IsTrue result ↔ IsListedB insn.now }
+    ensures exact { IsTrue result ↔ IsListedB insn.now }
+
+    // Each part of what is in range fits its field.
+    ensures in_range { HasRowInRange fields insn.now → IsTrue result }
 {
     insn.qp.has_six_bits();
     match insn.op {

@@ -5,14 +5,18 @@
 //! field.
 
 ghost use Rattle.std.specs.Prelude.{◌↔◌, IsTrue};
-ghost use Rattle.ia_insn.specs.Listed.{IsListedF};
+ghost use Rattle.ia_insn.specs.FormatsF.{fields};
+ghost use Rattle.ia_insn.specs.Listed.{HasRowInRange, IsListedF};
 
 use crate::choices::Unit;
 use crate::insn::{Insn, Op};
 
 /// Whether the instruction is an F instruction whose operands are in their ranges.
 pub fn is_listed_f(insn: &Insn) -> bool
-    ensures { IsTrue result ↔ IsListedF insn.now }
+    ensures exact { IsTrue result ↔ IsListedF insn.now }
+
+    // Each part of what is in range fits its field.
+    ensures in_range { HasRowInRange fields insn.now → IsTrue result }
 {
     insn.qp.has_six_bits();
     match insn.op {

@@ -5,7 +5,8 @@
 
 ghost use Rattle.std.specs.Prelude.{◌↔◌, IsTrue};
 ghost use Rattle.ia_insn.specs.Ranges.{IsBitField};
-ghost use Rattle.ia_insn.specs.Listed.{IsListedI};
+ghost use Rattle.ia_insn.specs.FormatsI.{fields};
+ghost use Rattle.ia_insn.specs.Listed.{HasRowInRange, IsListedI};
 
 use crate::choices::Unit;
 use crate::insn::{Insn, Op};
@@ -15,7 +16,10 @@ use crate::sizes::is_part_size;
 
 /// Whether the instruction is an I instruction whose operands are in their ranges.
 pub fn is_listed_i(insn: &Insn) -> bool
-    ensures { IsTrue result ↔ IsListedI insn.now }
+    ensures exact { IsTrue result ↔ IsListedI insn.now }
+
+    // Each part of what is in range fits its field.
+    ensures in_range { HasRowInRange fields insn.now → IsTrue result }
 {
     insn.qp.has_six_bits();
     match insn.op {

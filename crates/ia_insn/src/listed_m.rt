@@ -5,8 +5,9 @@
 //! field.
 
 ghost use Rattle.std.specs.Prelude.{◌≢◌, ◌<◌, ◌↔◌, IsTrue};
-ghost use Rattle.ia_insn.specs.Ranges.{IsLoadSize, IsStoreSize, IsIncrement};
-ghost use Rattle.ia_insn.specs.Listed.{IsListedM};
+ghost use Rattle.ia_insn.specs.Ranges.{IsLoadSize, IsStoreSize, IsFetchAddSize, IsIncrement};
+ghost use Rattle.ia_insn.specs.FormatsM.{fields};
+ghost use Rattle.ia_insn.specs.Listed.{HasRowInRange, IsListedM};
 ghost use Rattle.ia_insn.specs.declared.insn.Op.TheVariants.{Load, Store};
 
 use crate::choices::{LoadKind, StoreKind, Unit, Update};
@@ -35,6 +36,13 @@ fn is_store_size(kind: StoreKind, size: u8) -> bool
     }
 }
 
+/// Whether a fetch-and-add has this many bytes.
+fn is_fetch_add_size(size: u8) -> bool
+    ensures { IsTrue result ↔ IsFetchAddSize size }
+{
+    size == 4 || size == 8
+}
+
 /// Whether this is an increment of a fetch-and-add.
 fn is_increment(inc: i16) -> bool
     ensures { IsTrue result ↔ IsIncrement inc }
@@ -59,7 +67,8 @@ fn is_listed_load(
     r3: Gr,
     update: Update,
 ) -> bool
-    ensures { IsTrue result ↔ IsListedM (record { qp = qp; op = Load size kind hint r1 r3 update }) }
+    ensures exact { IsTrue result ↔ IsListedM (record { qp = qp; op = Load size kind hint r1 r3 update }) }
+    ensures in_range { HasRowInRange fields (record { qp = qp; op = Load size kind hint r1 r3 update }) → IsTrue result }
 {
     if r1.is_zero() || hint > 3 || hint == 2 || !is_load_size(kind, size) {
         return false;
@@ -81,7 +90,8 @@ fn is_listed_store(
     r2: Gr,
     update: Update,
 ) -> bool
-    ensures { IsTrue result ↔ IsListedM (record { qp = qp; op = Store size kind hint r3 r2 update }) }
+    ensures exact { IsTrue result ↔ IsListedM (record { qp = qp; op = Store size kind hint r3 r2 update }) }
+    ensures in_range { HasRowInRange fields (record { qp = qp; op = Store size kind hint r3 r2 update }) → IsTrue result }
 {
     if (hint != 0 && hint != 3) || !is_store_size(kind, size) {
         return false;
@@ -95,7 +105,10 @@ fn is_listed_store(
 
 /// Whether the instruction is an M instruction whose operands are in their ranges.
 pub fn is_listed_m(insn: &Insn) -> bool
-    ensures { IsTrue result ↔ IsListedM insn.now }
+    ensures exact { IsTrue result ↔ IsListedM insn.now }
+
+    // Each part of what is in range fits its field.
+    ensures in_range { HasRowInRange fields insn.now → IsTrue result }
 {
     insn.qp.has_six_bits();
     match insn.op {
@@ -135,7 +148,7 @@ pub fn is_listed_m(insn: &Insn) -> bool
             ..
         } => {
             r3.has_seven_bits();
-            !r1.is_zero() && hint <= 3 && hint != 2 && (size == 4 || size == 8) && is_increment(inc)
+            !r1.is_zero() && hint <= 3 && hint != 2 && is_fetch_add_size(size) && is_increment(inc)
         }
         Op::ChkS { unit, r2, disp } => {
             r2.has_seven_bits();

@@ -5,14 +5,18 @@
 //! field.
 
 ghost use Rattle.std.specs.Prelude.{◌↔◌, IsTrue};
-ghost use Rattle.ia_insn.specs.Listed.{IsListedX};
+ghost use Rattle.ia_insn.specs.FormatsX.{fields};
+ghost use Rattle.ia_insn.specs.Listed.{HasRowInRange, IsListedX};
 
 use crate::choices::Unit;
 use crate::insn::{Insn, Op};
 
 /// Whether the instruction is a long instruction whose operands are in their ranges.
 pub fn is_listed_x(insn: &Insn) -> bool
-    ensures { IsTrue result ↔ IsListedX insn.now }
+    ensures exact { IsTrue result ↔ IsListedX insn.now }
+
+    // Each part of what is in range fits its field.
+    ensures in_range { HasRowInRange fields insn.now → IsTrue result }
 {
     insn.qp.has_six_bits();
     match insn.op {

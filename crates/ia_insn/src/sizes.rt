@@ -19,7 +19,7 @@ pub(crate) fn is_part_size(size: u8) -> bool
 }
 
 /// The low bits of the code of 1, 2, 4 or 8 bytes: the logarithm (volume 3, chapter 4, x6 of loads, stores, exchanges,
-/// fetch-and-adds and extensions).
+/// fetch-and-adds and extensions, and za with zb of lanes).
 pub fn code_of_size(size: u8) -> u64
     requires { IsAccessSize size }
     ensures value { result ≡ code_of_size size }

@@ -1,5 +1,5 @@
 -- How a run goes on after an effect.
-use Rattle.std.proofs.Common.{◌≡◌, ℕ, zero, suc, Bool, List, Option, Some, None, Result, Ok, Err, take, refl, sym, subst, arith}
+use Rattle.std.proofs.Common.{◌≡◌, ℕ, zero, suc, Bool, List, Option, Some, None, Result, Ok, take, refl, sym, subst, arith}
 use Rattle.std.specs.Prelude.{⊤, ℤ, IfSome, IfOk}
 use Rattle.ia_insn.specs.declared.registers.Ar.{Ar}
 use Rattle.ia_insn.specs.declared.registers.Ar.TheVariants.{Pfs}
@@ -13,9 +13,7 @@ use Rattle.ia_meaning.specs.declared.next.Next.{Next}
 use Rattle.ia_meaning.specs.declared.next.Next.TheVariants.{Falls, Goes}
 use Rattle.ia_meaning.specs.declared.action.Goal.TheVariants.{Direct, Indirect}
 use Rattle.ia_meaning.specs.State.{Registers, Memory}
-use Rattle.ia_meaning.specs.declared.write.Write.{Write}
-use Rattle.ia_meaning.specs.Outcomes.{Outcome, unless}
-use Rattle.ia_meaning.specs.Frames.{lands}
+use Rattle.ia_meaning.specs.Outcomes.{Outcome}
 use Rattle.ia_meaning.specs.Landings.{target_of}
 use Rattle.ia_meaning.specs.declared.action.Action.{Action}
 use Rattle.ia_meaning.specs.declared.action.Action.TheVariants.{Test, ToApplication, CheckNat, CheckAlat, Jump, JumpIndirect, Loop, Call, Return}
@@ -103,14 +101,6 @@ falls_as (Some place) m way o e h = record { falls = h; place = place; is = refl
 
 pub falls_to : (next : Option Place) (m : Memory) (o : Outcome) → (settled next m o.next o).next ≡ Falls → FallsTo next o
 falls_to next m o h = falls_as next m o.next o refl h
-
-lands_leaves : (ws : List Write) (m : Memory) (to : Result ℕ FaultKind) → (lands ws m to).next ≡ Falls → ⊥
-lands_leaves ws m (Err kind) e = cc
-lands_leaves ws m (Ok bundle) e = cc
-
-return_leaves : (fault : Option FaultKind) (ws : List Write) (to : Result ℕ FaultKind) (m : Memory) → (unless fault m (lands ws m to)).next ≡ Falls → ⊥
-return_leaves (Some k) ws to m e = cc
-return_leaves None ws to m e = lands_leaves ws m to e
 
 -- a leaving operation that is executed doesn't fall through
 act_leaves : (s : Site) (o : Op) (r : Registers) (m : Memory) (unat : ℕ) → IsLeaving o → (act s (action_of o) r m unat).next ≡ Falls → ⊥

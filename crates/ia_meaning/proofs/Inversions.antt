@@ -23,13 +23,13 @@ use Rattle.ia_meaning.specs.declared.write.Write.{Write}
 use Rattle.ia_meaning.specs.declared.write.Write.TheVariants.{SetBranch, SetUnat, SetPfs, SetLc, SetEc, SetFrame}
 use Rattle.ia_meaning.specs.declared.write.FrameCause.TheVariants.{Resized, Renamed}
 use Rattle.ia_meaning.specs.Names.{spot, look, holds, predicate_spot, set_spot, set_predicate}
-use Rattle.ia_meaning.specs.Outcomes.{Outcome, falls, goes, breaks, faults, unless}
+use Rattle.ia_meaning.specs.Outcomes.{Outcome, falls, goes, breaks, faults, faults_or}
 use Rattle.ia_meaning.specs.declared.action.Action.{Action}
 use Rattle.ia_meaning.specs.declared.action.Action.TheVariants.{Compute, Fetch, Test, ToPredicates, ToBranch, ToApplication, FromMemory, ToMemory, Exchange, CheckNat, CheckAlat, ForgetAll, Forget, Allocate, Jump, JumpIndirect, Loop, Call, Return, ClearBases, Stop, Idle}
 use Rattle.ia_meaning.specs.Actions.{value_of, result_of, moved}
 use Rattle.ia_meaning.specs.Moves.{computed, fetched, source_value, test_writes, test_made, test_skipped, predicate_writes, to_predicates, to_branch, has_reserved_zeros, application_written, to_application}
 use Rattle.ia_meaning.specs.Loads.{access_fault, loaded, forgotten, has_hit, has_entry, update_register, base_writes, is_speculative, is_check, load_alat, load_nat, deferred, load_hit, load_failed, load_tried, load_checked, from_memory, takes_nat, store_made, to_memory, exchange_made, exchange, check_nat, check_alat, forget}
-use Rattle.ia_meaning.specs.Frames.{with_sizes, has_zero_bases, allocated, cleared, call_writes, lands, marked_frame, return_fault}
+use Rattle.ia_meaning.specs.Frames.{with_sizes, has_zero_bases, allocated, cleared, epilog_of, call_writes, lands, marked_frame, return_fault}
 use Rattle.ia_meaning.specs.Loops.{turn_of, turn_writes, turned}
 use Rattle.ia_meaning.specs.declared.turn.Turn.{Turn}
 use Rattle.ia_meaning.specs.Landings.{target_of}
@@ -127,7 +127,7 @@ ActCases Q s (Call b1 (Indirect b2)) r m unat =
 ActCases Q s (Return b2) r m unat =
     Fails Q m
     × ((to : ℕ) → return_fault r.frame.base (marked_frame r.frame.base r.pfs) ≡ None → arrives s r b2 ≡ Ok to
-    → Q (goes (SetFrame Resized (marked_frame (r.frame.base - (marked_frame r.frame.base r.pfs).sol) r.pfs) ∷ SetEc ((r.pfs / 2 ^ 52) % 2 ^ 6) ∷ []) m to))
+    → Q (goes (SetFrame Resized (marked_frame (r.frame.base - (marked_frame r.frame.base r.pfs).sol) r.pfs) ∷ SetEc (epilog_of r.pfs) ∷ []) m to))
 ActCases Q s (ClearBases pred_only) r m unat = Q (falls (SetFrame Renamed (cleared pred_only r.frame) ∷ []) m)
 ActCases Q s (Stop unit imm) r m unat = Q (breaks imm m)
 ActCases Q s (Idle unit) r m unat = Q (falls [] m)
@@ -229,9 +229,9 @@ no_nat false false t h = (refl, inl refl)
 no_nat false true true h = (refl, inr refl)
 no_nat false true false h = absurd (cc)
 
-case_unless : (Q : Outcome → Type 0) (o : Option FaultKind) (m : Memory) (made : Outcome) → Fails Q m → (o ≡ None → Q made) → Q (unless o m made)
-case_unless Q None m made h k = k refl
-case_unless Q (Some cause) m made h k = h cause
+case_faults_or : (Q : Outcome → Type 0) (o : Option FaultKind) (m : Memory) (made : Outcome) → Fails Q m → (o ≡ None → Q made) → Q (faults_or o m made)
+case_faults_or Q None m made h k = k refl
+case_faults_or Q (Some cause) m made h k = h cause
 
 case_store : (Q : Outcome → Type 0) (size : ℕ) (kind : StoreKind) (u : Update) (o : Option Spot) (y z : Option Cell) (m : Memory) → Fails Q m
     → ((e : Spot) (base x : Cell) → o ≡ Some e → y ≡ Some base → z ≡ Some x → base.nat ≡ false → (x.nat ≡ false) ⊎ (takes_nat kind ≡ true) → access_fault m.bytes base.value size ≡ None → Q (store_made size kind base.value x m (base_writes u e base zero_cell)))
@@ -239,7 +239,7 @@ case_store : (Q : Outcome → Type 0) (size : ℕ) (kind : StoreKind) (u : Updat
 case_store Q size kind u (Some e) (Some base) (Some x) m h k =
     either Q (base.nat || (x.nat && not (takes_nat kind))) _ _ (λ _. h NatConsumed)
     (λ t. let n = no_nat base.nat x.nat (takes_nat kind) t in
-    case_unless Q (access_fault m.bytes base.value size) m _ h (k e base x refl refl refl n.0 n.1))
+    case_faults_or Q (access_fault m.bytes base.value size) m _ h (k e base x refl refl refl n.0 n.1))
 case_store Q size kind u _ _ _ m h k = h OutOfFrame
 
 no_nats : (a b : Bool) → (a || b) ≡ false → (a ≡ false) × (b ≡ false)
@@ -252,7 +252,7 @@ case_exchange : (Q : Outcome → Type 0) (size : ℕ) (inc : Option ℤ) (o : Op
 case_exchange Q size inc (Some d) (Some base) (Some x) m h k =
     either Q (base.nat || x.nat) _ _ (λ _. h NatConsumed)
     (λ t. let n = no_nats base.nat x.nat t in
-    case_unless Q (access_fault m.bytes base.value size) m _ h (k d base x refl refl refl n.0 n.1))
+    case_faults_or Q (access_fault m.bytes base.value size) m _ h (k d base x refl refl refl n.0 n.1))
 case_exchange Q size inc _ _ _ m h k = h OutOfFrame
 
 case_check_nat : (Q : Outcome → Type 0) (bundle : ℕ) (x : Option Cell) (m : Memory) → Fails Q m
@@ -297,8 +297,8 @@ case_lands Q ws m (Ok to) h k = k to refl
 case_lands Q ws m (Err kind) h k = h kind
 
 case_return : (Q : Outcome → Type 0) (x : Option FaultKind) (f : FrameShape) (ec : ℕ) (o : Result ℕ FaultKind) (m : Memory) → Fails Q m
-    → ((to : ℕ) → x ≡ None → o ≡ Ok to → Q (goes (SetFrame Resized f ∷ SetEc ec ∷ []) m to)) → Q (unless x m (lands (SetFrame Resized f ∷ SetEc ec ∷ []) m o))
-case_return Q x f ec o m h k = case_unless Q x m _ h (λ free. case_lands Q _ m o h (λ to. k to free))
+    → ((to : ℕ) → x ≡ None → o ≡ Ok to → Q (goes (SetFrame Resized f ∷ SetEc ec ∷ []) m to)) → Q (faults_or x m (lands (SetFrame Resized f ∷ SetEc ec ∷ []) m o))
+case_return Q x f ec o m h k = case_faults_or Q x m _ h (λ free. case_lands Q _ m o h (λ to. k to free))
 
 case_turn : (Q : Outcome → Type 0) (t : Turn) (f : FrameShape) (bundle : ℕ) (m : Memory) → TurnCases Q t f bundle m → Q (turned t f bundle m)
 case_turn Q t f bundle m h = either Q t.taken _ _ h.0 h.1
@@ -327,7 +327,7 @@ act_cases Q s (Call b1 (Direct disp)) r m unat h = h
 act_cases Q s (Call b1 (Indirect b2)) r m unat h = case_lands Q (call_writes s.bundle b1 r.frame r.ec) m (arrives s r b2) h.0 h.1
 act_cases Q s (Return b2) r m unat h =
     case_return Q (return_fault r.frame.base (marked_frame r.frame.base r.pfs)) (marked_frame (r.frame.base - (marked_frame r.frame.base r.pfs).sol) r.pfs)
-    ((r.pfs / 2 ^ 52) % 2 ^ 6) (arrives s r b2) m h.0 h.1
+    (epilog_of r.pfs) (arrives s r b2) m h.0 h.1
 act_cases Q s (ClearBases pred_only) r m unat h = h
 act_cases Q s (Stop unit imm) r m unat h = h
 act_cases Q s (Idle unit) r m unat h = h

@@ -12,7 +12,7 @@ use Rattle.ia_meaning.specs.declared.write.Write.{Write}
 use Rattle.ia_meaning.specs.declared.write.Write.TheVariants.{SetBranch, SetPfs, SetEc, SetFrame}
 use Rattle.ia_meaning.specs.declared.write.FrameCause.TheVariants.{Resized}
 use Rattle.ia_meaning.specs.Names.{set_spot}
-use Rattle.ia_meaning.specs.Outcomes.{Outcome, falls, goes, faults, unless}
+use Rattle.ia_meaning.specs.Outcomes.{Outcome, falls, goes, faults, faults_or}
 
 abbrev pub with_sizes : FrameShape → ℕ → ℕ → ℕ → FrameShape
 with_sizes f sof sol sor = record f { sof = sof; sol = sol; sor = sor }
@@ -63,6 +63,10 @@ marked_frame base pfs = record {
 unfoldable pub call_state : FrameShape → ℕ → ℕ
 call_state f ec = frame_marker f + 2 ^ 52 * ec + 2 ^ 62 * 3
 
+-- the epilog count in a previous function state
+abbrev pub epilog_of : ℕ → ℕ
+epilog_of pfs = (pfs / 2 ^ 52) % 2 ^ 6
+
 -- the frame of a call: the caller's without its locals
 abbrev pub call_frame : FrameShape → FrameShape
 call_frame f = record { base = f.base + f.sol; sof = f.sof - f.sol; sol = 0; sor = 0; rrbs = zero_bases }
@@ -97,5 +101,5 @@ return_fault base f =
 -- A return: the frame and EC of the previous function state, below this base.
 abbrev pub returned : ℕ → ℕ → Result ℕ FaultKind → Memory → Outcome
 returned base pfs to m =
-    unless (return_fault base (marked_frame base pfs)) m
-    (lands (SetFrame Resized (marked_frame (base - (marked_frame base pfs).sol) pfs) ∷ SetEc ((pfs / 2 ^ 52) % 2 ^ 6) ∷ []) m to)
+    faults_or (return_fault base (marked_frame base pfs)) m
+    (lands (SetFrame Resized (marked_frame (base - (marked_frame base pfs).sol) pfs) ∷ SetEc (epilog_of pfs) ∷ []) m to)

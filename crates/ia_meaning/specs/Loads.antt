@@ -21,7 +21,7 @@ use Rattle.ia_meaning.specs.State.{zero_cell, Memory}
 use Rattle.ia_meaning.specs.declared.write.Write.{Write}
 use Rattle.ia_meaning.specs.Names.{set_spot}
 use Rattle.ia_meaning.specs.Arithmetic.{word, immediate, bit}
-use Rattle.ia_meaning.specs.Outcomes.{Outcome, falls, goes, faults, unless}
+use Rattle.ia_meaning.specs.Outcomes.{Outcome, falls, goes, faults, faults_or}
 
 -- The fault of an access to so many bytes: an address that isn't a multiple of the size, and then bytes that aren't data.
 unfoldable pub access_fault : List ℕ → ℕ → ℕ → Option FaultKind
@@ -188,7 +188,7 @@ store_made size kind address x m ws = record {
 abbrev pub to_memory : ℕ → StoreKind → Update → Option Spot → Option Cell → Option Cell → Memory → Outcome
 to_memory size kind u (Some e) (Some base) (Some x) m =
     if base.nat || (x.nat && not (takes_nat kind)) then faults NatConsumed m
-    else unless (access_fault m.bytes base.value size) m (store_made size kind base.value x m (base_writes u e base zero_cell))
+    else faults_or (access_fault m.bytes base.value size) m (store_made size kind base.value x m (base_writes u e base zero_cell))
 to_memory size kind u _ _ _ m = faults OutOfFrame m
 
 -- An exchange: what was there goes into d, without NaT, and of the entries those that it touches go.
@@ -207,7 +207,7 @@ exchange_made size inc d address x m = record {
 abbrev pub exchange : ℕ → Option ℤ → Option Spot → Option Cell → Option Cell → Memory → Outcome
 exchange size inc (Some d) (Some base) (Some x) m =
     if base.nat || x.nat then faults NatConsumed m
-    else unless (access_fault m.bytes base.value size) m (exchange_made size inc d base.value x.value m)
+    else faults_or (access_fault m.bytes base.value size) m (exchange_made size inc d base.value x.value m)
 exchange size inc _ _ _ m = faults OutOfFrame m
 
 -- `chk.s`

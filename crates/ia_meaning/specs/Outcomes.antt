@@ -30,6 +30,6 @@ abbrev pub faults : FaultKind → Memory → Outcome
 faults k m = record { writes = []; memory = m; spills = None; next = Faults k }
 
 -- what a slot does where there may be a fault
-abbrev pub unless : Option FaultKind → Memory → Outcome → Outcome
-unless None m o = o
-unless (Some k) m o = faults k m
+abbrev pub faults_or : Option FaultKind → Memory → Outcome → Outcome
+faults_or None m o = o
+faults_or (Some k) m o = faults k m

@@ -2,7 +2,7 @@
 use Rattle.std.proofs.Common.{◌≡◌, ℕ, zero, suc, ◌+◌, ◌*◌, ◌<◌, ◌≤◌, List, [], ◌∷◌, ◌++◌, length, length-append, take, drop, append_assoc, refl, sym, ap, ◌∙◌, subst, arith}
 use Rattle.std.specs.Prelude.{slice_index_or}
 use Rattle.std.proofs.Math.Seq.{take-add}
-use Rattle.std.proofs.lemmas.List.{append-nil, take_all, take_at, drop_at, take_more, take-append-drop, drop-drop, nil_from_length}
+use Rattle.std.proofs.lemmas.List.{append-nil, take_at, drop_at, take_more, take-append-drop, drop-drop, nil_from_length}
 use Rattle.ia_insn.specs.Templates.{units_of}
 use Rattle.ia_insn.specs.Bundles.{Bundle, AreBundles}
 use Rattle.insn_codec.specs.declared.bundle.SlotFault.{SlotFault}
@@ -83,9 +83,6 @@ pub record IsReadTo (bytes : List ℕ) (bundles : List Bundle) (rest : List ℕ)
   pub whole : bytes ≡ front ++ rest
   pub spelled : AreSpelled bundles front
 
-pub none_read : (bytes : List ℕ) → IsReadTo bytes [] bytes
-none_read bytes = record { front = []; whole = refl; spelled = refl }
-
 pub one_more_read : (bytes : List ℕ) (bundles : List Bundle) (rest next after : List ℕ) (b : Bundle) → next ≡ take 16 rest → after ≡ drop 16 rest → IsSpelled b next → IsReadTo bytes bundles rest → IsReadTo bytes (bundles ++ b ∷ []) after
 one_more_read bytes bundles rest next after b front back is r = record {
   front = r.front ++ next;
@@ -118,15 +115,9 @@ pub record IsWrittenTo (bundles : List Bundle) (n : ℕ) (old new : List ℕ) : 
   pub whole : new ≡ old ++ bytes
   pub spelled : AreSpelled (take n bundles) bytes
 
-pub none_written : (bundles : List Bundle) (old : List ℕ) → IsWrittenTo bundles 0 old old
-none_written bundles old = record { bytes = []; whole = sym (append-nil old); spelled = refl }
-
 pub one_more_written : (bundles : List Bundle) (n : ℕ) (old new next : List ℕ) (b : Bundle) → n < length bundles → b ≡ slice_index_or bundles n b → IsSpelled b next → IsWrittenTo bundles n old new → IsWrittenTo bundles (n + 1) old (new ++ next)
 one_more_written bundles n old new next b inside is spelled w = record {
   bytes = w.bytes ++ next;
   whole = ap (λ l. l ++ next) w.whole ∙ append_assoc old w.bytes next;
   spelled = subst (λ (l : List Bundle). AreSpelled l (w.bytes ++ next)) (ap (λ x. take n bundles ++ x ∷ []) is ∙ sym (take_more bundles n b inside)) (spelled_push (take n bundles) b w.bytes next w.spelled spelled);
 }
-
-pub all_written : (bundles : List Bundle) (n : ℕ) (old new : List ℕ) → length bundles ≤ n → IsWrittenTo bundles n old new → (spelled : List ℕ) × (new ≡ old ++ spelled) × AreSpelled bundles spelled
-all_written bundles n old new end w = (w.bytes, w.whole, subst (λ (l : List Bundle). AreSpelled l w.bytes) (take_all n bundles end) w.spelled)

@@ -112,11 +112,3 @@ fault_of_bundles v bytes f h entries later = inr (h.long, inr ((v, h.begins), in
 pub fault_of_spelling : (bytes : List ℕ) (later : List (Stage ImageFault)) (f : ImageFault) → IsFirstFault (spelling_stage bytes ∷ []) f → IsFirstFault (bundle_stages bytes later) f
 fault_of_spelling bytes later f (inl found) = inl found
 fault_of_spelling bytes later f (inr none) = absurd none.1
-
--- no relations have a first fault
-pub fault_of_no_relations : (bytes spelled entries part : List ℕ) (f : ImageFault) → IsFirstFault (bundle_stages bytes (relation_stage spelled entries [] part ∷ [])) f → IsFirstFault (bundle_stages bytes []) f
-fault_of_no_relations bytes spelled entries part f (inl found) = inl found
-fault_of_no_relations bytes spelled entries part f (inr (s, inl found)) = inr (s, inl found)
-fault_of_no_relations bytes spelled entries part f (inr (s, inr (t, inl found))) = inr (s, inr (t, inl found))
-fault_of_no_relations bytes spelled entries part f (inr (s, inr (t, inr (r, inl (n, same, found))))) = absurd (let less = found.2.inside in omega arith)
-fault_of_no_relations bytes spelled entries part f (inr (s, inr (t, inr (r, inr none)))) = absurd none.1

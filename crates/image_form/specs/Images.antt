@@ -1,5 +1,5 @@
 -- The image form: the bytes of a program, and those of bare bundles.
-use Rattle.std.specs.Prelude.{◌≡◌, ℕ, Bool, List, [], ◌∷◌, ◌++◌, ◌&&◌, nat_le, if◌then◌else◌, IsTrue, length, take, codes, refl}
+use Rattle.std.specs.Prelude.{◌≡◌, ℕ, Bool, List, [], ◌∷◌, ◌++◌, ◌&&◌, nat_le, if◌then◌else◌, IsTrue, length, take, codes}
 use Rattle.std.specs.Int.{w32, to_le_bytes}
 use Rattle.std.specs.List.{flat_map}
 use Rattle.ia_insn.specs.declared.limits.TheConstants.{BUNDLE_LIMIT, RELATION_LIMIT}
@@ -7,7 +7,7 @@ use Rattle.ia_insn.specs.declared.relations.Relation.{Relation}
 use Rattle.ia_insn.specs.Bundles.{Bundle}
 use Rattle.ia_insn.specs.Programs.{Program, IsProgram}
 use Rattle.insn_codec.specs.Spelling.{IsSpelled}
-use Rattle.image_form.specs.declared.version.TheConstants.{VERSION_1_BUNDLE_LIMIT, MAGIC_1, MAGIC_2}
+use Rattle.image_form.specs.declared.version.TheConstants.{VERSION_1_BUNDLE_LIMIT}
 use Rattle.image_form.specs.declared.version.Version.{Version}
 use Rattle.image_form.specs.declared.version.Version.TheVariants.{One, Two}
 
@@ -15,10 +15,6 @@ use Rattle.image_form.specs.declared.version.Version.TheVariants.{One, Two}
 abbrev pub magic : Version → List ℕ
 magic One = codes "IA64IMG1"
 magic Two = codes "IA64IMG2"
-
--- which is what the code's constants have
-pub magic_constants : (MAGIC_1.now ≡ magic One) × (MAGIC_2.now ≡ magic Two)
-magic_constants = (refl, refl)
 
 -- how many bundles an image of a version has at most
 abbrev pub bundle_limit : Version → ℕ

@@ -13,13 +13,13 @@ use Rattle.ia_insn.specs.Templates.{IsTemplate, units_of}
 use Rattle.insn_codec.specs.declared.bundle.SlotFault.{SlotFault}
 use Rattle.insn_codec.specs.declared.bundle.SlotFault.TheVariants.{ReservedTemplate, Unlisted}
 use Rattle.insn_codec.specs.Spelling.{StandIn, IsRawOf}
-use Rattle.insn_codec.specs.SlotFaults.{IsListedIn, IsLongListed, slot_stages, bundle_stages, HasSlotFault}
+use Rattle.insn_codec.specs.SlotFaults.{HasInsn, HasLongInsn, slot_stages, bundle_stages, HasSlotFault}
 use Rattle.insn_codec.specs.Laws.{OneFault, NoFaultWhereSpelled, FaultWhereNoneSpelled}
 use Rattle.insn_codec.proofs.Slots.{template_units, parts_of}
 use Rattle.insn_codec.proofs.Spellings.{same_raw}
 
 -- slot 2 is the first without an instruction
-pub third_unlisted : (u v w : ExecutionUnit) (words : List ℕ) (f : SlotFault) → v ≢ L → IsListedIn u 0 words → IsListedIn v 1 words → f ≡ Unlisted 2 → ¬ IsListedIn w 2 words → IsFirstFault (slot_stages (u ∷ v ∷ w ∷ []) words) f
+pub third_unlisted : (u v w : ExecutionUnit) (words : List ℕ) (f : SlotFault) → v ≢ L → HasInsn u 0 words → HasInsn v 1 words → f ≡ Unlisted 2 → ¬ HasInsn w 2 words → IsFirstFault (slot_stages (u ∷ v ∷ w ∷ []) words) f
 third_unlisted u L w words f short first second e fails = absurd (short refl)
 third_unlisted u v w words f short first second e fails = inr (first, inr (second, inl (tt, e, fails)))
 
@@ -44,12 +44,12 @@ slots_stand units words three p = absurd (omega arith)
 -- a stage of one fault finds it once, and not where it is passed
 slots_sound : (units : List ExecutionUnit) (words : List ℕ) → stages.AreSound (slot_stages units words)
 slots_sound (u ∷ L ∷ w ∷ []) words = (
-  stages.unless_sound (IsListedIn u 0 words) (Unlisted 0),
-  (stages.unless_sound (IsLongListed words) (Unlisted 1), tt),
+  stages.unless_sound (HasInsn u 0 words) (Unlisted 0),
+  (stages.unless_sound (HasLongInsn words) (Unlisted 1), tt),
 )
 slots_sound (u ∷ v ∷ w ∷ []) words = (
-  stages.unless_sound (IsListedIn u 0 words) (Unlisted 0),
-  (stages.unless_sound (IsListedIn v 1 words) (Unlisted 1), (stages.unless_sound (IsListedIn w 2 words) (Unlisted 2), tt)),
+  stages.unless_sound (HasInsn u 0 words) (Unlisted 0),
+  (stages.unless_sound (HasInsn v 1 words) (Unlisted 1), (stages.unless_sound (HasInsn w 2 words) (Unlisted 2), tt)),
 )
 slots_sound units words = tt
 
@@ -61,8 +61,8 @@ not_open : (Holds : Type 0) → ((key : Unit {0}) → ¬ Holds → ⊥) → (Hol
 not_open Holds none go = none tt go
 
 slots_not_open : (units : List ExecutionUnit) (words : List ℕ) → stages.AreNotOpen (slot_stages units words)
-slots_not_open (u ∷ L ∷ w ∷ []) words = (not_open (IsListedIn u 0 words), (not_open (IsLongListed words), tt))
-slots_not_open (u ∷ v ∷ w ∷ []) words = (not_open (IsListedIn u 0 words), (not_open (IsListedIn v 1 words), (not_open (IsListedIn w 2 words), tt)))
+slots_not_open (u ∷ L ∷ w ∷ []) words = (not_open (HasInsn u 0 words), (not_open (HasLongInsn words), tt))
+slots_not_open (u ∷ v ∷ w ∷ []) words = (not_open (HasInsn u 0 words), (not_open (HasInsn v 1 words), (not_open (HasInsn w 2 words), tt)))
 slots_not_open units words = tt
 
 -- bytes have one first fault

@@ -10,6 +10,9 @@ use Rattle.insn_codec.specs.Slots.{UnitCode}
 use Rattle.insn_codec.specs.Spelling.{IsSpelled}
 use Rattle.insn_codec.specs.SlotFaults.{HasSlotFault}
 
+-- Of L and X slots the first two say nothing: a long instruction has a word in each of them, and `OneLongInstruction` and
+-- `OneLongWord` say of both words what these say of one.
+
 -- a word is that of at most one instruction of a unit
 abbrev pub OneInstructionOfUnit : Type 0
 OneInstructionOfUnit = (unit : ExecutionUnit) → OneInstruction (UnitCode unit)

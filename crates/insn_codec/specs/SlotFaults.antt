@@ -12,24 +12,24 @@ use Rattle.insn_codec.specs.Slots.{IsInSlot, IsInSlots}
 use Rattle.insn_codec.specs.Spelling.{IsRawOf}
 
 -- an instruction that fits the slot has its word
-abbrev pub IsListedIn : ExecutionUnit → ℕ → List ℕ → Type 0
-IsListedIn unit slot words = (i : Insn) × IsInSlot unit slot i (slice_index words slot)
+abbrev pub HasInsn : ExecutionUnit → ℕ → List ℕ → Type 0
+HasInsn unit slot words = (i : Insn) × IsInSlot unit slot i (slice_index words slot)
 
 -- a long instruction has the words of slots 1 and 2
-abbrev pub IsLongListed : List ℕ → Type 0
-IsLongListed words = (i : Insn) × IsInSlots i (slice_index words 1) (slice_index words 2)
+abbrev pub HasLongInsn : List ℕ → Type 0
+HasLongInsn words = (i : Insn) × IsInSlots i (slice_index words 1) (slice_index words 2)
 
 -- What is looked for in slots of these units, in this order. Where the second is L, a long instruction
 -- stands in slots 1 and 2, and counts as slot 1.
 abbrev pub slot_stages : List ExecutionUnit → List ℕ → List (Stage SlotFault)
 slot_stages (u ∷ L ∷ w ∷ []) words =
-    unless (IsListedIn u 0 words) (Unlisted 0)
-    ∷ unless (IsLongListed words) (Unlisted 1)
+    unless (HasInsn u 0 words) (Unlisted 0)
+    ∷ unless (HasLongInsn words) (Unlisted 1)
     ∷ []
 slot_stages (u ∷ v ∷ w ∷ []) words =
-    unless (IsListedIn u 0 words) (Unlisted 0)
-    ∷ unless (IsListedIn v 1 words) (Unlisted 1)
-    ∷ unless (IsListedIn w 2 words) (Unlisted 2)
+    unless (HasInsn u 0 words) (Unlisted 0)
+    ∷ unless (HasInsn v 1 words) (Unlisted 1)
+    ∷ unless (HasInsn w 2 words) (Unlisted 2)
     ∷ []
 slot_stages units words = []
 

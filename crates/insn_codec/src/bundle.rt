@@ -7,7 +7,7 @@ ghost use Rattle.ia_insn.specs.declared.choices.Unit.TheVariants.{X};
 ghost use Rattle.insn_codec.specs.declared.bundle.SlotFault.{SlotFault as SlotFaultOf};
 ghost use Rattle.insn_codec.specs.Slots.{IsInSlot, IsInSlots};
 ghost use Rattle.insn_codec.specs.Spelling.{StandIn, IsSpelled};
-ghost use Rattle.insn_codec.specs.SlotFaults.{IsListedIn, IsLongListed, slot_stages, HasSlotFault};
+ghost use Rattle.insn_codec.specs.SlotFaults.{HasInsn, HasLongInsn, slot_stages, HasSlotFault};
 
 use crate::laws::{no_fault_where_spelled, one_bundle, one_fault, one_spelling};
 use crate::slot::{read_unit, write_long, write_unit};
@@ -32,7 +32,7 @@ pub enum SlotFault {
 fn read_slot(unit: Unit, slot: u8, words: &[u64; 3]) -> Result<Insn, SlotFault>
     requires { slot < 3 }
     ensures found { IfOk result (λ i. IsInSlot unit slot i (slice_index words.now slot)) }
-    ensures fault { IfErr result (λ fault. (fault ≡ SlotFault.Unlisted slot) × ¬ IsListedIn unit slot words.now) }
+    ensures fault { IfErr result (λ fault. (fault ≡ SlotFault.Unlisted slot) × ¬ HasInsn unit slot words.now) }
 {
     match read_unit(unit, slot, words[usize::from(slot)]) {
         Some(insn) => Ok(insn),
@@ -43,7 +43,7 @@ fn read_slot(unit: Unit, slot: u8, words: &[u64; 3]) -> Result<Insn, SlotFault>
 /// The long instruction of slots 1 and 2, or the fault of slot 1.
 fn read_long(words: &[u64; 3]) -> Result<Insn, SlotFault>
     ensures found { IfOk result (λ i. IsInSlots i (slice_index words.now 1) (slice_index words.now 2)) }
-    ensures fault { IfErr result (λ fault. (fault ≡ SlotFault.Unlisted 1) × ¬ IsLongListed words.now) }
+    ensures fault { IfErr result (λ fault. (fault ≡ SlotFault.Unlisted 1) × ¬ HasLongInsn words.now) }
 {
     match decode_x(words[1], words[2]) {
         Some(insn) => Ok(insn),

@@ -1,6 +1,6 @@
 //! Instructions of a loose text.
 
-ghost use Rattle.std.specs.Prelude.{◌≡◌, true};
+ghost use Rattle.std.specs.Prelude.{◌≡◌};
 ghost use Rattle.loose_text.specs.LooseParts.{bare_unit, insn_of};
 
 use asm_build::lettered;

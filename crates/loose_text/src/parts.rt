@@ -1,6 +1,6 @@
 //! What the lines of a loose text say, one after the other.
 
-ghost use Rattle.std.specs.Prelude.{◌≡◌, ◌↔◌, ◌*◌, ◌≤◌, ◌<◌, ◌^◌, IsTrue, OnOk, IfErr, IfSome, length};
+ghost use Rattle.std.specs.Prelude.{◌≡◌, ◌↔◌, ◌*◌, ◌≤◌, ◌<◌, ◌^◌, IsTrue, OnOk, IfErr, length};
 ghost use Rattle.first_fault.specs.Stages.{ArePassed};
 ghost use Rattle.ia_insn.specs.declared.limits.TheConstants.{BUNDLE_LIMIT as BUNDLE_COUNT};
 ghost use Rattle.asm_reading.specs.declared.line.Line.TheVariants as line;

@@ -1,9 +1,8 @@
 -- Frames that are written: renamed ones, and those of previous function states.
-use Rattle.std.proofs.Common.{ℕ, zero, suc, List, [], ◌∷◌, ◌+◌, ◌-◌, ◌/◌, ◌%◌, ◌^◌, ◌≡◌, ◌≤◌, Bool, true, false, length, Result, Ok, Err, OnOk, is_err, None, arith, refl, ◌∙◌, ap}
+use Rattle.std.proofs.Common.{ℕ, zero, suc, List, [], ◌∷◌, ◌+◌, ◌-◌, ◌/◌, ◌%◌, ◌^◌, ◌≡◌, ◌≤◌, length, None, arith, refl, ◌∙◌, ap}
 use Rattle.std.proofs.lemmas.Nat.{field_of}
 use Rattle.std.proofs.Math.Pow.{mod-mod-pow}
 use Rattle.std.specs.Option.{option_map}
-use Rattle.std.specs.Result.{result_err}
 use Rattle.ia_meaning.specs.declared.limits.TheConstants.{STACK_LIMIT}
 use Rattle.ia_meaning.specs.declared.state.Cell.{Cell}
 use Rattle.ia_meaning.specs.declared.state.FrameShape.{FrameShape}
@@ -11,9 +10,9 @@ use Rattle.ia_meaning.specs.State.{Registers}
 use Rattle.ia_meaning.specs.declared.write.Write.TheVariants.{SetFrame}
 use Rattle.ia_meaning.specs.declared.write.FrameCause.TheVariants.{Renamed}
 use Rattle.ia_meaning.specs.Writes.{resized, put}
-use Rattle.ia_meaning.specs.Frames.{rotated, cleared, marked_frame, return_fault}
-use Rattle.frame_shapes.specs.declared.fault.StackFault.{StackFault}
-use Rattle.frame_shapes.specs.Faults.{kind_of, alloc_fault_within, return_fault_within, returned_frame, alloc_fault, ReturnFaultIsThat}
+use Rattle.ia_meaning.specs.Frames.{marked_frame, return_fault}
+use Rattle.frame_shapes.specs.Faults.{kind_of, return_fault_within, returned_frame, ReturnFaultIsThat}
+use Rattle.frame_shapes.proofs.Returns.{return_free}
 
 -- cells that end where the frame does are neither cut nor filled up
 resized-whole : (n : ℕ) (cells : List Cell) → length cells ≡ n → resized n cells ≡ cells
@@ -48,11 +47,6 @@ returned_low base pfs = rw (marked_low base pfs) (marked_low _ pfs)
 pub return_fault_low : ReturnFaultIsThat → (limit base pfs : ℕ) → limit ≡ STACK_LIMIT → option_map kind_of (return_fault_within limit base (marked_frame base (pfs % 2 ^ 38))) ≡ return_fault base (marked_frame base pfs)
 return_fault_low same limit base pfs e = rw (e, marked_low base pfs) (same base (marked_frame base pfs))
 
--- The answer of a return that has no fault is no error.
-pub not_refused : ReturnFaultIsThat → (limit base pfs : ℕ) (answer : Result (Unit {0}) StackFault) → limit ≡ STACK_LIMIT → return_fault base (marked_frame base pfs) ≡ None → result_err answer ≡ return_fault_within limit base (marked_frame base (pfs % 2 ^ 38)) → is_err answer ≡ false
-not_refused same limit base pfs answer e free fault = let low = return_fault_low same limit base pfs e in grind arith
-
--- What is told on success holds of an answer that is no error.
-pub done : {T E P : Type 0} (answer : Result T E) → is_err answer ≡ false → OnOk answer P → P
-done (Ok x) e h = h
-done (Err k) e h = absurd (cc)
+-- so a return that has no fault has none there
+pub free_low : (limit base pfs : ℕ) → limit ≡ STACK_LIMIT → return_fault base (marked_frame base pfs) ≡ None → return_fault_within limit base (marked_frame base (pfs % 2 ^ 38)) ≡ None
+free_low limit base pfs e free = return_free limit base (marked_frame base (pfs % 2 ^ 38)) e (rw (marked_low base pfs) free)

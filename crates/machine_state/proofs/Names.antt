@@ -6,7 +6,6 @@ use Rattle.std.specs.Prelude.{Some, ◌≢◌, []}
 use Rattle.std.specs.Result.{result_ok}
 use Rattle.ia_meaning.specs.declared.state.Cell.{Cell}
 use Rattle.ia_meaning.specs.declared.state.FrameShape.{FrameShape}
-use Rattle.ia_meaning.specs.declared.state.AlatKey.TheVariants.{Static}
 use Rattle.ia_meaning.specs.State.{zero_cell, Registers}
 use Rattle.ia_meaning.specs.Writes.{apply}
 use Rattle.ia_meaning.specs.Names.{spot, look, cell_at, holds, predicate_place, predicate_spot, set_predicate}

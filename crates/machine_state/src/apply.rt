@@ -102,9 +102,7 @@ impl MachineState {
         requires { MayAllocate self.old.registers.frame sof sol sor }
         ensures { self.new ≡ left_by (outcome_with self.old (Allocated r1 sof sol sor) Falls) self.old }
     {
-        if self.stack.alloc_frame(sof, sol, sor).is_err() {
-            unreachable!();
-        }
+        self.stack.resize(sof, sol, sor);
         let previous = Cell {
             value: self.pfs,
             nat: false,
@@ -175,15 +173,12 @@ impl MachineState {
     }
 
     /// Enters the frame of the previous function state, and takes its epilog count.
-    #[tactic(auto, using(crate::proofs::Frames::not_refused, crate::proofs::Frames::done, crate::proofs::Frames::returned_low))]
+    #[tactic(auto, using(crate::proofs::Frames::free_low, crate::proofs::Frames::returned_low))]
     fn ret(&mut self)
         requires { return_fault self.old.registers.frame.base (marked_frame self.old.registers.frame.base self.old.registers.pfs) ≡ None }
         ensures { self.new ≡ left_by (outcome_with self.old Returned Falls) self.old }
     {
-        frame_shapes::return_fault_is_that();
-        if self.stack.ret(marker_of(self.pfs)).is_err() {
-            unreachable!();
-        }
+        self.stack.leave(marker_of(self.pfs));
         self.ec = epilog_of(self.pfs);
     }
 

@@ -94,10 +94,7 @@ impl MachineState {
         ensures { self.new ≡ record self.old { registers = spilled (if spills then Some (unat_bit address, cell.nat) else None) self.old.registers; memory = record { bytes = stored self.old.memory.bytes address size cell.value; alat = untouched self.old.memory.alat address size } } }
     {
         if spills {
-            match self.data.spill(address, cell, self.unat) {
-                Ok(unat) => self.unat = unat,
-                Err(_) => unreachable!(),
-            }
+            self.unat = self.data.put_spill(address, cell, self.unat);
         } else {
             self.data.put(address, size, cell.value);
         }

@@ -1,12 +1,12 @@
 -- Numbers and their bytes, the lowest first.
-use Rattle.std.proofs.Common.{◌≡◌, ◌≢◌, ℕ, zero, suc, ◌+◌, ◌-◌, ◌*◌, ◌/◌, ◌%◌, ◌^◌, ◌<◌, ◌≤◌, ◌⊎◌, inl, inr, List, [], ◌++◌, length, take, drop, set, get_or, refl, sym, ap, ◌∙◌, arith}
+use Rattle.std.proofs.Common.{◌≡◌, ◌≢◌, ℕ, zero, suc, ◌+◌, ◌-◌, ◌*◌, ◌/◌, ◌%◌, ◌^◌, ◌<◌, ◌≤◌, ◌⊎◌, List, [], ◌++◌, length, take, drop, set, refl, sym, ap, ◌∙◌, arith}
 use Rattle.std.specs.Int.{byte_at, bytes_low_first}
 use Rattle.std.proofs.Math.Seq.{take-suc-set}
 use Rattle.std.proofs.Math.Nat.{div-div-eq-div-mul, mod-eq_of_lt, pow-succ'}
 use Rattle.std.proofs.lemmas.Nat.{mod-pow-add}
-use Rattle.std.proofs.lemmas.List.{append_assoc, append-nil, drop_all, drop-drop, drop-set-lt, get_or-set_same, get_or-set_other, length-drop, length-set, take-append-drop, take_rest}
+use Rattle.std.proofs.lemmas.List.{append_assoc, append-nil, drop_all, drop-drop, drop-set-lt, length-drop, length-set, take-append-drop, take_rest}
 use borrow.Rule.Slice.PartMut.{put_mid}
-use Rattle.ia_meaning.specs.Loads.{bytes_at, with_bytes}
+use Rattle.ia_meaning.specs.Loads.{with_bytes}
 
 -- a byte above the lowest is one of the rest
 byte_of_rest : (k x : ℕ) → byte_at (suc k) x ≡ byte_at k (x / 256)

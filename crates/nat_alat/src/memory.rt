@@ -164,6 +164,17 @@ impl DataMem {
         Ok(())
     }
 
+    /// Stores the 8 bytes of a register, and gives UNAT with its NaT bit, as [`DataMem::spill`] does, where that is known
+    /// to have no fault.
+    pub fn put_spill(&mut self, address: u64, cell: Cell, unat: u64) -> u64
+        requires { access_fault self.old address 8 ≡ None }
+        ensures bytes { self.new ≡ stored self.old address 8 cell.value }
+        ensures unat { result ≡ with_bit unat (unat_bit address) cell.nat }
+    {
+        self.put(address, 8, cell.value);
+        with_bit(unat, unat_bit(address), cell.nat)
+    }
+
     /// Stores the 8 bytes of a register, and gives UNAT with its NaT bit (volume 3, chapter 2, `st8.spill`).
     ///
     /// # Errors
@@ -174,8 +185,10 @@ impl DataMem {
         ensures err { IfErr result (λ e. access_fault self.old address 8 ≡ Some (fault_of e)) }
         ensures same { OnErr result (self.new ≡ self.old) }
     {
-        self.store(address, 8, cell.value)?;
-        Ok(with_bit(unat, unat_bit(address), cell.nat))
+        if let Some(fault) = self.fault(address, 8) {
+            return Err(fault);
+        }
+        Ok(self.put_spill(address, cell, unat))
     }
 
     /// Loads a register from 8 bytes, with its NaT bit from UNAT (volume 3, chapter 2, `ld8.fill`).

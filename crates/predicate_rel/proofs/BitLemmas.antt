@@ -1,5 +1,5 @@
 -- Bits of a row.
-use Rattle.std.proofs.Common.{◌≡◌, ◌≢◌, ℕ, ◌+◌, ◌-◌, ◌*◌, ◌/◌, ◌%◌, ◌^◌, ◌<◌, Bool, true, false, cond, ◌&&◌, ◌||◌, not, eqb, ltb, eqb-true, eq-eqb, below_more, refl, sym, ap, ◌∙◌, arith, inl, inr}
+use Rattle.std.proofs.Common.{◌≡◌, ◌≢◌, ℕ, ◌+◌, ◌-◌, ◌*◌, ◌/◌, ◌%◌, ◌^◌, ◌<◌, Bool, true, false, cond, ◌&&◌, ◌||◌, not, eqb, ltb, eqb-true, eq-eqb, refl, sym, ap, ◌∙◌, arith, inl, inr}
 use Rattle.std.specs.Prelude.{bit_and, bit_or, min, max}
 use Rattle.std.specs.Int.{bit_at, trailing_zeros, w64}
 use Rattle.std.proofs.lemmas.Bool.{cases_eq, cases_lt, lt-ltb, le-ltb, ne_eqb, true≢false}
@@ -74,12 +74,6 @@ some_less a b h some fits =
     let e : min (bit_at a y) (1 - bit_at b y) ≡ 1 = sym (less_bit a b y h below) ∙ one in
     let small : bit_at a y < 2 = bit_at-lt a y in
     (y, below, has_bit_one a y (omega arith), has_bit_zero b y (omega arith))
-
--- a loop that writes a row from its first bit on
-pub written_bits : (row new : ℕ) (f : ℕ → Bool) (i : ℕ) (v : Bool) → i < 64 → v ≡ f i → ((y : ℕ) → y < 64 → has_bit new y ≡ cond (eqb y i) v (has_bit row y)) → ((k : ℕ) → k < i → has_bit row k ≡ f k) → (k : ℕ) → k < i + 1 → has_bit new k ≡ f k
-written_bits row new f i v l is next before = below_more (λ k. has_bit new k ≡ f k) i
-    (λ k h. let apart : k ≢ i = omega arith in next k (omega arith) ∙ (rw (ne_eqb k i apart) (before k h)))
-    (next i l ∙ (rw (eq-eqb i i refl) is))
 
 max_test : (a b : ℕ) → a < 2 → b < 2 → eqb (max a b) 1 ≡ (eqb a 1 || eqb b 1)
 max_test a b h k = grind (arith, nat_tests)

@@ -19,15 +19,6 @@ pub record IsNarrowed (old past : Pairs) (is_in is_left : ℕ → Bool) (now : P
   pub outside : (x y : ℕ) → x < 64 → is_in x ≡ false → now x y ≡ old x y
   pub done : (x y : ℕ) → x < 64 → y < 64 → is_in x ≡ true → is_left x ≡ false → now x y ≡ (old x y && past x y)
 
--- at first all rows are left
-pub narrowed_none : (f past : Pairs) (is_in : ℕ → Bool) → IsNarrowed f past is_in is_in f
-narrowed_none f past is_in = record {
-  inside = λ x l e. e;
-  left = λ x y l e. refl;
-  outside = λ x y l e. refl;
-  done = λ x y l m e n. absurd (true≢false (sym e ∙ n));
-}
-
 -- one row more
 pub narrowed_row : (old past now now' : Pairs) (is_in is_left is_left' : ℕ → Bool) (k row : ℕ) → IsNarrowed old past is_in is_left now → k < 64 → is_left k ≡ true → ((x : ℕ) → x < 64 → is_left' x ≡ (not (eqb x k) && is_left x)) → ((y : ℕ) → y < 64 → has_bit row y ≡ past k y) → ((x y : ℕ) → now' x y ≡ (now x y && (not (eqb x k) || has_bit row y))) → IsNarrowed old past is_in is_left' now'
 narrowed_row old past now now' is_in is_left is_left' k row h below there less is_row narrowed = record {
@@ -116,16 +107,10 @@ pub common_within : (f g new : Pairs) → new ≡ common f g → IsWithin new f
 unfolding common
 common_within f g new e = record { each = λ x y t. (and_parts (f x y) (g x y) (sym (ap (λ (h : Pairs). h x y) e) ∙ t)).0 }
 
-pub within_same : (f g : Pairs) → f ≡ g → IsWithin g f
-within_same f g e = record { each = λ x y t. ap (λ (h : Pairs). h x y) e ∙ t }
-
 -- The rows of which `lost` has no bit have lost nothing, and where it has one, something is lost.
 pub record HasLost (old : Pairs) (lost : ℕ) (now : Pairs) : Type 0 where
   pub others : (x y : ℕ) → x < 64 → has_bit lost x ≡ false → now x y ≡ old x y
   pub more : lost ≢ 0 → HasMore old now
-
-pub lost_none : (f : Pairs) → HasLost f 0 f
-lost_none f = record { others = λ x y l n. refl; more = λ some. absurd (some refl) }
 
 -- a row that lost something is marked
 pub lost_row : (old now now' : Pairs) (lost lost' k row : ℕ) → HasLost old lost now → ((x y : ℕ) → x < 64 → y < 64 → now x y ≡ true → old x y ≡ true) → ((x : ℕ) → x < 64 → has_bit lost' x ≡ cond (eqb x k) true (has_bit lost x)) → ((x y : ℕ) → now' x y ≡ (now x y && (not (eqb x k) || has_bit row y))) → HasMore now now' → HasLost old lost' now'

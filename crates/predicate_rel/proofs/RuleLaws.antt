@@ -1,44 +1,15 @@
 -- Laws of what an instruction leaves that name no instruction: it keeps meets and order, and a pair is missing for a reason.
-use Rattle.std.proofs.Common.{◌≡◌, ℕ, Bool, true, false, ◌&&◌, ◌⊎◌, refl, ap, inl, inr, ◌∙◌}
-use mathlib.Core.Path.{fun_ext}
+use Rattle.std.proofs.Common.{◌≡◌, ℕ, true, false, ◌&&◌, ◌⊎◌, refl, inl, inr, ◌∙◌}
 use Rattle.std.proofs.lemmas.Bool.{and_parts, and_from, and_cases, and_left, and_right}
 use Rattle.predicate_rel.specs.declared.edge.Edge.{Edge}
 use Rattle.ia_insn.specs.declared.insn.Insn.{Insn}
 use Rattle.predicate_rel.specs.Pairs.{Pairs, in_range, common, IsWithin}
 use Rattle.predicate_rel.specs.Rules.{PairRule, always, never, one, two, is_met, rule_of, pairs_after}
 
-and_swap : (a b c d : Bool) → ((a && b) && (c && d)) ≡ ((a && c) && (b && d))
-and_swap true true c d = refl
-and_swap true false true d = refl
-and_swap true false false d = refl
-and_swap false b c d = refl
-
-and_twice : (a b c : Bool) → (a && (b && c)) ≡ ((a && b) && (a && c))
-and_twice true b c = refl
-and_twice false b c = refl
-
--- a rule is met by a meet where it is met by both
-pub is_met-common : (r : PairRule) (f g : Pairs) → is_met r (common f g) ≡ (is_met r f && is_met r g)
-unfolding common
-is_met-common always f g = refl
-is_met-common never f g = refl
-is_met-common (one a b) f g = refl
-is_met-common (two a b c d) f g = and_swap (f a b) (g a b) (f c d) (g c d)
-
--- what is left of a meet is the meet of what is left of both
-pub pairs_after-common : (f g : Pairs) (i : Insn) (e : Edge) → pairs_after (common f g) i e ≡ common (pairs_after f i e) (pairs_after g i e)
-unfolding pairs_after common
-pairs_after-common f g i e = fun_ext (λ x. fun_ext (λ y.
-    ap (λ b. in_range x y && b) (is_met-common (rule_of i e x y) f g) ∙ and_twice (in_range x y) (is_met (rule_of i e x y) f) (is_met (rule_of i e x y) g)))
-
 -- the pairs of a meet are those of both
 pub common-true : (f g : Pairs) (x y : ℕ) → common f g x y ≡ true → (f x y ≡ true) × (g x y ≡ true)
 unfolding common
 common-true f g x y h = and_parts (f x y) (g x y) h
-
-pub common-from : (f g : Pairs) (x y : ℕ) → f x y ≡ true → g x y ≡ true → common f g x y ≡ true
-unfolding common
-common-from f g x y a b = and_from (f x y) (g x y) a b
 
 -- one that is missing is missing in one of them
 pub common-false : (f g : Pairs) (x y : ℕ) → common f g x y ≡ false → (f x y ≡ false) ⊎ (g x y ≡ false)

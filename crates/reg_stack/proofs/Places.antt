@@ -9,7 +9,7 @@ use Rattle.std.specs.Int.RustNames.{bit_or}
 use lib.Bits.{bit_and}
 use mir.Syntax.{w64}
 use Rattle.ia_meaning.specs.declared.state.Cell.{Cell}
-use Rattle.reg_stack.specs.Layout.{value_word, nat_word, spilled_cell, spare_bit, room}
+use Rattle.reg_stack.specs.Layout.{value_word, nat_word, spilled_cell, spare_bit}
 
 -- ---- places
 
@@ -25,12 +25,6 @@ value_below_nat c = omega arith
 -- two cells with one word of NaT bits have different bits there
 pub bit_ne_bit : (c d : ℕ) → d ≢ c → d / 63 ≡ c / 63 → d % 63 ≢ c % 63
 bit_ne_bit c d h e = omega arith
-
-pub bit_below : (c : ℕ) → c % 63 < 63
-bit_below c = omega arith
-
-pub word_within : (c : ℕ) (region : List ℕ) → c < room region → nat_word c < length region
-word_within c region h = omega arith
 
 -- the place of a cell whose turn round the ring is known
 pub place_in_turn : (c first : ℕ) → c / 96 ≡ first / 96 → c - 96 * (first / 96) ≡ c % 96

@@ -12,8 +12,8 @@ ghost use Rattle.reg_stack.specs.Stacks.{empty_stack, IsStack, cell_or_fault, pl
 
 use crate::moves::{move_cells, zero_ring};
 use frame_shapes::{
-    StackFault, allocated, called, cell_of, cleared, range_after, returned, rotated, zero_frame,
-    zero_range,
+    StackFault, allocated, called, cell_of, cleared, range_after, returned, returned_frame,
+    rotated, with_sizes, zero_frame, zero_range,
 };
 use ia_insn::Gr;
 use ia_meaning::{Cell, FrameShape, Rse};
@@ -137,6 +137,18 @@ impl Stack {
         self.shape = frame;
     }
 
+    /// Gives the frame other sizes, as [`Stack::alloc_frame`] does, where that is known to have no fault.
+    pub fn resize(&mut self, sof: u8, sol: u8, sor: u8)
+        requires size { sof ≤ 96 }
+        requires locals { sol ≤ sof }
+        requires rotating { 8 * sor ≤ sof }
+        requires free { alloc_fault_within self.old.limit self.old.frame (with_sizes self.old.frame sof sol sor) ≡ None }
+        ensures { self.new ≡ entered self.old (with_sizes self.old.frame sof sol sor) }
+    {
+        let frame = with_sizes(&self.shape, sof, sol, sor);
+        self.enter(frame);
+    }
+
     /// Gives the frame other sizes: `sof` registers, at most 96, of which the first `sol` are local and
     /// the first 8 times `sor` rotate.
     ///
@@ -152,13 +164,9 @@ impl Stack {
         ensures done { OnOk result (self.new ≡ entered self.old (with_sizes self.old.frame sof sol sor)) }
         ensures refused { OnErr result (self.new ≡ self.old) }
     {
-        match allocated(self.limit, &self.shape, sof, sol, sor) {
-            Ok(frame) => {
-                self.enter(frame);
-                Ok(())
-            }
-            Err(fault) => Err(fault),
-        }
+        self.may_alloc(sof, sol, sor)?;
+        self.resize(sof, sol, sor);
+        Ok(())
     }
 
     /// What `alloc_frame` would answer.
@@ -186,6 +194,17 @@ impl Stack {
         self.enter(frame);
     }
 
+    /// A return to the frame of a previous function state, as [`Stack::ret`] makes it, where that is known to have no fault.
+    #[tactic(auto, using(frame_shapes::proofs::Returns::may_return))]
+    pub fn leave(&mut self, pfm: u64)
+        requires marker { pfm < 2 ^ 38 }
+        requires free { return_fault_within self.old.limit self.old.frame.base (marked_frame self.old.frame.base pfm) ≡ None }
+        ensures { self.new ≡ entered self.old (returned_frame self.old.frame.base pfm) }
+    {
+        let frame = returned_frame(self.shape.base, pfm);
+        self.enter(frame);
+    }
+
     /// A return to the frame of a previous function state, whose low 38 bits are `pfm`.
     ///
     /// # Errors
@@ -198,13 +217,9 @@ impl Stack {
         ensures done { OnOk result (self.new ≡ entered self.old (returned_frame self.old.frame.base pfm)) }
         ensures refused { OnErr result (self.new ≡ self.old) }
     {
-        match returned(self.limit, self.shape.base, pfm) {
-            Ok(frame) => {
-                self.enter(frame);
-                Ok(())
-            }
-            Err(fault) => Err(fault),
-        }
+        self.may_ret(pfm)?;
+        self.leave(pfm);
+        Ok(())
     }
 
     /// What `ret` would answer.

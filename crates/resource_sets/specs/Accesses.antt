@@ -8,8 +8,6 @@ use Rattle.ia_insn.specs.declared.choices.CmpKind.{CmpKind}
 use Rattle.ia_insn.specs.declared.choices.CmpKind.TheVariants as cmp
 use Rattle.ia_insn.specs.declared.choices.LoadKind.{LoadKind}
 use Rattle.ia_insn.specs.declared.choices.LoadKind.TheVariants as load
-use Rattle.ia_insn.specs.declared.choices.StoreKind.{StoreKind}
-use Rattle.ia_insn.specs.declared.choices.StoreKind.TheVariants as store
 use Rattle.ia_insn.specs.declared.choices.BranchKind.{BranchKind}
 use Rattle.ia_insn.specs.declared.choices.BranchKind.TheVariants as branch
 use Rattle.ia_insn.specs.declared.choices.Update.{Update}
@@ -26,7 +24,7 @@ use Rattle.ia_meaning.specs.declared.action.Action.TheVariants as action
 use Rattle.ia_meaning.specs.Names.{is_stacked, is_rotating}
 use Rattle.ia_meaning.specs.Actions.{insn_action}
 use Rattle.ia_meaning.specs.Moves.{is_masked}
-use Rattle.ia_meaning.specs.Loads.{update_register}
+use Rattle.ia_meaning.specs.Loads.{update_register, takes_nat}
 use Rattle.resource_sets.specs.declared.access.Resource.{Resource}
 use Rattle.resource_sets.specs.declared.access.Resource.TheVariants.{Gr, Pr, Br, Unat, Pfs, Lc, Ec, Cfm}
 use Rattle.resource_sets.specs.declared.access.Kind.{Kind}
@@ -82,10 +80,6 @@ abbrev pub is_fill : LoadKind → Bool
 is_fill load.Fill = true
 is_fill kind = false
 
-abbrev pub is_spill : StoreKind → Bool
-is_spill store.Spill = true
-is_spill kind = false
-
 -- what a fill or a spill accesses besides
 abbrev pub unat_row : Bool → Kind → AccessRow
 unat_row there kind = record { there = there; guarded = true; resource = Unat; kind = kind }
@@ -129,7 +123,7 @@ own_rows (action.ToApplication a r2 w) = gr r2 Read ∷ always true (application
 own_rows (action.FromMemory size kind r1 r3 u) =
     gr r3 Read ∷ gr (update_register u) Read ∷ gr r1 Write ∷ base_row u r3 ∷ unat_row (is_fill kind) Fill ∷ []
 own_rows (action.ToMemory size kind r3 r2 u) =
-    gr r3 Read ∷ gr r2 Read ∷ base_row u r3 ∷ unat_row (is_spill kind) Spill ∷ []
+    gr r3 Read ∷ gr r2 Read ∷ base_row u r3 ∷ unat_row (takes_nat kind) Spill ∷ []
 own_rows (action.Exchange size r1 r3 r2 inc) = gr r3 Read ∷ gr r2 Read ∷ gr r1 Write ∷ []
 own_rows (action.CheckNat r2 disp) = gr r2 Read ∷ []
 own_rows (action.CheckAlat clear r1 disp) = []

@@ -3,7 +3,7 @@
 //!
 //! [`decode_sem`] gives the instruction of a slot's word and [`encode_sem`] the word of an instruction. Both are
 //! exact: a word with a bit set that its format leaves blank, a reserved code or an operand out of its range is
-//! that of no instruction. [`new_value`] gives what memory gets.
+//! that of no instruction. [`word_of_semaphore`] is the word of one that is known to be listed. [`new_value`] gives what memory gets.
 //!
 //! Nothing here takes memory.
 #![tactic(auto)]
@@ -21,6 +21,7 @@ mod writing;
 
 use ia_insn::{Insn, Op, is_listed_m};
 pub use values::{exchanged, new_value};
+pub use writing::word_of_semaphore;
 
 /// The exchange or fetch-and-add whose word this is, and None exactly where it is that of none (volume 3,
 /// chapter 4, instruction formats, M16 and M17). Where in its bundle the word stands is not looked at.
@@ -64,7 +65,7 @@ pub fn encode_sem(insn: &Insn) -> Option<u64>
     ensures within { IfSome result (λ word. word < 2 ^ 41) }
 {
     if is_semaphore(&insn.op) && is_listed_m(insn) {
-        Some(writing::write(insn))
+        Some(word_of_semaphore(insn))
     } else {
         None
     }

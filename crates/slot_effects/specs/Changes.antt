@@ -17,7 +17,7 @@ use Rattle.ia_meaning.specs.Names.{spot, look, set_spot, predicate_spot, set_pre
 use Rattle.ia_meaning.specs.Outcomes.{Outcome}
 use Rattle.ia_meaning.specs.Moves.{predicate_writes}
 use Rattle.ia_meaning.specs.Loads.{access_fault, stored, forgotten, entered, untouched, update_register, base_writes, unat_bit}
-use Rattle.ia_meaning.specs.Frames.{with_sizes, cleared, call_state, call_frame, marked_frame, return_fault}
+use Rattle.ia_meaning.specs.Frames.{with_sizes, cleared, epilog_of, call_state, call_frame, marked_frame, return_fault}
 use Rattle.ia_meaning.specs.Loops.{turn_of, turn_writes}
 use Rattle.frame_shapes.specs.Faults.{alloc_fault}
 use Rattle.slot_effects.specs.declared.change.Change.{Change}
@@ -81,7 +81,7 @@ writes_of r (Called b1 address) =
     SetBranch b1 address ∷ SetPfs (call_state r.frame r.ec) ∷ SetFrame Resized (call_frame r.frame) ∷ []
 writes_of r Returned =
     SetFrame Resized (marked_frame (r.frame.base - (marked_frame r.frame.base r.pfs).sol) r.pfs)
-    ∷ SetEc ((r.pfs / 2 ^ 52) % 2 ^ 6) ∷ []
+    ∷ SetEc (epilog_of r.pfs) ∷ []
 writes_of r (Cleared pred_only) = SetFrame Renamed (cleared pred_only r.frame) ∷ []
 
 -- the entries without that of the register at a place, where there is one

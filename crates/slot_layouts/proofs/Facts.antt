@@ -12,7 +12,7 @@ use Rattle.slot_layouts.specs.declared.layout.Wanted.{Wanted}
 use Rattle.slot_layouts.specs.Layouts.{are_rising, first_below, laid_out}
 use Rattle.slot_layouts.specs.Filled.{filled}
 use Rattle.slot_layouts.specs.Laws.{has_stop}
-use Rattle.slot_layouts.proofs.Tables.{wanted, each_class, at_class, entailed, each_bool, each_one, each_two, each_three, at_bool, HoldsUpToThree, for_every, all_below, any_below, left, right}
+use Rattle.slot_layouts.proofs.Tables.{wanted, each_class, at_class, entailed, each_bool, at_bool, HoldsUpToThree, for_every, all_below, any_below, left, right}
 use Rattle.slot_layouts.proofs.FirstLayouts.{too_long}
 
 abbrev pub is_m : SlotClass → Bool

@@ -1,6 +1,6 @@
 -- What the bundle of a template holds that is filled by instructions in given slots.
-use Rattle.std.proofs.Common.{arith, rules, ◌≡◌, ℕ, zero, suc, ◌<◌, ◌≤◌, ◌⊎◌, inl, inr, refl, sym, subst, Bool, true, false, ◌&&◌, ◌||◌, ◌==◌, eqb, is_none, ◌/◌, List, [], ◌∷◌, Option, Some, None, slice_get, lit<, if◌then◌else◌, IsSome}
-use Rattle.std.specs.Prelude.{◌≢◌, unwrap_or}
+use Rattle.std.proofs.Common.{arith, rules, ◌≡◌, ℕ, zero, suc, ◌<◌, ◌≤◌, ◌⊎◌, inr, refl, sym, subst, Bool, true, false, ◌&&◌, ◌||◌, ◌==◌, eqb, is_none, ◌/◌, List, [], ◌∷◌, Option, Some, None, slice_get, lit<, if◌then◌else◌, IsSome}
+use Rattle.std.specs.Prelude.{◌≢◌}
 use Rattle.std.proofs.lemmas.Bool.{eqb-true, eq-eqb, ltb-true}
 use Rattle.std.proofs.lemmas.Bool.Decides.{nat_tests}
 use Rattle.std.proofs.lemmas.Option.{same_Some}
@@ -8,15 +8,14 @@ use Rattle.ia_insn.specs.declared.insn.Insn.{Insn}
 use Rattle.ia_insn.specs.declared.choices.Unit.{Unit as ExecutionUnit}
 use Rattle.ia_insn.specs.declared.choices.Unit.TheVariants as units
 use Rattle.ia_insn.specs.declared.bundle.Slots.{Slots}
-use Rattle.ia_insn.specs.declared.bundle.Slots.TheVariants.{Three, Long}
-use Rattle.ia_insn.specs.Templates.{IsTemplate, Shape, shape_of, no_shape, units_of, stops_of}
+use Rattle.ia_insn.specs.Templates.{IsTemplate, Shape, shape_of, units_of}
 use Rattle.ia_insn.specs.Fits.{Fits}
 use Rattle.ia_insn.specs.Bundles.{IsBundle, FitUnits, slot_insn, last_slot}
 use Rattle.ia_insn.proofs.TemplateCodes.{code_small}
 use Rattle.ia_meaning.specs.Sequence.{stops_after}
 use Rattle.slot_layouts.specs.declared.layout.Wanted.{Wanted}
 use Rattle.slot_layouts.specs.Classes.{has_place}
-use Rattle.slot_layouts.specs.Layouts.{fits_slot, all_fit, are_rising, has_none_before, stops_are_wanted, is_layout}
+use Rattle.slot_layouts.specs.Layouts.{fits_slot, all_fit, are_rising, is_layout}
 use Rattle.slot_layouts.specs.Filled.{nop_of, slot_content, contents, filled, AreOf}
 use Rattle.slot_layouts.specs.Laws.{has_stop}
 use Rattle.slot_layouts.proofs.Tables.{left, right, all_below, below}

@@ -1,5 +1,5 @@
 -- The first layout of a list is a layout, and a list of more than three instructions has none.
-use Rattle.std.proofs.Common.{arith, ◌≡◌, ℕ, zero, suc, ◌+◌, ◌/◌, ◌<◌, ◌⊎◌, inl, inr, ◌↔◌, ltb, refl, sym, ◌∙◌, subst, ap, add-one, Bool, true, false, IsTrue, ◌&&◌, cond, List, [], ◌∷◌, length, map, take, drop, filter, find, get_or, Contains, slice_get, Option, Some, None, IsSome, option_map, unwrap_or, Bor}
+use Rattle.std.proofs.Common.{arith, ◌≡◌, ℕ, zero, suc, ◌+◌, ◌/◌, ◌<◌, ◌⊎◌, inl, inr, ◌↔◌, ltb, refl, sym, ◌∙◌, subst, ap, add-one, Bool, true, false, IsTrue, ◌&&◌, cond, List, [], ◌∷◌, length, take, drop, filter, find, get_or, Contains, slice_get, Option, Some, None, IsSome, option_map, unwrap_or}
 use Rattle.std.specs.Option.{option_or}
 use Rattle.std.proofs.lemmas.Bool.{ltb-true}
 use Rattle.ia_insn.specs.declared.choices.Unit.{Unit as ExecutionUnit}

@@ -1,5 +1,5 @@
 -- The laws of the lists that are laid out, from what is computed of all lists.
-use Rattle.std.proofs.Common.{arith, ◌≡◌, ℕ, zero, suc, ◌+◌, ◌<◌, ◌≤◌, ◌⊎◌, inl, inr, refl, sym, ◌∙◌, ap, subst, add-one, Bool, true, false, not, ◌&&◌, ◌||◌, ◌==◌, nat_le, nat_lt, List, [], ◌∷◌, length, Option, Some, None, IsSome, slice_get}
+use Rattle.std.proofs.Common.{arith, ◌≡◌, ℕ, zero, suc, ◌+◌, ◌<◌, ◌≤◌, ◌⊎◌, inl, inr, refl, sym, ◌∙◌, ap, subst, add-one, Bool, true, false, not, ◌&&◌, ◌||◌, ◌==◌, nat_le, nat_lt, List, [], ◌∷◌, length, Some, IsSome, slice_get}
 use Rattle.std.specs.Prelude.{◌≢◌, option_map}
 use Rattle.std.specs.Cmp.Derive.{both_true}
 use Rattle.std.proofs.lemmas.Bool.{eqb-true, leb-true, le-leb, ltb-true}
@@ -10,9 +10,9 @@ use Rattle.ia_insn.specs.Bundles.{slot_insn, last_slot}
 use Rattle.slot_layouts.specs.declared.classes.SlotClass.TheVariants.{A, M, B}
 use Rattle.slot_layouts.specs.declared.layout.Wanted.{Wanted}
 use Rattle.slot_layouts.specs.Layouts.{are_rising, laid_out}
-use Rattle.slot_layouts.specs.Filled.{nop_of, slot_content, filled}
+use Rattle.slot_layouts.specs.Filled.{nop_of, filled}
 use Rattle.slot_layouts.specs.Laws.{HoldsInOrder, has_stop, HasNoStop, HasOneStop, HasStopWhere, HasStopsAsWanted}
-use Rattle.slot_layouts.proofs.Tables.{left, right, all_below, below, some_below, entailed}
+use Rattle.slot_layouts.proofs.Tables.{left, right, below, some_below, entailed}
 use Rattle.slot_layouts.proofs.Facts.{is_m, is_m_or_a, is_b, blank, last_place, is_no_stop, no_stop_in, is_only_stop, one_stop_in, stop_in_where, stop_right_before, is_as, each_pair, at_last, at_first, each_slot, pair_holds, last_holds, first_holds, AreFacts, facts_at}
 use Rattle.slot_layouts.proofs.Fillings.{has_stop-filled, last_slot-filled, IsPut, put_at, within_last, rising_pair, rest_rises, content-listed, content-other}
 

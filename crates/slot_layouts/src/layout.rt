@@ -1,9 +1,9 @@
 //! Layouts: the slots of a template that instructions take.
 
-ghost use Rattle.std.specs.Prelude.{◌≡◌, ℕ, List, ◌<◌, length, option_map};
-ghost use Rattle.ia_insn.specs.Templates.{units_of, stops_of};
+ghost use Rattle.std.specs.Prelude.{◌≡◌, ℕ, List, ◌<◌, option_map};
+ghost use Rattle.ia_insn.specs.Templates.{stops_of};
 ghost use Rattle.ia_meaning.specs.Landings.{is_one_of};
-ghost use Rattle.slot_layouts.specs.Layouts.{all_fit, are_rising, is_stop_between, stops_between, has_stop_where, stops_are_wanted, has_none_before, is_layout, rising_slots, least_slots, laid_out};
+ghost use Rattle.slot_layouts.specs.Layouts.{all_fit, are_rising, is_stop_between, stops_between, has_stop_where, stops_are_wanted, has_none_before, is_layout, least_slots, laid_out};
 
 use crate::classes::SlotClass;
 use arrayvec::ArrayVec;

@@ -19,7 +19,7 @@ use Rattle.predicate_rel.specs.declared.edge.Edge.{Edge}
 use Rattle.predicate_rel.specs.declared.edge.Edge.TheVariants.{Falls, Taken}
 use Rattle.predicate_rel.specs.Pairs.{Pairs}
 use Rattle.predicate_rel.specs.Rules.{action_rule, pairs_by, rule_of, pairs_after}
-use Rattle.predicate_rel.specs.Edges.{edge_of, edge_end, HasEdge, pairs_past, pairs_past_insn}
+use Rattle.predicate_rel.specs.Edges.{edge_of, HasEdge, pairs_past, pairs_past_insn}
 use Rattle.predicate_rel.proofs.EdgeEnds.{is_edge_end}
 use Rattle.slot_table.specs.declared.slot.Slot.{Slot}
 use Rattle.slot_table.specs.Slots.{slot_of, slot_at, edge_from}
@@ -72,14 +72,7 @@ edge_of-slot : (bundles : List Bundle) (place : Place) (insn : Insn) (e : Edge) 
 edge_of-slot bundles place insn Falls = refl
 edge_of-slot bundles place insn Taken = refl
 
--- the edges of a slot lead where those of its place do
-pub edge_from-slot : (bundles : List Bundle) (place : Place) (slot : Slot) (e : Edge) → slot_at bundles place ≡ Some slot → edge_from slot e ≡ edge_end bundles place e
-unfolding edge_end
-edge_from-slot bundles place slot e at =
-    let s = slot_is bundles place slot at in
-    ap (λ (q : Slot). edge_from q e) (sym s.is) ∙ edge_of-slot bundles place s.insn e ∙ ap (λ (o : Option Insn). edge_of bundles place o e) (sym s.here)
-
--- and are those of the program
+-- the edges of a slot are those of the program
 pub slot_edges : (p : Program) (from : Place) (slot : Slot) (e : Edge) (r : Option Place) → IsProgram p → slot_at p.bundles from ≡ Some slot → r ≡ edge_from slot e → MatchOption r ((to : Place) → HasEdge p from e to → ⊥) (λ to. HasEdge p from e to)
 slot_edges p from slot e r program at leads =
     let s = slot_is p.bundles from slot at in

@@ -130,15 +130,3 @@ module _ (s : Loose) (n : ℕ) (k : Packing) (so : IsPackedSo s n k) where
         full = full;
         begins = one.begins (omega (arith, room, full));
       }
-
--- after all instructions it is the packing of the text
-pub packed_all : (s : Loose) (k : Packing) (n : ℕ) → n ≡ length s.items → IsPackedSo s n k → IsPackOf s s.items k
-packed_all s k n e so = of so.rest so.items
-  where
-    of : (rest : List Item) → s.items ≡ (so.front ++ so.last ∷ []) ++ rest → IsPackOf s s.items k
-    of [] items = subst (λ (l : List Item). IsPackOf s l k) (sym (items ∙ append_none (so.front ++ so.last ∷ []))) so.pack
-      where
-        append_none : (l : List Item) → l ++ [] ≡ l
-        append_none [] = refl
-        append_none (x ∷ l) = ap (λ (t : List Item). x ∷ t) (append_none l)
-    of (x ∷ rest) items = absurd (omega (arith, e, ap (length {A = Item}) items, length-append (so.front ++ so.last ∷ []) (x ∷ rest), length-append so.front (so.last ∷ []), so.number))

@@ -3,7 +3,6 @@ use Rattle.std.proofs.Common.{◌≡◌, ◌<◌, ◌≤◌, ◌+◌, ◌-◌, �
 use Rattle.std.specs.Prelude.{Result, Ok, Err, IfOk, OnOk, OnErr}
 use Rattle.std.proofs.Math.Seq.{get_or-append_seam, set-append_seam, drop-cons}
 use native.Mathlib.Numerals.{unary_clauses}
-use Rattle.std.proofs.Math.ListN.{drop_of_length-le}
 use Rattle.std.proofs.lemmas.List.{map-append, append-nil, length-map}
 use Rattle.std.proofs.lemmas.List.Edits.{length-remove}
 use Rattle.ia_insn.specs.declared.ending.GroupEvent.{GroupEvent}
@@ -311,11 +310,6 @@ reported_one seen all text numbers list at n w text_1 r below is_n is_w is =
           ap (λ t. t ++ flat_map numbered_report (zip (drop (at + 1) numbers) (map seen (drop (at + 1) list)))) is
           ∙ append_assoc text (numbered_report (n, seen w)) (flat_map numbered_report (zip (drop (at + 1) numbers) (map seen (drop (at + 1) list)))) ∙ whole;
     }
-
-pub reported_all : {B : Type 0} (seen : B → WatchState) (all text numbers : List ℕ) (list : List B) (at : ℕ) → IsReportedTo seen all text numbers list at → length list ≤ at → text ≡ all
-reported_all seen all text numbers list at r over =
-    let none : drop at numbers ≡ [] = drop_of_length-le numbers (omega (arith, r.as_many, over)) in
-    sym (append-nil text) ∙ subst (λ xs. text ++ flat_map numbered_report (zip xs (map seen (drop at list))) ≡ all) none r.whole
 
 pub of_ok : {T E : Type 0} (r : Result T E) (v : T) (P : T → Type 0) → r ≡ Ok v → IfOk r P → P v
 of_ok r v P is o = subst (λ x. IfOk x P) is o

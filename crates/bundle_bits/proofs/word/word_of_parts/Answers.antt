@@ -1,5 +1,4 @@
 use Rattle.std.proofs.Common.{◌≤◌, ◌<◌, ◌^◌, ◌*◌, arith}
-use Rattle.bundle_bits.specs.Words.{word_of}
 use Rattle.bundle_bits.proofs.Words.{word-fits}
 use Rattle.bundle_bits.proofs.Sums.{one_more, low_within}
 use Rattle.bundle_bits.proofs.word.word_of_parts.Goals as goal

@@ -11,4 +11,6 @@ none c (ShiftVar f r1 value count) is row = c.in_default.not-ShiftVar f r1 value
 none c op is row = first_of (assumption, grind arith)
 
 pub returns-in_default : goal.returns-in_default
-returns-in_default c = (λ no. cc, λ listed. absurd (none c c.args.insn.now.op refl listed.row))
+returns-in_default c =
+    let none_of = none c c.args.insn.now.op refl in
+    record { exact = (λ no. cc, λ listed. absurd (none_of listed.row)); in_range = λ ranged. absurd (none_of ranged.0) }
