@@ -18,7 +18,7 @@ use Rattle.ia_insn.specs.Addresses.{bundle_address, data_address}
 use Rattle.ia_insn.specs.Targets.{displacement, IsBundleAt}
 use Rattle.asm_build.specs.declared.address.Address.{Address}
 use Rattle.asm_build.specs.declared.address.Address.TheVariants.{Bundle, Byte}
-use Rattle.asm_build.specs.Addresses.{IsInside, IsWithin, addressed, reach}
+use Rattle.asm_build.specs.Addresses.{IsInside, IsReachable, addressed, reach}
 
 small : (low width n : ℕ) → bits low width n < 2 ^ width
 small low width n = mod_below (n / 2 ^ low) (2 ^ width) (pow_pos width)
@@ -34,7 +34,7 @@ back m n = +ℤ_comm (pos n) (pos m -ℤ pos n) ∙ -ℤ-+ℤ_cancel (pos m) (po
 at_bundle : (count m n : ℕ) → m < count → IsBundleAt count n (pos m -ℤ pos n)
 at_bundle count m n h = (subst (λ z. pos 0 ≤ℤ z) (sym (back m n)) (record { le = le→leb 0 m (omega arith) }), subst (λ z. z <ℤ pos count) (sym (back m n)) (record { lt = lt→ltb m count h }))
 
-stays_a : (qp : ℕ) (x : Op) (a : Address) (n : ℕ) → IsWithin a → n < reach → IsListedA (record { qp = qp; op = x }) → IfSome (addressed x a n) (λ y. IsListedA (record { qp = qp; op = y }))
+stays_a : (qp : ℕ) (x : Op) (a : Address) (n : ℕ) → IsReachable a → n < reach → IsListedA (record { qp = qp; op = x }) → IfSome (addressed x a n) (λ y. IsListedA (record { qp = qp; op = y }))
 stays_a qp (op.ChkS u r2 disp) a n h k l = absurd l.row
 stays_a qp (op.ChkA clear r1 disp) a n h k l = absurd l.row
 stays_a qp (op.Br kind wh many clr disp) a n h k l = absurd l.row
@@ -42,7 +42,7 @@ stays_a qp (op.BrCall b1 wh many clr disp) a n h k l = absurd l.row
 stays_a qp (op.Movl r1 imm) a n h k l = absurd l.row
 stays_a qp x a n h k l = tt
 
-stays_i : (qp : ℕ) (x : Op) (a : Address) (n : ℕ) → IsWithin a → n < reach → IsListedI (record { qp = qp; op = x }) → IfSome (addressed x a n) (λ y. IsListedI (record { qp = qp; op = y }))
+stays_i : (qp : ℕ) (x : Op) (a : Address) (n : ℕ) → IsReachable a → n < reach → IsListedI (record { qp = qp; op = x }) → IfSome (addressed x a n) (λ y. IsListedI (record { qp = qp; op = y }))
 stays_i qp (op.ChkS unit.I r2 disp) (Bundle m) n h k l =
     record { row = tt; ranges = (tt, near m n h k); qualifier = l.qualifier; fit = (l.fit.0, (small 20 1 _, (l.fit.1.1.0, (small 7 13 _, (l.fit.1.1.1.1.0, (small 0 7 _, (l.fit.1.1.1.1.1.1.0, tt))))))) }
 stays_i qp (op.ChkS unit.I r2 disp) (Byte at) n h k l = tt
@@ -53,7 +53,7 @@ stays_i qp (op.BrCall b1 wh many clr disp) a n h k l = absurd l.row
 stays_i qp (op.Movl r1 imm) a n h k l = absurd l.row
 stays_i qp x a n h k l = tt
 
-stays_m : (qp : ℕ) (x : Op) (a : Address) (n : ℕ) → IsWithin a → n < reach → IsListedM (record { qp = qp; op = x }) → IfSome (addressed x a n) (λ y. IsListedM (record { qp = qp; op = y }))
+stays_m : (qp : ℕ) (x : Op) (a : Address) (n : ℕ) → IsReachable a → n < reach → IsListedM (record { qp = qp; op = x }) → IfSome (addressed x a n) (λ y. IsListedM (record { qp = qp; op = y }))
 stays_m qp (op.ChkS unit.M r2 disp) (Bundle m) n h k l =
     record { row = tt; ranges = (tt, near m n h k); qualifier = l.qualifier; fit = (l.fit.0, (small 20 1 _, (l.fit.1.1.0, (small 7 13 _, (l.fit.1.1.1.1.0, (small 0 7 _, (l.fit.1.1.1.1.1.1.0, tt))))))) }
 stays_m qp (op.ChkS unit.M r2 disp) (Byte at) n h k l = tt
@@ -66,7 +66,7 @@ stays_m qp (op.BrCall b1 wh many clr disp) a n h k l = absurd l.row
 stays_m qp (op.Movl r1 imm) a n h k l = absurd l.row
 stays_m qp x a n h k l = tt
 
-stays_b : (qp : ℕ) (x : Op) (a : Address) (n : ℕ) → IsWithin a → n < reach → IsListedB (record { qp = qp; op = x }) → IfSome (addressed x a n) (λ y. IsListedB (record { qp = qp; op = y }))
+stays_b : (qp : ℕ) (x : Op) (a : Address) (n : ℕ) → IsReachable a → n < reach → IsListedB (record { qp = qp; op = x }) → IfSome (addressed x a n) (λ y. IsListedB (record { qp = qp; op = y }))
 stays_b qp (op.ChkS u r2 disp) a n h k l = absurd l.row
 stays_b qp (op.ChkA clear r1 disp) a n h k l = absurd l.row
 stays_b qp (op.Br kind wh many clr disp) (Bundle m) n h k l =
@@ -78,7 +78,7 @@ stays_b qp (op.BrCall b1 wh many clr disp) (Byte at) n h k l = tt
 stays_b qp (op.Movl r1 imm) a n h k l = absurd l.row
 stays_b qp x a n h k l = tt
 
-stays_f : (qp : ℕ) (x : Op) (a : Address) (n : ℕ) → IsWithin a → n < reach → IsListedF (record { qp = qp; op = x }) → IfSome (addressed x a n) (λ y. IsListedF (record { qp = qp; op = y }))
+stays_f : (qp : ℕ) (x : Op) (a : Address) (n : ℕ) → IsReachable a → n < reach → IsListedF (record { qp = qp; op = x }) → IfSome (addressed x a n) (λ y. IsListedF (record { qp = qp; op = y }))
 stays_f qp (op.ChkS u r2 disp) a n h k l = absurd l.row
 stays_f qp (op.ChkA clear r1 disp) a n h k l = absurd l.row
 stays_f qp (op.Br kind wh many clr disp) a n h k l = absurd l.row
@@ -91,7 +91,7 @@ moved : (qp r1 imm other : ℕ) → other < 2 ^ 64 → IsListedX (record { qp = 
 moved qp r1 imm other h l =
     record { row = tt; ranges = (l.ranges.0, h); qualifier = l.qualifier; fit = (l.fit.0, (small 63 1 other, (small 7 9 other, (small 16 5 other, (small 21 1 other, (l.fit.1.1.1.1.1.0, (small 0 7 other, (l.fit.1.1.1.1.1.1.1.0, (l.fit.1.1.1.1.1.1.1.1.0, tt))))))))) }
 
-stays_x : (qp : ℕ) (x : Op) (a : Address) (n : ℕ) → IsWithin a → n < reach → IsListedX (record { qp = qp; op = x }) → IfSome (addressed x a n) (λ y. IsListedX (record { qp = qp; op = y }))
+stays_x : (qp : ℕ) (x : Op) (a : Address) (n : ℕ) → IsReachable a → n < reach → IsListedX (record { qp = qp; op = x }) → IfSome (addressed x a n) (λ y. IsListedX (record { qp = qp; op = y }))
 stays_x qp (op.ChkS u r2 disp) a n h k l = absurd l.row
 stays_x qp (op.ChkA clear r1 disp) a n h k l = absurd l.row
 stays_x qp (op.Br kind wh many clr disp) a n h k l = absurd l.row
@@ -120,7 +120,7 @@ under : (P Q : Op → Type 0) (o : Option Op) → ((y : Op) → P y → Q y) →
 under P Q None f p = tt
 under P Q (Some y) f p = f y p
 
-unit_stays : (qp : ℕ) (x : Op) (a : Address) (n : ℕ) (u : ExecutionUnit) (slot : ℕ) → IsWithin a → n < reach
+unit_stays : (qp : ℕ) (x : Op) (a : Address) (n : ℕ) (u : ExecutionUnit) (slot : ℕ) → IsReachable a → n < reach
     → FitsUnit (record { qp = qp; op = x }) u slot → IfSome (addressed x a n) (λ y. FitsUnit (record { qp = qp; op = y }) u slot)
 unit_stays qp x a n unit.M slot h k (inl l) = under _ _ (addressed x a n) (λ y p. inl p) (stays_a qp x a n h k l)
 unit_stays qp x a n unit.M slot h k (inr l) = under _ _ (addressed x a n) (λ y p. inr p) (stays_m qp x a n h k l)
@@ -132,7 +132,7 @@ unit_stays qp x a n unit.L slot h k l = under _ _ (addressed x a n) (λ y p. (p,
 unit_stays qp x a n unit.X slot h k l = under _ _ (addressed x a n) (λ y p. (p, l.1)) (stays_x qp x a n h k l.0)
 
 -- An instruction with an address put in fits the slots that it fits without.
-pub fit_stays : (i : Insn) (a : Address) (n : ℕ) (u : ExecutionUnit) (slot : ℕ) → IsWithin a → n < reach
+pub fit_stays : (i : Insn) (a : Address) (n : ℕ) (u : ExecutionUnit) (slot : ℕ) → IsReachable a → n < reach
     → Fits i u slot → IfSome (addressed i.op a n) (λ y. Fits (record { qp = i.qp; op = y }) u slot)
 fit_stays i a n u slot h k f =
     under _ _ (addressed i.op a n) (λ y p. record { place = f.place; kind = p }) (unit_stays i.qp i.op a n u slot h k f.kind)

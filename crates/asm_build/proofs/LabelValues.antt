@@ -8,7 +8,7 @@ use Rattle.std.specs.Cmp.Lexicographic.{slice_cmp}
 use Rattle.std.specs.Ordering.{nat_cmp, match_ordering}
 use Rattle.std.specs.declared.cmp.Ordering.TheVariants.{Less, Equal, Greater}
 use Rattle.asm_build.specs.declared.address.Address.{Address}
-use Rattle.asm_build.specs.Addresses.{IsWithin}
+use Rattle.asm_build.specs.Addresses.{IsReachable}
 use Rattle.asm_build.specs.TextParts.{Labels, address_of}
 
 -- holds of what is found
@@ -32,6 +32,6 @@ kept_among P (e ∷ es) name a all p =
     ]
 
 -- so labels stay within with one more
-pub label_added : (name : List ℕ) (a : Address) (before labels : Labels) → AllByRecursion IsWithin (values_of before) → IsWithin a → labels ≡ insert_entry (slice_cmp nat_cmp) before name a
-    → AllByRecursion IsWithin (values_of labels)
-label_added name a before labels all within grown = rw grown (kept_among IsWithin before name a all within)
+pub label_added : (name : List ℕ) (a : Address) (before labels : Labels) → AllByRecursion IsReachable (values_of before) → IsReachable a → labels ≡ insert_entry (slice_cmp nat_cmp) before name a
+    → AllByRecursion IsReachable (values_of labels)
+label_added name a before labels all within grown = rw grown (kept_among IsReachable before name a all within)

@@ -14,21 +14,21 @@ use Rattle.ia_insn.specs.Targets.{displacement}
 use Rattle.asm_build.specs.declared.address.Address.{Address}
 use Rattle.asm_build.specs.declared.draft.BundleLines.{BundleLines}
 use Rattle.asm_build.specs.declared.draft.SlotName.{SlotName}
-use Rattle.asm_build.specs.Addresses.{IsWithin, reach}
+use Rattle.asm_build.specs.Addresses.{IsReachable, reach}
 use Rattle.asm_build.specs.Names.{addressed_by, named, put_in, slots_named}
 use Rattle.asm_build.specs.TextParts.{Labels, address_of}
 use Rattle.asm_build.proofs.AddressedTargets.{fit_stays}
 use Rattle.asm_build.proofs.LabelValues.{label_within}
 
 -- the addresses of the labels are those of a program
-abbrev pub AreFoundWithin : Labels → Type 0
-AreFoundWithin labels = AllByRecursion IsWithin (values_of labels)
+abbrev pub AreFoundReachable : Labels → Type 0
+AreFoundReachable labels = AllByRecursion IsReachable (values_of labels)
 
 or_same : (i : Insn) (u : ExecutionUnit) (slot : ℕ) (o : Option Op) → Fits i u slot → IfSome o (λ y. Fits (record { qp = i.qp; op = y }) u slot) → Fits (record { qp = i.qp; op = unwrap_or o i.op }) u slot
 or_same i u slot None f h = f
 or_same i u slot (Some y) f h = h
 
-fits_addressed : (i : Insn) (o : Option Address) (n : ℕ) (u : ExecutionUnit) (slot : ℕ) → IfSome o IsWithin → n < reach → Fits i u slot
+fits_addressed : (i : Insn) (o : Option Address) (n : ℕ) (u : ExecutionUnit) (slot : ℕ) → IfSome o IsReachable → n < reach → Fits i u slot
     → IfSome (addressed_by o i.op n) (λ y. Fits (record { qp = i.qp; op = y }) u slot)
 fits_addressed i None n u slot h k f = tt
 fits_addressed i (Some a) n u slot h k f = fit_stays i a n u slot h k f
@@ -37,18 +37,18 @@ plain : (P : Op → Type 0) (branches : Bool) (x : Op) → P x → IfSome (if br
 plain P true x p = tt
 plain P false x p = p
 
-fits_target : (labels : Labels) (n : ℕ) (i : Insn) (target : Option (List ℕ)) (u : ExecutionUnit) (slot : ℕ) → AreFoundWithin labels → n < reach
+fits_target : (labels : Labels) (n : ℕ) (i : Insn) (target : Option (List ℕ)) (u : ExecutionUnit) (slot : ℕ) → AreFoundReachable labels → n < reach
     → Fits i u slot → IfSome (named labels n i.op target) (λ y. Fits (record { qp = i.qp; op = y }) u slot)
 fits_target labels n i None u slot within k f = plain _ (is_some (displacement i.op)) i.op f
-fits_target labels n i (Some name) u slot within k f = fits_addressed i (address_of labels name) n u slot (label_within IsWithin labels name within) k f
+fits_target labels n i (Some name) u slot within k f = fits_addressed i (address_of labels name) n u slot (label_within IsReachable labels name within) k f
 
-fits_put_in : (labels : Labels) (n : ℕ) (i : Insn) (name : SlotName) (u : ExecutionUnit) (slot : ℕ) → AreFoundWithin labels → n < reach
+fits_put_in : (labels : Labels) (n : ℕ) (i : Insn) (name : SlotName) (u : ExecutionUnit) (slot : ℕ) → AreFoundReachable labels → n < reach
     → Fits i u slot → Fits (put_in labels n i name) u slot
 fits_put_in labels n i name u slot within k f =
     or_same i u slot (named labels n i.op name.target) f (fits_target labels n i name.target u slot within k f)
 
 -- the slots of a bundle fit its units as before
-pub fit_named : (labels : Labels) (n : ℕ) (units : List ExecutionUnit) (slots : Slots) (b : BundleLines) → AreFoundWithin labels → n < reach
+pub fit_named : (labels : Labels) (n : ℕ) (units : List ExecutionUnit) (slots : Slots) (b : BundleLines) → AreFoundReachable labels → n < reach
     → FitUnits units slots → FitUnits units (slots_named labels n slots b)
 fit_named labels n (u ∷ v ∷ w ∷ []) (Three i j k) b within few f = (
   fits_put_in labels n i b.first u 0 within few f.0,

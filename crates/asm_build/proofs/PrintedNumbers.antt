@@ -2,6 +2,7 @@
 use Rattle.std.proofs.Common.{◌≡◌, ◌∙◌, ℕ, ◌+◌, ◌*◌, ◌<◌, ◌≤◌, ◌%◌, ◌^◌, true, false, ◌==◌, leb, List, [], ◌∷◌, ◌++◌, length, codes, Ok, refl, ap, arith, length-append}
 use Rattle.std.specs.Fmt.{digits}
 use Rattle.std.proofs.lemmas.Bool.{lt-ltb, le-leb, eq-eqb, ne_eqb}
+use Rattle.asm_words.specs.declared.limits.TheConstants.{NUMBER_TOKEN_LIMIT}
 use Rattle.asm_words.specs.declared.word.WordKind.TheVariants as kind
 use Rattle.asm_words.specs.declared.tokens.Token.{Token}
 use Rattle.asm_words.specs.declared.tokens.Token.TheVariants as t
@@ -65,13 +66,13 @@ count_tokens [] = refl
 count_tokens (w ∷ ws) = omega (arith, count_tokens ws)
 
 -- numbers and commas in turn
-agreed_more : (ws : List ℕ) (at : ℕ) → at % 2 ≡ 1 → at + 2 * length ws ≤ 63 → AreWords ws → agreed_data field.Imm64 at (more_tokens ws) ≡ length (more_tokens ws)
+agreed_more : (ws : List ℕ) (at : ℕ) → at % 2 ≡ 1 → at + 2 * length ws ≤ NUMBER_TOKEN_LIMIT → AreWords ws → agreed_data field.Imm64 at (more_tokens ws) ≡ length (more_tokens ws)
 agreed_more [] at odd room h = refl
 agreed_more (w ∷ ws) at odd room h =
     let comma : (at % 2 == 0) ≡ false = ne_eqb (at % 2) 0 (λ e. omega (arith, odd, e)) in
     let number : ((at + 1) % 2 == 0) ≡ true = eq-eqb ((at + 1) % 2) 0 (omega (arith, odd)) in
     let small : leb w 18446744073709551615 ≡ true = le-leb w 18446744073709551615 (omega (arith, h.0)) in
-    rw (comma, lt-ltb at 63 (omega (arith, room)), number, lt-ltb (at + 1) 63 (omega (arith, room)), small, agreed_more ws (at + 1 + 1) (omega (arith, odd)) (omega (arith, room)) h.1) (omega arith)
+    rw (comma, lt-ltb at NUMBER_TOKEN_LIMIT (omega (arith, room)), number, lt-ltb (at + 1) NUMBER_TOKEN_LIMIT (omega (arith, room)), small, agreed_more ws (at + 1 + 1) (omega (arith, odd)) (omega (arith, room)) h.1) (omega arith)
 
 first_agreed : (w : ℕ) (ws : List ℕ) → length ws ≤ 7 → w < 2 ^ 64 → AreWords ws → agreed_data field.Imm64 0 (t.Number false w ∷ more_tokens ws) ≡ length (t.Number false w ∷ more_tokens ws)
 first_agreed w ws few l h =

@@ -19,9 +19,9 @@ abbrev pub reach : ℕ
 reach = 2 ^ 20
 
 -- a bundle that each other one reaches, or an address that data may have, or their end
-abbrev pub IsWithin : Address → Type 0
-IsWithin (Bundle n) = n < reach
-IsWithin (Byte at) = at ≤ DATA_LIMIT
+abbrev pub IsReachable : Address → Type 0
+IsReachable (Bundle n) = n < reach
+IsReachable (Byte at) = at ≤ DATA_LIMIT
 
 -- a bundle that has the label is one of so many
 abbrev pub IsInside : ℕ → Address → Type 0

@@ -23,7 +23,7 @@ use Rattle.asm_build.specs.declared.reason.Reason.{Reason}
 use Rattle.asm_build.specs.declared.reason.Reason.TheVariants.{Misplaced, Twice, Template, SlotKind, Limit}
 use Rattle.asm_build.specs.declared.reason.TextError.{TextError}
 use Rattle.asm_build.specs.declared.reason.TextError.TheVariants as error
-use Rattle.asm_build.specs.Addresses.{IsInside, IsWithin}
+use Rattle.asm_build.specs.Addresses.{IsInside, IsReachable}
 use Rattle.asm_build.specs.Drafts.{OpenBundle, HasSlot, HasSlotRoom, FitsNext, added, stopped, closed, IsWhole}
 
 -- labels and what they name, in the order of the labels
@@ -180,5 +180,5 @@ AreLabelsInside s = AreLabelsBelow (length s.bundles) s
 pub record IsWithinLimits (s : TextParts) : Type 0 where
   pub current : IsSome s.current → length s.bundles < BUNDLE_LIMIT
   pub bundles : length s.bundles ≤ BUNDLE_LIMIT
-  pub labels : AllByRecursion IsWithin (values_of s.labels)
+  pub labels : AllByRecursion IsReachable (values_of s.labels)
   pub bytes : length s.bytes ≤ DATA_LIMIT

@@ -2,7 +2,7 @@
 
 ghost use Rattle.std.specs.Prelude.{◌≡◌, ◌↔◌, ◌<◌, pos, ◌-ℤ◌, IsTrue};
 ghost use Rattle.asm_build.specs.declared.address.Address.TheVariants as address;
-ghost use Rattle.asm_build.specs.Addresses.{IsInside, IsWithin, addressed, reach};
+ghost use Rattle.asm_build.specs.Addresses.{IsInside, IsReachable, addressed, reach};
 
 use ia_insn::{Op, bundle_address, data_address};
 
@@ -46,7 +46,7 @@ fn distance(m: u32, n: u32) -> i32
 /// check, which take a bundle alone, or as the number of a `movl`. None for any other.
 pub fn addressed(op: &Op, address: Address, n: u32) -> Option<Op>
     requires here { n < reach }
-    requires there { IsWithin address }
+    requires there { IsReachable address }
     ensures { result ≡ addressed op.now address n }
 {
     match address {

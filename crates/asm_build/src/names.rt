@@ -7,7 +7,7 @@ ghost use Rattle.ia_insn.specs.declared.limits.TheConstants.{BUNDLE_LIMIT};
 ghost use Rattle.ia_insn.specs.Bundles.{IsBundle, AreBundles};
 ghost use Rattle.asm_build.specs.declared.reason.Reason.TheVariants as reason;
 ghost use Rattle.asm_build.specs.declared.reason.TextError.TheVariants as error;
-ghost use Rattle.asm_build.specs.Addresses.{IsWithin, reach};
+ghost use Rattle.asm_build.specs.Addresses.{IsReachable, reach};
 ghost use Rattle.asm_build.specs.Names.{named, put_in, slot_names, unnamed_among, unnamed_slot, unnamed_bundle, slots_named, bundle_named, bundles_named, bundle_at, declared, declared_by, all_declared};
 ghost use Rattle.asm_build.specs.TextParts.{address_of};
 
@@ -28,7 +28,7 @@ type Labels = BTreeMap<Name, Address>;
 #[tactic(auto, using(crate::proofs::LabelValues::found_among))]
 fn named(labels: &Labels, n: u32, op: &Op, target: &Option<Name>) -> Option<Op>
     requires here { n < reach }
-    requires within { AllByRecursion IsWithin (values_of labels.now.entries) }
+    requires within { AllByRecursion IsReachable (values_of labels.now.entries) }
     ensures { result ≡ named labels.now.entries n op.now target.now }
 {
     match target {
@@ -45,7 +45,7 @@ fn named(labels: &Labels, n: u32, op: &Op, target: &Option<Name>) -> Option<Op>
 /// The instruction with the address of its name, or the fault of its line.
 fn put_in(labels: &Labels, n: u32, insn: &Insn, name: &SlotName) -> Result<Insn, TextError>
     requires here { n < reach }
-    requires within { AllByRecursion IsWithin (values_of labels.now.entries) }
+    requires within { AllByRecursion IsReachable (values_of labels.now.entries) }
     ensures ok { IfOk result (λ i. (i ≡ put_in labels.now.entries n insn.now name.now) × (is_some (named labels.now.entries n insn.now.op name.now.target) ≡ true)) }
     ensures err { IfErr result (λ e. (e ≡ error.Fault name.now.line reason.NoLabel) × (is_some (named labels.now.entries n insn.now.op name.now.target) ≡ false)) }
 {
@@ -63,7 +63,7 @@ fn slots_named(
     lines: &BundleLines,
 ) -> Result<Slots, TextError>
     requires here { n < reach }
-    requires within { AllByRecursion IsWithin (values_of labels.now.entries) }
+    requires within { AllByRecursion IsReachable (values_of labels.now.entries) }
     ensures ok { IfOk result (λ named. (named ≡ slots_named labels.now.entries n slots.now lines.now) × (unnamed_among labels.now.entries n (slot_names slots.now lines.now) ≡ None)) }
     ensures err { IfErr result (λ e. (line : ℕ) × (e ≡ error.Fault line reason.NoLabel) × (unnamed_among labels.now.entries n (slot_names slots.now lines.now) ≡ Some line)) }
 {
@@ -83,7 +83,7 @@ fn slots_named(
 /// The n-th bundle with the addresses of its names, or the fault of its first slot without one.
 fn bundle_named(labels: &Labels, n: u32, lines: &BundleLines) -> Result<BundleOf, TextError>
     requires here { n < reach }
-    requires within { AllByRecursion IsWithin (values_of labels.now.entries) }
+    requires within { AllByRecursion IsReachable (values_of labels.now.entries) }
     ensures ok { IfOk result (λ b. (b ≡ bundle_named labels.now.entries n lines.now) × (unnamed_slot labels.now.entries n lines.now ≡ None)) }
     ensures err { IfErr result (λ e. (line : ℕ) × (e ≡ error.Fault line reason.NoLabel) × (unnamed_slot labels.now.entries n lines.now ≡ Some line)) }
     ensures fit { IfOk result IsBundle }
@@ -99,7 +99,7 @@ pub(crate) fn bundles_named(
     lines: &[BundleLines],
 ) -> Result<Vec<BundleOf>, TextError>
     requires few { length lines.now ≤ BUNDLE_LIMIT }
-    requires within { AllByRecursion IsWithin (values_of labels.now.entries) }
+    requires within { AllByRecursion IsReachable (values_of labels.now.entries) }
     ensures ok { IfOk result (λ bundles. (bundles.items ≡ bundles_named labels.now.entries 0 lines.now) × (unnamed_bundle labels.now.entries 0 lines.now ≡ None)) }
     ensures err { IfErr result (λ e. (e ≡ error.Memory) ⊎ ((line : ℕ) × (e ≡ error.Fault line reason.NoLabel) × (unnamed_bundle labels.now.entries 0 lines.now ≡ Some line))) }
     ensures fit { IfOk result (λ bundles. AreBundles bundles.items) }
@@ -162,7 +162,7 @@ impl TextParts {
     /// What a label of this name names, where there is one.
     pub fn address_of(&self, name: &Name) -> Option<Address>
         ensures value { result ≡ address_of self.now.labels name.now }
-        ensures within { IfSome result IsWithin }
+        ensures within { IfSome result IsReachable }
     {
         self.labels.get(name).copied()
     }

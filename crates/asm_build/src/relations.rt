@@ -2,7 +2,7 @@
 
 ghost use Rattle.std.specs.Prelude.{◌≡◌, ◌≤◌, ◌⊎◌, ◌∷◌, [], length, IfOk, IfErr, OnOk};
 ghost use Rattle.first_fault.specs.Stages.{ArePassed, IsFirstFault};
-ghost use Rattle.ia_insn.specs.declared.limits.TheConstants.{RELATION_LIMIT as RELATION_COUNT};
+ghost use Rattle.ia_insn.specs.declared.limits.TheConstants.{RELATION_LIMIT};
 ghost use Rattle.ia_insn.specs.Programs.{IsEntryOf};
 ghost use Rattle.asm_reading.specs.Related.{ArePredicates};
 ghost use Rattle.asm_build.specs.declared.reason.Reason.TheVariants as reason;
@@ -53,9 +53,9 @@ fn relate(
 ///
 /// `Limit` of the line for declared relations past [`RELATION_LIMIT`], or want of memory.
 pub fn relate_line(relations: &mut BTreeSet<Relation>, line: &RelationLine) -> Result<(), TextError>
-    ensures ok { OnOk result ((length (related relations.old.keys line.now) ≤ RELATION_COUNT) × (relations.new.keys ≡ related relations.old.keys line.now)) }
+    ensures ok { OnOk result ((length (related relations.old.keys line.now) ≤ RELATION_LIMIT) × (relations.new.keys ≡ related relations.old.keys line.now)) }
     ensures fit { ArePredicates line.now.predicates }
-    ensures err { IfErr result (λ e. (e ≡ error.Memory) ⊎ ((e ≡ error.Fault line.now.line reason.Limit) × ¬ (length (related relations.old.keys line.now) ≤ RELATION_COUNT))) }
+    ensures err { IfErr result (λ e. (e ≡ error.Memory) ⊎ ((e ≡ error.Fault line.now.line reason.Limit) × ¬ (length (related relations.old.keys line.now) ≤ RELATION_LIMIT))) }
 {
     relate(relations, line.bundle, line.predicates.numbers())?;
     if relations.len() > RELATION_LIMIT {

@@ -7,7 +7,7 @@ ghost use Rattle.asm_build.specs.declared.reason.Reason.TheVariants as reason;
 ghost use Rattle.asm_build.specs.declared.reason.TextError.TheVariants as error;
 ghost use Rattle.asm_build.specs.TextParts.{TextParts as PartsOf, start, IsWithinLimits, after, value_stages, IsValueError, AreLabelsBelow, AreLabelsInside, here, place_before, turned, with_label, with_relation, IsIn, numbers_bytes};
 ghost use Rattle.asm_build.specs.declared.text_parts.Section.TheVariants as section;
-ghost use Rattle.asm_build.specs.Addresses.{IsWithin};
+ghost use Rattle.asm_build.specs.Addresses.{IsReachable};
 ghost use Rattle.asm_build.specs.Names.{padded};
 
 use crate::address::Address;
@@ -132,7 +132,7 @@ impl TextParts {
     /// `Misplaced` within a bundle, `Twice` for a label again, or want of memory.
     #[tactic(auto, using(crate::proofs::ValueFaults::twice_there, crate::proofs::LabelValues::kept_among))]
     pub fn label_of(&mut self, n: u32, name: Name, address: Address) -> Result<(), TextError>
-        requires { IsWithin address }
+        requires { IsReachable address }
         ensures ok { OnOk result (ArePassed (value_stages self.old (line.Label name)) × (self.new ≡ with_label self.old name address)) }
         ensures err { IfErr result (IsValueError self.old n (line.Label name)) }
     {
@@ -148,7 +148,7 @@ impl TextParts {
     /// What a label names that stands here.
     fn address(&self) -> Address
         ensures value { result ≡ here self.now }
-        ensures within { IsWithin result }
+        ensures within { IsReachable result }
     {
         let next = Address::Bundle {
             n: self.bundles.len() as u32,
@@ -158,9 +158,9 @@ impl TextParts {
 
     /// What a label names that stands here: in text this, which comes next, and in data the next byte.
     pub fn place(&self, next: Address) -> Address
-        requires { IsWithin next }
+        requires { IsReachable next }
         ensures value { result ≡ place_before self.now next }
-        ensures within { IsWithin result }
+        ensures within { IsReachable result }
     {
         match self.section {
             Section::Text => next,

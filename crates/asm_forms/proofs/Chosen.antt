@@ -4,7 +4,7 @@ use Rattle.std.specs.Prelude.{flat_map}
 use Rattle.std.specs.List.{list_all}
 use Rattle.asm_forms.specs.declared.completer.Completer.{Completer}
 use Rattle.asm_forms.specs.declared.completer.Completer.TheVariants as c
-use Rattle.asm_forms.specs.declared.choices.Relation.TheVariants as rel
+use Rattle.asm_forms.specs.declared.choices.CompareRelation.TheVariants as rel
 use Rattle.asm_forms.specs.declared.choices.Whether.TheVariants as wh
 use Rattle.asm_forms.specs.declared.choices.CacheHint.TheVariants as hint
 use Rattle.ia_insn.specs.declared.choices.CmpKind.TheVariants as cmp
@@ -20,16 +20,16 @@ use Rattle.asm_forms.proofs.Clear.{products}
 
 pub same_is : (x y : Completer) → is_same x y ≡ true → x ≡ y
 same_is c.Absent c.Absent h = refl
-same_is (c.Relation rel.Eq) (c.Relation rel.Eq) h = refl
-same_is (c.Relation rel.Ne) (c.Relation rel.Ne) h = refl
-same_is (c.Relation rel.Lt) (c.Relation rel.Lt) h = refl
-same_is (c.Relation rel.Le) (c.Relation rel.Le) h = refl
-same_is (c.Relation rel.Gt) (c.Relation rel.Gt) h = refl
-same_is (c.Relation rel.Ge) (c.Relation rel.Ge) h = refl
-same_is (c.Relation rel.Ltu) (c.Relation rel.Ltu) h = refl
-same_is (c.Relation rel.Leu) (c.Relation rel.Leu) h = refl
-same_is (c.Relation rel.Gtu) (c.Relation rel.Gtu) h = refl
-same_is (c.Relation rel.Geu) (c.Relation rel.Geu) h = refl
+same_is (c.CompareRelation rel.Eq) (c.CompareRelation rel.Eq) h = refl
+same_is (c.CompareRelation rel.Ne) (c.CompareRelation rel.Ne) h = refl
+same_is (c.CompareRelation rel.Lt) (c.CompareRelation rel.Lt) h = refl
+same_is (c.CompareRelation rel.Le) (c.CompareRelation rel.Le) h = refl
+same_is (c.CompareRelation rel.Gt) (c.CompareRelation rel.Gt) h = refl
+same_is (c.CompareRelation rel.Ge) (c.CompareRelation rel.Ge) h = refl
+same_is (c.CompareRelation rel.Ltu) (c.CompareRelation rel.Ltu) h = refl
+same_is (c.CompareRelation rel.Leu) (c.CompareRelation rel.Leu) h = refl
+same_is (c.CompareRelation rel.Gtu) (c.CompareRelation rel.Gtu) h = refl
+same_is (c.CompareRelation rel.Geu) (c.CompareRelation rel.Geu) h = refl
 same_is (c.Compare cmp.Normal) (c.Compare cmp.Normal) h = refl
 same_is (c.Compare cmp.Unc) (c.Compare cmp.Unc) h = refl
 same_is (c.Compare cmp.And) (c.Compare cmp.And) h = refl

@@ -16,7 +16,7 @@ use Rattle.ia_insn.specs.declared.choices.Unit.TheVariants as unit
 use Rattle.asm_forms.specs.declared.completer.Completer.{Completer}
 use Rattle.asm_forms.specs.declared.completer.Completer.TheVariants as c
 use Rattle.asm_forms.specs.declared.completer.CompleterSet.{CompleterSet}
-use Rattle.asm_forms.specs.declared.choices.Relation.TheVariants as rel
+use Rattle.asm_forms.specs.declared.choices.CompareRelation.TheVariants as rel
 use Rattle.asm_forms.specs.declared.choices.Whether.TheVariants as wh
 use Rattle.asm_forms.specs.declared.choices.CacheHint.TheVariants as hint
 use Rattle.asm_forms.specs.declared.form.Form.{Form}
@@ -116,8 +116,8 @@ past_front (x ∷ w) rest = past_front w rest
 -- a completer begins with a dot, or is nothing
 first_dot : (x : Completer) (rest : List ℕ) → ends_part rest ≡ true → ends_part (text_of x ++ rest) ≡ true
 first_dot c.Absent rest h = h
-first_dot (c.Relation rel.Eq) rest h = refl
-first_dot (c.Relation r) rest h = refl
+first_dot (c.CompareRelation rel.Eq) rest h = refl
+first_dot (c.CompareRelation r) rest h = refl
 first_dot (c.Compare cmp.Normal) rest h = h
 first_dot (c.Compare k) rest h = refl
 first_dot (c.Whether wh.Sptk) rest h = refl

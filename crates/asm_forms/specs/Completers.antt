@@ -5,7 +5,7 @@ use Rattle.asm_forms.specs.declared.completer.Completer.{Completer}
 use Rattle.asm_forms.specs.declared.completer.Completer.TheVariants as c
 use Rattle.asm_forms.specs.declared.completer.CompleterSet.{CompleterSet}
 use Rattle.asm_forms.specs.declared.completer.CompleterSet.TheVariants as set
-use Rattle.asm_forms.specs.declared.choices.Relation.TheVariants as rel
+use Rattle.asm_forms.specs.declared.choices.CompareRelation.TheVariants as rel
 use Rattle.asm_forms.specs.declared.choices.Whether.TheVariants as wh
 use Rattle.asm_forms.specs.declared.choices.CacheHint.TheVariants as hint
 use Rattle.ia_insn.specs.declared.choices.CmpKind.TheVariants as cmp
@@ -17,16 +17,16 @@ use Rattle.ia_insn.specs.declared.choices.Unit.TheVariants as unit
 -- the text of a completer, with its dots
 abbrev pub text_of : Completer → List ℕ
 text_of c.Absent = []
-text_of (c.Relation rel.Eq) = codes ".eq"
-text_of (c.Relation rel.Ne) = codes ".ne"
-text_of (c.Relation rel.Lt) = codes ".lt"
-text_of (c.Relation rel.Le) = codes ".le"
-text_of (c.Relation rel.Gt) = codes ".gt"
-text_of (c.Relation rel.Ge) = codes ".ge"
-text_of (c.Relation rel.Ltu) = codes ".ltu"
-text_of (c.Relation rel.Leu) = codes ".leu"
-text_of (c.Relation rel.Gtu) = codes ".gtu"
-text_of (c.Relation rel.Geu) = codes ".geu"
+text_of (c.CompareRelation rel.Eq) = codes ".eq"
+text_of (c.CompareRelation rel.Ne) = codes ".ne"
+text_of (c.CompareRelation rel.Lt) = codes ".lt"
+text_of (c.CompareRelation rel.Le) = codes ".le"
+text_of (c.CompareRelation rel.Gt) = codes ".gt"
+text_of (c.CompareRelation rel.Ge) = codes ".ge"
+text_of (c.CompareRelation rel.Ltu) = codes ".ltu"
+text_of (c.CompareRelation rel.Leu) = codes ".leu"
+text_of (c.CompareRelation rel.Gtu) = codes ".gtu"
+text_of (c.CompareRelation rel.Geu) = codes ".geu"
 text_of (c.Compare cmp.Normal) = []
 text_of (c.Compare cmp.Unc) = codes ".unc"
 text_of (c.Compare cmp.And) = codes ".and"
@@ -84,12 +84,12 @@ text_of (c.Unit unit.L) = []
 
 -- the completers that may stand at a place; the first with which the name goes on is read
 abbrev pub members : CompleterSet → List Completer
-members set.Relation = c.Relation rel.Eq ∷ c.Relation rel.Ne ∷ c.Relation rel.Lt ∷ c.Relation rel.Le ∷ c.Relation rel.Gt ∷ c.Relation rel.Ge ∷ c.Relation rel.Ltu ∷ c.Relation rel.Leu ∷ c.Relation rel.Gtu ∷ c.Relation rel.Geu ∷ []
-members set.RelationImm = c.Relation rel.Eq ∷ c.Relation rel.Ne ∷ c.Relation rel.Lt ∷ c.Relation rel.Ge ∷ c.Relation rel.Ltu ∷ c.Relation rel.Geu ∷ []
-members set.RelationLess = c.Relation rel.Le ∷ c.Relation rel.Gt ∷ []
-members set.Equality = c.Relation rel.Eq ∷ c.Relation rel.Ne ∷ []
-members set.Order = c.Relation rel.Gt ∷ c.Relation rel.Le ∷ c.Relation rel.Ge ∷ c.Relation rel.Lt ∷ []
-members set.LaneRelation = c.Relation rel.Eq ∷ c.Relation rel.Gt ∷ []
+members set.CompareRelation = c.CompareRelation rel.Eq ∷ c.CompareRelation rel.Ne ∷ c.CompareRelation rel.Lt ∷ c.CompareRelation rel.Le ∷ c.CompareRelation rel.Gt ∷ c.CompareRelation rel.Ge ∷ c.CompareRelation rel.Ltu ∷ c.CompareRelation rel.Leu ∷ c.CompareRelation rel.Gtu ∷ c.CompareRelation rel.Geu ∷ []
+members set.RelationImm = c.CompareRelation rel.Eq ∷ c.CompareRelation rel.Ne ∷ c.CompareRelation rel.Lt ∷ c.CompareRelation rel.Ge ∷ c.CompareRelation rel.Ltu ∷ c.CompareRelation rel.Geu ∷ []
+members set.RelationLess = c.CompareRelation rel.Le ∷ c.CompareRelation rel.Gt ∷ []
+members set.Equality = c.CompareRelation rel.Eq ∷ c.CompareRelation rel.Ne ∷ []
+members set.Order = c.CompareRelation rel.Gt ∷ c.CompareRelation rel.Le ∷ c.CompareRelation rel.Ge ∷ c.CompareRelation rel.Lt ∷ []
+members set.LaneRelation = c.CompareRelation rel.Eq ∷ c.CompareRelation rel.Gt ∷ []
 members set.Unc = c.Compare cmp.Unc ∷ c.Compare cmp.Normal ∷ []
 members set.Parallel = c.Compare cmp.And ∷ c.Compare cmp.OrAndcm ∷ c.Compare cmp.Or ∷ []
 members set.U = c.U ∷ c.Absent ∷ []

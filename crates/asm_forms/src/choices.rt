@@ -2,7 +2,7 @@
 
 /// A relation of a compare as it is written, crel and prel in the manual (volume 3, chapter 2, `cmp` and `pcmp`).
 #[derive(Clone, Copy, Debug, PartialEq, Eq)]
-pub enum Relation {
+pub enum CompareRelation {
     /// Equal.
     Eq,
     /// Not equal.

@@ -4,7 +4,7 @@ ghost use Rattle.std.specs.Prelude.{◌≡◌, ◌≤◌};
 ghost use Rattle.asm_forms.specs.declared.completer.Completer.TheVariants as c;
 ghost use Rattle.asm_forms.specs.Completers.{text_of, members};
 
-use crate::choices::{CacheHint, Relation, Whether};
+use crate::choices::{CacheHint, CompareRelation, Whether};
 use ia_insn::{BranchKind, CmpKind, LoadKind, StoreKind, Unit};
 
 /// A completer, or that none stands at its place.
@@ -13,7 +13,7 @@ pub enum Completer {
     /// No completer, where one may be missing.
     Absent,
     /// The relation of a compare.
-    Relation(Relation),
+    CompareRelation(CompareRelation),
     /// The compare type (ctype), none for a normal compare.
     Compare(CmpKind),
     /// Unsigned.
@@ -77,7 +77,7 @@ impl Default for Completer {
 #[derive(Clone, Copy, Debug, PartialEq, Eq)]
 pub enum CompleterSet {
     /// `.eq` and nine others: a compare of two registers.
-    Relation,
+    CompareRelation,
     /// Those of a compare of a number and a register.
     RelationImm,
     /// `.le` or `.gt`: a number that is lowered by one.
@@ -166,16 +166,16 @@ pub fn text(completer: Completer) -> &'static [u8]
 {
     match completer {
         Completer::Absent => b"",
-        Completer::Relation(Relation::Eq) => b".eq",
-        Completer::Relation(Relation::Ne) => b".ne",
-        Completer::Relation(Relation::Lt) => b".lt",
-        Completer::Relation(Relation::Le) => b".le",
-        Completer::Relation(Relation::Gt) => b".gt",
-        Completer::Relation(Relation::Ge) => b".ge",
-        Completer::Relation(Relation::Ltu) => b".ltu",
-        Completer::Relation(Relation::Leu) => b".leu",
-        Completer::Relation(Relation::Gtu) => b".gtu",
-        Completer::Relation(Relation::Geu) => b".geu",
+        Completer::CompareRelation(CompareRelation::Eq) => b".eq",
+        Completer::CompareRelation(CompareRelation::Ne) => b".ne",
+        Completer::CompareRelation(CompareRelation::Lt) => b".lt",
+        Completer::CompareRelation(CompareRelation::Le) => b".le",
+        Completer::CompareRelation(CompareRelation::Gt) => b".gt",
+        Completer::CompareRelation(CompareRelation::Ge) => b".ge",
+        Completer::CompareRelation(CompareRelation::Ltu) => b".ltu",
+        Completer::CompareRelation(CompareRelation::Leu) => b".leu",
+        Completer::CompareRelation(CompareRelation::Gtu) => b".gtu",
+        Completer::CompareRelation(CompareRelation::Geu) => b".geu",
         Completer::Compare(CmpKind::Normal) => b"",
         Completer::Compare(CmpKind::Unc) => b".unc",
         Completer::Compare(CmpKind::And) => b".and",
@@ -238,43 +238,43 @@ pub fn members(set: CompleterSet) -> &'static [Completer]
     ensures { result.now ≡ members set }
 {
     match set {
-        CompleterSet::Relation => &[
-            Completer::Relation(Relation::Eq),
-            Completer::Relation(Relation::Ne),
-            Completer::Relation(Relation::Lt),
-            Completer::Relation(Relation::Le),
-            Completer::Relation(Relation::Gt),
-            Completer::Relation(Relation::Ge),
-            Completer::Relation(Relation::Ltu),
-            Completer::Relation(Relation::Leu),
-            Completer::Relation(Relation::Gtu),
-            Completer::Relation(Relation::Geu),
+        CompleterSet::CompareRelation => &[
+            Completer::CompareRelation(CompareRelation::Eq),
+            Completer::CompareRelation(CompareRelation::Ne),
+            Completer::CompareRelation(CompareRelation::Lt),
+            Completer::CompareRelation(CompareRelation::Le),
+            Completer::CompareRelation(CompareRelation::Gt),
+            Completer::CompareRelation(CompareRelation::Ge),
+            Completer::CompareRelation(CompareRelation::Ltu),
+            Completer::CompareRelation(CompareRelation::Leu),
+            Completer::CompareRelation(CompareRelation::Gtu),
+            Completer::CompareRelation(CompareRelation::Geu),
         ],
         CompleterSet::RelationImm => &[
-            Completer::Relation(Relation::Eq),
-            Completer::Relation(Relation::Ne),
-            Completer::Relation(Relation::Lt),
-            Completer::Relation(Relation::Ge),
-            Completer::Relation(Relation::Ltu),
-            Completer::Relation(Relation::Geu),
+            Completer::CompareRelation(CompareRelation::Eq),
+            Completer::CompareRelation(CompareRelation::Ne),
+            Completer::CompareRelation(CompareRelation::Lt),
+            Completer::CompareRelation(CompareRelation::Ge),
+            Completer::CompareRelation(CompareRelation::Ltu),
+            Completer::CompareRelation(CompareRelation::Geu),
         ],
         CompleterSet::RelationLess => &[
-            Completer::Relation(Relation::Le),
-            Completer::Relation(Relation::Gt),
+            Completer::CompareRelation(CompareRelation::Le),
+            Completer::CompareRelation(CompareRelation::Gt),
         ],
         CompleterSet::Equality => &[
-            Completer::Relation(Relation::Eq),
-            Completer::Relation(Relation::Ne),
+            Completer::CompareRelation(CompareRelation::Eq),
+            Completer::CompareRelation(CompareRelation::Ne),
         ],
         CompleterSet::Order => &[
-            Completer::Relation(Relation::Gt),
-            Completer::Relation(Relation::Le),
-            Completer::Relation(Relation::Ge),
-            Completer::Relation(Relation::Lt),
+            Completer::CompareRelation(CompareRelation::Gt),
+            Completer::CompareRelation(CompareRelation::Le),
+            Completer::CompareRelation(CompareRelation::Ge),
+            Completer::CompareRelation(CompareRelation::Lt),
         ],
         CompleterSet::LaneRelation => &[
-            Completer::Relation(Relation::Eq),
-            Completer::Relation(Relation::Gt),
+            Completer::CompareRelation(CompareRelation::Eq),
+            Completer::CompareRelation(CompareRelation::Gt),
         ],
         CompleterSet::Unc => &[
             Completer::Compare(CmpKind::Unc),

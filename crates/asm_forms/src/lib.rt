@@ -20,7 +20,7 @@ mod operands;
 mod rows;
 mod spelling;
 
-pub use choices::{AccessSize, CacheHint, Relation, Whether};
+pub use choices::{AccessSize, CacheHint, CompareRelation, Whether};
 pub use completer::{Completer, CompleterSet, members, text};
 pub use form::Form;
 pub use items::{FormItem, Kind, Mark, NumberField, accepts, has_room, mark_token};

@@ -105,7 +105,7 @@ pub(crate) static ROWS_C_TO_I: [FormRow; 32] = [
     row!(ChkAClr, b"chk", [A, Clr], Gr, Label),
     row!(Clrrrb, b"clrrrb", []),
     row!(ClrrrbPr, b"clrrrb", [Pr]),
-    row!(Cmp, b"cmp", [Relation, Unc], Pr, Pr = Gr, Gr),
+    row!(Cmp, b"cmp", [CompareRelation, Unc], Pr, Pr = Gr, Gr),
     row!(CmpParallel, b"cmp", [Equality, Parallel], Pr, Pr = Gr, Gr),
     row!(CmpZero, b"cmp", [Order, Parallel], Pr, Pr = R0, Gr),
     row!(CmpImm, b"cmp", [RelationImm, Unc], Pr, Pr = Imm8, Gr),
@@ -118,7 +118,7 @@ pub(crate) static ROWS_C_TO_I: [FormRow; 32] = [
         Gr
     ),
     row!(CmpImmLess, b"cmp", [RelationLess, Unc], Pr, Pr = Less8, Gr),
-    row!(Cmp4, b"cmp4", [Relation, Unc], Pr, Pr = Gr, Gr),
+    row!(Cmp4, b"cmp4", [CompareRelation, Unc], Pr, Pr = Gr, Gr),
     row!(Cmp4Parallel, b"cmp4", [Equality, Parallel], Pr, Pr = Gr, Gr),
     row!(Cmp4Zero, b"cmp4", [Order, Parallel], Pr, Pr = R0, Gr),
     row!(Cmp4Imm, b"cmp4", [RelationImm, Unc], Pr, Pr = Imm8, Gr),

@@ -7,7 +7,7 @@ use Rattle.asm_words.specs.Bytes.{is_name_byte, is_digit_byte}
 use Rattle.asm_words.proofs.Lexed.{lexed, is_end}
 use Rattle.asm_words.proofs.Bools.{left, right}
 use Rattle.asm_words.proofs.Lexing.{name_lexed}
-use Rattle.asm_forms.specs.declared.choices.Relation.TheVariants as rel
+use Rattle.asm_forms.specs.declared.choices.CompareRelation.TheVariants as rel
 use Rattle.asm_forms.specs.declared.choices.Whether.TheVariants as wh
 use Rattle.asm_forms.specs.declared.choices.CacheHint.TheVariants as hint
 use Rattle.asm_forms.specs.declared.completer.Completer.{Completer}
@@ -41,8 +41,8 @@ word_bytes f = right (begins_name (row_of f).word) _ (of_row (λ r. begins_name 
 -- and so are those of each completer
 completer_bytes : (completer : Completer) → list_all is_name_byte (text_of completer) ≡ true
 completer_bytes c.Absent = refl
-completer_bytes (c.Relation rel.Eq) = refl
-completer_bytes (c.Relation r) = refl
+completer_bytes (c.CompareRelation rel.Eq) = refl
+completer_bytes (c.CompareRelation r) = refl
 completer_bytes (c.Compare cmp.Normal) = refl
 completer_bytes (c.Compare k) = refl
 completer_bytes (c.Whether wh.Sptk) = refl

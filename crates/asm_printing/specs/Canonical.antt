@@ -8,8 +8,8 @@ use Rattle.asm_forms.specs.declared.completer.Completer.{Completer}
 use Rattle.asm_forms.specs.declared.completer.Completer.TheVariants as c
 use Rattle.asm_forms.specs.declared.form.Form.{Form}
 use Rattle.asm_forms.specs.declared.form.Form.TheVariants as form
-use Rattle.asm_forms.specs.declared.choices.Relation.{Relation}
-use Rattle.asm_forms.specs.declared.choices.Relation.TheVariants as crel
+use Rattle.asm_forms.specs.declared.choices.CompareRelation.{CompareRelation}
+use Rattle.asm_forms.specs.declared.choices.CompareRelation.TheVariants as crel
 use Rattle.asm_forms.specs.declared.choices.Whether.{Whether}
 use Rattle.asm_forms.specs.declared.choices.Whether.TheVariants as wh
 use Rattle.asm_forms.specs.declared.choices.CacheHint.{CacheHint}
@@ -102,14 +102,14 @@ ext_form true _ = form.Sxt4
 abbrev pub of_size : ℕ → Form → Form → Form → Form → Form
 of_size n one two four eight = if n == 1 then one else (if n == 2 then two else (if n == 4 then four else eight))
 
-abbrev pub relation_of : Rel → Relation
-relation_of rel.Eq = crel.Eq
-relation_of rel.Ne = crel.Ne
-relation_of rel.Lt = crel.Lt
-relation_of rel.Ltu = crel.Ltu
-relation_of rel.Gt = crel.Gt
-relation_of rel.Ge = crel.Ge
-relation_of rel.Le = crel.Le
+abbrev pub compare_relation_of : Rel → CompareRelation
+compare_relation_of rel.Eq = crel.Eq
+compare_relation_of rel.Ne = crel.Ne
+compare_relation_of rel.Lt = crel.Lt
+compare_relation_of rel.Ltu = crel.Ltu
+compare_relation_of rel.Gt = crel.Gt
+compare_relation_of rel.Ge = crel.Ge
+compare_relation_of rel.Le = crel.Le
 
 -- the completer where it is wanted
 abbrev pub when : Bool → Completer → Completer
@@ -154,11 +154,11 @@ ones_number ones = if ones then t.Number true 1 else t.Number false 0
 
 -- the completers of a compare and of an operation on lanes, and the hints of a branch after its first completer
 abbrev pub compare_completers : Rel → CmpKind → List Completer
-compare_completers r kind = (c.Relation (relation_of r)) ∷ c.Compare kind ∷ []
+compare_completers r kind = (c.CompareRelation (compare_relation_of r)) ∷ c.Compare kind ∷ []
 
 abbrev pub lane_completers : LaneFn → List Completer
-lane_completers lane_fn.PcmpEq = c.Relation crel.Eq ∷ []
-lane_completers lane_fn.PcmpGt = c.Relation crel.Gt ∷ []
+lane_completers lane_fn.PcmpEq = c.CompareRelation crel.Eq ∷ []
+lane_completers lane_fn.PcmpGt = c.CompareRelation crel.Gt ∷ []
 lane_completers _ = []
 
 abbrev pub branch_hints : ℕ → Bool → Bool → List Completer

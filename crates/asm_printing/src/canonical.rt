@@ -5,9 +5,11 @@ ghost use Rattle.asm_words.specs.declared.tokens.Token.TheVariants as t;
 ghost use Rattle.asm_forms.specs.declared.completer.Completer.TheVariants as c;
 ghost use Rattle.ia_insn.specs.declared.insn.Op.TheVariants as ops;
 ghost use Rattle.ia_insn.specs.declared.choices.Unit.TheVariants as units;
-ghost use Rattle.asm_printing.specs.Canonical.{Syntax as SyntaxOf, syntax, size_of, alu_form, alu_imm_form, compare_form, compare_imm_form, lane_form, ext_form, of_size, relation_of, when, unc_of, move_whether, whether, cache_hint, semaphore_type, prefetch_hint, number, natural, ones_number, compare_completers, branch_hints, syntax_of};
+ghost use Rattle.asm_printing.specs.Canonical.{Syntax as SyntaxOf, syntax, size_of, alu_form, alu_imm_form, compare_form, compare_imm_form, lane_form, ext_form, of_size, compare_relation_of, when, unc_of, move_whether, whether, cache_hint, semaphore_type, prefetch_hint, number, natural, ones_number, compare_completers, branch_hints, syntax_of};
 
-use asm_forms::{AccessSize, CacheHint, Completer, Completers, Form, Operands, Relation, Whether};
+use asm_forms::{
+    AccessSize, CacheHint, CompareRelation, Completer, Completers, Form, Operands, Whether,
+};
 use asm_words::Token;
 use ia_insn::{
     AluFn, Ar, Br, BranchKind, CmpKind, Gr, LaneFn, LoadKind, Op, Pr, Rel, ShiftFn, StoreKind,
@@ -219,17 +221,17 @@ fn of_size(n: u8, one: Form, two: Form, four: Form, eight: Form) -> Form
 }
 
 /// The relation as it is written.
-fn relation_of(rel: Rel) -> Relation
-    ensures { result ≡ relation_of rel }
+fn compare_relation_of(rel: Rel) -> CompareRelation
+    ensures { result ≡ compare_relation_of rel }
 {
     match rel {
-        Rel::Eq => Relation::Eq,
-        Rel::Ne => Relation::Ne,
-        Rel::Lt => Relation::Lt,
-        Rel::Ltu => Relation::Ltu,
-        Rel::Gt => Relation::Gt,
-        Rel::Ge => Relation::Ge,
-        Rel::Le => Relation::Le,
+        Rel::Eq => CompareRelation::Eq,
+        Rel::Ne => CompareRelation::Ne,
+        Rel::Lt => CompareRelation::Lt,
+        Rel::Ltu => CompareRelation::Ltu,
+        Rel::Gt => CompareRelation::Gt,
+        Rel::Ge => CompareRelation::Ge,
+        Rel::Le => CompareRelation::Le,
     }
 }
 
@@ -349,7 +351,7 @@ fn compare_completers(rel: Rel, kind: CmpKind) -> [Completer; 2]
     ensures { result ≡ compare_completers rel kind }
 {
     [
-        Completer::Relation(relation_of(rel)),
+        Completer::CompareRelation(compare_relation_of(rel)),
         Completer::Compare(kind),
     ]
 }
@@ -384,8 +386,16 @@ fn lanes(f: LaneFn, size: u8, r1: Gr, r2: Gr, r3: Gr) -> Syntax
     let operands = [Token::Gr(r1), Token::Gr(r2), Token::Gr(r3)];
     match f {
         LaneFn::Padd | LaneFn::Psub => written(form, &[], &operands),
-        LaneFn::PcmpEq => written(form, &[Completer::Relation(Relation::Eq)], &operands),
-        LaneFn::PcmpGt => written(form, &[Completer::Relation(Relation::Gt)], &operands),
+        LaneFn::PcmpEq => written(
+            form,
+            &[Completer::CompareRelation(CompareRelation::Eq)],
+            &operands,
+        ),
+        LaneFn::PcmpGt => written(
+            form,
+            &[Completer::CompareRelation(CompareRelation::Gt)],
+            &operands,
+        ),
     }
 }
 

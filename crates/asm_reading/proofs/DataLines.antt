@@ -2,15 +2,16 @@
 use Rattle.std.proofs.Common.{◌≡◌, ◌≤◌, ◌<◌, ◌∙◌, sym, ap, refl, ℕ, ◌+◌, List, [], ◌∷◌, ◌++◌, length, drop, get_or, arith}
 use Rattle.std.proofs.lemmas.Bool.{le-ltb}
 use Rattle.std.proofs.lemmas.List.{append_assoc, drop-drop, drop_more}
+use Rattle.asm_words.specs.declared.limits.TheConstants.{NUMBER_TOKEN_LIMIT}
 use Rattle.asm_words.specs.declared.tokens.Token.{Token}
 use Rattle.asm_forms.specs.declared.items.NumberField.{NumberField}
 use Rattle.asm_reading.specs.Lines.{agreed_data, numbers_of}
 use Rattle.asm_reading.specs.Operands.{wrapped, is_negative, magnitude}
 
--- after 32 numbers nothing is wanted
-pub agreed_past : (f : NumberField) (at : ℕ) (xs : List Token) → 63 ≤ at → agreed_data f at xs ≡ 0
+-- after the last number that there may be nothing is wanted
+pub agreed_past : (f : NumberField) (at : ℕ) (xs : List Token) → NUMBER_TOKEN_LIMIT ≤ at → agreed_data f at xs ≡ 0
 agreed_past f at [] h = refl
-agreed_past f at (x ∷ xs) h = rw (le-ltb at 63 h) refl
+agreed_past f at (x ∷ xs) h = rw (le-ltb at NUMBER_TOKEN_LIMIT h) refl
 
 numbers_step : (m : ℕ) (x : Token) (xs : List Token) → numbers_of m (x ∷ xs) ≡ wrapped m (is_negative x) (magnitude x) ∷ numbers_of m (drop 1 xs)
 numbers_step m x [] = refl

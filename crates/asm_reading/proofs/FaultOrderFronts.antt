@@ -7,6 +7,7 @@ use Rattle.std.proofs.Math.Dec.{eqb-suc-suc, eqb-zero-suc}
 use Rattle.std.proofs.Math.Numerals.{add-one}
 use Rattle.std.proofs.lemmas.List.{length-take}
 use Rattle.std.proofs.lemmas.Option.{slice_get_within}
+use Rattle.asm_words.specs.declared.limits.TheConstants.{NUMBER_TOKEN_LIMIT}
 use Rattle.asm_words.specs.declared.tokens.Token.{Token}
 use Rattle.asm_words.proofs.Bools.{left, right}
 use Rattle.asm_forms.specs.declared.form.Form.{Form}
@@ -119,11 +120,11 @@ reach_within (f ∷ fs) xs = omega (arith, agreed_within (row_of f).items xs, re
 data_front : (f : NumberField) (at n : ℕ) (xs : List Token) → agreed_data f at (take n xs) ≡ min n (agreed_data f at xs)
 data_front f at zero xs = none_min (agreed_data f at xs)
 data_front f at (suc n) [] = omega arith
-data_front f at (suc n) (x ∷ xs) = min_more n (agreed_data f (at + 1) xs) (nat_lt at 63 && accepts (data_item f at) x) _ (data_front f (at + 1) n xs)
+data_front f at (suc n) (x ∷ xs) = min_more n (agreed_data f (at + 1) xs) (nat_lt at NUMBER_TOKEN_LIMIT && accepts (data_item f at) x) _ (data_front f (at + 1) n xs)
 
 data_within : (f : NumberField) (at : ℕ) (xs : List Token) → agreed_data f at xs ≤ length xs
 data_within f at [] = omega arith
-data_within f at (x ∷ xs) = more_at_most (nat_lt at 63 && accepts (data_item f at) x) _ _ (data_within f (at + 1) xs)
+data_within f at (x ∷ xs) = more_at_most (nat_lt at NUMBER_TOKEN_LIMIT && accepts (data_item f at) x) _ _ (data_within f (at + 1) xs)
 
 -- predicates and commas
 relation_front : (before : List Token) (n : ℕ) (xs : List Token) → agreed_relation before (take n xs) ≡ min n (agreed_relation before xs)

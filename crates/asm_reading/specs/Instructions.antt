@@ -3,13 +3,13 @@
 use Rattle.std.specs.Prelude.{ℕ, ◌+◌, ◌/◌, ℤ, pos, ◌-ℤ◌, Bool, true, false, not, nat_lt, ◌==◌, if◌then◌else◌, List, Option, Some, None}
 use Rattle.asm_words.specs.declared.tokens.Token.{Token}
 use Rattle.asm_forms.specs.declared.completer.Completer.{Completer}
-use Rattle.asm_forms.specs.declared.choices.Relation.{Relation}
-use Rattle.asm_forms.specs.declared.choices.Relation.TheVariants as crel
+use Rattle.asm_forms.specs.declared.choices.CompareRelation.{CompareRelation}
+use Rattle.asm_forms.specs.declared.choices.CompareRelation.TheVariants as crel
 use Rattle.asm_forms.specs.declared.form.Form.{Form}
 use Rattle.asm_forms.specs.declared.form.Form.TheVariants as form
 use Rattle.asm_forms.specs.declared.items.NumberField.TheVariants.{Imm14}
 use Rattle.asm_forms.specs.Items.{has_room}
-use Rattle.asm_reading.specs.Operands.{gr_at, pr_at, br_at, ar_at, magnitude_at, is_negative_at, small_at, left_at, signed_at, short_at, wrapped_at, mask_at, is_present_at, relation_at, compare_at, is_unc_at, shift_right_at, load_kind_at, store_kind_at, is_release_at, hint_at, whether_at, move_whether_at, is_many_at, loop_kind_at, unit_at}
+use Rattle.asm_reading.specs.Operands.{gr_at, pr_at, br_at, ar_at, magnitude_at, is_negative_at, small_at, left_at, signed_at, short_at, wrapped_at, mask_at, is_present_at, compare_relation_at, compare_at, is_unc_at, shift_right_at, load_kind_at, store_kind_at, is_release_at, hint_at, whether_at, move_whether_at, is_many_at, loop_kind_at, unit_at}
 use Rattle.ia_insn.specs.declared.insn.Op.{Op}
 use Rattle.ia_insn.specs.declared.insn.Op.TheVariants as op
 use Rattle.ia_insn.specs.declared.registers.Ar.{Ar}
@@ -29,7 +29,7 @@ use Rattle.ia_insn.specs.declared.choices.Update.TheVariants as update
 
 -- A compare of registers a and b into p and q. The machine has eq, lt and ltu: the others exchange the
 -- targets, the operands or both.
-abbrev pub compared : Bool → Relation → CmpKind → ℕ → ℕ → ℕ → ℕ → Op
+abbrev pub compared : Bool → CompareRelation → CmpKind → ℕ → ℕ → ℕ → ℕ → Op
 compared four crel.Eq kind p q a b = op.Cmp four rel.Eq kind p q a b
 compared four crel.Ne kind p q a b = op.Cmp four rel.Eq kind q p a b
 compared four crel.Lt kind p q a b = op.Cmp four rel.Lt kind p q a b
@@ -43,7 +43,7 @@ compared four crel.Geu kind p q a b = op.Cmp four rel.Ltu kind q p a b
 
 -- A compare of a number and a register. The relations that would exchange them have rows of their own,
 -- or none.
-abbrev pub compared_imm : Bool → Relation → CmpKind → ℕ → ℕ → ℤ → ℕ → Option Op
+abbrev pub compared_imm : Bool → CompareRelation → CmpKind → ℕ → ℕ → ℤ → ℕ → Option Op
 compared_imm four crel.Eq kind p q n b = Some (op.CmpImm four rel.Eq kind p q n b)
 compared_imm four crel.Ne kind p q n b = Some (op.CmpImm four rel.Eq kind q p n b)
 compared_imm four crel.Lt kind p q n b = Some (op.CmpImm four rel.Lt kind p q n b)
@@ -53,13 +53,13 @@ compared_imm four crel.Geu kind p q n b = Some (op.CmpImm four rel.Ltu kind q p 
 compared_imm four _ kind p q n b = None
 
 -- A number at most b is one less than b when it is lowered by one; greater exchanges the targets.
-abbrev pub less : Bool → Relation → CmpKind → ℕ → ℕ → ℤ → ℕ → Option Op
+abbrev pub less : Bool → CompareRelation → CmpKind → ℕ → ℕ → ℤ → ℕ → Option Op
 less four crel.Le kind p q n b = Some (op.CmpImm four rel.Lt kind p q (n -ℤ pos 1) b)
 less four crel.Gt kind p q n b = Some (op.CmpImm four rel.Lt kind q p (n -ℤ pos 1) b)
 less four _ kind p q n b = None
 
 -- the relation of a parallel compare
-abbrev pub rel_of : Relation → Option Rel
+abbrev pub rel_of : CompareRelation → Option Rel
 rel_of crel.Eq = Some rel.Eq
 rel_of crel.Ne = Some rel.Ne
 rel_of crel.Lt = Some rel.Lt
@@ -107,25 +107,25 @@ abbrev pub shladd : Bool → List Token → Option Op
 shladd p4 xs = Some (op.ShlAdd p4 (gr_at xs 0) (gr_at xs 1) (small_at xs 2) (gr_at xs 3))
 
 abbrev pub cmp : Bool → List Completer → List Token → Option Op
-cmp four cs xs = Some (compared four (relation_at cs 0) (compare_at cs 1) (pr_at xs 0) (pr_at xs 1) (gr_at xs 2) (gr_at xs 3))
+cmp four cs xs = Some (compared four (compare_relation_at cs 0) (compare_at cs 1) (pr_at xs 0) (pr_at xs 1) (gr_at xs 2) (gr_at xs 3))
 
 abbrev pub cmp_parallel : Bool → List Completer → List Token → Option Op
-cmp_parallel four cs xs = parallel four (rel_of (relation_at cs 0)) (compare_at cs 1) (pr_at xs 0) (pr_at xs 1) (gr_at xs 2) (gr_at xs 3)
+cmp_parallel four cs xs = parallel four (rel_of (compare_relation_at cs 0)) (compare_at cs 1) (pr_at xs 0) (pr_at xs 1) (gr_at xs 2) (gr_at xs 3)
 
 abbrev pub cmp_zero : Bool → List Completer → List Token → Option Op
-cmp_zero four cs xs = parallel_zero four (rel_of (relation_at cs 0)) (compare_at cs 1) (pr_at xs 0) (pr_at xs 1) (gr_at xs 2)
+cmp_zero four cs xs = parallel_zero four (rel_of (compare_relation_at cs 0)) (compare_at cs 1) (pr_at xs 0) (pr_at xs 1) (gr_at xs 2)
 
 abbrev pub cmp_imm : Bool → List Completer → List Token → Option Op
-cmp_imm four cs xs = compared_imm four (relation_at cs 0) (compare_at cs 1) (pr_at xs 0) (pr_at xs 1) (signed_at xs 2) (gr_at xs 3)
+cmp_imm four cs xs = compared_imm four (compare_relation_at cs 0) (compare_at cs 1) (pr_at xs 0) (pr_at xs 1) (signed_at xs 2) (gr_at xs 3)
 
 abbrev pub cmp_imm_parallel : Bool → List Completer → List Token → Option Op
-cmp_imm_parallel four cs xs = parallel_imm four (rel_of (relation_at cs 0)) (compare_at cs 1) (pr_at xs 0) (pr_at xs 1) (signed_at xs 2) (gr_at xs 3)
+cmp_imm_parallel four cs xs = parallel_imm four (rel_of (compare_relation_at cs 0)) (compare_at cs 1) (pr_at xs 0) (pr_at xs 1) (signed_at xs 2) (gr_at xs 3)
 
 abbrev pub cmp_imm_less : Bool → List Completer → List Token → Option Op
-cmp_imm_less four cs xs = less four (relation_at cs 0) (compare_at cs 1) (pr_at xs 0) (pr_at xs 1) (signed_at xs 2) (gr_at xs 3)
+cmp_imm_less four cs xs = less four (compare_relation_at cs 0) (compare_at cs 1) (pr_at xs 0) (pr_at xs 1) (signed_at xs 2) (gr_at xs 3)
 
 -- the compare of lanes by this relation, which is eq or gt
-abbrev pub lane_compare : Relation → LaneFn
+abbrev pub lane_compare : CompareRelation → LaneFn
 lane_compare crel.Gt = lane_fn.PcmpGt
 lane_compare _ = lane_fn.PcmpEq
 
@@ -239,9 +239,9 @@ op_of form.OrImm cs xs = alu_imm alu.Or xs
 op_of form.Padd1 cs xs = lane_op lane_fn.Padd 1 xs
 op_of form.Padd2 cs xs = lane_op lane_fn.Padd 2 xs
 op_of form.Padd4 cs xs = lane_op lane_fn.Padd 4 xs
-op_of form.Pcmp1 cs xs = lane_op (lane_compare (relation_at cs 0)) 1 xs
-op_of form.Pcmp2 cs xs = lane_op (lane_compare (relation_at cs 0)) 2 xs
-op_of form.Pcmp4 cs xs = lane_op (lane_compare (relation_at cs 0)) 4 xs
+op_of form.Pcmp1 cs xs = lane_op (lane_compare (compare_relation_at cs 0)) 1 xs
+op_of form.Pcmp2 cs xs = lane_op (lane_compare (compare_relation_at cs 0)) 2 xs
+op_of form.Pcmp4 cs xs = lane_op (lane_compare (compare_relation_at cs 0)) 4 xs
 op_of form.Popcnt cs xs = Some (op.Popcnt (gr_at xs 0) (gr_at xs 1))
 op_of form.Psub1 cs xs = lane_op lane_fn.Psub 1 xs
 op_of form.Psub2 cs xs = lane_op lane_fn.Psub 2 xs

@@ -4,7 +4,7 @@ use Rattle.std.specs.Prelude.{◌≡◌, ◌⊎◌, ℕ, ◌+◌, ◌-◌, ◌^�
 use Rattle.std.specs.Option.{option_map}
 use Rattle.std.specs.List.{find, All}
 use Rattle.std.specs.Str.{bytes_eq}
-use Rattle.asm_words.specs.declared.limits.TheConstants.{NAME_LIMIT}
+use Rattle.asm_words.specs.declared.limits.TheConstants.{NAME_LIMIT, NUMBER_TOKEN_LIMIT}
 use Rattle.asm_words.specs.declared.tokens.Token.{Token}
 use Rattle.asm_words.specs.declared.tokens.Token.TheVariants as t
 use Rattle.asm_words.specs.declared.word.WordKind.{WordKind}
@@ -67,7 +67,7 @@ AreParts bytes ws = All (IsPart (length bytes)) ws
 abbrev pub tokens : List KindAndText → List Token
 tokens ws = map (λ w. token_of w.0 w.1) ws
 
--- a name has 1 to 63 bytes
+-- a name has 1 to NAME_LIMIT bytes
 abbrev pub name_of : List ℕ → Option (List ℕ)
 name_of text = if nat_le 1 (length text) && nat_le (length text) NAME_LIMIT then Some text else None
 
@@ -144,7 +144,7 @@ abbrev pub slot_of : List Form → List ℕ → List KindAndText → List KindAn
 slot_of forms name before after =
     predicate_of (tokens before) >>= λ qp. slot_under qp forms name (tokens after) after
 
--- A data line has 1 to 32 numbers in turn with commas.
+-- A data line has 1 to NUMBER_LIMIT numbers in turn with commas.
 abbrev pub data_field : AccessSize → NumberField
 data_field size.One = field.Data1
 data_field size.Two = field.Data2
@@ -157,7 +157,7 @@ data_item f at = if at % 2 == 0 then Takes (takes.Number f) else Is mark.Comma
 -- on how many tokens from the place on there are numbers and commas in turn
 abbrev pub agreed_data : NumberField → ℕ → List Token → ℕ
 agreed_data f at [] = 0
-agreed_data f at (x ∷ xs) = if nat_lt at 63 && accepts (data_item f at) x then agreed_data f (at + 1) xs + 1 else 0
+agreed_data f at (x ∷ xs) = if nat_lt at NUMBER_TOKEN_LIMIT && accepts (data_item f at) x then agreed_data f (at + 1) xs + 1 else 0
 
 -- every second token is a number, modulo what its bytes hold
 abbrev pub numbers_of : ℕ → List Token → List ℕ
@@ -166,7 +166,7 @@ numbers_of modulus (x ∷ []) = wrapped modulus (is_negative x) (magnitude x) �
 numbers_of modulus (x ∷ y ∷ xs) = wrapped modulus (is_negative x) (magnitude x) ∷ numbers_of modulus xs
 
 abbrev pub wants_number : ℕ → Bool
-wants_number at = nat_lt at 63 && (at % 2 == 0)
+wants_number at = nat_lt at NUMBER_TOKEN_LIMIT && (at % 2 == 0)
 
 abbrev pub data_fault : ℕ → List Token → LineFault
 data_fault at xs = fault_at false (wants_number at) false (slice_get xs at)

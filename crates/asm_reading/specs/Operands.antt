@@ -5,8 +5,8 @@ use Rattle.asm_words.specs.declared.tokens.Token.{Token}
 use Rattle.asm_words.specs.declared.tokens.Token.TheVariants as t
 use Rattle.asm_forms.specs.declared.completer.Completer.{Completer}
 use Rattle.asm_forms.specs.declared.completer.Completer.TheVariants as c
-use Rattle.asm_forms.specs.declared.choices.Relation.{Relation}
-use Rattle.asm_forms.specs.declared.choices.Relation.TheVariants as rel
+use Rattle.asm_forms.specs.declared.choices.CompareRelation.{CompareRelation}
+use Rattle.asm_forms.specs.declared.choices.CompareRelation.TheVariants as rel
 use Rattle.asm_forms.specs.declared.choices.Whether.{Whether}
 use Rattle.asm_forms.specs.declared.choices.Whether.TheVariants as wh
 use Rattle.asm_forms.specs.declared.choices.CacheHint.{CacheHint}
@@ -123,12 +123,12 @@ is_present _ = true
 abbrev pub is_present_at : List Completer → ℕ → Bool
 is_present_at cs k = is_present (completer_at cs k)
 
-abbrev pub relation : Completer → Relation
-relation (c.Relation r) = r
-relation _ = rel.Eq
+abbrev pub compare_relation : Completer → CompareRelation
+compare_relation (c.CompareRelation r) = r
+compare_relation _ = rel.Eq
 
-abbrev pub relation_at : List Completer → ℕ → Relation
-relation_at cs k = relation (completer_at cs k)
+abbrev pub compare_relation_at : List Completer → ℕ → CompareRelation
+compare_relation_at cs k = compare_relation (completer_at cs k)
 
 abbrev pub compare : Completer → CmpKind
 compare (c.Compare k) = k

@@ -1,6 +1,7 @@
 //! The numbers of a data line.
 
 ghost use Rattle.std.specs.Prelude.{◌≡◌, ◌≤◌, ◌<◌, ◌+◌, ◌*◌, ◌^◌, ◌%◌, length};
+ghost use Rattle.asm_words.specs.declared.limits.TheConstants.{NUMBER_TOKEN_LIMIT};
 ghost use Rattle.asm_reading.specs.Lines.{data_field, data_item, agreed_data, numbers_of, wants_number, data_fault, data_of};
 ghost use Rattle.asm_reading.specs.Operands.{wrapped, bytes, is_negative, magnitude};
 
@@ -8,6 +9,7 @@ use crate::line::{Line, Values};
 use crate::operands::{bytes, wrapped_below};
 use arrayvec::ArrayVec;
 use asm_forms::{AccessSize, FormItem, Kind, Mark, NumberField, accepts, fault_at};
+use asm_words::limits::{NUMBER_LIMIT, NUMBER_TOKEN_LIMIT};
 use asm_words::{LineFault, Token};
 
 /// The field of a number of this size.
@@ -33,13 +35,16 @@ fn data_item(field: NumberField, at: usize) -> FormItem
     }
 }
 
-/// On how many tokens there are numbers and commas in turn, of at most 32 numbers.
+/// On how many tokens there are numbers and commas in turn, of at most [`NUMBER_LIMIT`] numbers.
 fn agreed_data(field: NumberField, tokens: &[Token]) -> usize
     ensures value { result ≡ agreed_data field 0 tokens.now }
-    ensures bound { result ≤ 63 }
+    ensures bound { result ≤ NUMBER_TOKEN_LIMIT }
 {
     let mut at = 0;
-    while at < tokens.len() && at < 63 && accepts(data_item(field, at), tokens[at]) {
+    while at < tokens.len()
+        && at < NUMBER_TOKEN_LIMIT
+        && accepts(data_item(field, at), tokens[at])
+    {
         at += 1;
     }
     at
@@ -77,8 +82,8 @@ fn number_of(size: AccessSize, token: Token) -> u64
 }
 
 /// Every second token as a number.
-fn numbers_of(size: AccessSize, tokens: &[Token]) -> ArrayVec<u64, 32>
-    requires { length tokens.now ≤ 63 }
+fn numbers_of(size: AccessSize, tokens: &[Token]) -> ArrayVec<u64, NUMBER_LIMIT>
+    requires { length tokens.now ≤ NUMBER_TOKEN_LIMIT }
     ensures { result.items ≡ numbers_of (2 ^ (8 * bytes size)) tokens.now }
 {
     let mut numbers = ArrayVec::new();
@@ -94,7 +99,7 @@ fn numbers_of(size: AccessSize, tokens: &[Token]) -> ArrayVec<u64, 32>
 fn wants_number(at: usize) -> bool
     ensures { result ≡ wants_number at }
 {
-    at < 63 && at % 2 == 0
+    at < NUMBER_TOKEN_LIMIT && at % 2 == 0
 }
 
 /// The fault at a place of the numbers.
@@ -104,7 +109,7 @@ fn data_fault(at: usize, tokens: &[Token]) -> LineFault
     fault_at(false, wants_number(at), false, tokens.get(at).copied())
 }
 
-/// A data line: 1 to 32 numbers in turn with commas.
+/// A data line: 1 to [`NUMBER_LIMIT`] numbers in turn with commas.
 pub(crate) fn data_of(size: AccessSize, tokens: &[Token]) -> Result<Line, LineFault>
     ensures { result ≡ data_of size tokens.now }
 {

@@ -4,31 +4,31 @@ ghost use Rattle.std.specs.Prelude.{◌≡◌, ◌≢◌, negsuc, ◌≤ℤ◌, 
 ghost use Rattle.asm_reading.specs.Instructions.{op_of, compared, compared_imm, less, rel_of, parallel, parallel_zero, parallel_imm, sum, of_i_slot, allocation, alu_op, alu_imm, add_imm14, shladd, cmp, cmp_parallel, cmp_zero, cmp_imm, cmp_imm_parallel, cmp_imm_less, lane_compare, lane_op, ext, load, store, exchange, fetch_add};
 
 use crate::operands::{
-    ar_at, br_at, compare_at, gr_at, hint_at, is_many_at, is_negative_at, is_present_at,
-    is_release_at, is_unc_at, left_at, load_kind_at, loop_kind_at, magnitude_at, mask_at,
-    move_whether_at, pr_at, relation_at, shift_right_at, short_at, signed_at, small_at,
-    store_kind_at, unit_at, whether_at, wrapped_at,
+    ar_at, br_at, compare_at, compare_relation_at, gr_at, hint_at, is_many_at, is_negative_at,
+    is_present_at, is_release_at, is_unc_at, left_at, load_kind_at, loop_kind_at, magnitude_at,
+    mask_at, move_whether_at, pr_at, shift_right_at, short_at, signed_at, small_at, store_kind_at,
+    unit_at, whether_at, wrapped_at,
 };
-use asm_forms::{Completer, Form, NumberField, Relation, has_room};
+use asm_forms::{CompareRelation, Completer, Form, NumberField, has_room};
 use asm_words::Token;
 use ia_insn::{AluFn, Ar, BranchKind, CmpKind, Gr, LaneFn, Op, Pr, Rel, ShiftFn, Unit, Update};
 
 /// A compare of registers `a` and `b` into `p` and `q`. The machine has eq, lt and ltu: the others
 /// exchange the targets, the operands or both.
-fn compared(four: bool, relation: Relation, kind: CmpKind, p: Pr, q: Pr, a: Gr, b: Gr) -> Op
+fn compared(four: bool, relation: CompareRelation, kind: CmpKind, p: Pr, q: Pr, a: Gr, b: Gr) -> Op
     ensures { result ≡ compared four relation kind p q a b }
 {
     let (rel, p1, p2, r2, r3) = match relation {
-        Relation::Eq => (Rel::Eq, p, q, a, b),
-        Relation::Ne => (Rel::Eq, q, p, a, b),
-        Relation::Lt => (Rel::Lt, p, q, a, b),
-        Relation::Le => (Rel::Lt, q, p, b, a),
-        Relation::Gt => (Rel::Lt, p, q, b, a),
-        Relation::Ge => (Rel::Lt, q, p, a, b),
-        Relation::Ltu => (Rel::Ltu, p, q, a, b),
-        Relation::Leu => (Rel::Ltu, q, p, b, a),
-        Relation::Gtu => (Rel::Ltu, p, q, b, a),
-        Relation::Geu => (Rel::Ltu, q, p, a, b),
+        CompareRelation::Eq => (Rel::Eq, p, q, a, b),
+        CompareRelation::Ne => (Rel::Eq, q, p, a, b),
+        CompareRelation::Lt => (Rel::Lt, p, q, a, b),
+        CompareRelation::Le => (Rel::Lt, q, p, b, a),
+        CompareRelation::Gt => (Rel::Lt, p, q, b, a),
+        CompareRelation::Ge => (Rel::Lt, q, p, a, b),
+        CompareRelation::Ltu => (Rel::Ltu, p, q, a, b),
+        CompareRelation::Leu => (Rel::Ltu, q, p, b, a),
+        CompareRelation::Gtu => (Rel::Ltu, p, q, b, a),
+        CompareRelation::Geu => (Rel::Ltu, q, p, a, b),
     };
     Op::Cmp {
         four,
@@ -45,7 +45,7 @@ fn compared(four: bool, relation: Relation, kind: CmpKind, p: Pr, q: Pr, a: Gr, 
 /// own, or none.
 fn compared_imm(
     four: bool,
-    relation: Relation,
+    relation: CompareRelation,
     kind: CmpKind,
     p: Pr,
     q: Pr,
@@ -55,12 +55,12 @@ fn compared_imm(
     ensures { result ≡ compared_imm four relation kind p q imm r3 }
 {
     let (rel, p1, p2) = match relation {
-        Relation::Eq => (Rel::Eq, p, q),
-        Relation::Ne => (Rel::Eq, q, p),
-        Relation::Lt => (Rel::Lt, p, q),
-        Relation::Ge => (Rel::Lt, q, p),
-        Relation::Ltu => (Rel::Ltu, p, q),
-        Relation::Geu => (Rel::Ltu, q, p),
+        CompareRelation::Eq => (Rel::Eq, p, q),
+        CompareRelation::Ne => (Rel::Eq, q, p),
+        CompareRelation::Lt => (Rel::Lt, p, q),
+        CompareRelation::Ge => (Rel::Lt, q, p),
+        CompareRelation::Ltu => (Rel::Ltu, p, q),
+        CompareRelation::Geu => (Rel::Ltu, q, p),
         _ => return None,
     };
     Some(Op::CmpImm {
@@ -75,13 +75,21 @@ fn compared_imm(
 }
 
 /// A number at most `r3` is less than it when lowered by one; greater exchanges the targets.
-fn less(four: bool, relation: Relation, kind: CmpKind, p: Pr, q: Pr, imm: i64, r3: Gr) -> Option<Op>
+fn less(
+    four: bool,
+    relation: CompareRelation,
+    kind: CmpKind,
+    p: Pr,
+    q: Pr,
+    imm: i64,
+    r3: Gr,
+) -> Option<Op>
     requires { imm ≢ negsuc 9223372036854775807 }
     ensures { result ≡ less four relation kind p q imm r3 }
 {
     let (p1, p2) = match relation {
-        Relation::Le => (p, q),
-        Relation::Gt => (q, p),
+        CompareRelation::Le => (p, q),
+        CompareRelation::Gt => (q, p),
         _ => return None,
     };
     Some(Op::CmpImm {
@@ -96,16 +104,16 @@ fn less(four: bool, relation: Relation, kind: CmpKind, p: Pr, q: Pr, imm: i64, r
 }
 
 /// The relation of a parallel compare.
-fn rel_of(relation: Relation) -> Option<Rel>
+fn rel_of(relation: CompareRelation) -> Option<Rel>
     ensures { result ≡ rel_of relation }
 {
     match relation {
-        Relation::Eq => Some(Rel::Eq),
-        Relation::Ne => Some(Rel::Ne),
-        Relation::Lt => Some(Rel::Lt),
-        Relation::Le => Some(Rel::Le),
-        Relation::Gt => Some(Rel::Gt),
-        Relation::Ge => Some(Rel::Ge),
+        CompareRelation::Eq => Some(Rel::Eq),
+        CompareRelation::Ne => Some(Rel::Ne),
+        CompareRelation::Lt => Some(Rel::Lt),
+        CompareRelation::Le => Some(Rel::Le),
+        CompareRelation::Gt => Some(Rel::Gt),
+        CompareRelation::Ge => Some(Rel::Ge),
         _ => None,
     }
 }
@@ -274,7 +282,7 @@ fn cmp(four: bool, cs: &[Completer], xs: &[Token]) -> Option<Op>
 {
     Some(compared(
         four,
-        relation_at(cs, 0),
+        compare_relation_at(cs, 0),
         compare_at(cs, 1),
         pr_at(xs, 0),
         pr_at(xs, 1),
@@ -289,7 +297,7 @@ fn cmp_parallel(four: bool, cs: &[Completer], xs: &[Token]) -> Option<Op>
 {
     parallel(
         four,
-        rel_of(relation_at(cs, 0)),
+        rel_of(compare_relation_at(cs, 0)),
         compare_at(cs, 1),
         pr_at(xs, 0),
         pr_at(xs, 1),
@@ -304,7 +312,7 @@ fn cmp_zero(four: bool, cs: &[Completer], xs: &[Token]) -> Option<Op>
 {
     parallel_zero(
         four,
-        rel_of(relation_at(cs, 0)),
+        rel_of(compare_relation_at(cs, 0)),
         compare_at(cs, 1),
         pr_at(xs, 0),
         pr_at(xs, 1),
@@ -318,7 +326,7 @@ fn cmp_imm(four: bool, cs: &[Completer], xs: &[Token]) -> Option<Op>
 {
     compared_imm(
         four,
-        relation_at(cs, 0),
+        compare_relation_at(cs, 0),
         compare_at(cs, 1),
         pr_at(xs, 0),
         pr_at(xs, 1),
@@ -333,7 +341,7 @@ fn cmp_imm_parallel(four: bool, cs: &[Completer], xs: &[Token]) -> Option<Op>
 {
     parallel_imm(
         four,
-        rel_of(relation_at(cs, 0)),
+        rel_of(compare_relation_at(cs, 0)),
         compare_at(cs, 1),
         pr_at(xs, 0),
         pr_at(xs, 1),
@@ -348,7 +356,7 @@ fn cmp_imm_less(four: bool, cs: &[Completer], xs: &[Token]) -> Option<Op>
 {
     less(
         four,
-        relation_at(cs, 0),
+        compare_relation_at(cs, 0),
         compare_at(cs, 1),
         pr_at(xs, 0),
         pr_at(xs, 1),
@@ -358,11 +366,11 @@ fn cmp_imm_less(four: bool, cs: &[Completer], xs: &[Token]) -> Option<Op>
 }
 
 /// The compare of lanes by a relation, which is eq or gt.
-fn lane_compare(relation: Relation) -> LaneFn
+fn lane_compare(relation: CompareRelation) -> LaneFn
     ensures { result ≡ lane_compare relation }
 {
     match relation {
-        Relation::Gt => LaneFn::PcmpGt,
+        CompareRelation::Gt => LaneFn::PcmpGt,
         _ => LaneFn::PcmpEq,
     }
 }
@@ -729,9 +737,9 @@ pub(crate) fn op_of(form: Form, cs: &[Completer], xs: &[Token]) -> Option<Op>
         Form::Padd1 => lane_op(LaneFn::Padd, 1, xs),
         Form::Padd2 => lane_op(LaneFn::Padd, 2, xs),
         Form::Padd4 => lane_op(LaneFn::Padd, 4, xs),
-        Form::Pcmp1 => lane_op(lane_compare(relation_at(cs, 0)), 1, xs),
-        Form::Pcmp2 => lane_op(lane_compare(relation_at(cs, 0)), 2, xs),
-        Form::Pcmp4 => lane_op(lane_compare(relation_at(cs, 0)), 4, xs),
+        Form::Pcmp1 => lane_op(lane_compare(compare_relation_at(cs, 0)), 1, xs),
+        Form::Pcmp2 => lane_op(lane_compare(compare_relation_at(cs, 0)), 2, xs),
+        Form::Pcmp4 => lane_op(lane_compare(compare_relation_at(cs, 0)), 4, xs),
         Form::Popcnt => Some(Op::Popcnt {
             r1: gr_at(xs, 0),
             r3: gr_at(xs, 1),

@@ -1,10 +1,12 @@
 //! What a line says.
 
 ghost use Rattle.std.specs.Prelude.{◌≡◌, ℕ, ◌≤◌, List, length};
+ghost use Rattle.asm_words.specs.declared.limits.TheConstants.{NUMBER_LIMIT};
 ghost use Rattle.asm_reading.specs.Related.{ArePredicates};
 
 use arrayvec::ArrayVec;
 use asm_words::Name;
+use asm_words::limits::NUMBER_LIMIT;
 use ia_insn::Insn;
 use std::marker::Model;
 
@@ -90,10 +92,10 @@ pub enum TemplateName {
     Mfb,
 }
 
-/// 1 to 32 numbers. Contracts see their list.
+/// 1 to [`NUMBER_LIMIT`] numbers. Contracts see their list.
 #[derive(Debug, Drop)]
 pub struct Values {
-    numbers: ArrayVec<u64, 32>,
+    numbers: ArrayVec<u64, NUMBER_LIMIT>,
 }
 
 impl Model for Values {
@@ -101,24 +103,24 @@ impl Model for Values {
 
     ghost view = { λ v. v.numbers.items };
 
-    ghost invariant = { λ v. (1 ≤ length v.numbers.items) × (length v.numbers.items ≤ 32) };
+    ghost invariant = { λ v. (1 ≤ length v.numbers.items) × (length v.numbers.items ≤ NUMBER_LIMIT) };
 
     ghost inverse = { λ numbers. record { numbers = record { items = numbers } } };
 }
 
 impl Values {
     /// The values with these numbers.
-    pub(crate) fn of_numbers(numbers: ArrayVec<u64, 32>) -> Self
-        requires { (1 ≤ length numbers.items) × (length numbers.items ≤ 32) }
+    pub(crate) fn of_numbers(numbers: ArrayVec<u64, NUMBER_LIMIT>) -> Self
+        requires { (1 ≤ length numbers.items) × (length numbers.items ≤ NUMBER_LIMIT) }
         ensures { result ≡ numbers.items }
     {
         Values { numbers }
     }
 
-    /// Its numbers, of which there are 1 to 32.
+    /// Its numbers, of which there are 1 to [`NUMBER_LIMIT`].
     pub fn numbers(&self) -> &[u64]
         ensures value { result.now ≡ self.now }
-        ensures within { (1 ≤ length self.now) × (length self.now ≤ 32) }
+        ensures within { (1 ≤ length self.now) × (length self.now ≤ NUMBER_LIMIT) }
     {
         self.numbers.as_slice()
     }

@@ -2,9 +2,9 @@
 //! completer stands there, the answer is the first value of the kind.
 
 ghost use Rattle.std.specs.Prelude.{◌≡◌, ◌<◌, ◌≤◌};
-ghost use Rattle.asm_reading.specs.Operands.{token_at, gr_at, pr_at, br_at, ar_at, magnitude_at, is_negative_at, small_at, u32_at, left_at, signed_at, short_at, wrapped, wrapped_at, mask_at, completer_at, is_present_at, relation_at, compare_at, is_unc_at, shift_right_at, load_kind_at, store_kind_at, is_release_at, hint_at, whether_at, move_whether_at, is_many_at, loop_kind_at, unit_at, bytes};
+ghost use Rattle.asm_reading.specs.Operands.{token_at, gr_at, pr_at, br_at, ar_at, magnitude_at, is_negative_at, small_at, u32_at, left_at, signed_at, short_at, wrapped, wrapped_at, mask_at, completer_at, is_present_at, compare_relation_at, compare_at, is_unc_at, shift_right_at, load_kind_at, store_kind_at, is_release_at, hint_at, whether_at, move_whether_at, is_many_at, loop_kind_at, unit_at, bytes};
 
-use asm_forms::{AccessSize, CacheHint, Completer, Relation, Whether};
+use asm_forms::{AccessSize, CacheHint, CompareRelation, Completer, Whether};
 use asm_words::Token;
 use ia_insn::{Ar, Br, BranchKind, CmpKind, Gr, LoadKind, Pr, ShiftFn, StoreKind, Unit};
 
@@ -187,12 +187,12 @@ pub(crate) fn is_present_at(completers: &[Completer], at: usize) -> bool
 }
 
 /// The relation of a compare.
-pub(crate) fn relation_at(completers: &[Completer], at: usize) -> Relation
-    ensures { result ≡ relation_at completers.now at }
+pub(crate) fn compare_relation_at(completers: &[Completer], at: usize) -> CompareRelation
+    ensures { result ≡ compare_relation_at completers.now at }
 {
     match completer_at(completers, at) {
-        Completer::Relation(relation) => relation,
-        _ => Relation::Eq,
+        Completer::CompareRelation(relation) => relation,
+        _ => CompareRelation::Eq,
     }
 }
 

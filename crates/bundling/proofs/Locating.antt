@@ -182,7 +182,7 @@ abbrev pub in_bundle : ℕ → ℕ → Place
 in_bundle k slot = record { bundle = k; slot = slot }
 
 -- The place of an instruction is the slot of its chunk's layout.
-pub record IsPlaced (cs : List Chunk) (n k j : ℕ) (c : Chunk) : Type 0 where
+pub record IsInLayout (cs : List Chunk) (n k j : ℕ) (c : Chunk) : Type 0 where
   pub slot : ℕ
   pub there : slice_get (layout_of c).1 j ≡ Some slot
   pub place : place_of cs n ≡ in_bundle k slot
@@ -208,7 +208,7 @@ place_there laws (d ∷ cs) items first (suc k) j slot c (is, are) there at =
     ∙ place_there laws cs (drop (length d.wanted) items) (first + 1) k j slot c are there at
     ∙ ap (λ (n : ℕ). Some (in_bundle n slot)) (let next : first + 1 + k ≡ first + suc k = omega arith in next)
 
-pub placed : AreLayouts → (cs : List Chunk) (items : List Item) (n k j : ℕ) (c : Chunk) → AreChunks cs items → IsAt cs n k j c → IsPlaced cs n k j c
+pub placed : AreLayouts → (cs : List Chunk) (items : List Item) (n k j : ℕ) (c : Chunk) → AreChunks cs items → IsAt cs n k j c → IsInLayout cs n k j c
 unfolding place_of
 placed laws cs items n k j c are at =
     let put = put_at laws cs items k c are at.there in

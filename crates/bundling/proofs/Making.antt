@@ -17,7 +17,7 @@ use Rattle.slot_layouts.specs.Layouts.{laid_out}
 use Rattle.slot_layouts.specs.Filled.{filled}
 use Rattle.asm_build.specs.declared.address.Address.{Address}
 use Rattle.asm_build.specs.declared.address.Address.TheVariants.{Bundle as BundleAddress, Byte}
-use Rattle.asm_build.specs.Addresses.{IsWithin}
+use Rattle.asm_build.specs.Addresses.{IsReachable}
 use Rattle.loose_text.specs.declared.item.Item.{Item}
 use Rattle.loose_text.specs.LooseTexts.{Loose, IsLoose, IsTargetOf}
 use Rattle.bundling.specs.Chunk.{Chunk}
@@ -62,17 +62,17 @@ places_small laws cs items are few n = of (cases_lt n (length items))
         let none : bundle_in (places_of cs) n ≡ 0 = ap (λ (p : Place). p.bundle) (get_or_past (places_of cs) n (first_of 0) (omega (arith, count, past))) in omega (arith, none)
 
 -- What a target names is near enough.
-aimed_within : (items : List Item) (x : Op) (target : Option Address) → length items ≤ 3 * BUNDLE_LIMIT → IsTargetOf items x target → IfSome target IsWithin
+aimed_within : (items : List Item) (x : Op) (target : Option Address) → length items ≤ 3 * BUNDLE_LIMIT → IsTargetOf items x target → IfSome target IsReachable
 aimed_within items x None few aimed = tt
 aimed_within items x (Some (BundleAddress m)) few (some, begins) = let less = breaks_inside items m begins in omega (arith, less, few)
 aimed_within items x (Some (Byte at)) few (some, small) = small
 
-pub target_within : (s : Loose) (n : ℕ) → IsLoose s → n < length s.items → IfSome (slice_index_or s.targets n None) IsWithin
+pub target_within : (s : Loose) (n : ℕ) → IsLoose s → n < length s.items → IfSome (slice_index_or s.targets n None) IsReachable
 target_within s n loose less =
     let is = item_at s n loose less in
-    subst (λ (t : Option Address). IfSome t IsWithin) (sym (get_or_from_slice_get s.targets n is.target None is.aim)) (aimed_within s.items is.item.insn.op is.target loose.few is.aimed)
+    subst (λ (t : Option Address). IfSome t IsReachable) (sym (get_or_from_slice_get s.targets n is.target None is.aim)) (aimed_within s.items is.item.insn.op is.target loose.few is.aimed)
 
-pub moved_within : (f : ℕ → ℕ) (target : Option Address) → ((n : ℕ) → f n < BUNDLE_LIMIT) → IfSome target IsWithin → IfSome (option_map (relocated f) target) IsWithin
+pub moved_within : (f : ℕ → ℕ) (target : Option Address) → ((n : ℕ) → f n < BUNDLE_LIMIT) → IfSome target IsReachable → IfSome (option_map (relocated f) target) IsReachable
 moved_within f None near within = tt
 moved_within f (Some (BundleAddress m)) near within = let less = near m in omega (arith, less)
 moved_within f (Some (Byte at)) near within = within

@@ -117,13 +117,13 @@ neighbours laws cs items n are more =
     of k j c at (inr h) = let inside = at.inside in inr (in_two laws cs items n are (is_last laws cs items n k j c are at (omega arith)) more)
 
 -- The place is in the bundle, at a slot from one on and before another.
-pub record IsWithin (k slot upto : ℕ) (x : Place) : Type 0 where
+pub record IsBetweenSlots (k slot upto : ℕ) (x : Place) : Type 0 where
   pub bundle : x.bundle ≡ k
   pub above : slot ≤ x.slot
   pub below : x.slot < upto
 
 -- those from the one on and before the other
-pub within_one : (k slot other : ℕ) (x : Place) → ¬ IsBefore x (in_bundle k slot) → IsBefore x (in_bundle k other) → IsWithin k slot other x
+pub within_one : (k slot other : ℕ) (x : Place) → ¬ IsBefore x (in_bundle k slot) → IsBefore x (in_bundle k other) → IsBetweenSlots k slot other x
 within_one k slot other x from below =
     let bundle : x.bundle ≡ k = grind arith in
     let above : slot ≤ x.slot = grind arith in
@@ -152,12 +152,12 @@ last_within cs insns k c x there bundle is =
 
 pub stop_of_first : AreStopLaws → (cs : List Chunk) (items : List Item) (insns : List Insn) (n : ℕ) (two : InTwo cs n) (x : Place) → AreChunks cs items → IsPlaceOf (bundles_from cs insns) x
     → ¬ IsBefore x (place_of cs n) → IsBefore x (place_of cs (suc n)) → is_stopped (bundles_from cs insns) x ≡ true
-    → IsWithin two.first.bundle two.first.slot (suc (last_slot (filled_at cs insns two.first.bundle two.first.chunk).slots)) x
+    → IsBetweenSlots two.first.bundle two.first.slot (suc (last_slot (filled_at cs insns two.first.bundle two.first.chunk).slots)) x
 stop_of_first laws cs items insns n two x are is from below stopped =
     of (within_two two.first.bundle two.first.slot two.other x (subst (λ p. ¬ IsBefore x p) two.first.place from) (subst (IsBefore x) two.next_place below))
   where
     of : ((x.bundle ≡ two.first.bundle) × (two.first.slot ≤ x.slot)) ⊎ ((x.bundle ≡ suc two.first.bundle) × (x.slot < two.other))
-        → IsWithin two.first.bundle two.first.slot (suc (last_slot (filled_at cs insns two.first.bundle two.first.chunk).slots)) x
+        → IsBetweenSlots two.first.bundle two.first.slot (suc (last_slot (filled_at cs insns two.first.bundle two.first.chunk).slots)) x
     of (inl (bundle, above)) = record { bundle = bundle; above = above; below = last_within cs insns two.first.bundle two.first.chunk x two.first.at.there bundle is }
     of (inr (bundle, less)) =
         let stop = stop_at cs insns (suc two.first.bundle) two.chunk x two.next.there bundle stopped in

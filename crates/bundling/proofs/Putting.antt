@@ -16,7 +16,7 @@ use Rattle.slot_layouts.specs.Classes.{class_of, has_place}
 use Rattle.slot_layouts.specs.Laws.{PlaceIsFit}
 use Rattle.asm_build.specs.declared.address.Address.{Address}
 use Rattle.asm_build.specs.declared.address.Address.TheVariants.{Bundle, Byte}
-use Rattle.asm_build.specs.Addresses.{IsInside, IsWithin, addressed, reach}
+use Rattle.asm_build.specs.Addresses.{IsInside, IsReachable, addressed, reach}
 use Rattle.asm_build.proofs.AddressedTargets.{fit_stays, target_inside}
 use Rattle.loose_text.specs.declared.item.Item.{Item}
 use Rattle.loose_text.specs.LooseTexts.{IsTargetOf}
@@ -73,7 +73,7 @@ under : (P Q : Op → Type 0) (o : Option Op) → ((y : Op) → P y → Q y) →
 under P Q None f p = tt
 under P Q (Some y) f p = f y p
 
-listed_stays : PlaceIsFit → (i : Insn) (a : Address) (n : ℕ) → IsWithin a → n < reach → IsListed i → IfSome (addressed i.op a n) (λ y. IsListed (record { qp = i.qp; op = y }))
+listed_stays : PlaceIsFit → (i : Insn) (a : Address) (n : ℕ) → IsReachable a → n < reach → IsListed i → IfSome (addressed i.op a n) (λ y. IsListed (record { qp = i.qp; op = y }))
 listed_stays law i a n within here listed =
     let class = class_of i.op in
     let u = unit_for class in
@@ -110,7 +110,7 @@ IsInto f items count = (n : ℕ) → n < items → f n < count
 no_target : (count own : ℕ) (o : Option ℤ) → o ≡ None → IfSome o (IsBundleAt count own)
 no_target count own o is = subst (λ o. IfSome o (IsBundleAt count own)) (sym is) tt
 
-with_target : PlaceIsFit → (count own : ℕ) (i : Insn) (a : Address) → IsListed i → own < reach → IsWithin a → IsInside count a → IsSome (addressed i.op a own)
+with_target : PlaceIsFit → (count own : ℕ) (i : Insn) (a : Address) → IsListed i → own < reach → IsReachable a → IsInside count a → IsSome (addressed i.op a own)
     → IsPutIn count own i.op (record { qp = i.qp; op = unwrap_or (addressed i.op a own) i.op })
 with_target law count own i a listed here within inside some = record {
   listed = chosen (λ y. IsListed (record { qp = i.qp; op = y })) (addressed i.op a own) i.op some (listed_stays law i a own within here listed);

@@ -30,7 +30,7 @@ use Rattle.bundling.proofs.Locating.{part_of, IsAt, put_at, spot, length-bundles
 use Rattle.bundling.proofs.Targeting.{length-targeted, IsItemAt, item_at, within_items}
 use Rattle.bundling.proofs.Likeness.{allocates_put, clears_put}
 use Rattle.bundling.proofs.Spreading.{itself, bundles_of}
-use Rattle.bundling.proofs.Neighbours.{AreStopLaws, filled_at, stops_of_chunk, slot_within, InOne, IsLast, InTwo, is_last, neighbours, IsWithin, within_one, stop_at, stop_of_first, stops_to_end, stops_to_next}
+use Rattle.bundling.proofs.Neighbours.{AreStopLaws, filled_at, stops_of_chunk, slot_within, InOne, IsLast, InTwo, is_last, neighbours, IsBetweenSlots, within_one, stop_at, stop_of_first, stops_to_end, stops_to_next}
 
 -- The laws of layouts from which it follows what stands beside an instruction.
 pub record ArePlaceLaws : Type 0 where
@@ -132,7 +132,7 @@ alloc_head laws s cs are n of head =
 
 -- A stop between neighbours: its place, and the bundle that has it.
 record IsStopOfOne (s : Loose) (cs : List Chunk) (n : ℕ) (one : InOne cs n) (x : Place) (w : Wanted) : Type 0 where
-  pub within : IsWithin one.bundle one.slot one.other x
+  pub within : IsBetweenSlots one.bundle one.slot one.other x
   pub here : slice_get (bundles_of s cs) x.bundle ≡ Some (filled_at cs (targeted (bundle_of cs) s) one.bundle one.chunk)
   pub stop : has_stop (filled_at cs (targeted (bundle_of cs) s) one.bundle one.chunk) x.slot ≡ true
   pub stops : HasStopWhere w.gap (filled_at cs (targeted (bundle_of cs) s) one.bundle one.chunk) one.slot one.other

@@ -23,7 +23,7 @@ use Rattle.bundling.proofs.Lists.{element}
 use Rattle.bundling.proofs.Locating.{AreLayouts, spot, length-places, length-bundles, bundle_at, in_bundle, placed, last_of_all, first_of_all, gap_inside, gap_last, gap_there}
 use Rattle.bundling.proofs.Targeting.{length-targeted}
 use Rattle.bundling.proofs.Spreading.{itself, bundles_of}
-use Rattle.bundling.proofs.Neighbours.{AreStopLaws, filled_at, stop_there, stops_of_chunk, slot_within, InOne, IsLast, InTwo, is_last, neighbours, IsWithin, within_one, stop_at, last_within, stop_of_first, stops_to_end, stops_to_next}
+use Rattle.bundling.proofs.Neighbours.{AreStopLaws, filled_at, stop_there, stops_of_chunk, slot_within, InOne, IsLast, InTwo, is_last, neighbours, IsBetweenSlots, within_one, stop_at, last_within, stop_of_first, stops_to_end, stops_to_next}
 
 -- A stop follows one of the places where it is wanted, and else none.
 abbrev pub StopsAre : Bool → List Bundle → (Place → Type 0) → Type 0
@@ -34,7 +34,7 @@ StopsAre false bundles In = (other : Place) → In other → is_stopped bundles 
 -- so it is where those with stops are within a part of a bundle
 stops_are : (cs : List Chunk) (insns : List Insn) (k slot upto : ℕ) (c : Chunk) (gap : Bool) (In : Place → Type 0) → slice_get cs k ≡ Some c
     → HasStopWhere gap (filled_at cs insns k c) slot upto → ((x : ℕ) → slot ≤ x → x < upto → In (in_bundle k x))
-    → ((x : Place) → In x → is_stopped (bundles_from cs insns) x ≡ true → IsWithin k slot upto x) → StopsAre gap (bundles_from cs insns) In
+    → ((x : Place) → In x → is_stopped (bundles_from cs insns) x ≡ true → IsBetweenSlots k slot upto x) → StopsAre gap (bundles_from cs insns) In
 stops_are cs insns k slot upto c true In there one all only =
     (in_bundle k one.slot, all one.slot one.above one.below, stop_there cs insns k one.slot c there ∙ one.here, same)
   where
@@ -110,7 +110,7 @@ stops_between laws s cs are n more = elim (neighbours laws.layouts cs s.items n 
           below = subst (IsBefore (in_bundle one.bundle x)) (sym (next_is _ one.next_place)) (inr (refl, less));
         }
 
-        only : (x : Place) → Between x → is_stopped (bundles_of s cs) x ≡ true → IsWithin one.bundle one.slot one.other x
+        only : (x : Place) → Between x → is_stopped (bundles_of s cs) x ≡ true → IsBetweenSlots one.bundle one.slot one.other x
         only x between stopped =
             within_one one.bundle one.slot one.other x (subst (λ p. ¬ IsBefore x p) one.place between.from) (subst (IsBefore x) (next_is _ one.next_place) between.below)
 
@@ -127,7 +127,7 @@ stops_between laws s cs are n more = elim (neighbours laws.layouts cs s.items n 
           below = subst (IsBefore (in_bundle two.first.bundle x)) (sym (next_is _ two.next_place)) (inl (omega arith));
         }
 
-        only : (x : Place) → Between x → is_stopped (bundles_of s cs) x ≡ true → IsWithin two.first.bundle two.first.slot (suc (last_slot (filled_at cs insns two.first.bundle two.first.chunk).slots)) x
+        only : (x : Place) → Between x → is_stopped (bundles_of s cs) x ≡ true → IsBetweenSlots two.first.bundle two.first.slot (suc (last_slot (filled_at cs insns two.first.bundle two.first.chunk).slots)) x
         only x between stopped =
             stop_of_first laws cs s.items insns n two x are between.is between.from (subst (IsBefore x) (ap (place_of cs) (add-one n)) between.below) stopped
 
@@ -159,7 +159,7 @@ stops_behind laws s cs are n end =
           from_there = subst (λ p. ¬ IsBefore (in_bundle last.bundle x) p) (sym last.place) (not_before last.bundle last.slot x above);
         }
 
-        only : (x : Place) → IsFrom (bundles_of s cs) (place_of cs n) x → is_stopped (bundles_of s cs) x ≡ true → IsWithin last.bundle last.slot (suc (last_slot (filled_at cs insns last.bundle last.chunk).slots)) x
+        only : (x : Place) → IsFrom (bundles_of s cs) (place_of cs n) x → is_stopped (bundles_of s cs) x ≡ true → IsBetweenSlots last.bundle last.slot (suc (last_slot (filled_at cs insns last.bundle last.chunk).slots)) x
         only x from stopped =
             let small = bundle_small (bundles_of s cs) x from.is in
             let end_of_all = (last_of_all cs s.items n last.bundle last.offset last.chunk laws.layouts are last.at end).1 in

@@ -12,7 +12,7 @@ ghost use Rattle.ia_insn.specs.Places.{EachPlace};
 ghost use Rattle.ia_insn.specs.Runs.{IsWithinRun};
 ghost use Rattle.slot_layouts.specs.Layouts.{laid_out};
 ghost use Rattle.slot_layouts.specs.Filled.{slot_content, contents, filled};
-ghost use Rattle.asm_build.specs.Addresses.{IsWithin, reach};
+ghost use Rattle.asm_build.specs.Addresses.{IsReachable, reach};
 ghost use Rattle.bundling.specs.Chunks.{AreChunksOf};
 ghost use Rattle.bundling.specs.Bundled.{relocated, put_in, targeted, row_of, layout_of, places_of, bundle_in, bundles_from, relation_moved, program_of};
 
@@ -98,7 +98,7 @@ fn relocated(places: &[Place], target: Option<Address>) -> Option<Address>
 /// The instruction that counts as `own` with what its target names put in.
 fn put_in(insn: &Insn, target: Option<Address>, own: u32) -> Insn
     requires here { own < reach }
-    requires there { IfSome target IsWithin }
+    requires there { IfSome target IsReachable }
     ensures { result ≡ record { qp = insn.now.qp; op = put_in (λ n. n) own insn.now.op target } }
 {
     let op = match target {

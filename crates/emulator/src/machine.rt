@@ -171,7 +171,9 @@ impl<'a> Machine<'a> {
         ensures end { result ≡ end_of self.new.progress }
         ensures finished { IfSome self.old.progress.end (λ end. (self.new ≡ self.old) × (result ≡ end)) }
     {
-        self.run.run_groups(&self.slots, groups);
+        if self.run.end.is_none() {
+            let _event = self.run.run_groups(&self.slots, groups);
+        }
         self.run.ending()
     }
 }

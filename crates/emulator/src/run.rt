@@ -220,46 +220,47 @@ impl Run {
         }
     }
 
-    /// Runs the group under way to its end, or the next one, and tells of it. It has at most
-    /// [`RUN_LIMIT`](ia_insn::limits::RUN_LIMIT) slots.
-    pub fn run_group(&mut self, table: &SlotTable) -> GroupEvent
+    /// Runs so many groups, at least one, or up to an end, and tells of the group where it is one. A group that is under
+    /// way is the first of them. Each has at most [`RUN_LIMIT`](ia_insn::limits::RUN_LIMIT) slots.
+    pub fn run_groups(&mut self, table: &SlotTable, groups: u64) -> GroupEvent
         requires program { IsProgram table.now }
         requires running { self.old.end ≡ None }
         requires under_way { IsUnderWay table.now (progress_of self.old) }
-        requires room { self.old.slots ≡ 0 → self.old.groups + 1 < 2 ^ 64 }
-        ensures value { progress_of self.new ≡ group_further table.now (progress_of self.old) }
-        ensures event { result ≡ event_further table.now (progress_of self.old) }
+        requires some { 1 ≤ groups }
+        requires room { self.old.groups + groups < 2 ^ 64 }
+        ensures value { progress_of self.new ≡ groups_further groups table.now (progress_of self.old) }
+        ensures event { groups ≡ 1 → result ≡ event_further table.now (progress_of self.old) }
         ensures under_way { IsUnderWay table.now (progress_of self.new) }
     {
+        let mut left = groups;
         loop {
             let (last, slots) = (self.here(), self.slots + 1);
             if let Some(how) = self.advance(table) {
-                return GroupEvent {
-                    number: self.groups,
-                    first: self.first,
-                    last,
-                    slots,
-                    how,
-                };
+                left -= 1;
+                if left == 0 || self.end.is_some() {
+                    return GroupEvent {
+                        number: self.groups,
+                        first: self.first,
+                        last,
+                        slots,
+                        how,
+                    };
+                }
             }
         }
     }
 
-    /// Runs so many groups, or up to an end. A group that is under way is the first of them.
-    #[tactic(auto, using(ia_meaning::proofs::GroupEnds::groups_ended))]
-    pub fn run_groups(&mut self, table: &SlotTable, groups: u64)
+    /// Runs the group under way to its end, or the next one, and tells of it.
+    pub fn run_group(&mut self, table: &SlotTable) -> GroupEvent
         requires program { IsProgram table.now }
+        requires running { self.old.end ≡ None }
         requires under_way { IsUnderWay table.now (progress_of self.old) }
-        requires room { self.old.groups + groups < 2 ^ 64 }
-        ensures value { progress_of self.new ≡ groups_further groups table.now (progress_of self.old) }
+        requires room { self.old.groups + 1 < 2 ^ 64 }
+        ensures value { progress_of self.new ≡ group_further table.now (progress_of self.old) }
+        ensures event { result ≡ event_further table.now (progress_of self.old) }
         ensures under_way { IsUnderWay table.now (progress_of self.new) }
     {
-        let mut left = groups;
-        while left > 0 && self.end.is_none() {
-            if self.advance(table).is_some() {
-                left -= 1;
-            }
-        }
+        self.run_groups(table, 1)
     }
 
     /// How a run that stands so ends.

@@ -10,7 +10,7 @@ use Rattle.predicate_rel.specs.Pairs.{Pairs, has_bit}
 use Rattle.predicate_rel.specs.Changes.{HasAllRows}
 use Rattle.predicate_rel.proofs.BitLemmas.{has_bit_all, has_bit_none, has_bit_or}
 use Rattle.flow_facts.specs.Walks.{Known, known_at}
-use Rattle.flow_facts.specs.Tables.{Shrinks, Joined, IsSameBut, HasCome, Progress, marked, dirty_count}
+use Rattle.flow_facts.specs.Tables.{Shrinks, Joined, IsSameBut, HasCome, MarksChanges, marked, dirty_count}
 use Rattle.flow_facts.proofs.Numbering.{cases_place, value_at-place_at, value_at-set_same, value_at-set_other}
 
 -- what is known of a place is the same
@@ -63,7 +63,7 @@ all_marked d n k l e x m = ap (λ (w : ℕ). has_bit w x) (marked_there d n 1844
     or_true false = refl
 
 -- nothing has changed
-pub no_progress : (t : List Known) (d : List ℕ) → Progress t d t d
+pub no_progress : (t : List Known) (d : List ℕ) → MarksChanges t d t d
 no_progress t d = record {
   shrinks = record { same_length = refl; keeps = λ k f most. most };
   same_length = refl;
@@ -72,7 +72,7 @@ no_progress t d = record {
 }
 
 -- one place has changed, and its rows that did are marked
-pub progress_marked : (t t' : List Known) (d : List ℕ) (to rows : ℕ) (out : Pairs) → to < length d → Joined t t' (place_at to) out → IsSameBut rows (known_at t (place_at to)) (known_at t' (place_at to)) → Progress t d t' (set d to (bit_or (get_or d to 0) rows))
+pub progress_marked : (t t' : List Known) (d : List ℕ) (to rows : ℕ) (out : Pairs) → to < length d → Joined t t' (place_at to) out → IsSameBut rows (known_at t (place_at to)) (known_at t' (place_at to)) → MarksChanges t d t' (set d to (bit_or (get_or d to 0) rows))
 progress_marked t t' d to rows out l joined same = record {
   shrinks = joined.shrinks;
   same_length = length-set d to (bit_or (get_or d to 0) rows);
@@ -94,7 +94,7 @@ progress_marked t t' d to rows out l joined same = record {
     changed k (inr e) = subst (IsSameBut (marked new k) (known_at t k)) (sym (joined.others k e)) (same_refl (marked new k) (known_at t k))
 
 -- no row of a place has changed
-pub progress_same : (t t' : List Known) (d : List ℕ) (to : ℕ) (out : Pairs) → Joined t t' (place_at to) out → IsSameBut 0 (known_at t (place_at to)) (known_at t' (place_at to)) → Progress t d t' d
+pub progress_same : (t t' : List Known) (d : List ℕ) (to : ℕ) (out : Pairs) → Joined t t' (place_at to) out → IsSameBut 0 (known_at t (place_at to)) (known_at t' (place_at to)) → MarksChanges t d t' d
 progress_same t t' d to out joined same = record {
   shrinks = joined.shrinks;
   same_length = refl;
@@ -107,7 +107,7 @@ progress_same t t' d to out joined same = record {
     changed k (inr e) = subst (IsSameBut (marked d k) (known_at t k)) (sym (joined.others k e)) (same_refl (marked d k) (known_at t k))
 
 -- two steps are one
-pub progress_twice : (a b c : List Known) (d e f : List ℕ) → Progress a d b e → Progress b e c f → Progress a d c f
+pub progress_twice : (a b c : List Known) (d e f : List ℕ) → MarksChanges a d b e → MarksChanges b e c f → MarksChanges a d c f
 progress_twice a b c d e f g h = record {
   shrinks = record { same_length = h.shrinks.same_length ∙ g.shrinks.same_length; keeps = λ k f m. h.shrinks.keeps k f (g.shrinks.keeps k f m) };
   same_length = h.same_length ∙ g.same_length;

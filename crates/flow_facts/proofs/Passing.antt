@@ -19,7 +19,7 @@ use Rattle.slot_table.specs.declared.slot.Slot.{Slot}
 use Rattle.slot_table.specs.Slots.{slot_at}
 use Rattle.slot_table.proofs.SlotLaws.{pairs_by-slot}
 use Rattle.flow_facts.specs.Walks.{Known, known_at, Walk, begins, goes_on, EndsAt, known_first, facts_on}
-use Rattle.flow_facts.specs.Tables.{weight, place_count, AtMost, Joined, IsWitnessedAt, IsWitnessed, IsSameBut, HasCome, Progress, Passed, IsUnderWay, marked, dirty_count}
+use Rattle.flow_facts.specs.Tables.{weight, place_count, AtMost, Joined, IsWitnessedAt, IsWitnessed, IsSameBut, HasCome, MarksChanges, Passed, IsBetweenSteps, marked, dirty_count}
 use Rattle.flow_facts.proofs.Numbering.{number_below, place_at-number, cases_place, value_read, value_at-place_at, value_at-set_other}
 use Rattle.flow_facts.proofs.Marks.{no_progress, progress_marked, progress_same, progress_twice, same_trans, come_unknown, dirty_count-set}
 
@@ -130,7 +130,7 @@ pub passed_none : (p : Program) (from : Place) (e : Edge) (before : Pairs) (t : 
 passed_none p from e before t d wit none = record { witnessed = wit; come = λ to edge. absurd (none to edge); progress = no_progress t d; lost = omega arith }
 
 -- what has come along an edge has come along each of its sort
-pub passed_by : (p : Program) (from : Place) (e : Edge) (to : ℕ) (before : Pairs) (t t' : List Known) (d d' : List ℕ) → IsWitnessed p t → IsWitnessedAt p from before → ComesAlong p from e to t t' before → Progress t d t' d' → weight t' + dirty_count d' ≤ weight t + dirty_count d → Passed p from e before t d t' d'
+pub passed_by : (p : Program) (from : Place) (e : Edge) (to : ℕ) (before : Pairs) (t t' : List Known) (d d' : List ℕ) → IsWitnessed p t → IsWitnessedAt p from before → ComesAlong p from e to t t' before → MarksChanges t d t' d' → weight t' + dirty_count d' ≤ weight t + dirty_count d → Passed p from e before t d t' d'
 passed_by p from e to before t t' d d' wit here came progress lost = record {
   witnessed = witnessed_by p t t' (place_at to) _ wit (witnessed_along p from e (place_at to) before here came.edge) came.joined;
   come = λ to' edge. subst (λ (q : Place). AtMost t' q (pairs_past p from e before)) (leads_to_one p from e (place_at to) to' came.edge edge) came.joined.below;
@@ -155,7 +155,7 @@ pub record GoesOn (p : Program) (t : List Known) (n rows : ℕ) (before : Table)
   pub come : (e : Edge) (to : Place) → HasEdge p (place_at n) e to → HasCome t to (pairs_past p (place_at n) e) rows (Some before)
 
 -- by what is read there
-pub goes_on_from : (p : Program) (t : List Known) (d : List ℕ) (n rows : ℕ) (read : Known) (before : Table) → IsUnderWay p t d → n < place_count p → read ≡ get_or t n read → read ≡ Some before → rows ≡ get_or d n 0 → GoesOn p t n rows before
+pub goes_on_from : (p : Program) (t : List Known) (d : List ℕ) (n rows : ℕ) (read : Known) (before : Table) → IsBetweenSteps p t d → n < place_count p → read ≡ get_or t n read → read ≡ Some before → rows ≡ get_or d n 0 → GoesOn p t n rows before
 goes_on_from p t d n rows read before u below got is taken = record {
   known = known;
   witnessed = u.witnessed.at (place_at n) before known;
@@ -169,7 +169,7 @@ goes_on_from p t d n rows read before u below got is taken = record {
     there = value_at-place_at 0 d n ∙ sym taken
 
 -- a place where nothing is known is gone on from
-pub none_spread : (p : Program) (t : List Known) (d : List ℕ) (n : ℕ) → IsUnderWay p t d → known_at t (place_at n) ≡ None → IsUnderWay p t (set d n 0)
+pub none_spread : (p : Program) (t : List Known) (d : List ℕ) (n : ℕ) → IsBetweenSteps p t d → known_at t (place_at n) ≡ None → IsBetweenSteps p t (set d n 0)
 none_spread p t d n u none = record {
   table_length = u.table_length;
   dirty_length = length-set d n 0 ∙ u.dirty_length;
@@ -183,7 +183,7 @@ none_spread p t d n u none = record {
     come k e to edge (inr apart) = rw (value_at-set_other 0 0 d n k apart) (u.come k e to edge)
 
 -- the place is no longer dirty, and what was known there has come along both sorts of edges
-pub two_passes : (p : Program) (t t1 t2 : List Known) (d d1 d2 : List ℕ) (n : ℕ) (before : Table) → IsUnderWay p t d → known_at t (place_at n) ≡ Some before → Passed p (place_at n) Falls (pairs_of before) t (set d n 0) t1 d1 → Passed p (place_at n) Taken (pairs_of before) t1 d1 t2 d2 → IsUnderWay p t2 d2
+pub two_passes : (p : Program) (t t1 t2 : List Known) (d d1 d2 : List ℕ) (n : ℕ) (before : Table) → IsBetweenSteps p t d → known_at t (place_at n) ≡ Some before → Passed p (place_at n) Falls (pairs_of before) t (set d n 0) t1 d1 → Passed p (place_at n) Taken (pairs_of before) t1 d1 t2 d2 → IsBetweenSteps p t2 d2
 two_passes p t t1 t2 d d1 d2 n before u is f g = record {
   table_length = all.shrinks.same_length ∙ u.table_length;
   dirty_length = all.same_length ∙ length-set d n 0 ∙ u.dirty_length;
@@ -195,7 +195,7 @@ two_passes p t t1 t2 d d1 d2 n before u is f g = record {
     from : Place
     from = place_at n
 
-    all : Progress t (set d n 0) t2 d2
+    all : MarksChanges t (set d n 0) t2 d2
     all = progress_twice t t1 t2 (set d n 0) d1 d2 f.progress g.progress
 
     sorts : (e : Edge) (to : Place) → HasEdge p from e to → AtMost t2 to (pairs_past p from e (pairs_of before))

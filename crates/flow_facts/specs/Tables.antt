@@ -7,6 +7,7 @@ use Rattle.predicate_rel.specs.declared.edge.Edge.{Edge}
 use Rattle.predicate_rel.specs.Pairs.{Table, Pairs, has_bit, pairs_of, IsWithin}
 use Rattle.predicate_rel.specs.Changes.{AgreeOutside, HasAllRows}
 use Rattle.predicate_rel.specs.Edges.{HasEdge, pairs_past}
+use Rattle.flow_facts.specs.declared.dirty.TheConstants.{BLOCK, REGION}
 use Rattle.flow_facts.specs.Walks.{Walk, EndsAt, Known, known_at, value_at, known_first, facts_on}
 
 -- how many of the first n numbers a row has
@@ -96,12 +97,11 @@ pub record Covers (size : ℕ) (marks : List Bool) (dirty : List ℕ) : Type 0 w
   pub long : length dirty ≤ size * length marks
   pub unmarked : (n : ℕ) → slice_index_or marks (n / size) false ≡ false → slice_index_or dirty n 0 ≡ 0
 
--- How the dirty places are kept: none is below this number, and each is in a block of 64 places and in a region of 4,096
--- places that are marked.
+-- How the dirty places are kept: none is below this number, and each is in a block and in a region that are marked.
 pub record IsKept (dirty : List ℕ) (blocks regions : List Bool) (low : ℕ) : Type 0 where
   pub below : (n : ℕ) → n < low → slice_index_or dirty n 0 ≡ 0
-  pub by_block : Covers 64 blocks dirty
-  pub by_region : Covers 4096 regions dirty
+  pub by_block : Covers BLOCK blocks dirty
+  pub by_region : Covers REGION regions dirty
 
 -- The place of this number is the lowest dirty one.
 pub record IsLowest (dirty : List ℕ) (n : ℕ) : Type 0 where
@@ -109,7 +109,7 @@ pub record IsLowest (dirty : List ℕ) (n : ℕ) : Type 0 where
   pub none_below : (k : ℕ) → k < n → slice_index_or dirty k 0 ≡ 0
 
 -- No place knows more than before, and the rows that change at a place are marked from then on.
-pub record Progress (table : List Known) (dirty : List ℕ) (table' : List Known) (dirty' : List ℕ) : Type 0 where
+pub record MarksChanges (table : List Known) (dirty : List ℕ) (table' : List Known) (dirty' : List ℕ) : Type 0 where
   pub shrinks : Shrinks table table'
   pub same_length : length dirty' ≡ length dirty
   pub keeps : (place : Place) (x : ℕ) → has_bit (marked dirty' place) x ≡ false → has_bit (marked dirty place) x ≡ false
@@ -117,7 +117,7 @@ pub record Progress (table : List Known) (dirty : List ℕ) (table' : List Known
 
 -- Between two steps: what the table says is witnessed, the entries know no more than they declare, and what is known has
 -- come along each edge, but for what changed in the rows that are marked.
-pub record IsUnderWay (p : Program) (table : List Known) (dirty : List ℕ) : Type 0 where
+pub record IsBetweenSteps (p : Program) (table : List Known) (dirty : List ℕ) : Type 0 where
   pub table_length : length table ≡ place_count p
   pub dirty_length : length dirty ≡ place_count p
   pub witnessed : IsWitnessed p table
@@ -129,5 +129,5 @@ pub record IsUnderWay (p : Program) (table : List Known) (dirty : List ℕ) : Ty
 pub record Passed (p : Program) (from : Place) (e : Edge) (before : Pairs) (table : List Known) (dirty : List ℕ) (table' : List Known) (dirty' : List ℕ) : Type 0 where
   pub witnessed : IsWitnessed p table'
   pub come : (to : Place) → HasEdge p from e to → AtMost table' to (pairs_past p from e before)
-  pub progress : Progress table dirty table' dirty'
+  pub progress : MarksChanges table dirty table' dirty'
   pub lost : weight table' + dirty_count dirty' ≤ weight table + dirty_count dirty

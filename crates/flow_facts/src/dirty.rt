@@ -7,10 +7,10 @@ use std::alloc::{AllocError, Global};
 use std::marker::Model;
 
 /// How many places a block has.
-const BLOCK: usize = 64;
+pub(crate) const BLOCK: usize = 64;
 
-/// How many places a region has, which is 64 blocks.
-const REGION: usize = 4096;
+/// How many places a region has, as many blocks as a block has places.
+pub(crate) const REGION: usize = BLOCK * BLOCK;
 
 /// The dirty places, and of each the rows that have changed since it was last gone on from: bit x is that of the
 /// pairs of the x-th predicate. Contracts see a list that says of the place of each number which rows are

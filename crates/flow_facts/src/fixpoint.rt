@@ -8,7 +8,7 @@ ghost use Rattle.predicate_rel.specs.Pairs.{no_pairs, pairs_of};
 ghost use Rattle.predicate_rel.specs.Edges.{HasEdge, pairs_past};
 ghost use Rattle.flow_facts.specs.Graphs.{with_relations};
 ghost use Rattle.flow_facts.specs.Walks.{Known, known_at, known_first, IsSolution};
-ghost use Rattle.flow_facts.specs.Tables.{Passed, weight, dirty_count, IsWitnessed, IsWitnessedAt, HasCome, IsUnderWay, marked, place_count};
+ghost use Rattle.flow_facts.specs.Tables.{Passed, weight, dirty_count, IsWitnessed, IsWitnessedAt, HasCome, IsBetweenSteps, marked, place_count};
 
 use crate::dirty::DirtyPlaces;
 use crate::table::join;
@@ -82,8 +82,8 @@ fn pass(
 fn spread(slots: &SlotTable, table: &mut Vec<Option<Facts>>, dirty: &mut DirtyPlaces, from: usize)
     requires from { from < place_count slots.now }
     requires dirty { slice_index_or dirty.old from 0 ≢ 0 }
-    requires under_way { IsUnderWay slots.now table.old.items dirty.old }
-    ensures under_way { IsUnderWay slots.now table.new.items dirty.new }
+    requires under_way { IsBetweenSteps slots.now table.old.items dirty.old }
+    ensures under_way { IsBetweenSteps slots.now table.new.items dirty.new }
     ensures less { weight table.new.items + dirty_count dirty.new < weight table.old.items + dirty_count dirty.old }
 {
     let changed = dirty.take(from);
@@ -97,8 +97,8 @@ fn spread(slots: &SlotTable, table: &mut Vec<Option<Facts>>, dirty: &mut DirtyPl
 /// Goes on from the lowest dirty place until none is left. This ends, since a place gets dirty only where
 /// the table loses something.
 fn settle(slots: &SlotTable, table: &mut Vec<Option<Facts>>, dirty: &mut DirtyPlaces)
-    requires { IsUnderWay slots.now table.old.items dirty.old }
-    ensures under_way { IsUnderWay slots.now table.new.items dirty.new }
+    requires { IsBetweenSteps slots.now table.old.items dirty.old }
+    ensures under_way { IsBetweenSteps slots.now table.new.items dirty.new }
     ensures clean { (place : Place) → marked dirty.new place ≡ 0 }
 {
     'settling: while let Some(from) = dirty.lowest() {
@@ -133,7 +133,7 @@ fn enter(program: &Program, table: &mut Vec<Option<Facts>>, dirty: &mut DirtyPla
     requires table { length table.old.items ≡ place_count program.now }
     requires dirty { length dirty.old ≡ place_count program.now }
     requires unknown { (place : Place) → known_at table.old.items place ≡ None }
-    ensures { IsUnderWay program.now table.new.items dirty.new }
+    ensures { IsBetweenSteps program.now table.new.items dirty.new }
 {
     for bundle in 0..program.bundle_count() {
         if program.is_entry(bundle) {

@@ -4,8 +4,9 @@ use Rattle.std.specs.Option.{option_map}
 use Rattle.ia_meaning.specs.declared.limits.TheConstants.{STACK_LIMIT}
 use Rattle.ia_insn.specs.declared.ending.FaultKind.TheVariants as kind
 use Rattle.ia_meaning.specs.declared.state.FrameShape.{FrameShape}
+use Rattle.ia_meaning.specs.State.{IsFrame}
 use Rattle.ia_meaning.specs.Frames.{is_frame, marked_frame, return_fault}
-use Rattle.ia_meaning.proofs.ReturnFrames.{MayReturn, unrefused}
+use Rattle.ia_meaning.proofs.ReturnFrames.{MayReturn, unrefused, moved_frame}
 use Rattle.frame_shapes.specs.declared.fault.StackFault.{StackFault}
 use Rattle.frame_shapes.specs.declared.fault.StackFault.TheVariants.{BadFrame, Underflow, StackLimit}
 use Rattle.frame_shapes.specs.Faults.{kind_of, return_fault_within, returned_frame, ReturnFaultIsThat}
@@ -32,10 +33,22 @@ pub may_return : (limit base : ℕ) (f : FrameShape) → return_fault_within lim
 unfolding return_fault_within
 may_return limit base f e = unrefused BadFrame Underflow StackLimit limit base f e
 
-pub end_of : (base pfs : ℕ) → (returned_frame base pfs).base + (returned_frame base pfs).sof ≡ base - (marked_frame base pfs).sol + (marked_frame base pfs).sof
+-- its frame is the one of the marker, at another base
+pub rebased : (base to pfs : ℕ) → record (marked_frame base pfs) { base = to } ≡ marked_frame to pfs
+unfolding marked_frame
+rebased base to pfs = refl
+
+end_of : (base pfs : ℕ) → (returned_frame base pfs).base + (returned_frame base pfs).sof ≡ base - (marked_frame base pfs).sol + (marked_frame base pfs).sof
 unfolding marked_frame
 end_of base pfs = refl
 
-pub base_falls : (base pfs : ℕ) → (returned_frame base pfs).base ≤ base
+base_falls : (base pfs : ℕ) → (returned_frame base pfs).base ≤ base
 unfolding marked_frame
 base_falls base pfs = omega arith
+
+-- A return that has no fault enters a frame that has room.
+pub free_frame : (limit base pfs : ℕ) (f : FrameShape) → f ≡ returned_frame base pfs → return_fault_within limit base (marked_frame base pfs) ≡ None → IsFrame f × (f.base + f.sof ≤ limit) × (f.base ≤ base)
+free_frame limit base pfs f is free =
+    let may = may_return limit base (marked_frame base pfs) free in
+    let within = may.within in
+    rw is (moved_frame base (base - (marked_frame base pfs).sol) pfs may.frame, rw (end_of base pfs) within, base_falls base pfs)

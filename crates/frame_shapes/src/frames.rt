@@ -1,8 +1,7 @@
 //! Frames (volume 1, chapter 4, register stack frames).
 
-ghost use Rattle.std.specs.Prelude.{◌≡◌, ℕ, ◌+◌, ◌*◌, ◌<◌, ◌≤◌, ◌⊎◌, ◌==◌, ◌&&◌, not, false, IfOk, Some, None, MatchOption};
+ghost use Rattle.std.specs.Prelude.{◌≡◌, ℕ, ◌+◌, ◌*◌, ◌<◌, ◌≤◌, ◌⊎◌, ◌==◌, ◌&&◌, not, false, Some, None, MatchOption};
 ghost use Rattle.ia_meaning.specs.declared.state.AlatKey.TheVariants.{Stacked};
-ghost use Rattle.std.specs.Result.{result_err};
 ghost use Rattle.ia_meaning.specs.declared.limits.TheConstants.{STACK_LIMIT};
 ghost use Rattle.ia_meaning.specs.State.{zero_bases, zero_frame, IsFrame};
 ghost use Rattle.ia_meaning.specs.Names.{spot};
@@ -75,7 +74,7 @@ fn is_reserved(frame: &FrameShape, sor: u8) -> bool
 }
 
 /// A frame with other sizes: `sof` registers, at most 96, of which the first `sol` are local and the first 8 times `sor`
-/// rotate. Where [`allocated`] has no fault, this is its frame.
+/// rotate.
 pub fn with_sizes(frame: &FrameShape, sof: u8, sol: u8, sor: u8) -> FrameShape
     requires frame { IsFrame frame.now }
     requires size { sof ≤ 96 }
@@ -83,7 +82,7 @@ pub fn with_sizes(frame: &FrameShape, sof: u8, sol: u8, sor: u8) -> FrameShape
     requires rotating { 8 * sor ≤ sof }
     ensures value { result ≡ with_sizes frame.now sof sol sor }
 
-    // In a stack in which that has no fault it is a frame, and has room.
+    // Where an `alloc` that gives it has no fault it is a frame, and has room.
     ensures free { (limit : ℕ) → alloc_fault_within limit frame.now result ≡ None → IsFrame result × (result.base + result.sof ≤ limit) }
 {
     FrameShape {
@@ -95,36 +94,20 @@ pub fn with_sizes(frame: &FrameShape, sof: u8, sol: u8, sor: u8) -> FrameShape
     }
 }
 
-/// The frame that `alloc` gives in place of another, in a stack of at most `limit` cells: it has `sof` registers, at
-/// most 96, of which the first `sol` are local and the first 8 times `sor` rotate, and the base and the rename
-/// bases of the other (volume 3, chapter 2, `alloc`).
-///
-/// # Errors
-///
-/// The first of these that holds: `ReservedField` where `sor` changes and the rename bases aren't all 0;
-/// `StackLimit` where there are too many cells.
+/// Why `alloc` gives no new frame in place of the old one (volume 3, chapter 2, `alloc`), in a stack of at most `limit`
+/// cells, where it gives none. The first of these that holds: `ReservedField` where `sor` changes and the rename bases
+/// aren't all 0; `StackLimit` where there are too many cells.
 #[tactic(auto, unfolding(crate::specs::Faults::alloc_fault_within))]
-pub fn allocated(
-    limit: u32,
-    frame: &FrameShape,
-    sof: u8,
-    sol: u8,
-    sor: u8,
-) -> Result<FrameShape, StackFault>
-    requires frame { IsFrame frame.now }
-    requires within { frame.now.base + frame.now.sof ≤ STACK_LIMIT }
-    requires size { sof ≤ 96 }
-    requires locals { sol ≤ sof }
-    requires rotating { 8 * sor ≤ sof }
-    ensures fault { result_err result ≡ alloc_fault_within limit frame.now (with_sizes frame.now sof sol sor) }
-    ensures frame { IfOk result (λ f. (f ≡ with_sizes frame.now sof sol sor) × IsFrame f × (f.base + f.sof ≤ limit)) }
+pub fn alloc_fault_within(limit: u32, old: &FrameShape, new: &FrameShape) -> Option<StackFault>
+    requires { new.now.base ≤ STACK_LIMIT }
+    ensures { result ≡ alloc_fault_within limit old.now new.now }
 {
-    if is_reserved(frame, sor) {
-        Err(StackFault::ReservedField)
-    } else if limit < frame.base + u32::from(sof) {
-        Err(StackFault::StackLimit)
+    if is_reserved(old, new.sor) {
+        Some(StackFault::ReservedField)
+    } else if limit < new.base + u32::from(new.sof) {
+        Some(StackFault::StackLimit)
     } else {
-        Ok(with_sizes(frame, sof, sol, sor))
+        None
     }
 }
 
@@ -138,9 +121,8 @@ pub fn alloc_fault(frame: &FrameShape, sof: u8, sol: u8, sor: u8) -> Option<Faul
     requires rotating { 8 * sor ≤ sof }
     ensures { result ≡ alloc_fault frame.now (with_sizes frame.now sof sol sor) }
 {
-    allocated(STACK_LIMIT, frame, sof, sol, sor)
-        .err()
-        .map(StackFault::kind)
+    let new = with_sizes(frame, sof, sol, sor);
+    alloc_fault_within(STACK_LIMIT, frame, &new).map(StackFault::kind)
 }
 
 /// The frame of a call: the caller's without its locals, with no rotating part, and all rename bases are 0

@@ -16,9 +16,9 @@ mod range;
 
 pub use fault::StackFault;
 pub use frames::{
-    alloc_fault, allocated, called, cell_of, cleared, rotated, with_sizes, zero_frame,
+    alloc_fault, alloc_fault_within, called, cell_of, cleared, rotated, with_sizes, zero_frame,
 };
 pub use laws::return_fault_is_that;
-pub use marker::{frame_marker, return_fault, returned, returned_frame};
+pub use marker::{frame_marker, marked_frame, return_fault, return_fault_within, returned_frame};
 pub use previous_state::{call_state, epilog_of, marker_of};
 pub use range::{range_after, zero_range};

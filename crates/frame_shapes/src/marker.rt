@@ -1,8 +1,7 @@
 //! The layout of a frame marker (volume 1, chapter 3, current frame marker), and the frames of those that
 //! stand in previous function states.
 
-ghost use Rattle.std.specs.Prelude.{◌≡◌, ℕ, ◌+◌, ◌^◌, ◌<◌, ◌≤◌, None, IfOk};
-ghost use Rattle.std.specs.Result.{result_err};
+ghost use Rattle.std.specs.Prelude.{◌≡◌, ℕ, ◌+◌, ◌^◌, ◌<◌, ◌≤◌, None};
 ghost use Rattle.ia_meaning.specs.declared.limits.TheConstants.{STACK_LIMIT};
 ghost use Rattle.ia_meaning.specs.State.{IsFrame};
 ghost use Rattle.ia_meaning.specs.Frames.{frame_marker, marked_frame, is_frame, return_fault};
@@ -32,7 +31,7 @@ pub fn frame_marker(frame: &FrameShape) -> u64
 
 /// The frame at `base` whose marker is in the low 38 bits of a previous function state.
 #[tactic(auto, unfolding(ia_meaning::specs::Frames::marked_frame))]
-fn marked_frame(base: u32, pfs: u64) -> FrameShape
+pub fn marked_frame(base: u32, pfs: u64) -> FrameShape
     ensures { result ≡ marked_frame base pfs }
 {
     FrameShape {
@@ -63,9 +62,12 @@ fn is_frame(frame: &FrameShape) -> bool
         && rrbs.pr < 48
 }
 
-/// Why a return to this frame below `base` is refused, in a stack of at most `limit` cells.
+/// Why a return to a frame is refused whose locals end at `base`, at most 65,536, in a stack of at most `limit` cells
+/// (volume 3, chapter 2, `br.ret`), where it is. The first of these that holds: `BadFrame` where the sizes and bases are
+/// those of no frame; `Underflow` where the locals reach below the first cell; `StackLimit` where there are too many
+/// cells.
 #[tactic(auto, unfolding(crate::specs::Faults::return_fault_within))]
-fn return_fault_within(limit: u32, base: u32, frame: &FrameShape) -> Option<StackFault>
+pub fn return_fault_within(limit: u32, base: u32, frame: &FrameShape) -> Option<StackFault>
     requires { base ≤ STACK_LIMIT }
     ensures { result ≡ return_fault_within limit base frame.now }
 {
@@ -81,36 +83,19 @@ fn return_fault_within(limit: u32, base: u32, frame: &FrameShape) -> Option<Stac
     }
 }
 
-/// The frame whose marker is in the low 38 bits of a previous function state, where its locals end at `base`. Where
-/// [`returned`] has no fault, this is its frame.
+/// The frame that a return enters by a previous function state, whose low 38 bits are its marker. Its locals end at
+/// `base`, where the frame begins that returns.
 pub fn returned_frame(base: u32, pfs: u64) -> FrameShape
     requires { (marked_frame base pfs).sol ≤ base }
     ensures value { result ≡ returned_frame base pfs }
 
-    // In a stack in which that has no fault it is a frame, has room, and begins at most at `base`.
+    // Where the return has no fault it is a frame, has room, and begins at most at `base`.
     ensures free { (limit : ℕ) → return_fault_within limit base (marked_frame base pfs) ≡ None → IsFrame result × (result.base + result.sof ≤ limit) × (result.base ≤ base) }
 {
-    let sol = marked_frame(base, pfs).sol;
-    marked_frame(base - u32::from(sol), pfs)
-}
-
-/// The frame that a return enters by a previous function state, from a frame at `base`, at most 65,536, in a stack of
-/// at most `limit` cells. Its marker is in the low 38 bits, and its locals end where the frame begins that returns
-/// (volume 3, chapter 2, `br.ret`).
-///
-/// # Errors
-///
-/// The first of these that holds: `BadFrame` where the marker is that of no frame; `Underflow` where the locals
-/// reach below the first cell; `StackLimit` where there are too many cells.
-pub fn returned(limit: u32, base: u32, pfs: u64) -> Result<FrameShape, StackFault>
-    requires { base ≤ STACK_LIMIT }
-    ensures fault { result_err result ≡ return_fault_within limit base (marked_frame base pfs) }
-    ensures frame { IfOk result (λ f. (f ≡ returned_frame base pfs) × IsFrame f × (f.base + f.sof ≤ limit) × (f.base ≤ base)) }
-{
     let marked = marked_frame(base, pfs);
-    match return_fault_within(limit, base, &marked) {
-        Some(fault) => Err(fault),
-        None => Ok(returned_frame(base, pfs)),
+    FrameShape {
+        base: base - u32::from(marked.sol),
+        ..marked
     }
 }
 
@@ -122,5 +107,5 @@ pub fn return_fault(base: u32, pfs: u64) -> Option<FaultKind>
     requires { base ≤ STACK_LIMIT }
     ensures { result ≡ return_fault base (marked_frame base pfs) }
 {
-    returned(STACK_LIMIT, base, pfs).err().map(StackFault::kind)
+    return_fault_within(STACK_LIMIT, base, &marked_frame(base, pfs)).map(StackFault::kind)
 }

@@ -32,7 +32,7 @@ use Rattle.resource_sets.proofs.Coverage.{cells_inside}
 use Rattle.flow_facts.specs.Graphs.{over_program}
 use Rattle.group_checker.specs.Excuses.{accesses_in, accesses_at}
 use Rattle.group_checker.proofs.Falling.{before_trans, not_before_itself}
-use Rattle.group_checker.specs.OrderLaws.{Fits, FitTogether, IsInside}
+use Rattle.group_checker.specs.OrderLaws.{FitsBeside, FitTogether, IsCellBelow}
 use Rattle.ia_meaning.specs.ParallelGroups.{unat_after}
 use Rattle.ia_meaning.proofs.WriteLists.{apply_append}
 use Rattle.group_checker.proofs.Untouched.{SameAt, Mem, each_mem, each_map, each_append, TouchedBy, same_apply}
@@ -92,23 +92,23 @@ plain_pairs a AllocWrite p q = absurd q
 plain_pairs a Spill p q = absurd q
 plain_pairs a Fill p q = absurd q
 
-same_or : (v w : RegisterWrite) → MayPut OrWrite v → MayPut OrWrite w → location v ≡ location w → Fits v w
+same_or : (v w : RegisterWrite) → MayPut OrWrite v → MayPut OrWrite w → location v ≡ location w → FitsBeside v w
 same_or (SetPredicate n b) (SetPredicate m c) p q e = let d : n ≡ m = cc in inr ((λ x. cc), cc)
 same_or (SetPredicate n b) w p q e = absurd q
 same_or v w p q e = absurd p
 
-same_and : (v w : RegisterWrite) → MayPut AndWrite v → MayPut AndWrite w → location v ≡ location w → Fits v w
+same_and : (v w : RegisterWrite) → MayPut AndWrite v → MayPut AndWrite w → location v ≡ location w → FitsBeside v w
 same_and (SetPredicate n b) (SetPredicate m c) p q e = let d : n ≡ m = cc in inr ((λ x. cc), cc)
 same_and (SetPredicate n b) w p q e = absurd q
 same_and v w p q e = absurd p
 
-fit_each : (w : RegisterWrite) (vs : List RegisterWrite) → ((v : RegisterWrite) → Mem v vs → Fits w v) → Each (Fits w) vs
+fit_each : (w : RegisterWrite) (vs : List RegisterWrite) → ((v : RegisterWrite) → Mem v vs → FitsBeside w v) → Each (FitsBeside w) vs
 fit_each w [] h = tt
 fit_each w (v ∷ vs) h = (h v (inl refl), fit_each w vs (λ x m. h x (inr m)))
 
-fit_append : (ws vs : List RegisterWrite) → FitTogether ws → FitTogether vs → ((w v : RegisterWrite) → Mem w ws → Mem v vs → Fits w v) → FitTogether (ws ++ vs)
+fit_append : (ws vs : List RegisterWrite) → FitTogether ws → FitTogether vs → ((w v : RegisterWrite) → Mem w ws → Mem v vs → FitsBeside w v) → FitTogether (ws ++ vs)
 fit_append [] vs h k f = k
-fit_append (w ∷ ws) vs h k f = (each_append (Fits w) ws vs h.0 (fit_each w vs (λ v m. f w v (inl refl) m)), fit_append ws vs h.1 k (λ x v m n. f x v (inr m) n))
+fit_append (w ∷ ws) vs h k f = (each_append (FitsBeside w) ws vs h.0 (fit_each w vs (λ v m. f w v (inl refl) m)), fit_append ws vs h.1 k (λ x v m n. f x v (inr m) n))
 
 no_alloc_write : (j : Insn) (a : Access) → HasAccess j a → is_alloc (insn_action j) ≡ false → a.kind ≡ AllocWrite → ⊥
 no_alloc_write j a h na k = let of = alloc_writes j a h k in true≢false (sym of.0 ∙ na)
@@ -284,7 +284,7 @@ module _ (p : Program) (past : List Place) (base : Registers) (ws : List Registe
   origin_new w c = record { access = c.access; trace = trace_new c.access c.has (alive_now c.access c.has c.guarded); plain = plain_by w c; range = range_of w c; names = names_of w c; puts = c.puts }
 
   -- two writes of the group
-  cross : (w x : RegisterWrite) → Mem w ws → Mem x o.writes → Fits w x
+  cross : (w x : RegisterWrite) → Mem w ws → Mem x o.writes → FitsBeside w x
   cross w x m n = go (location_cases (location w) (location x))
     where
       old : EarlierWrite p past base S w
@@ -293,7 +293,7 @@ module _ (p : Program) (past : List Place) (base : Registers) (ws : List Registe
       new : Covered x
       new = cover_of x n
 
-      both : location w ≡ location x → (¬ IsExcepted old.access.kind new.access.kind) ⊎ (((old.access.kind ≡ OrWrite) × (new.access.kind ≡ OrWrite)) ⊎ ((old.access.kind ≡ AndWrite) × (new.access.kind ≡ AndWrite))) → Fits w x
+      both : location w ≡ location x → (¬ IsExcepted old.access.kind new.access.kind) ⊎ (((old.access.kind ≡ OrWrite) × (new.access.kind ≡ OrWrite)) ⊎ ((old.access.kind ≡ AndWrite) × (new.access.kind ≡ AndWrite))) → FitsBeside w x
       both e (inl c) = let al = alive_now new.access new.has new.guarded in
           absurd (no_clash p past base S j old.access new.access clean old.trace new.has
           (resource_once base.frame old.access.resource new.access.resource (location x) way.frame old.range (range_of x new) (old.names ∙ ap Some e) (names_of x new))
@@ -301,11 +301,11 @@ module _ (p : Program) (past : List Place) (base : Registers) (ws : List Registe
       both e (inr (inl k)) = same_or w x (subst (λ z. MayPut z w) k.0 old.puts) (subst (λ z. MayPut z x) k.1 new.puts) e
       both e (inr (inr k)) = same_and w x (subst (λ z. MayPut z w) k.0 old.puts) (subst (λ z. MayPut z x) k.1 new.puts) e
 
-      go : (location w ≡ location x) ⊎ (location w ≡ location x → ⊥) → Fits w x
+      go : (location w ≡ location x) ⊎ (location w ≡ location x → ⊥) → FitsBeside w x
       go (inl e) = both e (plain_pairs old.access.kind new.access.kind old.plain (plain_by x new))
       go (inr e) = inl e
 
-  inside_new : (w : RegisterWrite) → Covered w → IsInside (length base.cells) w
+  inside_new : (w : RegisterWrite) → Covered w → IsCellBelow (length base.cells) w
   inside_new (SetCell n c) h =
       let i = cells_inside j.qp (insn_action j) v (SetCell n c) n h (subst (λ f. 8 * f.sor ≤ f.sof) (sym law.frame) (rotating_fits way.frame)) refl in
       subst (λ k. n < k) (sym way.cells) (subst (λ f. n < f.base + f.sof) law.frame i.1)
@@ -325,6 +325,6 @@ module _ (p : Program) (past : List Place) (base : Registers) (ws : List Registe
     cells = way.cells;
     origins = each_append (EarlierWrite p Past base S') ws o.writes (each_map (EarlierWrite p past base S) (EarlierWrite p Past base S') origin_on ws way.origins) (each_map Covered (EarlierWrite p Past base S') origin_new o.writes law.covered);
     fits = fit_append ws o.writes way.fits law.apart cross;
-    inside = each_append (IsInside (length base.cells)) ws o.writes way.inside (each_map Covered (IsInside (length base.cells)) inside_new o.writes law.covered);
+    inside = each_append (IsCellBelow (length base.cells)) ws o.writes way.inside (each_map Covered (IsCellBelow (length base.cells)) inside_new o.writes law.covered);
     unat = unat_on o.spills refl way.unat;
   }

@@ -40,7 +40,7 @@ use Rattle.group_checker.specs.Reports.{IsFree}
 use Rattle.group_checker.specs.Traces.{IsKnown}
 use Rattle.ia_meaning.proofs.Resizing.{length-resized}
 use Rattle.ia_meaning.proofs.StepHere.{step_here, insn_here}
-use Rattle.group_checker.specs.OrderLaws.{FitTogether, IsInside}
+use Rattle.group_checker.specs.OrderLaws.{FitTogether, IsCellBelow}
 use Rattle.ia_meaning.specs.ParallelGroups.{gathered_from, slot_outcome, frame_ahead, after_frame, unat_after, gathers, gathered_by, gathered_within}
 use Rattle.group_checker.proofs.Untouched.{Mem, each_of}
 use Rattle.group_checker.proofs.Gathering.{joined, IsStillOne, IsPlain, EarlierWrite, IsGathering}
@@ -202,7 +202,7 @@ module _ (p : Program) (program : IsProgram p) (s : State) (w : Walk) (known : I
       puts = k.puts;
     }
 
-    cell_in : (x : RegisterWrite) → Mem x Ws → IsCovered j.qp (insn_action j) R x → IsInside (length Base.cells) x
+    cell_in : (x : RegisterWrite) → Mem x Ws → IsCovered j.qp (insn_action j) R x → IsCellBelow (length Base.cells) x
     cell_in (SetCell n v) m k =
         let i = cells_inside j.qp (insn_action j) R (SetCell n v) n k (rotating_fits new_frame) refl in
         subst (λ z. n < z) (sym (length-resized (New.base + New.sof) R.cells)) i.1
@@ -217,7 +217,7 @@ module _ (p : Program) (program : IsProgram p) (s : State) (w : Walk) (known : I
       cells = length-resized (New.base + New.sof) R.cells;
       origins = each_from_mem (IsCovered j.qp (insn_action j) R) (EarlierWrite p (s.place ∷ []) Base After) Ws here origin;
       fits = one_fits d c;
-      inside = each_from_mem (IsCovered j.qp (insn_action j) R) (IsInside (length Base.cells)) Ws here cell_in;
+      inside = each_from_mem (IsCovered j.qp (insn_action j) R) (IsCellBelow (length Base.cells)) Ws here cell_in;
       unat = inl refl;
     }
 

@@ -26,7 +26,7 @@ use Rattle.ia_meaning.proofs.PredicatePlaces.{holds_zero}
 use Rattle.resource_sets.proofs.Dependence.{spot_same, place_same}
 use Rattle.flow_facts.specs.Graphs.{over_program}
 use Rattle.group_checker.specs.Excuses.{accesses_at}
-use Rattle.group_checker.specs.OrderLaws.{FitTogether, IsInside}
+use Rattle.group_checker.specs.OrderLaws.{FitTogether, IsCellBelow}
 use Rattle.group_checker.proofs.Untouched.{SameAt, Mem, each_mem, Touches, TouchedBy, same_apply}
 use Rattle.resource_sets.proofs.Locations.{resource_once}
 
@@ -93,7 +93,7 @@ pub record IsGathering (p : Program) (past : List Place) (base : Registers) (ws 
   pub cells : length base.cells ≡ base.frame.base + base.frame.sof
   pub origins : Each (EarlierWrite p past base (joined base ws u)) ws
   pub fits : FitTogether ws
-  pub inside : Each (IsInside (length base.cells)) ws
+  pub inside : Each (IsCellBelow (length base.cells)) ws
   pub unat : (base.unat ≡ u) ⊎ Spilled p past base (joined base ws u)
 
 -- The slot clashes with no earlier one, where the guards of both are 1 or that of the earlier one may have been written.

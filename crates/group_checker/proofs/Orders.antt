@@ -11,7 +11,7 @@ use Rattle.ia_meaning.specs.Writes.{put, apply, resized, frame_changes}
 use Rattle.resource_sets.specs.AccessLaws.{StaticAt, CellAt, PredicateAt, BranchAt, TheFrame, location}
 use Rattle.ia_meaning.specs.WriteOrders.{item_at, others, head_of, tail_of, arranged_within, arranged}
 use Rattle.group_checker.proofs.Untouched.{each_map}
-use Rattle.group_checker.specs.OrderLaws.{Fits, FitTogether, IsInside, IsNoFrame, IsReady}
+use Rattle.group_checker.specs.OrderLaws.{FitsBeside, FitTogether, IsCellBelow, IsNoFrame, IsReady}
 
 pub set-set_other : {A : Type 0} (l : List A) (i j : ℕ) (a b : A) → i ≢ j → set (set l i a) j b ≡ set (set l j b) i a
 set-set_other [] i j a b ne = refl
@@ -42,7 +42,7 @@ commute (SetEc a) (SetEc b) r ne h = absurd (ne refl)
 commute (SetFrame cause a) (SetFrame because b) r ne h = absurd (ne refl)
 commute _ _ r ne h = refl
 
-fits_flip : (v w : Write) → Fits v w → Fits w v
+fits_flip : (v w : Write) → FitsBeside v w → FitsBeside w v
 fits_flip v w (inl h) = inl (λ e. h (sym e))
 fits_flip v w (inr h) = inr ((λ e. h.0 (ap location h.1 ∙ e)), sym h.1)
 
@@ -56,15 +56,15 @@ each_left P x [] n h = tt
 each_left P x (y ∷ ys) zero h = h.1
 each_left P x (y ∷ ys) (suc n) h = (h.0, each_left P y ys n h.1)
 
-fit_taken : (x : Write) (xs : List Write) (n : ℕ) → FitTogether (x ∷ xs) → Each (Fits (item_at x xs n)) (others x xs n)
+fit_taken : (x : Write) (xs : List Write) (n : ℕ) → FitTogether (x ∷ xs) → Each (FitsBeside (item_at x xs n)) (others x xs n)
 fit_taken x [] n h = tt
 fit_taken x (y ∷ ys) zero h = h.0
-fit_taken x (y ∷ ys) (suc n) h = (fits_flip _ _ (each_taken (Fits x) y ys n h.0), fit_taken y ys n h.1)
+fit_taken x (y ∷ ys) (suc n) h = (fits_flip _ _ (each_taken (FitsBeside x) y ys n h.0), fit_taken y ys n h.1)
 
 fit_left : (x : Write) (xs : List Write) (n : ℕ) → FitTogether (x ∷ xs) → FitTogether (others x xs n)
 fit_left x [] n h = tt
 fit_left x (y ∷ ys) zero h = h.1
-fit_left x (y ∷ ys) (suc n) h = (each_left (Fits x) y ys n h.0, fit_left y ys n h.1)
+fit_left x (y ∷ ys) (suc n) h = (each_left (FitsBeside x) y ys n h.0, fit_left y ys n h.1)
 
 -- the cells keep their number but under a frame
 length_put : (w : Write) (r : Registers) → IsNoFrame w → length (put w r).cells ≡ length r.cells
@@ -72,10 +72,10 @@ length_put (SetCell n c) r h = length-set r.cells n c
 length_put (SetFrame cause f) r h = absurd (h refl)
 length_put _ r h = refl
 
-each_inside : (w : Write) (r : Registers) (ws : List Write) → IsNoFrame w → Each (IsInside (length r.cells)) ws → Each (IsInside (length (put w r).cells)) ws
+each_inside : (w : Write) (r : Registers) (ws : List Write) → IsNoFrame w → Each (IsCellBelow (length r.cells)) ws → Each (IsCellBelow (length (put w r).cells)) ws
 each_inside w r ws h e = rw (length_put w r h) e
 
-no_frame_follows : (w : Write) → location w ≡ TheFrame → (v : Write) → Fits w v → IsNoFrame v
+no_frame_follows : (w : Write) → location w ≡ TheFrame → (v : Write) → FitsBeside w v → IsNoFrame v
 no_frame_follows w e v (inl h) = λ q. h (e ∙ sym q)
 no_frame_follows w e v (inr h) = absurd (h.0 e)
 
@@ -84,23 +84,23 @@ is_frame (SetFrame cause f) = inl refl
 is_frame (SetCell n c) = inr (λ e. cc)
 is_frame _ = inr (λ e. cc)
 
-pub ready_tail : (w : Write) (ws : List Write) (r : Registers) → Each (Fits w) ws → IsReady r (w ∷ ws) → IsReady (put w r) ws
+pub ready_tail : (w : Write) (ws : List Write) (r : Registers) → Each (FitsBeside w) ws → IsReady r (w ∷ ws) → IsReady (put w r) ws
 ready_tail w ws r f (inr h) = inr h.1
 ready_tail w ws r f (inl h) = go (is_frame w)
   where
     go : (location w ≡ TheFrame) ⊎ IsNoFrame w → IsReady (put w r) ws
-    go (inl e) = inr (each_map (Fits w) IsNoFrame (no_frame_follows w e) ws f)
+    go (inl e) = inr (each_map (FitsBeside w) IsNoFrame (no_frame_follows w e) ws f)
     go (inr n) = inl (each_inside w r ws n h.1)
 
 ready_two : (x : Write) (xs : List Write) (n : ℕ) (v : Write) (r : Registers) → IsReady r (v ∷ x ∷ xs) → IsReady r (item_at x xs n ∷ v ∷ [])
-ready_two x xs n v r (inl h) = inl (each_taken (IsInside (length r.cells)) x xs n h.1, (h.0, tt))
+ready_two x xs n v r (inl h) = inl (each_taken (IsCellBelow (length r.cells)) x xs n h.1, (h.0, tt))
 ready_two x xs n v r (inr h) = inr (each_taken IsNoFrame x xs n h.1, (h.0, tt))
 
 pub ready_left : (x : Write) (xs : List Write) (n : ℕ) (r : Registers) → IsReady r (x ∷ xs) → IsReady r (item_at x xs n ∷ others x xs n)
-ready_left x xs n r (inl h) = inl (each_taken (IsInside (length r.cells)) x xs n h, each_left (IsInside (length r.cells)) x xs n h)
+ready_left x xs n r (inl h) = inl (each_taken (IsCellBelow (length r.cells)) x xs n h, each_left (IsCellBelow (length r.cells)) x xs n h)
 ready_left x xs n r (inr h) = inr (each_taken IsNoFrame x xs n h, each_left IsNoFrame x xs n h)
 
-swap_two : (v w : Write) (r : Registers) → Fits v w → IsReady r (v ∷ w ∷ []) → put w (put v r) ≡ put v (put w r)
+swap_two : (v w : Write) (r : Registers) → FitsBeside v w → IsReady r (v ∷ w ∷ []) → put w (put v r) ≡ put v (put w r)
 swap_two v w r (inl ne) h = commute v w r ne h
 swap_two v w r (inr e) h = rw e.1 refl
 
@@ -109,7 +109,7 @@ pub front : (x : Write) (xs : List Write) (n : ℕ) (r : Registers) → FitToget
 front x [] n r f h = refl
 front x (y ∷ ys) zero r f h = refl
 front x (y ∷ ys) (suc n) r f h =
-    ap (apply (others y ys n)) (swap_two (item_at y ys n) x r (fits_flip _ _ (each_taken (Fits x) y ys n f.0)) (ready_two y ys n x r h))
+    ap (apply (others y ys n)) (swap_two (item_at y ys n) x r (fits_flip _ _ (each_taken (FitsBeside x) y ys n f.0)) (ready_two y ys n x r h))
     ∙ front y ys n (put x r) f.1 (ready_tail x (y ∷ ys) r f.0 h)
 
 orders_within : (n : ℕ) (code : List ℕ) (ws : List Write) (r : Registers) → FitTogether ws → IsReady r ws → apply (arranged_within n code ws) r ≡ apply ws r
@@ -138,7 +138,7 @@ frames_none (SetFrame cause f) l h = absurd (h refl)
 frames_none (SetCell n c) l h = refl
 frames_none _ l h = refl
 
-frames_swap : (x y : Write) (l : List Write) → Fits x y → frame_changes (x ∷ y ∷ l) ≡ frame_changes (y ∷ x ∷ l)
+frames_swap : (x y : Write) (l : List Write) → FitsBeside x y → frame_changes (x ∷ y ∷ l) ≡ frame_changes (y ∷ x ∷ l)
 frames_swap x y l (inr h) = rw h.1 refl
 frames_swap x y l (inl h) = go (is_frame x) (is_frame y)
   where
@@ -151,7 +151,7 @@ frames_front : (x : Write) (xs : List Write) (n : ℕ) → FitTogether (x ∷ xs
 frames_front x [] n h = refl
 frames_front x (y ∷ ys) zero h = refl
 frames_front x (y ∷ ys) (suc n) h =
-    frames_swap (item_at y ys n) x (others y ys n) (fits_flip _ _ (each_taken (Fits x) y ys n h.0))
+    frames_swap (item_at y ys n) x (others y ys n) (fits_flip _ _ (each_taken (FitsBeside x) y ys n h.0))
     ∙ frames_cons x (item_at y ys n ∷ others y ys n) (y ∷ ys) (frames_front y ys n h.1)
 
 pub frames_within : (n : ℕ) (code : List ℕ) (ws : List Write) → FitTogether ws → frame_changes (arranged_within n code ws) ≡ frame_changes ws

@@ -26,7 +26,7 @@ use Rattle.group_checker.specs.Excuses.{accesses_at, IsExcused, IsLatest}
 use Rattle.group_checker.specs.Violations.{Clashes, Breaks, ViolatesIn, allocates_at}
 use Rattle.group_checker.specs.declared.broken.Broken.{Broken}
 use Rattle.group_checker.specs.Broken.{is_broken, Gains}
-use Rattle.group_checker.specs.Windows.{IsThrough, IsAt, IsWindow, Describes, IsUnderWay}
+use Rattle.group_checker.specs.Windows.{IsThrough, IsAt, IsWindow, Describes, HasWindow}
 use Rattle.group_checker.specs.Findings.{may_be_excused, excused_by, FindsIn, AreBroken, IsPair, IsNthPair, IsSlotRule}
 use Rattle.group_checker.proofs.Gaining.{apart_clash}
 use Rattle.group_checker.proofs.Falling.{not_before_itself, one_before, comes_from}
@@ -267,7 +267,7 @@ no_slot_rule e s v clears allocates (inl r) = true≢false (sym r.allocates ∙ 
 no_slot_rule e s v clears allocates (inr r) = true≢false (sym r.clears ∙ clears)
 
 -- a pair of slots whose accesses may not clash breaks the rules on slots or none
-pub apart_pair : (g : Graph) (has_stop : Place → Bool) (es : List EarlierSlot) (j : Place) (s : Slot) (seconds : List Access) (n : ℕ) (e : EarlierSlot) (v : Violation) → IsUnderWay g has_stop es j s seconds → IsAt es n e
+pub apart_pair : (g : Graph) (has_stop : Place → Bool) (es : List EarlierSlot) (j : Place) (s : Slot) (seconds : List Access) (n : ℕ) (e : EarlierSlot) (v : Violation) → HasWindow g has_stop es j s seconds → IsAt es n e
     → may_clash e.masks seconds ≡ false → (n + 1 ≡ length es → ¬ IsSlotRule e s v) → IsNthPair es n j v → ¬ ViolatesIn g has_stop v
 apart_pair g has_stop es j s seconds n e v u at apart no_rule nth x =
     let pair = subst (λ (q : EarlierSlot). IsPair q.place j v) (at_once es n nth.slot e nth.at at) nth.pair in
@@ -277,7 +277,7 @@ apart_pair g has_stop es j s seconds n e v u at apart no_rule nth x =
     ]
 
 -- what a pair of slots breaks is what its access sets find, and if the slots follow each other, what the rules on slots say
-pub pair_all : (g : Graph) (has_stop : Place → Bool) (es : List EarlierSlot) (j : Place) (s : Slot) (seconds : List Access) (n : ℕ) (e : EarlierSlot) (xs ys : List AccessSet) (none some all : Broken) → IsUnderWay g has_stop es j s seconds → IsAt es n e
+pub pair_all : (g : Graph) (has_stop : Place → Bool) (es : List EarlierSlot) (j : Place) (s : Slot) (seconds : List Access) (n : ℕ) (e : EarlierSlot) (xs ys : List AccessSet) (none some all : Broken) → HasWindow g has_stop es j s seconds → IsAt es n e
     → AreSetsOf e.masks xs → AreSetsOf seconds ys → ((v : Violation) → is_broken none v ≡ false) → Gains none some (FindsIn e xs ys) → Gains some all (λ v. (n + 1 ≡ length es) × IsSlotRule e s v) → AreBroken g has_stop es n j all
 pair_all g has_stop es j s seconds n e xs ys none some all u at firsts lasts nothing a b = record {
   has = λ v nth x. elim (violation_found g has_stop es j s n e v u.window u.slot at (pair v nth) x) [

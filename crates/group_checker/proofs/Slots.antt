@@ -21,7 +21,7 @@ use Rattle.flow_facts.specs.Graphs.{Graph, over_program, next_in, IsPlaceIn, IsE
 use Rattle.group_checker.specs.declared.window.EarlierSlot.{EarlierSlot}
 use Rattle.group_checker.specs.Excuses.{accesses_in, accesses_at}
 use Rattle.group_checker.specs.Violations.{clears, clears_in, allocates_at, clears_at}
-use Rattle.group_checker.specs.Windows.{IsWindow, Describes, IsUnderWay, joins}
+use Rattle.group_checker.specs.Windows.{IsWindow, Describes, HasWindow, joins}
 use Rattle.group_checker.proofs.Falling.{past_is, fall_is, fall_edge}
 use Rattle.group_checker.proofs.Windowing.{Joins}
 
@@ -90,7 +90,7 @@ module _ (p : Program) (j : Place) (s : Slot) (at : slot_at p.bundles j ≡ Some
   slot_next = let i = slot_is p.bundles j s at in ap (λ (q : Slot). q.next) (sym i.is)
 
   -- the slot is under way with its accesses
-  pub under_way : (es : List EarlierSlot) (seconds : List Access) → seconds ≡ accesses_of s.qp s.action → IsWindow (over_program p) (is_stopped p.bundles) es j → IsUnderWay (over_program p) (is_stopped p.bundles) es j s seconds
+  pub under_way : (es : List EarlierSlot) (seconds : List Access) → seconds ≡ accesses_of s.qp s.action → IsWindow (over_program p) (is_stopped p.bundles) es j → HasWindow (over_program p) (is_stopped p.bundles) es j s seconds
   under_way es seconds is win = record {
     slot = slot_describes;
     accesses = is ∙ sym (slot_accesses (over_program p) (is_stopped p.bundles) j s slot_describes);

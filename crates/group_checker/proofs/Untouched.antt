@@ -9,7 +9,7 @@ use Rattle.ia_meaning.specs.declared.write.Write.{Write}
 use Rattle.ia_meaning.specs.declared.write.Write.TheVariants.{SetStatic, SetCell, SetPredicate, SetBranch, SetUnat, SetPfs, SetLc, SetEc, SetFrame}
 use Rattle.ia_meaning.specs.Writes.{put, apply}
 use Rattle.resource_sets.specs.AccessLaws.{Location, StaticAt, CellAt, PredicateAt, BranchAt, TheUnat, ThePfs, TheLc, TheEc, TheFrame, location}
-use Rattle.group_checker.specs.OrderLaws.{Fits, FitTogether}
+use Rattle.group_checker.specs.OrderLaws.{FitsBeside, FitTogether}
 
 -- the same stands there
 abbrev pub SameAt : Location → Registers → Registers → Type 0
@@ -104,7 +104,7 @@ pub each_of : {X : Type 0} (P : X → Type 0) (xs : List X) → All P xs → Eac
 each_of P [] h = tt
 each_of P (x ∷ xs) h = (h 0 x (omega arith), each_of P xs (λ k d l. h (suc k) d (omega arith)))
 
-apart_of : (w : Write) (ws : List Write) → All (λ v. location w ≢ location v) ws → Each (Fits w) ws
+apart_of : (w : Write) (ws : List Write) → All (λ v. location w ≢ location v) ws → Each (FitsBeside w) ws
 apart_of w [] h = tt
 apart_of w (v ∷ vs) h = (inl (h 0 v (omega arith)), apart_of w vs (λ k d l. h (suc k) d (omega arith)))
 

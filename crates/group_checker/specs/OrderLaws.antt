@@ -17,24 +17,24 @@ use Rattle.group_checker.specs.Reports.{IsFree}
 use Rattle.group_checker.specs.Traces.{IsKnown}
 
 -- Two writes go to two locations, or are one write twice, and not of the frame.
-abbrev pub Fits : Write → Write → Type 0
-Fits v w = (location v ≢ location w) ⊎ ((location v ≢ TheFrame) × (v ≡ w))
+abbrev pub FitsBeside : Write → Write → Type 0
+FitsBeside v w = (location v ≢ location w) ⊎ ((location v ≢ TheFrame) × (v ≡ w))
 
 abbrev pub FitTogether : List Write → Type 0
 FitTogether [] = Unit {0}
-FitTogether (w ∷ ws) = Each (Fits w) ws × FitTogether ws
+FitTogether (w ∷ ws) = Each (FitsBeside w) ws × FitTogether ws
 
 -- a cell that is written is one of so many
-abbrev pub IsInside : ℕ → Write → Type 0
-IsInside n (SetCell c x) = c < n
-IsInside n w = Unit {0}
+abbrev pub IsCellBelow : ℕ → Write → Type 0
+IsCellBelow n (SetCell c x) = c < n
+IsCellBelow n w = Unit {0}
 
 abbrev pub IsNoFrame : Write → Type 0
 IsNoFrame w = location w ≢ TheFrame
 
 -- no cell is written past the end, or no frame is written
 abbrev pub IsReady : Registers → List Write → Type 0
-IsReady r ws = Each (IsInside (length r.cells)) ws ⊎ Each IsNoFrame ws
+IsReady r ws = Each (IsCellBelow (length r.cells)) ws ⊎ Each IsNoFrame ws
 
 -- Writes that fit together leave the same in every order.
 abbrev pub OrdersLeaveTheSame : Type 0

@@ -7,7 +7,7 @@ ghost use Rattle.ia_meaning.specs.OrderIndependence.{IsRobust};
 ghost use Rattle.ia_meaning.specs.Sequence.{is_stopped};
 ghost use Rattle.flow_facts.specs.Graphs.{over_program};
 ghost use Rattle.group_checker.specs.Reports.{IsVerdict, OneVerdict};
-ghost use Rattle.group_checker.specs.Windows.{IsUnderWay};
+ghost use Rattle.group_checker.specs.Windows.{HasWindow};
 ghost use Rattle.group_checker.specs.Progress.{HasReported, IsEarlier, IsEarlierPair, IsUpTo, pair_bound, place_bound, second_bound};
 
 use crate::pairs::{are_apart, pair_broken};
@@ -38,7 +38,7 @@ fn check_pair(
     requires shown { length report.old.shown ≤ SHOWN_LIMIT }
     ensures total { OnOk result (report.new.total ≤ report.old.total + pair_bound) }
     ensures shown { OnOk result (length report.new.shown ≤ SHOWN_LIMIT) }
-    ensures reports { OnOk result ((p : Program) (bound : ℕ) → IsUnderWay (over_program p) (is_stopped p.bundles) window.now second slot.now seconds.now → HasReported p report.old (IsEarlierPair window.now second n) bound → HasReported p report.new (IsEarlierPair window.now second (n + 1)) (bound + pair_bound)) }
+    ensures reports { OnOk result ((p : Program) (bound : ℕ) → HasWindow (over_program p) (is_stopped p.bundles) window.now second slot.now seconds.now → HasReported p report.old (IsEarlierPair window.now second n) bound → HasReported p report.new (IsEarlierPair window.now second (n + 1)) (bound + pair_bound)) }
 {
     if are_apart(window, n, slot, seconds) {
         return Ok(());
@@ -65,7 +65,7 @@ fn check_second(
     requires window { length window.now ≤ place_number second }
     requires total { report.old.total ≤ second_bound * place_number second }
     requires shown { length report.old.shown ≤ SHOWN_LIMIT }
-    ensures { OnOk result ((p : Program) → IsUnderWay (over_program p) (is_stopped p.bundles) window.now second slot.now seconds.now → HasReported p report.old (IsEarlier second) (second_bound * place_number second) → HasReported p report.new (IsUpTo second) (second_bound * place_number second + pair_bound * length window.now)) }
+    ensures { OnOk result ((p : Program) → HasWindow (over_program p) (is_stopped p.bundles) window.now second slot.now seconds.now → HasReported p report.old (IsEarlier second) (second_bound * place_number second) → HasReported p report.new (IsUpTo second) (second_bound * place_number second + pair_bound * length window.now)) }
 {
     for n in 0..window.len() {
         check_pair(window, n, second, slot, seconds, report)?;

@@ -7,7 +7,7 @@ ghost use Rattle.slot_table.specs.declared.slot.Slot.{Slot};
 ghost use Rattle.flow_facts.specs.Graphs.{Graph};
 ghost use Rattle.group_checker.specs.declared.violation.Violation.{Violation};
 ghost use Rattle.group_checker.specs.Violations.{ViolatesIn};
-ghost use Rattle.group_checker.specs.Windows.{IsUnderWay};
+ghost use Rattle.group_checker.specs.Windows.{HasWindow};
 ghost use Rattle.group_checker.specs.Broken.{Gains};
 ghost use Rattle.group_checker.specs.Findings.{IsNthPair, IsPairViolated, IsFirstOfPair, AreBroken, may_be_excused, excused_by, FindsBy, FindsWith, FindsIn, IsSlotRule};
 
@@ -16,7 +16,7 @@ use crate::violation::Violation;
 use crate::window::EarlierSlot;
 use ia_insn::{Place, Pr};
 use ia_meaning::Action;
-use predicate_rel::bit;
+use predicate_rel::has_bit;
 use resource_sets::{AccessSet, Masks, Rule, clash_of, may_clash};
 use slot_table::Slot;
 
@@ -41,7 +41,7 @@ fn may_be_excused(rule: Rule) -> bool
 fn is_excused(first: &EarlierSlot, rule: Rule, a: Pr, b: Pr) -> bool
     ensures { result ≡ (may_be_excused rule && excused_by first.now a b) }
 {
-    may_be_excused(rule) && first.known.has(a, b) && !bit(first.written, a.number())
+    may_be_excused(rule) && first.known.has(a, b) && !has_bit(first.written, a.number())
 }
 
 /// Notes the rule that the accesses of two sets break, where some walk doesn't excuse them.
@@ -94,7 +94,7 @@ fn may_break_slot_rule(first: &EarlierSlot, slot: &Slot) -> bool
 /// broken where this comes just after it: the two break no rule.
 pub(crate) fn are_apart(window: &[EarlierSlot], n: usize, slot: &Slot, seconds: &Masks) -> bool
     requires inside { n < length window.now }
-    ensures { result ≡ true → (g : Graph) (has_stop : Place → Bool) (j : Place) (v : Violation) → IsUnderWay g has_stop window.now j slot.now seconds.now → IsNthPair window.now n j v → ¬ ViolatesIn g has_stop v }
+    ensures { result ≡ true → (g : Graph) (has_stop : Place → Bool) (j : Place) (v : Violation) → HasWindow g has_stop window.now j slot.now seconds.now → IsNthPair window.now n j v → ¬ ViolatesIn g has_stop v }
 {
     let first = &window[n];
     if may_clash(&first.masks, seconds) {
@@ -107,7 +107,7 @@ pub(crate) fn are_apart(window: &[EarlierSlot], n: usize, slot: &Slot, seconds: 
 /// under way.
 pub(crate) fn pair_broken(window: &[EarlierSlot], n: usize, slot: &Slot, seconds: &Masks) -> Broken
     requires inside { n < length window.now }
-    ensures { (g : Graph) (has_stop : Place → Bool) (second : Place) → IsUnderWay g has_stop window.now second slot.now seconds.now → AreBroken g has_stop window.now n second result }
+    ensures { (g : Graph) (has_stop : Place → Bool) (second : Place) → HasWindow g has_stop window.now second slot.now seconds.now → AreBroken g has_stop window.now n second result }
 {
     let mut broken = Broken::nothing();
     let first = &window[n];
@@ -125,7 +125,7 @@ pub(crate) fn pair_broken(window: &[EarlierSlot], n: usize, slot: &Slot, seconds
 /// the slot under way.
 pub(crate) fn breaks_rule(window: &[EarlierSlot], n: usize, slot: &Slot, seconds: &Masks) -> bool
     requires inside { n < length window.now }
-    ensures { (g : Graph) (has_stop : Place → Bool) (j : Place) → IsUnderWay g has_stop window.now j slot.now seconds.now → IsTrue result ↔ IsPairViolated g has_stop window.now n j }
+    ensures { (g : Graph) (has_stop : Place → Bool) (j : Place) → HasWindow g has_stop window.now j slot.now seconds.now → IsTrue result ↔ IsPairViolated g has_stop window.now n j }
 {
     if are_apart(window, n, slot, seconds) {
         return false;
@@ -143,7 +143,7 @@ pub(crate) fn first_of_pair(
     seconds: &Masks,
 ) -> Option<Violation>
     requires inside { n < length window.now }
-    ensures { (g : Graph) (has_stop : Place → Bool) → IsUnderWay g has_stop window.now second slot.now seconds.now → MatchOption result (¬ IsPairViolated g has_stop window.now n second) (λ v. IsFirstOfPair g has_stop window.now n second v) }
+    ensures { (g : Graph) (has_stop : Place → Bool) → HasWindow g has_stop window.now second slot.now seconds.now → MatchOption result (¬ IsPairViolated g has_stop window.now n second) (λ v. IsFirstOfPair g has_stop window.now n second v) }
 {
     if are_apart(window, n, slot, seconds) {
         return None;

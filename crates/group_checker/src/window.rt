@@ -5,7 +5,7 @@ ghost use Rattle.std.specs.Option.{option_copied};
 ghost use Rattle.ia_insn.specs.declared.place.Place.{Place};
 ghost use Rattle.flow_facts.specs.Graphs.{Graph, next_in};
 ghost use Rattle.group_checker.specs.Firsts.{IsViolatedAt, IsFirstAt};
-ghost use Rattle.group_checker.specs.Windows.{IsWindow, IsUnderWay, IsKnownAt};
+ghost use Rattle.group_checker.specs.Windows.{IsWindow, HasWindow, IsKnownAt};
 
 use crate::moves::{advance, clears, joins};
 use crate::pairs::{breaks_rule, first_of_pair};
@@ -79,7 +79,7 @@ impl Window {
     /// Whether a slot of the window and the slot under way break a rule on some walk. `masks` has the accesses of the
     /// slot under way.
     pub fn has_violation(&self, slot: &Slot, masks: &Masks) -> bool
-        ensures { (g : Graph) (has_stop : Place → Bool) (j : Place) → IsUnderWay g has_stop self.now j slot.now masks.now → IsTrue result ↔ IsViolatedAt g has_stop j }
+        ensures { (g : Graph) (has_stop : Place → Bool) (j : Place) → HasWindow g has_stop self.now j slot.now masks.now → IsTrue result ↔ IsViolatedAt g has_stop j }
     {
         for m in 0..self.slots.len() {
             if breaks_rule(&self.slots, m, slot, masks) {
@@ -92,7 +92,7 @@ impl Window {
     /// The first violation with the slot under way, which stands at the place `second`, in the order of violations.
     /// `masks` has its accesses. None exactly where there is no violation.
     pub fn first_violation(&self, second: Place, slot: &Slot, masks: &Masks) -> Option<Violation>
-        ensures { (g : Graph) (has_stop : Place → Bool) → IsUnderWay g has_stop self.now second slot.now masks.now → MatchOption result (¬ IsViolatedAt g has_stop second) (λ v. IsFirstAt g has_stop second v) }
+        ensures { (g : Graph) (has_stop : Place → Bool) → HasWindow g has_stop self.now second slot.now masks.now → MatchOption result (¬ IsViolatedAt g has_stop second) (λ v. IsFirstAt g has_stop second v) }
     {
         for n in 0..self.slots.len() {
             if let Some(found) = first_of_pair(&self.slots, n, second, slot, masks) {
@@ -116,7 +116,7 @@ impl Window {
         slot: &Slot,
         masks: Masks,
     ) -> Result<(), AllocError>
-        ensures { OnOk result ((g : Graph) (has_stop : Place → Bool) (next : Place) → IsKnownAt g place (option_copied here.entry) → IsUnderWay g has_stop self.old place slot.now masks → next_in g place ≡ Some next → IsWindow g has_stop self.new next) }
+        ensures { OnOk result ((g : Graph) (has_stop : Place → Bool) (next : Place) → IsKnownAt g place (option_copied here.entry) → HasWindow g has_stop self.old place slot.now masks → next_in g place ≡ Some next → IsWindow g has_stop self.new next) }
     {
         let Some(here) = here else {
             self.slots.clear();

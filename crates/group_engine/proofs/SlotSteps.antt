@@ -21,7 +21,7 @@ use Rattle.slot_effects.specs.Outcomes.{outcome_of_effect}
 use Rattle.slot_table.specs.declared.slot.Slot.{Slot}
 use Rattle.slot_table.specs.Slots.{slot_at}
 use Rattle.slot_table.proofs.SlotLaws.{IsSlotOf, slot_is}
-use Rattle.group_engine.specs.Groups.{IsEffectOf, rest_of, IsOver, ComesTo}
+use Rattle.group_engine.specs.Groups.{IsEffectOf, rest_of, HasGathered, HasRestOf}
 use Rattle.group_engine.proofs.TakingIn.{gathers_with, may_with}
 use Rattle.group_engine.proofs.Slots.{fell, stops, goes_on, goes, breaks_off, faulted}
 
@@ -62,31 +62,31 @@ module _ (p : Program) (begins first : Bool) (g next : Gathered) (slot : Slot) (
       gathers_with p g h.of.insn e pfs h.does (begins && is_alloc (insn_action h.of.insn)) place ∙ rw (← same_flag) (sym took)
 
   -- It falls where there is no place.
-  pub fell_off : e.next ≡ Falls → slot.next ≡ None → (most : ℕ) → IsOver (rest_of (suc most) p begins g) g (Some (Fault FellOff g.place))
+  pub fell_off : e.next ≡ Falls → slot.next ≡ None → (most : ℕ) → HasGathered (rest_of (suc most) p begins g) g (Some (Fault FellOff g.place))
   fell_off falls none most =
       fell p begins g h.of.insn does h.of.here (sym h.does.value) most falls (ap (λ (s : Slot). s.next) h.of.is ∙ none)
 
   -- It falls through to a stop,
-  pub ends_group : (place : Place) → Takes place → e.next ≡ Falls → slot.next ≡ Some place → slot.stop ≡ true → (most : ℕ) → IsOver (rest_of (suc most) p begins g) next None
+  pub ends_group : (place : Place) → Takes place → e.next ≡ Falls → slot.next ≡ Some place → slot.stop ≡ true → (most : ℕ) → HasGathered (rest_of (suc most) p begins g) next None
   ends_group place took falls to stop most =
-      subst (λ all. IsOver (rest_of (suc most) p begins g) all None) (takes_in place took)
+      subst (λ all. HasGathered (rest_of (suc most) p begins g) all None) (takes_in place took)
       (stops p begins g h.of.insn does h.of.here (sym h.does.value) most place falls (ap (λ (s : Slot). s.next) h.of.is ∙ to) (ap (λ (s : Slot). s.stop) h.of.is ∙ stop))
 
   -- or within its group.
-  pub stays : (place : Place) → Takes place → e.next ≡ Falls → slot.next ≡ Some place → slot.stop ≡ false → (most : ℕ) → ComesTo (rest_of (suc most) p begins g) (rest_of most p false next)
+  pub stays : (place : Place) → Takes place → e.next ≡ Falls → slot.next ≡ Some place → slot.stop ≡ false → (most : ℕ) → HasRestOf (rest_of (suc most) p begins g) (rest_of most p false next)
   stays place took falls to stop most =
-      subst (λ all. ComesTo (rest_of (suc most) p begins g) (rest_of most p false all)) (takes_in place took)
+      subst (λ all. HasRestOf (rest_of (suc most) p begins g) (rest_of most p false all)) (takes_in place took)
       (goes_on p begins g h.of.insn does h.of.here (sym h.does.value) most place falls (ap (λ (s : Slot). s.next) h.of.is ∙ to) (ap (λ (s : Slot). s.stop) h.of.is ∙ stop))
 
   -- It branches.
-  pub branches : (bundle : ℕ) → Takes (first_of bundle) → e.next ≡ Goes bundle → (most : ℕ) → IsOver (rest_of (suc most) p begins g) next None
+  pub branches : (bundle : ℕ) → Takes (first_of bundle) → e.next ≡ Goes bundle → (most : ℕ) → HasGathered (rest_of (suc most) p begins g) next None
   branches bundle took taken most =
-      subst (λ all. IsOver (rest_of (suc most) p begins g) all None) (takes_in (first_of bundle) took)
+      subst (λ all. HasGathered (rest_of (suc most) p begins g) all None) (takes_in (first_of bundle) took)
       (goes p begins g h.of.insn does h.of.here (sym h.does.value) most bundle taken)
 
   -- It ends the run.
-  pub ends_run : (imm : ℕ) → e.next ≡ Breaks imm → (most : ℕ) → IsOver (rest_of (suc most) p begins g) g (Some (Break imm g.place))
+  pub ends_run : (imm : ℕ) → e.next ≡ Breaks imm → (most : ℕ) → HasGathered (rest_of (suc most) p begins g) g (Some (Break imm g.place))
   ends_run imm stop most = breaks_off p begins g h.of.insn does h.of.here (sym h.does.value) most imm stop
 
-  pub has_fault : (kind : FaultKind) → e.next ≡ Faults kind → (most : ℕ) → IsOver (rest_of (suc most) p begins g) g (Some (Fault kind g.place))
+  pub has_fault : (kind : FaultKind) → e.next ≡ Faults kind → (most : ℕ) → HasGathered (rest_of (suc most) p begins g) g (Some (Fault kind g.place))
   has_fault kind fault most = faulted p begins g h.of.insn does h.of.here (sym h.does.value) most kind fault

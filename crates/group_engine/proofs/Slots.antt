@@ -15,7 +15,7 @@ use Rattle.ia_meaning.specs.Sequence.{first_of, next_of, is_stopped}
 use Rattle.ia_meaning.specs.Steps.{settled, place_after}
 use Rattle.ia_meaning.specs.Views.{view}
 use Rattle.ia_meaning.specs.ParallelGroups.{Gathered, GatheredGroup, now_of, gathers, gathered_by}
-use Rattle.group_engine.specs.Groups.{rest_of, IsOver, ComesTo}
+use Rattle.group_engine.specs.Groups.{rest_of, HasGathered, HasRestOf}
 
 module _ (p : Program) (begins : Bool) (g : Gathered) (insn : Insn) (o : Outcome) (at : insn_at p.bundles g.place ≡ Some insn) (is : effect (site p g.place.bundle) insn (view insn (now_of g) g.base) g.memory g.unat ≡ o) where
   abbrev first : Bool
@@ -33,37 +33,37 @@ module _ (p : Program) (begins : Bool) (g : Gathered) (insn : Insn) (o : Outcome
   stepped most = rw (at, is) refl
 
   -- A slot that falls through where there is no next place is a fault.
-  pub fell : (most : ℕ) → o.next ≡ Falls → next_of p.bundles g.place ≡ None → IsOver (rest_of (suc most) p begins g) g (Some (Fault FellOff g.place))
+  pub fell : (most : ℕ) → o.next ≡ Falls → next_of p.bundles g.place ≡ None → HasGathered (rest_of (suc most) p begins g) g (Some (Fault FellOff g.place))
   fell most falls none = rw (stepped most, none, falls) (record { all = refl; end = refl; over = refl })
 
   -- One that falls through to a stop ends the group,
-  pub stops : (most : ℕ) (next : Place) → o.next ≡ Falls → next_of p.bundles g.place ≡ Some next → is_stopped p.bundles g.place ≡ true → IsOver (rest_of (suc most) p begins g) (gathers first g o next) None
+  pub stops : (most : ℕ) (next : Place) → o.next ≡ Falls → next_of p.bundles g.place ≡ Some next → is_stopped p.bundles g.place ≡ true → HasGathered (rest_of (suc most) p begins g) (gathers first g o next) None
   stops most next falls to stop = rw (stepped most, to, falls, stop, to) (record { all = refl; end = refl; over = refl })
 
   -- and else the group goes on.
-  pub goes_on : (most : ℕ) (next : Place) → o.next ≡ Falls → next_of p.bundles g.place ≡ Some next → is_stopped p.bundles g.place ≡ false → ComesTo (rest_of (suc most) p begins g) (rest_of most p false (gathers first g o next))
+  pub goes_on : (most : ℕ) (next : Place) → o.next ≡ Falls → next_of p.bundles g.place ≡ Some next → is_stopped p.bundles g.place ≡ false → HasRestOf (rest_of (suc most) p begins g) (rest_of most p false (gathers first g o next))
   goes_on most next falls to stop = rw (stepped most, to, falls, stop) (record { all = refl; end = refl; how = refl })
 
   -- So does a branch that is taken,
-  pub goes : (most bundle : ℕ) → o.next ≡ Goes bundle → IsOver (rest_of (suc most) p begins g) (gathers first g o (first_of bundle)) None
+  pub goes : (most bundle : ℕ) → o.next ≡ Goes bundle → HasGathered (rest_of (suc most) p begins g) (gathers first g o (first_of bundle)) None
   goes most bundle taken = of (next_of p.bundles g.place) refl
     where
-      of : (next : Option Place) → next_of p.bundles g.place ≡ next → IsOver (rest_of (suc most) p begins g) (gathers first g o (first_of bundle)) None
+      of : (next : Option Place) → next_of p.bundles g.place ≡ next → HasGathered (rest_of (suc most) p begins g) (gathers first g o (first_of bundle)) None
       of None to = rw (stepped most, to, taken) (record { all = refl; end = refl; over = refl })
       of (Some next) to = rw (stepped most, to, taken) (record { all = refl; end = refl; over = refl })
 
   -- a `break`,
-  pub breaks_off : (most imm : ℕ) → o.next ≡ Breaks imm → IsOver (rest_of (suc most) p begins g) g (Some (Break imm g.place))
+  pub breaks_off : (most imm : ℕ) → o.next ≡ Breaks imm → HasGathered (rest_of (suc most) p begins g) g (Some (Break imm g.place))
   breaks_off most imm stop = of (next_of p.bundles g.place) refl
     where
-      of : (next : Option Place) → next_of p.bundles g.place ≡ next → IsOver (rest_of (suc most) p begins g) g (Some (Break imm g.place))
+      of : (next : Option Place) → next_of p.bundles g.place ≡ next → HasGathered (rest_of (suc most) p begins g) g (Some (Break imm g.place))
       of None to = rw (stepped most, to, stop) (record { all = refl; end = refl; over = refl })
       of (Some next) to = rw (stepped most, to, stop) (record { all = refl; end = refl; over = refl })
 
   -- and a fault.
-  pub faulted : (most : ℕ) (kind : FaultKind) → o.next ≡ Faults kind → IsOver (rest_of (suc most) p begins g) g (Some (Fault kind g.place))
+  pub faulted : (most : ℕ) (kind : FaultKind) → o.next ≡ Faults kind → HasGathered (rest_of (suc most) p begins g) g (Some (Fault kind g.place))
   faulted most kind fault = of (next_of p.bundles g.place) refl
     where
-      of : (next : Option Place) → next_of p.bundles g.place ≡ next → IsOver (rest_of (suc most) p begins g) g (Some (Fault kind g.place))
+      of : (next : Option Place) → next_of p.bundles g.place ≡ next → HasGathered (rest_of (suc most) p begins g) g (Some (Fault kind g.place))
       of None to = rw (stepped most, to, fault) (record { all = refl; end = refl; over = refl })
       of (Some next) to = rw (stepped most, to, fault) (record { all = refl; end = refl; over = refl })

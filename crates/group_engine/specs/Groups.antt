@@ -55,13 +55,13 @@ unfoldable pub rest_of : ℕ → Program → Bool → Gathered → GatheredGroup
 rest_of most p begins g = gathered_within most p begins g
 
 -- A group is over, with this gathered and this end of the run.
-pub record IsOver (group : GatheredGroup) (so_far : Gathered) (last : Option End) : Type 0 where
+pub record HasGathered (group : GatheredGroup) (so_far : Gathered) (last : Option End) : Type 0 where
   pub all : group.all ≡ so_far
   pub end : group.end ≡ last
   pub over : IsSome group.how
 
 -- A group comes to what the rest of it comes to.
-pub record ComesTo (group rest : GatheredGroup) : Type 0 where
+pub record HasRestOf (group rest : GatheredGroup) : Type 0 where
   pub all : group.all ≡ rest.all
   pub end : group.end ≡ rest.end
   pub how : group.how ≡ rest.how

@@ -18,7 +18,7 @@ ghost use Rattle.ia_meaning.specs.ParallelGroups.{gathered_from, now_of, gathers
 ghost use Rattle.ia_meaning.specs.NumberedRuns.{order};
 ghost use Rattle.group_engine.specs.declared.limits.TheConstants.{SLOT_WRITE_LIMIT, WRITE_LIMIT};
 ghost use Rattle.group_engine.specs.Kept.{steering_of};
-ghost use Rattle.group_engine.specs.Groups.{changes_of, memory_of, gathered_of, state_of, with_frame_ahead, rest_of, IsEffectOf, IsOver, ComesTo};
+ghost use Rattle.group_engine.specs.Groups.{changes_of, memory_of, gathered_of, state_of, with_frame_ahead, rest_of, IsEffectOf, HasGathered, HasRestOf};
 
 use crate::kept::KeptWrites;
 use crate::making::{make, range_ahead};
@@ -200,7 +200,7 @@ impl Gathering {
         requires latest { self.old.kept.latest ≡ steering_of (now_of (gathered_of self.old)) }
         requires begins { begins ≡ true → (self.old.kept.writes ≡ []) × (self.old.frame_ahead ≡ false) }
         requires room { length self.old.kept.writes + SLOT_WRITE_LIMIT ≤ WRITE_LIMIT }
-        ensures value { MatchOption result ((most : ℕ) → ComesTo (rest_of (suc most) table.now begins (gathered_of self.old)) (rest_of most table.now false (gathered_of self.new))) (λ end. (most : ℕ) → IsOver (rest_of (suc most) table.now begins (gathered_of self.old)) (gathered_of self.new) end) }
+        ensures value { MatchOption result ((most : ℕ) → HasRestOf (rest_of (suc most) table.now begins (gathered_of self.old)) (rest_of most table.now false (gathered_of self.new))) (λ end. (most : ℕ) → HasGathered (rest_of (suc most) table.now begins (gathered_of self.old)) (gathered_of self.new) end) }
         ensures place { IsPlaceOf table.now.bundles self.new.place }
         ensures latest { IfNone result (self.new.kept.latest ≡ steering_of (now_of (gathered_of self.new))) }
         ensures few { length self.new.kept.writes ≤ length self.old.kept.writes + SLOT_WRITE_LIMIT }
@@ -233,7 +233,7 @@ impl Gathering {
     pub fn gather(&mut self, table: &SlotTable) -> Option<End>
         requires program { IsProgram table.now }
         requires place { IsPlaceOf table.now.bundles self.old.place }
-        ensures value { IsOver (rest_of RUN_LIMIT table.now true (gathered_from (state_of self.old))) (gathered_of self.new) result }
+        ensures value { HasGathered (rest_of RUN_LIMIT table.now true (gathered_from (state_of self.old))) (gathered_of self.new) result }
         ensures place { IsPlaceOf table.now.bundles self.new.place }
     {
         groups_end();

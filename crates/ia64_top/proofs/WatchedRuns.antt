@@ -10,11 +10,11 @@ use Rattle.ia_meaning.specs.Progress.{Progress, begun, opened, advanced, advance
 use Rattle.ia_meaning.specs.Runs.{EventsAreOfRun, event_further, events_further}
 use Rattle.ia_meaning.specs.State.{zero_state}
 use Rattle.ia64_top.specs.Runs.{run_of}
-use Rattle.ia_meaning.proofs.GroupEnds.{groups_ended, zero_is_place}
+use Rattle.ia_meaning.proofs.GroupEnds.{zero_is_place}
 use Rattle.emulator.specs.Execution.{Execution}
-use Rattle.emulator.proofs.Groups.{over_groups}
+use Rattle.emulator.proofs.Groups.{over_groups, no_further}
 use Rattle.watch_seam.specs.Watchers.{WatchState}
-use Rattle.watch_seam.specs.Watching.{HaveRoom, IsAmidGroup, IsCutShort, left_after, numbered, numbered_report, reports, reports_after, staying}
+use Rattle.watch_seam.specs.Watching.{AwaitGroups, IsAmidGroup, IsCutShort, left_after, numbered, numbered_report, reports, reports_after, staying}
 use Rattle.watch_seam.proofs.Groups.{IsWatched, at_beginning, one_further, cut_amid, cut_between, cut_at_end, at_last}
 
 -- a step opens one group at most, and none within a group
@@ -71,10 +71,6 @@ no_events left p m (inl none) = rw none refl
 no_events zero p m (inr over) = refl
 no_events (suc n) p m (inr over) = rw over.1 refl
 
-no_further : (left : ℕ) (p : Program) (m : Progress) → (left ≡ 0) ⊎ ((e : End) × (m.end ≡ Some e)) → groups_further left p m ≡ m
-no_further left p m (inl none) = rw none refl
-no_further left p m (inr over) = groups_ended left p m over.0 over.1
-
 -- A machine began so, and so many groups are left of those that it was to run. What watchers in boxes have seen is told by a function.
 pub record IsUnderWatch {B : Type 0} (seen : B → WatchState) (start : Execution) (groups : ℕ) (old : List WatchState) (now : Execution) (left : ℕ) (text numbers : List ℕ) (list : List B) : Type 0 where
   pub program : now.program ≡ start.program
@@ -83,7 +79,7 @@ pub record IsUnderWatch {B : Type 0} (seen : B → WatchState) (start : Executio
   pub watched : IsWatched seen (events_further groups start.program start.progress) old (events_further left start.program now.progress) text numbers list
 
 pub begins : {B : Type 0} (seen : B → WatchState) (m : Execution) (groups : ℕ) (text numbers : List ℕ) (list : List B)
-    → m.progress.groups + groups < 2 ^ 64 → HaveRoom (map seen list) → text ≡ [] → numbers ≡ range_with_len 0 (length list) → IsUnderWatch seen m groups (map seen list) m groups text numbers list
+    → m.progress.groups + groups < 2 ^ 64 → AwaitGroups (map seen list) → text ≡ [] → numbers ≡ range_with_len 0 (length list) → IsUnderWatch seen m groups (map seen list) m groups text numbers list
 begins seen m groups text numbers list few room none from_0 =
     record {
       program = refl;
@@ -137,7 +133,7 @@ pub record HasBeenWatched {B : Type 0} (seen : B → WatchState) (start : Execut
   pub reported : text ++ flat_map numbered_report (zip numbers (map seen list)) ≡ reports (events_further groups start.program start.progress) (numbered old)
   pub stay : map seen list ≡ staying (events_further groups start.program start.progress) old
   pub as_many : length numbers ≡ length list
-  pub room : HaveRoom (map seen list)
+  pub room : AwaitGroups (map seen list)
 
 pub comes_to_end : {B : Type 0} (seen : B → WatchState) (start : Execution) (groups : ℕ) (old : List WatchState) (now : Execution) (left : ℕ) (text numbers : List ℕ) (list : List B)
     → IsUnderWatch seen start groups old now left text numbers list → (left ≡ 0) ⊎ ((e : End) × (now.progress.end ≡ Some e)) → HasBeenWatched seen start groups old now text numbers list

@@ -2,6 +2,7 @@
 use Rattle.std.specs.Prelude.{ℕ, List, [], ◌∷◌, ◌++◌, codes, decimal, flat_map}
 use Rattle.ia_insn.specs.declared.place.Place.{Place}
 use Rattle.ia_insn.specs.Texts.{gr_text, pr_text, br_text, place_text}
+use Rattle.ia_meaning.specs.StateText.{line}
 use Rattle.resource_sets.specs.declared.access.Resource.{Resource}
 use Rattle.resource_sets.specs.declared.access.Resource.TheVariants.{Gr, Pr, Br, Unat, Pfs, Lc, Ec, Cfm}
 use Rattle.resource_sets.specs.declared.clashes.Rule.{Rule}
@@ -21,9 +22,6 @@ use Rattle.stop_placer.specs.Packed.{Packed}
 use Rattle.image_form.specs.declared.fault.ImageFault.{ImageFault}
 use Rattle.image_form.specs.declared.fault.ImageFault.TheVariants.{Short, Magic, Counts, Length, Entry, Bundle}
 use Rattle.image_form.specs.declared.fault.ImageFault.TheVariants.{Target, LongRun, Relation, Memory}
-
-abbrev pub line : List ℕ → List ℕ
-line text = text ++ 10 ∷ []
 
 abbrev pub rule_text : Rule → List ℕ
 rule_text Raw = codes "RAW"

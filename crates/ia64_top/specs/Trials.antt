@@ -6,13 +6,12 @@ use Rattle.ia_insn.specs.Programs.{IsProgram}
 use Rattle.ia_meaning.specs.declared.state.Cell.{Cell}
 use Rattle.ia_meaning.specs.State.{Registers}
 use Rattle.ia_meaning.specs.Names.{look}
-use Rattle.ia_meaning.specs.StateText.{end_text, word_text}
+use Rattle.ia_meaning.specs.StateText.{line, end_text, word_text}
 use Rattle.ia_meaning.specs.OrderIndependence.{IsRobust}
 use Rattle.group_checker.specs.Reports.{IsFree}
 use Rattle.trial_maker.specs.Trials.{trial_program}
 use Rattle.ia64_top.specs.declared.status.Status.{Status}
 use Rattle.ia64_top.specs.declared.status.Status.TheVariants.{Done, Violated}
-use Rattle.ia64_top.specs.Texts.{line}
 use Rattle.ia64_top.specs.Judgements.{IsJudgement}
 use Rattle.ia64_top.specs.Runs.{run_of}
 

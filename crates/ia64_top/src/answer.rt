@@ -12,7 +12,7 @@ ghost use Rattle.ia64_top.specs.Output.{IsCanonical, IsPackedText, IsMadeOutput,
 ghost use Rattle.ia64_top.specs.Readings.{as_image, as_bundles, as_text, as_loose, as_either, IsRefusal};
 ghost use Rattle.ia64_top.specs.Runs.{end_status, watch_text, IsRunOf, IsNumberedRunOf};
 ghost use Rattle.ia_meaning.specs.Runs.{run_text};
-ghost use Rattle.watch_seam.specs.Watching.{HaveRoom};
+ghost use Rattle.watch_seam.specs.Watching.{AwaitGroups};
 ghost use Rattle.ia64_top.specs.Watching.{RanNothing, HaveWatched, HaveWatchedPart};
 ghost use Rattle.trial_maker.specs.Trials.{trial_program};
 ghost use Rattle.ia64_top.specs.Trials.{IsTrialOf, IsTrialOutput, trial_text};
@@ -302,11 +302,11 @@ fn watch_input(
     requires some { 1 ≤ groups }
     requires few { groups ≤ GROUP_LIMIT }
     requires within { length input.now ≤ INPUT_LIMIT }
-    requires room { HaveRoom (map (λ b. state b) watchers.old.items) }
+    requires room { AwaitGroups (map (λ b. state b) watchers.old.items) }
     ensures output { IfOk result (λ answer. IsRunAs (watch_text (map (λ b. state b) watchers.old.items)) groups as_either input.now answer.bytes.items answer.status) }
     ensures watched { OnOk result (HaveWatched groups input.now (map (λ b. state b) watchers.old.items) (map (λ b. state b) watchers.new.items)) }
     ensures not_run { IfOk result (λ answer. RanNothing answer.status → watchers.new ≡ watchers.old) }
-    ensures still_room { OnOk result (HaveRoom (map (λ b. state b) watchers.new.items)) }
+    ensures still_room { OnOk result (AwaitGroups (map (λ b. state b) watchers.new.items)) }
     ensures cut_short { OnErr result (HaveWatchedPart groups input.now (map (λ b. state b) watchers.old.items) (map (λ b. state b) watchers.new.items)) }
 {
     one_program();
@@ -400,11 +400,11 @@ pub(crate) fn respond(
 ) -> Result<Answer, AllocError>
     requires command { HasNumbersInRange command }
     requires within { length input.now ≤ INPUT_LIMIT }
-    requires room { HaveRoom (map (λ b. state b) watchers.old.items) }
+    requires room { AwaitGroups (map (λ b. state b) watchers.old.items) }
     ensures output { IfOk result (λ answer. IsCommandOutput command (map (λ b. state b) watchers.old.items) input.now answer.bytes.items answer.status) }
     ensures watched { OnOk result ((groups : ℕ) → command ≡ Command.Watch groups → HaveWatched groups input.now (map (λ b. state b) watchers.old.items) (map (λ b. state b) watchers.new.items)) }
     ensures not_run { IfOk result (λ answer. RanNothing answer.status → watchers.new ≡ watchers.old) }
-    ensures still_room { OnOk result (HaveRoom (map (λ b. state b) watchers.new.items)) }
+    ensures still_room { OnOk result (AwaitGroups (map (λ b. state b) watchers.new.items)) }
     ensures cut_short { OnErr result ((groups : ℕ) → command ≡ Command.Watch groups → HaveWatchedPart groups input.now (map (λ b. state b) watchers.old.items) (map (λ b. state b) watchers.new.items)) }
     ensures only_watch { ¬ IsWatch (Some command) → watchers.new ≡ watchers.old }
 {

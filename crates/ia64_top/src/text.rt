@@ -1,8 +1,7 @@
 //! What is printed.
 
 ghost use Rattle.std.specs.Prelude.{◌≡◌, ◌++◌, ◌∷◌, IfOk, OnOk, Some, codes, decimal, flat_map, string_bytes};
-ghost use Rattle.ia_meaning.specs.StateText.{word_text};
-ghost use Rattle.ia64_top.specs.Texts.{line};
+ghost use Rattle.ia_meaning.specs.StateText.{line, word_text};
 ghost use Rattle.ia64_top.specs.Trials.{value_of, register_sum, trial_text};
 ghost use Rattle.ia_meaning.specs.Names.{look};
 ghost use Rattle.ia64_top.specs.Texts.{why_text, stop_text, packed_text, rule_text, resource_text, violation_text, verdict_text, slot_text, fault_text, refusal_text, text_fault_text, text_refusal_text};

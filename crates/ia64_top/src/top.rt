@@ -16,7 +16,7 @@ ghost use Rattle.group_checker.specs.Reports.{IsFree};
 ghost use Rattle.ia64_top.specs.Runs.{run_of, numbered_run_of, end_status};
 ghost use Rattle.ia64_top.specs.Readings.{as_either};
 ghost use Rattle.trial_maker.specs.Trials.{trial_program};
-ghost use Rattle.watch_seam.specs.Watching.{HaveRoom};
+ghost use Rattle.watch_seam.specs.Watching.{AwaitGroups};
 ghost use Rattle.ia64_top.specs.Watching.{RanNothing, IsNotRun, HaveWatched, HaveWatchedPart};
 ghost use Rattle.ia64_top.specs.Output.{is_too_long, IsWithinLimit, IsProgramOf, IsUnreadable, printed_run, IsOutput, GivesOutput, GivesPart, GivesClashes, GivesTrial, GivesTrialPart, GivesRunOfEveryOrder};
 
@@ -77,7 +77,7 @@ pub fn ia64<S: Source, K: Sink>(
     sink: &mut K,
 ) -> Status
     // Each watcher is still to see groups.
-    requires room { HaveRoom (map (λ b. state b) watchers.old.items) }
+    requires room { AwaitGroups (map (λ b. state b) watchers.old.items) }
 
     // What is written and answered is the stated output of the words and of all that the source had.
     ensures output { IsAnswer result → IfSome (S.left source.old) (λ input.
@@ -162,7 +162,7 @@ pub fn ia64<S: Source, K: Sink>(
     ensures not_run_in_part { result ≡ Status.WriteFault → IfSome (S.left source.old) (λ input. IsNotRun input → watchers.new ≡ watchers.old) }
 
     // Those that stay are still to see groups, so the list may be handed in again.
-    ensures still_room { result ≢ Status.NoMemory → HaveRoom (map (λ b. state b) watchers.new.items) }
+    ensures still_room { result ≢ Status.NoMemory → AwaitGroups (map (λ b. state b) watchers.new.items) }
 
     // Where memory ran out in the run, one number of groups tells what all watchers have seen: so many groups, or one more.
     ensures cut_short { result ≡ Status.NoMemory → IfSome (S.left source.old) (λ input. (groups : ℕ) →

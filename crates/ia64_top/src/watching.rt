@@ -4,7 +4,7 @@ ghost use Rattle.std.specs.Prelude.{◌≡◌, ◌≤◌, ◌<◌, ◌+◌, ◌^
 ghost use Rattle.ia_meaning.specs.Progress.{groups_further, end_of};
 ghost use Rattle.ia_meaning.specs.Runs.{events_further};
 ghost use Rattle.group_checker.specs.Reports.{IsFree};
-ghost use Rattle.watch_seam.specs.Watching.{HaveRoom, IsCutShort, numbered, reports, staying};
+ghost use Rattle.watch_seam.specs.Watching.{AwaitGroups, IsCutShort, numbered, reports, staying};
 ghost use Rattle.ia64_top.specs.declared.limits.TheConstants.{GROUP_LIMIT};
 ghost use Rattle.ia64_top.specs.Runs.{run_of, watch_text, IsRunOf};
 
@@ -25,11 +25,11 @@ fn watch_groups(
     watchers: &mut Vec<Box<dyn Watch>>,
 ) -> Result<Vec<u8>, AllocError>
     requires few { machine.old.progress.groups + groups < 2 ^ 64 }
-    requires room { HaveRoom (map (λ b. state b) watchers.old.items) }
+    requires room { AwaitGroups (map (λ b. state b) watchers.old.items) }
     ensures state { OnOk result (machine.new ≡ record machine.old { progress = groups_further groups machine.old.program machine.old.progress }) }
     ensures text { IfOk result (λ text. text.items ≡ reports (events_further groups machine.old.program machine.old.progress) (numbered (map (λ b. state b) watchers.old.items))) }
     ensures stay { OnOk result (map (λ b. state b) watchers.new.items ≡ staying (events_further groups machine.old.program machine.old.progress) (map (λ b. state b) watchers.old.items)) }
-    ensures still_room { OnOk result (HaveRoom (map (λ b. state b) watchers.new.items)) }
+    ensures still_room { OnOk result (AwaitGroups (map (λ b. state b) watchers.new.items)) }
     ensures cut_short { OnErr result (IsCutShort (events_further groups machine.old.program machine.old.progress) (map (λ b. state b) watchers.old.items) (map (λ b. state b) watchers.new.items)) }
 {
     let mut reports = Reports::begin(alloc, watchers)?;
@@ -59,10 +59,10 @@ pub(crate) fn watch_accepted(
     requires some { 1 ≤ groups }
     requires few { groups ≤ GROUP_LIMIT }
     requires free { IsFree program.now }
-    requires room { HaveRoom (map (λ b. state b) watchers.old.items) }
+    requires room { AwaitGroups (map (λ b. state b) watchers.old.items) }
     ensures output { IfOk result (λ answer. IsRunOf (watch_text (map (λ b. state b) watchers.old.items)) program.now groups answer.bytes.items answer.status) }
     ensures stay { OnOk result (map (λ b. state b) watchers.new.items ≡ staying (run_of program.now groups).events (map (λ b. state b) watchers.old.items)) }
-    ensures still_room { OnOk result (HaveRoom (map (λ b. state b) watchers.new.items)) }
+    ensures still_room { OnOk result (AwaitGroups (map (λ b. state b) watchers.new.items)) }
     ensures cut_short { OnErr result (IsCutShort (run_of program.now groups).events (map (λ b. state b) watchers.old.items) (map (λ b. state b) watchers.new.items)) }
 {
     progress_is_run();

@@ -10,13 +10,9 @@ mod bundle_bits_tests;
 #[cfg(test)]
 mod flow_facts_tests;
 #[cfg(test)]
-mod group_engine_tests;
-#[cfg(test)]
 mod image_form_tests;
 #[cfg(test)]
 mod io_seam_tests;
-#[cfg(test)]
-mod lane_ops_tests;
 #[cfg(test)]
 mod predicate_rel_tests;
 #[cfg(test)]

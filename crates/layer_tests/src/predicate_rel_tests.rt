@@ -1,7 +1,35 @@
 //! Sets of pairs of predicates.
 
-use ia_insn::Pr;
-use predicate_rel::Facts;
+use ia_insn::{CmpKind, Gr, Insn, Op, Pr, Rel};
+use predicate_rel::{Edge, Facts};
+
+/// `cmp.eq p6,p7=r8,r9` of a kind.
+fn compare(kind: CmpKind) -> Insn {
+    let op = Op::Cmp {
+        four: false,
+        rel: Rel::Eq,
+        kind,
+        p1: Pr::of_field(6),
+        p2: Pr::of_field(7),
+        r2: Gr::of_field(8),
+        r3: Gr::of_field(9),
+    };
+    Insn {
+        qp: Pr::of_field(0),
+        op,
+    }
+}
+
+/// The two targets of a compare are a pair after it, and a compare in parallel takes it away. Another pair stays.
+#[test]
+fn compares_give_and_take_pairs(rt: HostRuntime) {
+    let other = Facts::empty().plus(Pr::of_field(8), Pr::of_field(9));
+    let known = other.after(&compare(CmpKind::Normal), Edge::Falls);
+    assert!(rt; known.has(Pr::of_field(6), Pr::of_field(7)));
+    let lost = known.after(&compare(CmpKind::Or), Edge::Falls);
+    assert!(rt; !lost.has(Pr::of_field(6), Pr::of_field(7)));
+    assert!(rt; lost.has(Pr::of_field(8), Pr::of_field(9)));
+}
 
 /// All pairs are there. A pair that is added is there in both orders, and (x, x) as (x, p0) too; no other is. So a
 /// set has the one that it was made from, and their meet is that one.

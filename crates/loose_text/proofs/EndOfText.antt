@@ -28,7 +28,7 @@ use Rattle.loose_text.specs.LooseParts.{LooseParts, items_of}
 use Rattle.loose_text.specs.LooseReading.{unnamed_item, name_fault, loose_of, end_stages}
 use Rattle.loose_text.specs.LooseTexts.{IsItemEntry, Loose, IsLoose}
 use Rattle.loose_text.specs.Packings.{plain_of}
-use Rattle.loose_text.specs.SoundParts.{IsMarked, IsKnown, IsSound}
+use Rattle.loose_text.specs.SoundParts.{IsMarked, MayBeNamed, IsSound}
 use Rattle.loose_text.proofs.NamedTargets.{breaks_at, each_target}
 
 -- lines that declare relations have no fault
@@ -42,13 +42,13 @@ listed_at (l ∷ ls) all zero = all.0
 listed_at (l ∷ ls) all (suc n) = listed_at ls all.1 n
 
 -- declared entries are marked instructions
-known_marked : (s : LooseParts) (n : ℕ) (o : Option Address) → o ≡ Some (address.Bundle n) → IfSome o (IsKnown s) → IsMarked s n
+known_marked : (s : LooseParts) (n : ℕ) (o : Option Address) → o ≡ Some (address.Bundle n) → IfSome o (MayBeNamed s) → IsMarked s n
 known_marked s n o is known = rw is at known
 
 entry_marked : (s : LooseParts) (out : List ℕ) (n : ℕ) → IsSound s → all_declared s.declared.labels [] s.declared.entries ≡ Ok out → Contains out n → IsMarked s n
 entry_marked s out n sound is has =
     let (some, name, among, found) = entry_named s.declared.labels out s.declared.entries n is has in
-    known_marked s n (address_of s.declared.labels name) found (label_within (IsKnown s) s.declared.labels name sound.labels)
+    known_marked s n (address_of s.declared.labels name) found (label_within (MayBeNamed s) s.declared.labels name sound.labels)
 
 -- and there are so many
 risen_below : (low count : ℕ) (ns : List ℕ) (n : ℕ) → RiseFrom low count ns → Contains ns n → n < count

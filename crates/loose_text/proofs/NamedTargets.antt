@@ -14,7 +14,7 @@ use Rattle.loose_text.specs.declared.item.ItemLine.{ItemLine}
 use Rattle.loose_text.specs.LooseParts.{LooseParts, items_of}
 use Rattle.loose_text.specs.LooseReading.{unnamed_item, target_of, loose_of}
 use Rattle.loose_text.specs.LooseTexts.{BreaksAt, IsPlace, IsTargetOf}
-use Rattle.loose_text.specs.SoundParts.{IsMarked, IsKnown, IsSound}
+use Rattle.loose_text.specs.SoundParts.{IsMarked, MayBeNamed, IsSound}
 
 -- a name that means something that fits does so wherever the operation stands
 anywhere : (x : Op) (a : Address) (m n : ℕ) → is_some (addressed x a m) ≡ is_some (addressed x a n)
@@ -35,7 +35,7 @@ marked_breaks (l ∷ ls) fresh (suc n) h inside = marked_breaks ls fresh n h (om
 pub breaks_at : (s : LooseParts) (n : ℕ) → IsMarked s n → n < length s.items → BreaksAt (items_of s.items) n
 breaks_at s n h inside = marked_breaks s.items s.fresh n h inside
 
-known_place : (s : LooseParts) (a : Address) → IsKnown s a → IsInside (length s.items) a → IsPlace (items_of s.items) a
+known_place : (s : LooseParts) (a : Address) → MayBeNamed s a → IsInside (length s.items) a → IsPlace (items_of s.items) a
 known_place s (address.Bundle n) h inside = breaks_at s n h inside
 known_place s (address.Byte at) h inside = h
 
@@ -44,7 +44,7 @@ unnamed_has_none : (o : Option ℤ) (x : Op) → is_some (if is_some o then None
 unnamed_has_none None x h = refl
 unnamed_has_none (Some z) x h = cc
 
-address_fits : (s : LooseParts) (x : Op) (n : ℕ) (o : Option Address) → IfSome o (IsKnown s) → IfSome o (IsInside (length s.items)) → is_some (addressed_by o x n) ≡ true → IsTargetOf (items_of s.items) x o
+address_fits : (s : LooseParts) (x : Op) (n : ℕ) (o : Option Address) → IfSome o (MayBeNamed s) → IfSome o (IsInside (length s.items)) → is_some (addressed_by o x n) ≡ true → IsTargetOf (items_of s.items) x o
 address_fits s x n None known inside h = cc
 address_fits s x n (Some a) known inside h = (λ m. anywhere x a m n ∙ h, known_place s a known inside)
 
@@ -52,7 +52,7 @@ pub target_fits : (s : LooseParts) (x : Op) (n : ℕ) (target : Option (List ℕ
     → IsTargetOf (items_of s.items) x (target_of s.declared.labels target)
 target_fits s x n None sound below h = unnamed_has_none (displacement x) x h
 target_fits s x n (Some name) sound below h =
-    address_fits s x n (address_of s.declared.labels name) (label_within (IsKnown s) s.declared.labels name sound.labels) (label_within (IsInside (length s.items)) s.declared.labels name below) h
+    address_fits s x n (address_of s.declared.labels name) (label_within (MayBeNamed s) s.declared.labels name sound.labels) (label_within (IsInside (length s.items)) s.declared.labels name below) h
 
 -- of the n-th instruction, where each name means something that fits
 found_here : (b : Bool) (line : ℕ) (rest : Option ℕ) → (if b then rest else Some line) ≡ None → (b ≡ true) × (rest ≡ None)

@@ -12,7 +12,8 @@ use Rattle.loose_text.specs.declared.packing.Held.{Held}
 use Rattle.loose_text.specs.declared.packing.Held.TheVariants.{One, Two, Three}
 use Rattle.loose_text.specs.declared.packing.PlainPacking.{PlainPacking}
 use Rattle.loose_text.specs.LooseParts.{items_of, last_written}
-use Rattle.loose_text.specs.Packings.{is_call, wanted_as, joins, plain_on, plain_of}
+use Rattle.ia_meaning.specs.Landings.{is_call}
+use Rattle.loose_text.specs.Packings.{wanted_as, joins, plain_on, plain_of}
 use Rattle.loose_text.specs.PlainPackings.{held, IsPacked, ArePacked}
 
 -- three leave no room

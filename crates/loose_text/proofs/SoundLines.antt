@@ -26,7 +26,7 @@ use Rattle.asm_build.proofs.Membership.{all_both}
 use Rattle.loose_text.specs.declared.item.ItemLine.{ItemLine}
 use Rattle.loose_text.specs.LooseParts.{LooseParts, start, after, last_written, is_text, value_stages}
 use Rattle.loose_text.specs.LooseReading.{loose_reading}
-use Rattle.loose_text.specs.SoundParts.{marks, IsMarked, IsKnown, IsSound}
+use Rattle.loose_text.specs.SoundParts.{marks, IsMarked, MayBeNamed, IsSound}
 use Rattle.loose_text.proofs.Listing.{draft_listed}
 
 -- whether the instructions of lines are marked
@@ -67,7 +67,7 @@ all_map P Q [] to all = tt
 all_map P Q (x ∷ xs) to all = (to x all.0, all_map P Q xs to all.1)
 
 -- what is known stays so where what is marked does
-known_still : (s t : LooseParts) → ((n : ℕ) → IsMarked s n → IsMarked t n) → (a : Address) → IsKnown s a → IsKnown t a
+known_still : (s t : LooseParts) → ((n : ℕ) → IsMarked s n → IsMarked t n) → (a : Address) → MayBeNamed s a → MayBeNamed t a
 known_still s t to (address.Bundle n) h = to n h
 known_still s t to (address.Byte at) h = h
 
@@ -76,7 +76,7 @@ kept : (s t : LooseParts) → IsSound s → ((n : ℕ) → IsMarked s n → IsMa
     → t.declared ≡ s.declared → IsSound t
 kept s t h to listed same = record {
   listed = listed;
-  labels = rw same (all_map (IsKnown s) (IsKnown t) (values_of s.declared.labels) (known_still s t to) h.labels);
+  labels = rw same (all_map (MayBeNamed s) (MayBeNamed t) (values_of s.declared.labels) (known_still s t to) h.labels);
   relations = rw same (all_map (λ (l : RelationLine). IsMarked s l.bundle) (λ (l : RelationLine). IsMarked t l.bundle) s.declared.relations (λ l m. to l.bundle m) h.relations);
   bytes = rw same h.bytes;
 }
@@ -86,7 +86,7 @@ abbrev labels_with : LooseParts → List ℕ → Address → Labels
 labels_with s name a = insert_entry (slice_cmp nat_cmp) s.declared.labels name a
 
 -- what a label names that stands here
-here_known : (part : Section) (s t : LooseParts) → length s.declared.bytes ≤ DATA_LIMIT → (IsTrue (is_text part) → IsMarked t (length s.items)) → IsKnown t (place_in part (address.Bundle (length s.items)) s.declared.bytes)
+here_known : (part : Section) (s t : LooseParts) → length s.declared.bytes ≤ DATA_LIMIT → (IsTrue (is_text part) → IsMarked t (length s.items)) → MayBeNamed t (place_in part (address.Bundle (length s.items)) s.declared.bytes)
 here_known section.Text s t few marked = marked refl
 here_known section.Data s t few marked = few
 
@@ -97,9 +97,9 @@ with_declared s more declared = record { declared = declared; items = s.items; f
 kept_marks : (s : LooseParts) (more : Bool) (declared : TextParts) (n : ℕ) → IsMarked s n → IsMarked (with_declared s more declared) n
 kept_marks s more declared n h = raised (breaks s.items) more s.fresh n h
 
-kept_labels : (s : LooseParts) (more : Bool) (declared : TextParts) → IsSound s → AllByRecursion (IsKnown (with_declared s more declared)) (values_of s.declared.labels)
+kept_labels : (s : LooseParts) (more : Bool) (declared : TextParts) → IsSound s → AllByRecursion (MayBeNamed (with_declared s more declared)) (values_of s.declared.labels)
 kept_labels s more declared h =
-    all_map (IsKnown s) (IsKnown (with_declared s more declared)) (values_of s.declared.labels) (known_still s (with_declared s more declared) (kept_marks s more declared)) h.labels
+    all_map (MayBeNamed s) (MayBeNamed (with_declared s more declared)) (values_of s.declared.labels) (known_still s (with_declared s more declared) (kept_marks s more declared)) h.labels
 
 kept_relations : (s : LooseParts) (more : Bool) (declared : TextParts) → IsSound s → AllByRecursion (λ (l : RelationLine). IsMarked (with_declared s more declared) l.bundle) s.declared.relations
 kept_relations s more declared h =
@@ -110,10 +110,10 @@ label_sound : (s : LooseParts) (part : Section) (name : List ℕ) (declared : Te
     → declared.relations ≡ s.declared.relations → declared.bytes ≡ s.declared.bytes → IsSound (with_declared s (is_text part) declared)
 label_sound s part name declared h labels relations bytes =
     let t = with_declared s (is_text part) declared in
-    let known : IsKnown t (place_in part (address.Bundle (length s.items)) s.declared.bytes) = here_known part s t h.bytes (λ e. rw e (marked_next s.items)) in
+    let known : MayBeNamed t (place_in part (address.Bundle (length s.items)) s.declared.bytes) = here_known part s t h.bytes (λ e. rw e (marked_next s.items)) in
     record {
       listed = h.listed;
-      labels = rw labels (kept_among (IsKnown t) s.declared.labels name (place_in part (address.Bundle (length s.items)) s.declared.bytes) (kept_labels s (is_text part) declared h) known);
+      labels = rw labels (kept_among (MayBeNamed t) s.declared.labels name (place_in part (address.Bundle (length s.items)) s.declared.bytes) (kept_labels s (is_text part) declared h) known);
       relations = rw relations (kept_relations s (is_text part) declared h);
       bytes = rw bytes h.bytes;
     }

@@ -1,5 +1,5 @@
 -- What the lines of a loose text say, one after the other.
-use Rattle.std.specs.Prelude.{◌≡◌, ℕ, ◌^◌, ◌<◌, ◌≤◌, Bool, true, false, IsTrue, ◌||◌, if◌then◌else◌, List, [], ◌∷◌, ◌++◌, map, length, ⊤, ◌⊎◌}
+use Rattle.std.specs.Prelude.{◌≡◌, ℕ, ◌<◌, ◌≤◌, Bool, true, false, IsTrue, ◌||◌, if◌then◌else◌, List, [], ◌∷◌, ◌++◌, map, length, ⊤, ◌⊎◌}
 use Rattle.first_fault.specs.Stages.{Stage, unless, IsFirstFault}
 use Rattle.ia_insn.specs.declared.limits.TheConstants.{BUNDLE_LIMIT}
 use Rattle.ia_insn.specs.declared.choices.Unit.{Unit as ExecutionUnit}
@@ -19,6 +19,7 @@ use Rattle.asm_build.specs.declared.text_parts.Section.TheVariants as section
 use Rattle.asm_build.specs.Drafts.{lettered}
 use Rattle.asm_build.specs.TextParts as outside
 use Rattle.asm_build.specs.TextParts.{TextParts, IsIn, IsNew, after_outside}
+use Rattle.loose_text.specs.declared.parts.TheConstants.{NARROW_LIMIT}
 use Rattle.loose_text.specs.declared.item.Item.{Item}
 use Rattle.loose_text.specs.declared.item.ItemLine.{ItemLine}
 use Rattle.loose_text.specs.Packings.{plain_of}
@@ -78,8 +79,8 @@ after s n value =
 
 -- The number of a break or a nop fits a unit other than X.
 abbrev pub IsNarrow : Op → Type 0
-IsNarrow (op.Break u imm) = imm < 2 ^ 21
-IsNarrow (op.Nop u imm) = imm < 2 ^ 21
+IsNarrow (op.Break u imm) = imm < NARROW_LIMIT
+IsNarrow (op.Nop u imm) = imm < NARROW_LIMIT
 IsNarrow x = ⊤
 
 -- It does without its unit letter, since the unit is then I.

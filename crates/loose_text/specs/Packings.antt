@@ -1,16 +1,10 @@
 -- Which bundle each instruction of a loose text is in, where they are packed in order.
-use Rattle.std.specs.Prelude.{Bool, true, false, not, ◌&&◌, if◌then◌else◌, List, [], ◌∷◌, ◌++◌, is_some}
-use Rattle.ia_insn.specs.declared.insn.Op.{Op}
-use Rattle.ia_insn.specs.declared.insn.Op.TheVariants.{BrCall, BrCallInd}
+use Rattle.std.specs.Prelude.{Bool, false, not, ◌&&◌, if◌then◌else◌, List, [], ◌∷◌, ◌++◌, is_some}
+use Rattle.ia_meaning.specs.Landings.{is_call}
 use Rattle.slot_layouts.specs.declared.layout.Wanted.{Wanted}
 use Rattle.slot_layouts.specs.Classes.{class_of}
 use Rattle.slot_layouts.specs.Layouts.{laid_out}
 use Rattle.loose_text.specs.declared.item.Item.{Item}
-
-abbrev pub is_call : Op → Bool
-is_call (BrCall b1 wh many clr disp) = true
-is_call (BrCallInd b1 b2 wh many clr) = true
-is_call op = false
 
 -- What an item wants of the layout of its bundle, where a stop is wanted between it and the one before it or not.
 abbrev pub wanted_as : Item → Bool → Wanted

@@ -18,13 +18,13 @@ abbrev pub IsMarked : LooseParts → ℕ → Type 0
 IsMarked s n = get_or (marks s) n false ≡ true
 
 -- what a label may name: a marked instruction, or a byte of data or their end
-abbrev pub IsKnown : LooseParts → Address → Type 0
-IsKnown s (Bundle n) = IsMarked s n
-IsKnown s (Byte at) = at ≤ DATA_LIMIT
+abbrev pub MayBeNamed : LooseParts → Address → Type 0
+MayBeNamed s (Bundle n) = IsMarked s n
+MayBeNamed s (Byte at) = at ≤ DATA_LIMIT
 
 -- The instructions are listed, and labels and relations are of marked ones.
 pub record IsSound (s : LooseParts) : Type 0 where
   pub listed : AllByRecursion (λ (l : ItemLine). IsListed l.item.insn) s.items
-  pub labels : AllByRecursion (IsKnown s) (values_of s.declared.labels)
+  pub labels : AllByRecursion (MayBeNamed s) (values_of s.declared.labels)
   pub relations : AllByRecursion (λ (l : RelationLine). IsMarked s l.bundle) s.declared.relations
   pub bytes : length s.declared.bytes ≤ DATA_LIMIT

@@ -1,9 +1,10 @@
 //! Packing instructions into bundles in order.
 
 ghost use Rattle.std.specs.Prelude.{◌≡◌, ◌↔◌, ◌<◌, ◌≤◌, true, false, IsTrue, MatchOption, IfSome, Some, List, [], ◌∷◌, ◌++◌, length};
-ghost use Rattle.ia_insn.specs.declared.limits.TheConstants.{BUNDLE_LIMIT as BUNDLE_COUNT};
+ghost use Rattle.ia_insn.specs.declared.limits.TheConstants.{BUNDLE_LIMIT};
 ghost use Rattle.ia_insn.specs.Programs.{IsCall};
-ghost use Rattle.loose_text.specs.Packings.{is_call, wanted_as, joins, plain_of};
+ghost use Rattle.ia_meaning.specs.Landings.{is_call};
+ghost use Rattle.loose_text.specs.Packings.{wanted_as, joins, plain_of};
 ghost use Rattle.loose_text.specs.PlainPackings.{held, IsPacked, ArePacked};
 ghost use Rattle.loose_text.specs.declared.item.Item.{Item as ItemOf};
 
@@ -102,7 +103,7 @@ impl PlainPacking {
 
     /// That with one instruction more.
     pub fn with(&self, item: &Item) -> Self
-        requires { self.now.bundles ≤ BUNDLE_COUNT }
+        requires { self.now.bundles ≤ BUNDLE_LIMIT }
         ensures { (items : List ItemOf) → IsPacked items (held self.now.held) self.now.before self.now.bundles → IsPacked (items ++ item.now ∷ []) (held result.held) result.before result.bundles }
     {
         match joined(self.held, &self.before, item) {
@@ -124,7 +125,7 @@ impl PlainPacking {
 
 /// The plain packing of instructions with one more.
 fn with_next(packing: Option<PlainPacking>, item: &Item) -> PlainPacking
-    requires { IfSome packing (λ p. p.bundles ≤ BUNDLE_COUNT) }
+    requires { IfSome packing (λ p. p.bundles ≤ BUNDLE_LIMIT) }
     ensures { (items : List ItemOf) → ArePacked items packing → IsPacked (items ++ item.now ∷ []) (held result.held) result.before result.bundles }
 {
     match packing {
@@ -135,8 +136,8 @@ fn with_next(packing: Option<PlainPacking>, item: &Item) -> PlainPacking
 
 /// The plain packing of instructions with one more. None where it has too many bundles.
 pub(crate) fn packed_with(packing: Option<PlainPacking>, item: &Item) -> Option<PlainPacking>
-    requires { IfSome packing (λ p. p.bundles ≤ BUNDLE_COUNT) }
-    ensures { (items : List ItemOf) → ArePacked items packing → MatchOption result (¬ (length (plain_of (items ++ item.now ∷ [])) ≤ BUNDLE_COUNT)) (λ p. (length (plain_of (items ++ item.now ∷ [])) ≤ BUNDLE_COUNT) × ArePacked (items ++ item.now ∷ []) (Some p)) }
+    requires { IfSome packing (λ p. p.bundles ≤ BUNDLE_LIMIT) }
+    ensures { (items : List ItemOf) → ArePacked items packing → MatchOption result (¬ (length (plain_of (items ++ item.now ∷ [])) ≤ BUNDLE_LIMIT)) (λ p. (length (plain_of (items ++ item.now ∷ [])) ≤ BUNDLE_LIMIT) × ArePacked (items ++ item.now ∷ []) (Some p)) }
 {
     let packing = with_next(packing, item);
     if packing.bundles as usize > BUNDLE_LIMIT {

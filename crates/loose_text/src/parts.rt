@@ -2,7 +2,7 @@
 
 ghost use Rattle.std.specs.Prelude.{◌≡◌, ◌↔◌, ◌*◌, ◌≤◌, ◌<◌, ◌^◌, IsTrue, OnOk, IfErr, length};
 ghost use Rattle.first_fault.specs.Stages.{ArePassed};
-ghost use Rattle.ia_insn.specs.declared.limits.TheConstants.{BUNDLE_LIMIT as BUNDLE_COUNT};
+ghost use Rattle.ia_insn.specs.declared.limits.TheConstants.{BUNDLE_LIMIT};
 ghost use Rattle.asm_reading.specs.declared.line.Line.TheVariants as line;
 ghost use Rattle.asm_build.specs.TextParts.{AreLabelsBelow};
 ghost use Rattle.loose_text.specs.LooseParts.{LooseParts as PartsOf, start, items_of, after, value_stages, IsValueError, IsNarrow};
@@ -18,7 +18,7 @@ use std::alloc::Global;
 use std::marker::Model;
 
 /// How large a number a break or a nop may have of a unit other than X, and one more.
-const NUMBER_LIMIT: u64 = 1 << 21;
+pub(crate) const NARROW_LIMIT: u64 = 1 << 21;
 
 /// What the lines so far say. Contracts see what they declare, the instructions, and whether a label of text or a
 /// relation came after the last of them.
@@ -43,7 +43,7 @@ fn is_narrow(op: &Op) -> bool
     ensures { IsTrue result ↔ IsNarrow op.now }
 {
     match op {
-        Op::Break { imm, .. } | Op::Nop { imm, .. } => *imm < NUMBER_LIMIT,
+        Op::Break { imm, .. } | Op::Nop { imm, .. } => *imm < NARROW_LIMIT,
         _ => true,
     }
 }
@@ -71,7 +71,7 @@ impl LooseParts {
     /// The number of the next instruction.
     pub fn next(&self) -> u32
         ensures value { result ≡ length self.now.items }
-        ensures few { result ≤ 3 * BUNDLE_COUNT }
+        ensures few { result ≤ 3 * BUNDLE_LIMIT }
     {
         self.items.len() as u32
     }

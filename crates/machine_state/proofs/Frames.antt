@@ -1,5 +1,5 @@
 -- Frames that are written: renamed ones, and those of previous function states.
-use Rattle.std.proofs.Common.{ℕ, zero, suc, List, [], ◌∷◌, ◌+◌, ◌-◌, ◌/◌, ◌%◌, ◌^◌, ◌≡◌, ◌≤◌, length, None, arith, refl, ◌∙◌, ap}
+use Rattle.std.proofs.Common.{ℕ, zero, suc, List, [], ◌∷◌, ◌+◌, ◌-◌, ◌/◌, ◌%◌, ◌^◌, ◌≡◌, ◌≤◌, length, arith, refl, ◌∙◌, ap}
 use Rattle.std.proofs.lemmas.Nat.{field_of}
 use Rattle.std.proofs.Math.Pow.{mod-mod-pow}
 use Rattle.std.specs.Option.{option_map}
@@ -11,8 +11,7 @@ use Rattle.ia_meaning.specs.declared.write.Write.TheVariants.{SetFrame}
 use Rattle.ia_meaning.specs.declared.write.FrameCause.TheVariants.{Renamed}
 use Rattle.ia_meaning.specs.Writes.{resized, put}
 use Rattle.ia_meaning.specs.Frames.{marked_frame, return_fault}
-use Rattle.frame_shapes.specs.Faults.{kind_of, return_fault_within, returned_frame, ReturnFaultIsThat}
-use Rattle.frame_shapes.proofs.Returns.{return_free}
+use Rattle.frame_shapes.specs.Faults.{kind_of, return_fault_within, ReturnFaultIsThat}
 
 -- cells that end where the frame does are neither cut nor filled up
 resized-whole : (n : ℕ) (cells : List Cell) → length cells ≡ n → resized n cells ≡ cells
@@ -36,17 +35,10 @@ low_field n j low width h =
     ap (λ i. n % 2 ^ i / 2 ^ low % 2 ^ width) e ∙ ap (λ q. q % 2 ^ width) (field_of n (j - low) low) ∙ low_low (n / 2 ^ low) (j - low) width (omega arith)
 
 -- a frame's marker is in the low bits
-pub marked_low : (base pfs : ℕ) → marked_frame base (pfs % 2 ^ 38) ≡ marked_frame base pfs
+marked_low : (base pfs : ℕ) → marked_frame base (pfs % 2 ^ 38) ≡ marked_frame base pfs
 unfolding marked_frame
 marked_low base pfs =
     rw (low_low pfs 38 7 (omega arith), low_field pfs 38 7 7 (omega arith), low_field pfs 38 14 4 (omega arith), low_field pfs 38 18 7 (omega arith), low_field pfs 38 25 7 (omega arith), low_field pfs 38 32 6 (omega arith)) refl
 
-pub returned_low : (base pfs : ℕ) → returned_frame base (pfs % 2 ^ 38) ≡ returned_frame base pfs
-returned_low base pfs = rw (marked_low base pfs) (marked_low _ pfs)
-
 pub return_fault_low : ReturnFaultIsThat → (limit base pfs : ℕ) → limit ≡ STACK_LIMIT → option_map kind_of (return_fault_within limit base (marked_frame base (pfs % 2 ^ 38))) ≡ return_fault base (marked_frame base pfs)
 return_fault_low same limit base pfs e = rw (e, marked_low base pfs) (same base (marked_frame base pfs))
-
--- so a return that has no fault has none there
-pub free_low : (limit base pfs : ℕ) → limit ≡ STACK_LIMIT → return_fault base (marked_frame base pfs) ≡ None → return_fault_within limit base (marked_frame base (pfs % 2 ^ 38)) ≡ None
-free_low limit base pfs e free = return_free limit base (marked_frame base (pfs % 2 ^ 38)) e (rw (marked_low base pfs) free)

@@ -15,7 +15,7 @@ ghost use Rattle.slot_effects.specs.Changes.{application_write, set_at, FitsAppl
 ghost use Rattle.machine_state.specs.Changes.{outcome_with, MayChange};
 
 use crate::state::MachineState;
-use frame_shapes::{call_state, epilog_of, marker_of};
+use frame_shapes::{call_state, epilog_of};
 use ia_insn::{Ar, Br, Gr, Pr};
 use ia_meaning::{Cell, Turn};
 use integer_ops::bit;
@@ -173,12 +173,12 @@ impl MachineState {
     }
 
     /// Enters the frame of the previous function state, and takes its epilog count.
-    #[tactic(auto, using(crate::proofs::Frames::free_low, crate::proofs::Frames::returned_low))]
+    #[tactic(auto, using(frame_shapes::proofs::Returns::return_free))]
     fn ret(&mut self)
         requires { return_fault self.old.registers.frame.base (marked_frame self.old.registers.frame.base self.old.registers.pfs) ≡ None }
         ensures { self.new ≡ left_by (outcome_with self.old Returned Falls) self.old }
     {
-        self.stack.leave(marker_of(self.pfs));
+        self.stack.leave(self.pfs);
         self.ec = epilog_of(self.pfs);
     }
 

@@ -6,7 +6,7 @@ ghost use Rattle.predicate_rel.specs.Pairs.{has_bit};
 
 /// The bit of a row.
 #[tactic(auto, using(crate::proofs::BitLemmas::has_bit_test))]
-pub fn bit(word: u64, y: u8) -> bool
+pub fn has_bit(word: u64, y: u8) -> bool
     requires { y < 64 }
     ensures { result ≡ has_bit word y }
 {

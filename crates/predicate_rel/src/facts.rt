@@ -6,7 +6,7 @@ ghost use Rattle.predicate_rel.specs.Pairs.{Table, has_bit, pairs_of, no_pairs, 
 ghost use Rattle.predicate_rel.specs.Changes.{AgreeOutside};
 ghost use Rattle.predicate_rel.specs.Rules.{action_rule, pairs_by, pairs_after};
 
-use crate::bits::{bit, both, is_within, lowest, with_bit, with_bit_where, without};
+use crate::bits::{both, has_bit, is_within, lowest, with_bit, with_bit_where, without};
 use crate::edge::Edge;
 use crate::rows::keeps_pairs;
 use ia_insn::{Insn, Pr};
@@ -134,7 +134,7 @@ impl Facts {
         requires right { y < 64 }
         ensures { result ≡ pairs_of self.now x y }
     {
-        bit(self.rows[x as usize], y)
+        has_bit(self.rows[x as usize], y)
     }
 
     /// The pairs of the x-th predicate.

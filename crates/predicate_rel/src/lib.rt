@@ -15,7 +15,7 @@ mod laws;
 mod narrow;
 mod rows;
 
-pub use bits::bit;
+pub use bits::has_bit;
 pub use edge::Edge;
 pub use facts::Facts;
 pub use laws::{law_facts, law_unordered};

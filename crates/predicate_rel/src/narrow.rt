@@ -6,7 +6,7 @@ ghost use Rattle.predicate_rel.specs.Pairs.{Pairs, has_bit, pairs_of, common, Is
 ghost use Rattle.predicate_rel.specs.Changes.{AgreeOutside, HasAllRows};
 ghost use Rattle.predicate_rel.specs.Rules.{action_rule, pairs_by};
 
-use crate::bits::{all_if, bit, either, lowest, moved_up, with_bit, with_bit_where, without};
+use crate::bits::{all_if, either, has_bit, lowest, moved_up, with_bit, with_bit_where, without};
 use crate::edge::Edge;
 use crate::facts::Facts;
 use ia_insn::Pr;
@@ -22,10 +22,10 @@ fn reached(action: &Action, qp: Pr, changed: u64) -> u64
 {
     match *action {
         Action::Test { p1, p2, .. } => {
-            let own = with_bit_where(changed, p2.number(), bit(changed, p1.number()));
-            either(own, all_if(bit(changed, qp.number())))
+            let own = with_bit_where(changed, p2.number(), has_bit(changed, p1.number()));
+            either(own, all_if(has_bit(changed, qp.number())))
         }
-        Action::ToPredicates { .. } => either(changed, all_if(bit(changed, qp.number()))),
+        Action::ToPredicates { .. } => either(changed, all_if(has_bit(changed, qp.number()))),
         Action::Loop { .. } => either(changed, moved_up(changed)),
         _ => changed,
     }

@@ -6,7 +6,9 @@ ghost use Rattle.predicate_rel.specs.Pairs.{has_bit, pairs_of};
 ghost use Rattle.predicate_rel.specs.Rules.{PairRule, one, always, never, is_met, kept_rule, written_rule, raised_rule, is_target, test_rule, is_moved, falls_rule, static_rule, name_before, rotated_rule, loop_rule, action_rule};
 ghost use Rattle.predicate_rel.specs.Rows.{HasBits, IsRow};
 
-use crate::bits::{all_if, bit, both, chosen, joined, kept_if, moved_up, with_bit, with_bit_where};
+use crate::bits::{
+    all_if, both, chosen, has_bit, joined, kept_if, moved_up, with_bit, with_bit_where,
+};
 use crate::edge::Edge;
 use crate::facts::Facts;
 use ia_insn::{BranchKind, CmpKind, Pr};
@@ -38,7 +40,7 @@ fn targets(p1: Pr, p2: Pr) -> u64
 fn masked_row(mask: u64) -> u64
     ensures { HasBits result (is_moved mask) }
 {
-    with_bit(joined(mask, all_if(bit(mask, 16))), 0, false)
+    with_bit(joined(mask, all_if(has_bit(mask, 16))), 0, false)
 }
 
 /// The name before a rotation of what is named x after it, which isn't p16.
@@ -113,9 +115,9 @@ impl Facts {
         requires { x < 64 }
         ensures { (test : ℕ → Bool) (both : ℕ → ℕ → PairRule) → test 0 ≡ false → HasBits written test → IsRow pairs (both x) (pairs_of self.now) → IsRow result (written_rule test both (λ _. kept) g x) (pairs_of self.now) }
     {
-        if bit(written, x) {
+        if has_bit(written, x) {
             let row = self.kept_row(kept, g, x);
-            with_bit(chosen(written, pairs, row), x, bit(row, 0))
+            with_bit(chosen(written, pairs, row), x, has_bit(row, 0))
         } else {
             chosen(written, self.kept_column(kept, g, x), self.row(x))
         }
@@ -155,9 +157,9 @@ impl Facts {
         let raised = targets(p1, p1);
         let written = targets(p1, p2);
         let row = self.row(x);
-        if bit(raised, x) {
+        if has_bit(raised, x) {
             self.written_row(written, row, Kept::Both, g, x)
-        } else if bit(written, x) {
+        } else if has_bit(written, x) {
             self.written_row(written, row, Kept::Own, g, x)
         } else {
             self.written_row(raised, row, Kept::Both, g, x)

@@ -12,8 +12,8 @@ ghost use Rattle.reg_stack.specs.Stacks.{empty_stack, IsStack, cell_or_fault, pl
 
 use crate::moves::{move_cells, zero_ring};
 use frame_shapes::{
-    StackFault, allocated, called, cell_of, cleared, range_after, returned, returned_frame,
-    rotated, with_sizes, zero_frame, zero_range,
+    StackFault, alloc_fault_within, called, cell_of, cleared, marked_frame, range_after,
+    return_fault_within, returned_frame, rotated, with_sizes, zero_frame, zero_range,
 };
 use ia_insn::Gr;
 use ia_meaning::{Cell, FrameShape, Rse};
@@ -180,9 +180,10 @@ impl Stack {
         requires rotating { 8 * sor ≤ sof }
         ensures { result_err result ≡ alloc_fault_within self.now.limit self.now.frame (with_sizes self.now.frame sof sol sor) }
     {
-        match allocated(self.limit, &self.shape, sof, sol, sor) {
-            Ok(_) => Ok(()),
-            Err(fault) => Err(fault),
+        let new = with_sizes(&self.shape, sof, sol, sor);
+        match alloc_fault_within(self.limit, &self.shape, &new) {
+            Some(fault) => Err(fault),
+            None => Ok(()),
         }
     }
 
@@ -194,14 +195,14 @@ impl Stack {
         self.enter(frame);
     }
 
-    /// A return to the frame of a previous function state, as [`Stack::ret`] makes it, where that is known to have no fault.
+    /// A return to the frame of a previous function state, as [`Stack::ret`] makes it, where that is known to have no
+    /// fault. The marker is in the low 38 bits, and the others count for nothing.
     #[tactic(auto, using(frame_shapes::proofs::Returns::may_return))]
-    pub fn leave(&mut self, pfm: u64)
-        requires marker { pfm < 2 ^ 38 }
-        requires free { return_fault_within self.old.limit self.old.frame.base (marked_frame self.old.frame.base pfm) ≡ None }
-        ensures { self.new ≡ entered self.old (returned_frame self.old.frame.base pfm) }
+    pub fn leave(&mut self, pfs: u64)
+        requires { return_fault_within self.old.limit self.old.frame.base (marked_frame self.old.frame.base pfs) ≡ None }
+        ensures { self.new ≡ entered self.old (returned_frame self.old.frame.base pfs) }
     {
-        let frame = returned_frame(self.shape.base, pfm);
+        let frame = returned_frame(self.shape.base, pfs);
         self.enter(frame);
     }
 
@@ -231,9 +232,10 @@ impl Stack {
         requires { pfm < 2 ^ 38 }
         ensures { result_err result ≡ return_fault_within self.now.limit self.now.frame.base (marked_frame self.now.frame.base pfm) }
     {
-        match returned(self.limit, self.shape.base, pfm) {
-            Ok(_) => Ok(()),
-            Err(fault) => Err(fault),
+        let marked = marked_frame(self.shape.base, pfm);
+        match return_fault_within(self.limit, self.shape.base, &marked) {
+            Some(fault) => Err(fault),
+            None => Ok(()),
         }
     }
 

@@ -11,7 +11,7 @@ use Rattle.resource_sets.specs.declared.access.Kind.{Kind}
 use Rattle.resource_sets.specs.declared.access.Kind.TheVariants.{Read, BranchRead, Write, AllocWrite, LoopWrite, OrWrite, AndWrite, Spill, Fill}
 use Rattle.resource_sets.specs.declared.bits.AccessBits.{AccessBits}
 use Rattle.resource_sets.specs.Clashes.{is_resource, clash_of}
-use Rattle.resource_sets.specs.Bits.{fits, Column, register, predicate, loop_target, or_target, and_target, branch, other, bit_of, column_of, is_column, is_seen, bars, other_made, other_barred}
+use Rattle.resource_sets.specs.Bits.{is_used_so, Column, register, predicate, loop_target, or_target, and_target, branch, other, bit_of, column_of, is_column, is_seen, bars, other_made, other_barred}
 use Rattle.resource_sets.proofs.BitWords.{or_false, bit_none, bit_more, bit_barred, bit_or_at, bit_power}
 
 pub neither : (x y : Bool) → (x || y) ≡ false → (x ≡ false) × (y ≡ false)
@@ -118,20 +118,20 @@ pfs_bars q k h = refl
 pub kept : (s : AccessBits) (r : Resource) (kind : Kind) (q : Resource) (k : Kind) → bars r kind q k ≡ false → bit_of s (column_of q k) ≡ (bit_of s (column_of q k) || bars r kind q k)
 kept s r kind q k e = rw e (sym (or_false (bit_of s (column_of q k))))
 
-pub register_kept : (s : AccessBits) (r : ℕ) (kind : Kind) → fits (Gr r) kind ≡ true → (kind ≡ Write → ⊥) → (q : Resource) (k : Kind)
+pub register_kept : (s : AccessBits) (r : ℕ) (kind : Kind) → is_used_so (Gr r) kind ≡ true → (kind ≡ Write → ⊥) → (q : Resource) (k : Kind)
     → bit_of s (column_of q k) ≡ (bit_of s (column_of q k) || bars (Gr r) kind q k)
 register_kept s r Read f n q k = kept s (Gr r) Read q k (read_bars (Gr r) q k)
 register_kept s r Write f n q k = absurd (n refl)
 register_kept s r kind f n q k = absurd (true≢false (sym f))
 
-pub branch_kept : (s : AccessBits) (b : ℕ) (kind : Kind) → fits (Br b) kind ≡ true → (kind ≡ Write → ⊥) → (q : Resource) (k : Kind) → is_seen q k ≡ true
+pub branch_kept : (s : AccessBits) (b : ℕ) (kind : Kind) → is_used_so (Br b) kind ≡ true → (kind ≡ Write → ⊥) → (q : Resource) (k : Kind) → is_seen q k ≡ true
     → bit_of s (column_of q k) ≡ (bit_of s (column_of q k) || bars (Br b) kind q k)
 branch_kept s b Read f n q k h = kept s (Br b) Read q k (read_bars (Br b) q k)
 branch_kept s b BranchRead f n q k h = kept s (Br b) BranchRead q k (branch_bars b q k h)
 branch_kept s b Write f n q k h = absurd (n refl)
 branch_kept s b kind f n q k h = absurd (true≢false (sym f))
 
-pub predicate_kept : (s : AccessBits) (p : ℕ) (kind : Kind) → fits (Pr p) kind ≡ true → (kind ≡ BranchRead → ⊥) → (kind ≡ Write → ⊥) → (kind ≡ LoopWrite → ⊥) → (kind ≡ OrWrite → ⊥) → (kind ≡ AndWrite → ⊥)
+pub predicate_kept : (s : AccessBits) (p : ℕ) (kind : Kind) → is_used_so (Pr p) kind ≡ true → (kind ≡ BranchRead → ⊥) → (kind ≡ Write → ⊥) → (kind ≡ LoopWrite → ⊥) → (kind ≡ OrWrite → ⊥) → (kind ≡ AndWrite → ⊥)
     → (q : Resource) (k : Kind) → bit_of s (column_of q k) ≡ (bit_of s (column_of q k) || bars (Pr p) kind q k)
 predicate_kept s p Read f a b c d e q k = kept s (Pr p) Read q k (read_bars (Pr p) q k)
 predicate_kept s p BranchRead f a b c d e q k = absurd (a refl)
@@ -330,7 +330,7 @@ alloc_write Unat Spill o h = refl
 alloc_write q k o h = refl
 
 -- and what all of them bar
-other_bars : (r : Resource) (kind : Kind) (q : Resource) (k : Kind) → is_other r ≡ true → is_other q ≡ true → fits r kind ≡ true → is_seen q k ≡ true → bit (other_barred r kind) (place q k) ≡ bars r kind q k
+other_bars : (r : Resource) (kind : Kind) (q : Resource) (k : Kind) → is_other r ≡ true → is_other q ≡ true → is_used_so r kind ≡ true → is_seen q k ≡ true → bit (other_barred r kind) (place q k) ≡ bars r kind q k
 other_bars (Gr r) kind q k o oq f h = absurd (true≢false (sym o))
 other_bars (Pr r) kind q k o oq f h = absurd (true≢false (sym o))
 other_bars (Br r) kind q k o oq f h = absurd (true≢false (sym o))
@@ -376,7 +376,7 @@ same_others s w (Pr n) k o = refl
 same_others s w (Br n) k o = refl
 same_others s w q k o = absurd (true≢false o)
 
-pub other_barred_exact : (s : AccessBits) (r : Resource) (kind : Kind) → is_other r ≡ true → fits r kind ≡ true → (q : Resource) (k : Kind) → is_seen q k ≡ true
+pub other_barred_exact : (s : AccessBits) (r : Resource) (kind : Kind) → is_other r ≡ true → is_used_so r kind ≡ true → (q : Resource) (k : Kind) → is_seen q k ≡ true
     → bit_of (record s { others = bit_or s.others (other_barred r kind) }) (column_of q k) ≡ (bit_of s (column_of q k) || bars r kind q k)
 other_barred_exact s r kind o f q k h = elim (cases_Bool (is_other q)) [
   | inl oq ↦ rw (column_at q k oq) (bit_or_at s.others (other_barred r kind) (place q k) ∙ ap (λ (b : Bool). bit s.others (place q k) || b) (other_bars r kind q k o oq f h))

@@ -19,7 +19,7 @@ use Rattle.resource_sets.specs.Rows.{access, listed}
 use Rattle.resource_sets.specs.Accesses.{place_rows, mask_rows, placed_rows, frame_row, qp_rows, own_rows, accesses_of}
 use Rattle.resource_sets.specs.Clashes.{is_resource}
 use Rattle.resource_sets.specs.ResourceSets.{has_resource}
-use Rattle.resource_sets.specs.AccessSets.{IsIn, AreSetsOf, placed_kind}
+use Rattle.resource_sets.specs.AccessSets.{IsInSet, AreSetsOf, placed_kind}
 use Rattle.resource_sets.proofs.Listing.{in_parts}
 
 -- the empty list has no element
@@ -124,7 +124,7 @@ pub set_of_alike : (qp : ℕ) (kind : Kind) (rows : List AccessRow) (s : AccessS
 set_of_alike qp kind rows s alike k u h = record {
   has = λ a c. let i = in_alike qp kind rows alike a c in (s, in_head s s [] refl, record { kind = k ∙ i.0; guard = u ∙ i.1; resource = h a.resource ∙ i.2 });
   only = λ a (x, m, i). elim (cases_in s x [] m) [
-    | inl e ↦ (let j = subst (IsIn a) (sym e) i in alike_in qp kind rows alike a (sym k ∙ j.kind) (sym u ∙ j.guard) (sym (h a.resource) ∙ j.resource))
+    | inl e ↦ (let j = subst (IsInSet a) (sym e) i in alike_in qp kind rows alike a (sym k ∙ j.kind) (sym u ∙ j.guard) (sym (h a.resource) ∙ j.resource))
     | inr d ↦ absurd (not_in_none x d)
   ];
 }
@@ -133,11 +133,11 @@ set_of_alike qp kind rows s alike k u h = record {
 pub set_of_row : (qp : ℕ) (row : AccessRow) (s : AccessSet) → row.there ≡ true → s.kind ≡ (access qp row).kind → s.guard ≡ (access qp row).guard → ((q : Resource) → has_resource s.resources q ≡ is_resource (access qp row).resource q) → AreSetsOf (listed qp (row ∷ [])) (s ∷ [])
 set_of_row qp row s there k u h = rw there (record {
   has = λ a c. elim (cases_in (access qp row) a [] c) [
-    | inl e ↦ (s, in_head s s [] refl, subst (λ (b : Access). IsIn b s) e (record { kind = k; guard = u; resource = h row.resource ∙ resource_itself row.resource }))
+    | inl e ↦ (s, in_head s s [] refl, subst (λ (b : Access). IsInSet b s) e (record { kind = k; guard = u; resource = h row.resource ∙ resource_itself row.resource }))
     | inr d ↦ absurd (not_in_none a d)
   ];
   only = λ a (x, m, i). elim (cases_in s x [] m) [
-    | inl e ↦ (let j = subst (IsIn a) (sym e) i in
+    | inl e ↦ (let j = subst (IsInSet a) (sym e) i in
         in_head (access qp row) a [] (λ n. record {
           resource = same_resource row.resource a.resource (sym (h a.resource) ∙ j.resource) n;
           kind = (sym k ∙ j.kind) n;

@@ -23,17 +23,17 @@ use Rattle.resource_sets.specs.Rows.{access, listed}
 use Rattle.resource_sets.specs.Accesses.{own_rows, place_rows, mask_rows, placed_rows, frame_row, qp_rows, accesses_of}
 use Rattle.resource_sets.specs.Clashes.{is_resource, clash_of, clash}
 use Rattle.resource_sets.specs.Masks.{may_clash}
-use Rattle.resource_sets.specs.Bits.{IsWithin, AreWithin, fits, all_fit, Column, register, predicate, loop_target, or_target, and_target, branch, other, bit_of, column_of, is_column, is_later, is_made, is_seen, bars, ShareBit, AreBits}
+use Rattle.resource_sets.specs.Bits.{IsNumberInRange, AreNumbersInRange, is_used_so, are_used_so, Column, register, predicate, loop_target, or_target, and_target, branch, other, bit_of, column_of, is_column, is_later, is_made, is_seen, bars, ShareBit, AreBits}
 use Rattle.resource_sets.proofs.Listing.{listed_append, in_parts}
 use Rattle.resource_sets.proofs.BitWords.{or_false, bit_none}
 
 -- one more access
-pub bits_more : (earlier : List Access) (a : Access) (made barred made_on barred_on : AccessBits) → fits a.resource a.kind ≡ true
+pub bits_more : (earlier : List Access) (a : Access) (made barred made_on barred_on : AccessBits) → is_used_so a.resource a.kind ≡ true
     → ((c : Column) → bit_of made_on c ≡ (bit_of made c || is_made c a.resource a.kind))
     → ((q : Resource) (k : Kind) → is_seen q k ≡ true → bit_of barred_on (column_of q k) ≡ (bit_of barred (column_of q k) || bars a.resource a.kind q k))
     → AreBits earlier made barred → AreBits (earlier ++ a ∷ []) made_on barred_on
 bits_more earlier a made barred made_on barred_on f m b h = record {
-  fit = list_all-append (λ x. fits x.resource x.kind) earlier (a ∷ []) ∙ and_from _ _ h.fit (and_from _ _ f refl);
+  fit = list_all-append (λ x. is_used_so x.resource x.kind) earlier (a ∷ []) ∙ and_from _ _ h.fit (and_from _ _ f refl);
   of_made = λ c. m c ∙ ap (λ (t : Bool). t || is_made c a.resource a.kind) (h.of_made c) ∙ sym (one_more (λ x. is_made c x.resource x.kind));
   of_barred = λ q k s. b q k s ∙ ap (λ (t : Bool). t || bars a.resource a.kind q k) (h.of_barred q k s) ∙ sym (one_more (λ x. bars x.resource x.kind q k));
 }
@@ -42,7 +42,7 @@ bits_more earlier a made barred made_on barred_on f m b h = record {
     one_more p = list_any-append p earlier (a ∷ []) ∙ ap (λ (t : Bool). list_any p earlier || t) (or_false (p a))
 
 -- one more row that is there
-pub row_taken : (qp : ℕ) (earlier : List Access) (row : AccessRow) (made barred made_on barred_on : AccessBits) → row.there ≡ true → fits row.resource row.kind ≡ true
+pub row_taken : (qp : ℕ) (earlier : List Access) (row : AccessRow) (made barred made_on barred_on : AccessBits) → row.there ≡ true → is_used_so row.resource row.kind ≡ true
     → ((c : Column) → bit_of made_on c ≡ (bit_of made c || is_made c row.resource row.kind))
     → ((q : Resource) (k : Kind) → is_seen q k ≡ true → bit_of barred_on (column_of q k) ≡ (bit_of barred (column_of q k) || bars row.resource row.kind q k))
     → AreBits earlier made barred → AreBits (earlier ++ listed qp (row ∷ [])) made_on barred_on
@@ -67,12 +67,12 @@ rows_taken qp earlier rows n d short =
     append_assoc earlier (listed qp (take n rows)) (listed qp (get_or rows n d ∷ []))
     ∙ ap (λ (l : List Access). earlier ++ l) (sym (ap (listed qp) (take_more rows n d short) ∙ listed_append qp (take n rows) (get_or rows n d ∷ [])))
 
-pub within_at : (rows : List AccessRow) (n : ℕ) (d : AccessRow) → AreWithin rows → n < length rows → IsWithin (get_or rows n d).resource
+pub within_at : (rows : List AccessRow) (n : ℕ) (d : AccessRow) → AreNumbersInRange rows → n < length rows → IsNumberInRange (get_or rows n d).resource
 within_at [] n d w l = absurd (omega arith)
 within_at (x ∷ xs) zero d w l = w.0
 within_at (x ∷ xs) (suc n) d w l = within_at xs n d w.1 (omega arith)
 
-pub fits_at : (rows : List AccessRow) (n : ℕ) (d : AccessRow) → all_fit rows ≡ true → n < length rows → fits (get_or rows n d).resource (get_or rows n d).kind ≡ true
+pub fits_at : (rows : List AccessRow) (n : ℕ) (d : AccessRow) → are_used_so rows ≡ true → n < length rows → is_used_so (get_or rows n d).resource (get_or rows n d).kind ≡ true
 fits_at [] n d w l = absurd (omega arith)
 fits_at (x ∷ xs) zero d w l = (and_parts _ _ w).0
 fits_at (x ∷ xs) (suc n) d w l = fits_at xs n d (and_parts _ _ w).1 (omega arith)
@@ -99,7 +99,7 @@ none_bits (branch n) = bit_none n
 none_bits (other n) = bit_none n
 
 -- the rows of each action fit
-pub own_fit : (f : Action) → all_fit (own_rows f) ≡ true
+pub own_fit : (f : Action) → are_used_so (own_rows f) ≡ true
 own_fit (action.Fetch r1 (source.Application ar.Unat)) = refl
 own_fit (action.ToApplication ar.Unat r2 w) = refl
 own_fit (action.Test cmp.Normal p1 p2 r2 r3 c) = refl
@@ -107,11 +107,11 @@ own_fit (action.Loop branch.Cond disp) = refl
 own_fit (action.Call b1 (goal.Direct disp)) = refl
 own_fit f = refl
 
-place_fit : (left n mask : ℕ) (kind : Kind) → ((p : ℕ) → fits (Pr p) kind ≡ true) → all_fit (place_rows left n mask kind) ≡ true
+place_fit : (left n mask : ℕ) (kind : Kind) → ((p : ℕ) → is_used_so (Pr p) kind ≡ true) → are_used_so (place_rows left n mask kind) ≡ true
 place_fit zero n mask kind f = refl
 place_fit (suc left) n mask kind f = and_from _ _ (f n) (place_fit left (suc n) mask kind f)
 
-pub placed_fit : (f : Action) → all_fit (placed_rows f) ≡ true
+pub placed_fit : (f : Action) → are_used_so (placed_rows f) ≡ true
 unfolding mask_rows
 placed_fit (action.Fetch r1 source.Predicates) = place_fit 63 1 0x1ffff Read (λ p. refl)
 placed_fit (action.ToPredicates r2 mask w) = place_fit 63 1 mask Write (λ p. refl)
@@ -120,11 +120,11 @@ placed_fit (action.Call b1 (goal.Indirect b2)) = place_fit 63 1 0xfffe BranchRea
 placed_fit (action.Return b2) = place_fit 63 1 0xfffe BranchRead (λ p. refl)
 placed_fit f = refl
 
-place_within : (left n mask : ℕ) (kind : Kind) → n + left ≤ 64 → AreWithin (place_rows left n mask kind)
+place_within : (left n mask : ℕ) (kind : Kind) → n + left ≤ 64 → AreNumbersInRange (place_rows left n mask kind)
 place_within zero n mask kind l = tt
 place_within (suc left) n mask kind l = (omega arith, place_within left (suc n) mask kind (omega arith))
 
-pub placed_within : (f : Action) → AreWithin (placed_rows f)
+pub placed_within : (f : Action) → AreNumbersInRange (placed_rows f)
 unfolding mask_rows
 placed_within (action.Fetch r1 source.Predicates) = place_within 63 1 0x1ffff Read (omega arith)
 placed_within (action.ToPredicates r2 mask w) = place_within 63 1 mask Write (omega arith)
@@ -186,7 +186,7 @@ shared_clash firsts seconds m b n d f s share =
     let (y, second, made) = some_member (λ x. is_made share.column x.resource x.kind) seconds (sym (s.of_made share.column) ∙ share.of_second) in
     let parts = and_parts (is_later y.kind) (is_column share.column (column_of y.resource y.kind)) made in
     let column : share.column ≡ column_of y.resource y.kind = same_column share.column (column_of y.resource y.kind) parts.1 in
-    let seen : is_seen y.resource y.kind ≡ true = and_from _ _ parts.0 (second.all (λ x. fits x.resource x.kind) s.fit) in
+    let seen : is_seen y.resource y.kind ≡ true = and_from _ _ parts.0 (second.all (λ x. is_used_so x.resource x.kind) s.fit) in
     let (x, first, barred) = some_member (λ x. bars x.resource x.kind y.resource y.kind) firsts (sym (f.of_barred y.resource y.kind seen) ∙ subst (λ (c : Column). bit_of b c ≡ true) column share.of_first) in
     first.any (λ a. list_any (λ b. is_some (clash a b)) seconds) (second.any (λ b. is_some (clash x b)) (clash_bars x y ∙ barred))
 
@@ -197,7 +197,7 @@ clash_shared firsts seconds m b n d f s h =
     let (y, second, broken) = some_member (λ b. is_some (clash x b)) seconds some in
     let barred : bars x.resource x.kind y.resource y.kind ≡ true = sym (clash_bars x y) ∙ broken in
     let later : is_later y.kind ≡ true = clash_later x.kind y.kind (and_parts _ _ barred).1 in
-    let seen : is_seen y.resource y.kind ≡ true = and_from _ _ later (second.all (λ x. fits x.resource x.kind) s.fit) in (
+    let seen : is_seen y.resource y.kind ≡ true = and_from _ _ later (second.all (λ x. is_used_so x.resource x.kind) s.fit) in (
       column_of y.resource y.kind,
       and_from _ _ (f.of_barred y.resource y.kind seen ∙ first.any (λ x. bars x.resource x.kind y.resource y.kind) barred)
           (s.of_made (column_of y.resource y.kind) ∙ second.any (λ x. is_made (column_of y.resource y.kind) x.resource x.kind) (and_from _ _ later (column_itself (column_of y.resource y.kind)))),

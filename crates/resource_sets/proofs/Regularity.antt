@@ -40,7 +40,7 @@ use Rattle.resource_sets.specs.Rows.{is_named, access, gr, pr, listed}
 use Rattle.resource_sets.specs.Accesses.{test_rows, is_updated, base_row, own_rows, other_name, application, call_rows, counting_rows, rotating_rows, loop_rows, place_rows, mask_rows, placed_rows, reads_plainly, qp_rows, is_framed, any_framed, frame_row, rows_by_name, rows, reads_as_branch}
 use Rattle.resource_sets.specs.Clashes.{is_resource, clash_of, clash, writes_guard, may_write_guard}
 use Rattle.resource_sets.specs.AccessLaws.{AgreesOn, AgreesAtEach, AgreesByPlace, HasRow, HasAccess}
-use Rattle.resource_sets.specs.Regularity.{IsLoop, IsChange, NamedAsFound, AgreeByAccesses, frame_read, HasNamedAccess, IsTarget, IsName, IsPredicate, IsCountOrFrame, GoesBy, IsRegular, AccessesAreRegular, GuardsAreRead, IsPlaced, NamedAccessesAreAccesses, AccessesAreNamedOrPlaced, AccessesAreGuarded, AllocWritesAreOfAlloc, PredicatesAreRead, StaticsAreRead, ListedAreRows, AccessesAreListed, GuardsAreWritten, IsInRange, AccessesAreInRange, GuardsAreInRange, IsExcepted, AccessesClash, ChangesClash}
+use Rattle.resource_sets.specs.Regularity.{IsLoop, IsChange, NamedAsFound, AgreeByAccesses, frame_read, HasNamedAccess, IsTarget, IsName, IsPredicate, IsCountOrFrame, GoesBy, IsRegular, AccessesAreRegular, GuardsAreRead, IsAccessByPlace, NamedAccessesAreAccesses, AccessesAreNamedOrPlaced, AccessesAreGuarded, AllocWritesAreOfAlloc, PredicatesAreRead, StaticsAreRead, ListedAreRows, AccessesAreListed, GuardsAreWritten, IsInRange, AccessesAreInRange, GuardsAreInRange, IsExcepted, AccessesClash, ChangesClash}
 use Rattle.resource_sets.proofs.Listing.{has_left, has_right, mask_row}
 
 -- Rows of a list that is put together.
@@ -300,7 +300,7 @@ branch_kind : (f : Action) → is_indirect f ≡ true → IsPlacedKind f 0xfffe 
 branch_kind f e = record { some = inr (inl refl); branch_read = λ k. (e, low_masked) }
 
 places : (insn : Insn) (a : Access) (left n mask : ℕ) (kind : Kind) → IsPlacedKind (insn_action insn) mask kind → 1 ≤ n
-    → left + n ≤ 64 → HasRow insn.qp a (place_rows left n mask kind) → IsPlaced insn a
+    → left + n ≤ 64 → HasRow insn.qp a (place_rows left n mask kind) → IsAccessByPlace insn a
 places insn a zero n mask kind w h k r = absurd r
 places insn a (suc left) n mask kind w h k (inl r) =
     record {
@@ -315,11 +315,11 @@ places insn a (suc left) n mask kind w h k (inl r) =
 places insn a (suc left) n mask kind w h k (inr r) = places insn a left (suc n) mask kind w (omega arith) (omega arith) r
 
 masked : (insn : Insn) (a : Access) (mask : ℕ) (kind : Kind) → IsPlacedKind (insn_action insn) mask kind
-    → HasRow insn.qp a (mask_rows mask kind) → IsPlaced insn a
+    → HasRow insn.qp a (mask_rows mask kind) → IsAccessByPlace insn a
 unfolding mask_rows
 masked insn a mask kind w h = places insn a 63 1 mask kind w (omega arith) (omega arith) h
 
-placed : (insn : Insn) (a : Access) (f : Action) → insn_action insn ≡ f → HasRow insn.qp a (placed_rows f) → IsPlaced insn a
+placed : (insn : Insn) (a : Access) (f : Action) → insn_action insn ≡ f → HasRow insn.qp a (placed_rows f) → IsAccessByPlace insn a
 placed insn a (action.Fetch r1 source.Predicates) e h = masked insn a 0x1ffff Read (read_kind _ _) h
 placed insn a (action.Fetch r1 source) e h = absurd h
 placed insn a (action.ToPredicates r2 mask w) e h = masked insn a mask Write (write_kind _ _) h
@@ -337,7 +337,7 @@ named_or_placed insn a h = by_part (has_append insn.qp a (rows_by_name insn.qp f
     f = insn_action insn
 
     by_part : HasRow insn.qp a (rows_by_name insn.qp f) ⊎ HasRow insn.qp a (placed_rows f)
-        → HasNamedAccess insn a ⊎ IsPlaced insn a
+        → HasNamedAccess insn a ⊎ IsAccessByPlace insn a
     by_part (inl k) = inl k
     by_part (inr k) = inr (placed insn a f refl k)
 
@@ -354,7 +354,7 @@ alloc_writes insn a h e = by_part (named_or_placed insn a h)
     by_kind (inr (inl k)) = cc
     by_kind (inr (inr k)) = cc
 
-    by_part : HasNamedAccess insn a ⊎ IsPlaced insn a → (is_alloc (insn_action insn) ≡ true) × (a.resource ≡ Cfm)
+    by_part : HasNamedAccess insn a ⊎ IsAccessByPlace insn a → (is_alloc (insn_action insn) ≡ true) × (a.resource ≡ Cfm)
     by_part (inl k) = (regular insn a k).alloc_write e
     by_part (inr k) = absurd (by_kind k.kind)
 
@@ -475,7 +475,7 @@ pub guards_written : GuardsAreWritten
 guards_written insn a g h w x =
     may_write insn.qp a g (rows insn.qp (insn_action insn)) h (by_part (named_or_placed insn a h))
   where
-    by_part : HasNamedAccess insn a ⊎ IsPlaced insn a → writes_guard g a.resource a.kind ≡ true
+    by_part : HasNamedAccess insn a ⊎ IsAccessByPlace insn a → writes_guard g a.resource a.kind ≡ true
     by_part (inl k) = named_write insn a g (regular insn a k) w x
     by_part (inr k) = placed_write insn a g k.kind w x
 
@@ -510,7 +510,7 @@ name_in_range qp f _ b h = tt
 pub in_range : AccessesAreInRange
 in_range insn a listed h = by_part (named_or_placed insn a h)
   where
-    by_part : HasNamedAccess insn a ⊎ IsPlaced insn a → IsInRange a.resource
+    by_part : HasNamedAccess insn a ⊎ IsAccessByPlace insn a → IsInRange a.resource
     by_part (inl k) = name_in_range insn.qp (insn_action insn) a.resource (below insn.qp insn.op listed) (regular insn a k).name
     by_part (inr k) = rw k.resource (k.some, k.below)
 

@@ -15,7 +15,7 @@ use Rattle.resource_sets.specs.declared.access.Kind.TheVariants.{Read, BranchRea
 use Rattle.resource_sets.specs.declared.access.Access.{Access}
 use Rattle.resource_sets.specs.declared.bits.AccessBits.{AccessBits}
 use Rattle.resource_sets.specs.Clashes.{clash_of, writes_guard, may_write_guard}
-use Rattle.resource_sets.specs.Bits.{fits, bars, AreBits}
+use Rattle.resource_sets.specs.Bits.{is_used_so, bars, AreBits}
 use Rattle.resource_sets.proofs.BitWords.{bit_or_at, or_false}
 
 none : (a b : Bool) → ((a && false) || (b && false)) ≡ false
@@ -38,7 +38,7 @@ no true = refl
 no false = refl
 
 -- what writes a predicate bars a read of it, or of the frame
-writes_bars : (g : ℕ) (q : Resource) (k : Kind) → fits q k ≡ true → writes_guard g q k ≡ (bars q k (Pr g) Read || (is_rotating g && bars q k Cfm Read))
+writes_bars : (g : ℕ) (q : Resource) (k : Kind) → is_used_so q k ≡ true → writes_guard g q k ≡ (bars q k (Pr g) Read || (is_rotating g && bars q k Cfm Read))
 unfolding clash_of
 writes_bars g (Pr p) Read f = sym (none (eqb p g) (is_rotating g))
 writes_bars g (Pr p) BranchRead f = sym (none (eqb p g) (is_rotating g))
@@ -56,9 +56,9 @@ writes_bars g q k f = sym (no (is_rotating g))
 -- so it is of lists
 spread : (f h t : Access → Bool) (r : Bool) (fit : Access → Bool) (accesses : List Access) → ((a : Access) → fit a ≡ true → t a ≡ (f a || (r && h a))) → list_all fit accesses ≡ true
     → list_any t accesses ≡ (list_any f accesses || (r && list_any h accesses))
-spread f h t r fit [] each all_fit = sym (no r)
-spread f h t r fit (a ∷ accesses) each all_fit =
-    let parts = and_parts (fit a) (list_all fit accesses) all_fit in
+spread f h t r fit [] each are_used_so = sym (no r)
+spread f h t r fit (a ∷ accesses) each are_used_so =
+    let parts = and_parts (fit a) (list_all fit accesses) are_used_so in
     ap (λ (b : Bool). b || list_any t accesses) (each a parts.0)
     ∙ ap (λ (b : Bool). (f a || (r && h a)) || b) (spread f h t r fit accesses each parts.1)
     ∙ mixed (f a) (h a) r (list_any f accesses) (list_any h accesses)
@@ -81,7 +81,7 @@ rotating_bit y m = elim (cases_lt y 16) [
 module _ (accesses : List Access) (made barred : AccessBits) (h : AreBits accesses made barred) (g : ℕ) where
   written : may_write_guard g accesses ≡ (bit barred.predicates g || (is_rotating g && bit barred.others 5))
   written =
-      spread (λ a. bars a.resource a.kind (Pr g) Read) (λ a. bars a.resource a.kind Cfm Read) (λ a. writes_guard g a.resource a.kind) (is_rotating g) (λ a. fits a.resource a.kind) accesses
+      spread (λ a. bars a.resource a.kind (Pr g) Read) (λ a. bars a.resource a.kind Cfm Read) (λ a. writes_guard g a.resource a.kind) (is_rotating g) (λ a. is_used_so a.resource a.kind) accesses
       (λ a f. writes_bars g a.resource a.kind f) h.fit
       ∙ (rw (h.of_barred (Pr g) Read refl, h.of_barred Cfm Read refl) refl)
 

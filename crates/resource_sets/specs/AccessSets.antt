@@ -10,14 +10,14 @@ use Rattle.resource_sets.specs.declared.access_sets.AccessSet.{AccessSet}
 use Rattle.resource_sets.specs.ResourceSets.{has_resource}
 
 -- The access is in the set.
-pub record IsIn (a : Access) (set : AccessSet) : Type 0 where
+pub record IsInSet (a : Access) (set : AccessSet) : Type 0 where
   pub kind : set.kind ≡ a.kind
   pub guard : set.guard ≡ a.guard
   pub resource : has_resource set.resources a.resource ≡ true
 
 -- One of the sets has the access.
 abbrev pub HasSetWith : List AccessSet → Access → Type 0
-HasSetWith sets a = (set : AccessSet) × Contains sets set × IsIn a set
+HasSetWith sets a = (set : AccessSet) × Contains sets set × IsInSet a set
 
 -- The sets are sets of these accesses, and of no other.
 pub record AreSetsOf (accesses : List Access) (sets : List AccessSet) : Type 0 where

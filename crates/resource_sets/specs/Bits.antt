@@ -13,45 +13,45 @@ use Rattle.resource_sets.specs.declared.bits.AccessBits.{AccessBits}
 use Rattle.resource_sets.specs.Clashes.{is_resource, clash_of}
 
 -- the resource has a number of its sort
-abbrev pub IsWithin : Resource → Type 0
-IsWithin (Gr r) = r < 128
-IsWithin (Pr p) = p < 64
-IsWithin (Br b) = b < 8
-IsWithin q = Unit {0}
+abbrev pub IsNumberInRange : Resource → Type 0
+IsNumberInRange (Gr r) = r < 128
+IsNumberInRange (Pr p) = p < 64
+IsNumberInRange (Br b) = b < 8
+IsNumberInRange q = Unit {0}
 
-abbrev pub AreWithin : List AccessRow → Type 0
-AreWithin [] = Unit {0}
-AreWithin (row ∷ rows) = IsWithin row.resource × AreWithin rows
+abbrev pub AreNumbersInRange : List AccessRow → Type 0
+AreNumbersInRange [] = Unit {0}
+AreNumbersInRange (row ∷ rows) = IsNumberInRange row.resource × AreNumbersInRange rows
 
 -- a resource of this sort is accessed so by some instruction
-abbrev pub fits : Resource → Kind → Bool
-fits (Gr r) Read = true
-fits (Gr r) Write = true
-fits (Pr p) AllocWrite = false
-fits (Pr p) Spill = false
-fits (Pr p) Fill = false
-fits (Pr p) kind = true
-fits (Br b) Read = true
-fits (Br b) BranchRead = true
-fits (Br b) Write = true
-fits Unat Read = true
-fits Unat Write = true
-fits Unat Spill = true
-fits Unat Fill = true
-fits Pfs Read = true
-fits Pfs BranchRead = true
-fits Pfs Write = true
-fits Lc Read = true
-fits Lc Write = true
-fits Ec Read = true
-fits Ec Write = true
-fits Cfm Read = true
-fits Cfm Write = true
-fits Cfm AllocWrite = true
-fits q kind = false
+abbrev pub is_used_so : Resource → Kind → Bool
+is_used_so (Gr r) Read = true
+is_used_so (Gr r) Write = true
+is_used_so (Pr p) AllocWrite = false
+is_used_so (Pr p) Spill = false
+is_used_so (Pr p) Fill = false
+is_used_so (Pr p) kind = true
+is_used_so (Br b) Read = true
+is_used_so (Br b) BranchRead = true
+is_used_so (Br b) Write = true
+is_used_so Unat Read = true
+is_used_so Unat Write = true
+is_used_so Unat Spill = true
+is_used_so Unat Fill = true
+is_used_so Pfs Read = true
+is_used_so Pfs BranchRead = true
+is_used_so Pfs Write = true
+is_used_so Lc Read = true
+is_used_so Lc Write = true
+is_used_so Ec Read = true
+is_used_so Ec Write = true
+is_used_so Cfm Read = true
+is_used_so Cfm Write = true
+is_used_so Cfm AllocWrite = true
+is_used_so q kind = false
 
-abbrev pub all_fit : List AccessRow → Bool
-all_fit rows = list_all (λ row. fits row.resource row.kind) rows
+abbrev pub are_used_so : List AccessRow → Bool
+are_used_so rows = list_all (λ row. is_used_so row.resource row.kind) rows
 
 -- what one bit stands for
 pub data Column : Type 0 where
@@ -111,7 +111,7 @@ is_made c q kind = is_later kind && is_column c (column_of q kind)
 
 -- an access that may clash with an earlier one
 abbrev pub is_seen : Resource → Kind → Bool
-is_seen q kind = is_later kind && fits q kind
+is_seen q kind = is_later kind && is_used_so q kind
 
 -- the first access clashes with a later one
 abbrev pub bars : Resource → Kind → Resource → Kind → Bool
@@ -149,7 +149,7 @@ pub record ShareBit (first second : AccessBits) : Type 0 where
 
 -- The bits are those of the accesses, and of what clashes with one of them later on.
 pub record AreBits (accesses : List Access) (made barred : AccessBits) : Type 0 where
-  pub fit : list_all (λ a. fits a.resource a.kind) accesses ≡ true
+  pub fit : list_all (λ a. is_used_so a.resource a.kind) accesses ≡ true
   pub of_made : (c : Column) → bit_of made c ≡ list_any (λ a. is_made c a.resource a.kind) accesses
   pub of_barred : (q : Resource) (kind : Kind) → is_seen q kind ≡ true
       → bit_of barred (column_of q kind) ≡ list_any (λ a. bars a.resource a.kind q kind) accesses

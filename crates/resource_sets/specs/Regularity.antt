@@ -103,7 +103,7 @@ GuardsAreRead = (insn : Insn) → ReadsGuard insn
 
 -- An access by place: `mov r1=pr` reads p1 to p63, `mov pr=` writes some of them, and an indirect branch reads p1 to
 -- p15 as branches do.
-pub record IsPlaced (insn : Insn) (a : Access) : Type 0 where
+pub record IsAccessByPlace (insn : Insn) (a : Access) : Type 0 where
   pub name : ℕ
   pub some : 1 ≤ name
   pub below : name < 64
@@ -116,7 +116,7 @@ abbrev pub NamedAccessesAreAccesses : Type 0
 NamedAccessesAreAccesses = (insn : Insn) (a : Access) → HasNamedAccess insn a → HasAccess insn a
 
 abbrev pub AccessesAreNamedOrPlaced : Type 0
-AccessesAreNamedOrPlaced = (insn : Insn) (a : Access) → HasAccess insn a → HasNamedAccess insn a ⊎ IsPlaced insn a
+AccessesAreNamedOrPlaced = (insn : Insn) (a : Access) → HasAccess insn a → HasNamedAccess insn a ⊎ IsAccessByPlace insn a
 
 -- Each access is made under p0 or under the qualifying predicate.
 abbrev pub AccessesAreGuarded : Type 0

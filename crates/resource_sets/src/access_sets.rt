@@ -8,7 +8,7 @@ ghost use Rattle.resource_sets.specs.declared.access.Resource.{Resource};
 ghost use Rattle.resource_sets.specs.Clashes.{is_resource};
 ghost use Rattle.resource_sets.specs.Rows.{listed};
 ghost use Rattle.resource_sets.specs.Accesses.{placed_rows, accesses_of};
-ghost use Rattle.resource_sets.specs.Bits.{IsWithin, AreWithin};
+ghost use Rattle.resource_sets.specs.Bits.{IsNumberInRange, AreNumbersInRange};
 ghost use Rattle.resource_sets.specs.ResourceSets.{has_resource};
 ghost use Rattle.resource_sets.specs.AccessSets.{AreSetsOf, placed_kind};
 
@@ -56,7 +56,7 @@ type AccessSets = ArrayVec<AccessSet, ACCESS_SET_LIMIT>;
 
 /// Appends the set of the one access of a row, where it is there.
 fn push_set(out: &mut AccessSets, qp: Pr, row: AccessRow)
-    requires within { IsWithin row.resource }
+    requires within { IsNumberInRange row.resource }
     requires room { array_vec_len out.old < ACCESS_SET_LIMIT }
     ensures sets { (earlier : List Access) → AreSetsOf earlier out.old.items → AreSetsOf (earlier ++ listed qp (row ∷ [])) out.new.items }
     ensures len { array_vec_len out.new ≤ array_vec_len out.old + 1 }
@@ -75,7 +75,7 @@ fn push_set(out: &mut AccessSets, qp: Pr, row: AccessRow)
 
 /// Appends the sets of rows, one for each that is there.
 fn push_sets(out: &mut AccessSets, qp: Pr, rows: &[AccessRow])
-    requires within { AreWithin rows.now }
+    requires within { AreNumbersInRange rows.now }
     requires room { array_vec_len out.old + length rows.now ≤ ACCESS_SET_LIMIT }
     ensures sets { (earlier : List Access) → AreSetsOf earlier out.old.items → AreSetsOf (earlier ++ listed qp rows.now) out.new.items }
     ensures len { array_vec_len out.new ≤ array_vec_len out.old + length rows.now }
@@ -87,7 +87,7 @@ fn push_sets(out: &mut AccessSets, qp: Pr, rows: &[AccessRow])
 
 /// Adds the resource of a row, where it is there.
 fn insert_row(resources: &mut ResourceSet, row: AccessRow)
-    requires { IsWithin row.resource }
+    requires { IsNumberInRange row.resource }
     ensures { (q : Resource) → has_resource resources.new q ≡ (has_resource resources.old q || (row.there && is_resource row.resource q)) }
 {
     if row.there {
@@ -97,7 +97,7 @@ fn insert_row(resources: &mut ResourceSet, row: AccessRow)
 
 /// The resources of the rows that are there.
 fn resources_of(rows: &[AccessRow]) -> ResourceSet
-    requires { AreWithin rows.now }
+    requires { AreNumbersInRange rows.now }
     ensures { (q : Resource) → has_resource result q ≡ list_any (λ row. row.there && is_resource row.resource q) rows.now }
 {
     let mut resources = ResourceSet::empty();

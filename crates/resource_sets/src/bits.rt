@@ -5,7 +5,7 @@ ghost use Rattle.resource_sets.specs.declared.access.Resource.{Resource};
 ghost use Rattle.resource_sets.specs.declared.access.Kind.{Kind};
 ghost use Rattle.resource_sets.specs.declared.access.Resource.TheVariants as spec;
 ghost use Rattle.ia_meaning.specs.Arithmetic.{bit};
-ghost use Rattle.resource_sets.specs.Bits.{IsWithin, Column, bit_of, is_column, is_later, is_made, fits, other_made, other_barred, is_seen, column_of, bars, ShareBit};
+ghost use Rattle.resource_sets.specs.Bits.{IsNumberInRange, Column, bit_of, is_column, is_later, is_made, is_used_so, other_made, other_barred, is_seen, column_of, bars, ShareBit};
 
 use crate::access::{Kind, Resource};
 
@@ -97,7 +97,7 @@ impl AccessBits {
 
     /// Adds the bit of an access. Reads that a branch makes have none, since they clash with no earlier access.
     pub fn make(&mut self, resource: Resource, kind: Kind)
-        requires { IsWithin resource }
+        requires { IsNumberInRange resource }
         ensures { (c : Column) → bit_of self.new c ≡ (bit_of self.old c || is_made c resource kind) }
     {
         if is_later(kind) {
@@ -126,8 +126,8 @@ impl AccessBits {
 
     /// Adds the bits of the accesses that clash with an earlier one of this kind.
     pub fn bar(&mut self, resource: Resource, kind: Kind)
-        requires within { IsWithin resource }
-        requires fits { fits resource kind ≡ true }
+        requires within { IsNumberInRange resource }
+        requires fits { is_used_so resource kind ≡ true }
         ensures { (q : Resource) (k : Kind) → is_seen q k ≡ true → bit_of self.new (column_of q k) ≡ (bit_of self.old (column_of q k) || bars resource kind q k) }
     {
         match resource {
@@ -148,7 +148,7 @@ impl AccessBits {
     /// with reads and with writes of other kinds, and a branch's read with a write by a loop branch.
     fn bar_predicate(&mut self, p: u8, kind: Kind)
         requires within { p < 64 }
-        requires fits { fits (spec.Pr p) kind ≡ true }
+        requires fits { is_used_so (spec.Pr p) kind ≡ true }
         ensures { (q : Resource) (k : Kind) → is_seen q k ≡ true → bit_of self.new (column_of q k) ≡ (bit_of self.old (column_of q k) || bars (spec.Pr p) kind q k) }
     {
         let bit = 1 << p;

@@ -4,7 +4,7 @@ ghost use Rattle.std.specs.Prelude.{◌≡◌, ◌+◌, ◌-◌, ◌≤◌, ◌<
 ghost use Rattle.arrayvec.specs.ArrayVec.{array_vec_len};
 ghost use Rattle.ia_meaning.specs.Actions.{action_of};
 ghost use Rattle.resource_sets.specs.Rows.{gr, always};
-ghost use Rattle.resource_sets.specs.Bits.{AreWithin};
+ghost use Rattle.resource_sets.specs.Bits.{AreNumbersInRange};
 ghost use Rattle.resource_sets.specs.declared.access.Resource.TheVariants as spec;
 ghost use Rattle.resource_sets.specs.declared.access.Kind.TheVariants.{Read, Write};
 ghost use Rattle.resource_sets.specs.Accesses.{test_rows, base_row, own_rows, other_name, application, source_rows, unat_row, loop_rows, call_rows, place_rows, mask_rows, placed_rows, reads_plainly, reads_as_branch, qp_rows, is_framed, any_framed, frame_row, accesses_of, accesses};
@@ -22,9 +22,9 @@ pub(crate) type Rows = ArrayVec<AccessRow, 8>;
 /// The rows of a slice.
 fn list(rows: &[AccessRow]) -> Rows
     requires few { length rows.now ≤ 8 }
-    requires within { AreWithin rows.now }
+    requires within { AreNumbersInRange rows.now }
     ensures rows { result.items ≡ rows.now }
-    ensures within { AreWithin result.items }
+    ensures within { AreNumbersInRange result.items }
 {
     let mut out = ArrayVec::new();
     if out.try_extend_from_slice(rows).is_err() {
@@ -36,7 +36,7 @@ fn list(rows: &[AccessRow]) -> Rows
 /// The two targets of a test.
 fn test_rows(kind: CmpKind, p1: Pr, p2: Pr) -> [AccessRow; 2]
     ensures rows { result ≡ test_rows kind p1 p2 }
-    ensures within { AreWithin result }
+    ensures within { AreNumbersInRange result }
 {
     match kind {
         CmpKind::Normal => [pr(true, p1, Kind::Write), pr(true, p2, Kind::Write)],
@@ -92,7 +92,7 @@ fn br(b: Br, kind: Kind) -> AccessRow
 /// A copy into a general register.
 fn fetch_rows(r1: Gr, source: FetchSource) -> Rows
     ensures rows { result.items ≡ gr r1 Write ∷ source_rows source }
-    ensures within { AreWithin result.items }
+    ensures within { AreNumbersInRange result.items }
 {
     let target = gr(r1, Kind::Write);
     match source {
@@ -114,7 +114,7 @@ fn unat_row(there: bool, kind: Kind) -> AccessRow
 /// What a loop branch accesses.
 fn loop_rows(kind: BranchKind) -> Rows
     ensures rows { result.items ≡ loop_rows kind }
-    ensures within { AreWithin result.items }
+    ensures within { AreNumbersInRange result.items }
 {
     let fixed = |resource, kind| always(false, resource, kind);
     match kind {
@@ -145,7 +145,7 @@ fn loop_rows(kind: BranchKind) -> Rows
 /// What a call accesses.
 fn call_rows(b1: Br, goal: Goal) -> Rows
     ensures rows { result.items ≡ call_rows b1 goal }
-    ensures within { AreWithin result.items }
+    ensures within { AreNumbersInRange result.items }
 {
     let own = |resource, kind| always(true, resource, kind);
     let b2 = match goal {
@@ -165,7 +165,7 @@ fn call_rows(b1: Br, goal: Goal) -> Rows
 /// The rows of an instruction, but for those of its qualifying predicate and of predicates by place.
 pub(crate) fn own_rows(action: &Action) -> Rows
     ensures rows { result.items ≡ own_rows action.now }
-    ensures within { AreWithin result.items }
+    ensures within { AreNumbersInRange result.items }
 {
     let own = |resource, kind| always(true, resource, kind);
     match *action {
@@ -277,7 +277,7 @@ fn reads_as_branch(action: &Action) -> bool
 /// The reads of the qualifying predicate.
 pub(crate) fn qp_rows(qp: Pr, action: &Action) -> [AccessRow; 2]
     ensures rows { result ≡ qp_rows qp action.now }
-    ensures within { AreWithin result }
+    ensures within { AreNumbersInRange result }
 {
     let mut plain = pr(false, qp, Kind::Read);
     plain.there = plain.there && reads_plainly(action);

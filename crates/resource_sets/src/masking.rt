@@ -7,7 +7,7 @@ ghost use Rattle.resource_sets.specs.Accesses.{accesses_of};
 ghost use Rattle.ia_meaning.specs.Arithmetic.{bit};
 ghost use Rattle.resource_sets.specs.Clashes.{may_write_guard};
 ghost use Rattle.resource_sets.specs.Masks.{may_clash};
-ghost use Rattle.resource_sets.specs.Bits.{IsWithin, AreWithin, fits, all_fit, AreBits};
+ghost use Rattle.resource_sets.specs.Bits.{IsNumberInRange, AreNumbersInRange, is_used_so, are_used_so, AreBits};
 ghost use Rattle.resource_sets.specs.AccessSets.{AreSetsOf};
 
 use crate::access_sets::{ACCESS_SET_LIMIT, AccessSet, access_sets_of};
@@ -74,8 +74,8 @@ impl Masks {
 
 /// Takes in one more row.
 fn take_row(made: &mut AccessBits, barred: &mut AccessBits, row: AccessRow)
-    requires within { IsWithin row.resource }
-    requires fits { fits row.resource row.kind ≡ true }
+    requires within { IsNumberInRange row.resource }
+    requires fits { is_used_so row.resource row.kind ≡ true }
     ensures { (qp : ℕ) (earlier : List Access) → AreBits earlier made.old barred.old → AreBits (earlier ++ listed qp (row ∷ [])) made.new barred.new }
 {
     if !row.there {
@@ -87,8 +87,8 @@ fn take_row(made: &mut AccessBits, barred: &mut AccessBits, row: AccessRow)
 
 /// Takes in more rows.
 fn take_rows(made: &mut AccessBits, barred: &mut AccessBits, rows: &[AccessRow])
-    requires within { AreWithin rows.now }
-    requires fits { all_fit rows.now ≡ true }
+    requires within { AreNumbersInRange rows.now }
+    requires fits { are_used_so rows.now ≡ true }
     ensures { (qp : ℕ) (earlier : List Access) → AreBits earlier made.old barred.old → AreBits (earlier ++ listed qp rows.now) made.new barred.new }
 {
     for n in 0..rows.len() {

@@ -5,7 +5,7 @@ ghost use Rattle.arrayvec.specs.ArrayVec.{array_vec_len};
 ghost use Rattle.resource_sets.specs.declared.access.Resource.{Resource};
 ghost use Rattle.resource_sets.specs.declared.access.Resource.TheVariants as spec;
 ghost use Rattle.resource_sets.specs.Clashes.{is_resource};
-ghost use Rattle.resource_sets.specs.Bits.{IsWithin};
+ghost use Rattle.resource_sets.specs.Bits.{IsNumberInRange};
 ghost use Rattle.resource_sets.specs.ResourceSets.{has_resource, numbered, others, resources_in};
 
 use crate::access::Resource;
@@ -29,7 +29,7 @@ pub struct ResourceSet {
 
 /// Appends a resource where the set has it.
 fn push_if(out: &mut ArrayVec<Resource, RESOURCE_COUNT>, set: &ResourceSet, resource: Resource)
-    requires within { IsWithin resource }
+    requires within { IsNumberInRange resource }
     requires room { array_vec_len out.old < RESOURCE_COUNT }
     ensures items { out.new.items ≡ out.old.items ++ filter (has_resource set.now) (resource ∷ []) }
     ensures len { array_vec_len out.new ≤ array_vec_len out.old + 1 }
@@ -114,7 +114,7 @@ impl ResourceSet {
 
     /// Whether a resource is in the set.
     pub fn has(&self, resource: Resource) -> bool
-        requires { IsWithin resource }
+        requires { IsNumberInRange resource }
         ensures { result ≡ has_resource self.now resource }
     {
         match resource {
@@ -131,7 +131,7 @@ impl ResourceSet {
 
     /// Adds a resource.
     pub fn insert(&mut self, resource: Resource)
-        requires { IsWithin resource }
+        requires { IsNumberInRange resource }
         ensures { (q : Resource) → has_resource self.new q ≡ (has_resource self.old q || is_resource resource q) }
     {
         match resource {

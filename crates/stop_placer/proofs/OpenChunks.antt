@@ -10,7 +10,8 @@ use Rattle.slot_layouts.specs.declared.layout.Wanted.{Wanted}
 use Rattle.slot_layouts.specs.Layouts.{laid_out}
 use Rattle.slot_layouts.proofs.Facts.{one_is_laid_out, end_takes_next_code}
 use Rattle.loose_text.specs.declared.item.Item.{Item}
-use Rattle.loose_text.specs.Packings.{is_call, wanted_as, joins}
+use Rattle.ia_meaning.specs.Landings.{is_call}
+use Rattle.loose_text.specs.Packings.{wanted_as, joins}
 use Rattle.bundling.specs.Chunk.{Chunk}
 use Rattle.bundling.specs.Chunks.{Holds, KeepTogether, IsChunk, AreChunks}
 use Rattle.stop_placer.specs.Packings.{chunk}

@@ -12,7 +12,7 @@ use Rattle.resource_sets.specs.Accesses.{accesses_of}
 use Rattle.slot_table.specs.declared.slot.Slot.{Slot}
 use Rattle.flow_facts.specs.Graphs.{Graph, InsnRow, over_row, insn_in, row_insn, row_next}
 use Rattle.group_checker.specs.declared.window.EarlierSlot.{EarlierSlot}
-use Rattle.group_checker.specs.Windows.{IsWindow, Describes, IsUnderWay}
+use Rattle.group_checker.specs.Windows.{IsWindow, Describes, HasWindow}
 use Rattle.group_checker.proofs.Slots.{slot_accesses}
 use Rattle.group_checker.proofs.Windowing.{parted_window}
 use Rattle.stop_placer.specs.declared.packing.Cause.{Cause}
@@ -20,7 +20,7 @@ use Rattle.stop_placer.specs.Packs.{stopped_by}
 
 -- a slot that is described is under way with its accesses
 pub described_under_way : (g : Graph) (has_stop : Place → Bool) (es : List EarlierSlot) (j : Place) (s : Slot) (seconds : List Access) → Describes g has_stop j s → seconds ≡ accesses_of s.qp s.action
-    → IsWindow g has_stop es j → IsUnderWay g has_stop es j s seconds
+    → IsWindow g has_stop es j → HasWindow g has_stop es j s seconds
 described_under_way g has_stop es j s seconds slot accesses win =
     record { slot = slot; accesses = accesses ∙ sym (slot_accesses g has_stop j s slot); window = win }
 
@@ -31,7 +31,7 @@ row_here insns n i inside is = slice_get_read insns (length insns) n i refl insi
 
 pub row_under_way : (row : InsnRow) (insns : List Insn) (has_stop : Place → Bool) (es : List EarlierSlot) (n : ℕ) (i : Insn) (s : Slot) (seconds : List Access) → insns ≡ row.insns → n < length insns → i ≡ get_or insns n i
     → has_stop (first_of n) ≡ false → ((g : Graph) (stops : Place → Bool) (place : Place) → insn_in g place ≡ Some i → stops place ≡ false → Describes g stops place s) → seconds ≡ accesses_of s.qp s.action
-    → IsWindow (over_row row) has_stop es (first_of n) → IsUnderWay (over_row row) has_stop es (first_of n) s seconds
+    → IsWindow (over_row row) has_stop es (first_of n) → HasWindow (over_row row) has_stop es (first_of n) s seconds
 row_under_way row insns has_stop es n i s seconds e inside is unstopped describes accesses win =
     let here = subst (λ (l : List Insn). row_insn l (first_of n) ≡ Some i) e (row_here insns n i inside is) in
     described_under_way (over_row row) has_stop es (first_of n) s seconds (describes (over_row row) has_stop (first_of n) here unstopped) accesses win

@@ -9,7 +9,7 @@ ghost use Rattle.ia_meaning.specs.Sequence.{first_of};
 ghost use Rattle.flow_facts.specs.Graphs.{Graph, insn_in};
 ghost use Rattle.flow_facts.specs.Walks.{known_at};
 ghost use Rattle.group_checker.specs.Firsts.{IsViolatedAt};
-ghost use Rattle.group_checker.specs.Windows.{Describes, IsUnderWay};
+ghost use Rattle.group_checker.specs.Windows.{Describes, HasWindow};
 ghost use Rattle.asm_build.specs.declared.reason.TextError.TheVariants as error;
 ghost use Rattle.bundling.specs.Bundled.{row_of};
 ghost use Rattle.stop_placer.specs.Packs.{IsPack};
@@ -103,7 +103,7 @@ fn row_place(n: usize) -> Place
 /// Whether an instruction breaks a rule with an earlier one of its group, where no `;;` stands between the one before
 /// and it: else this says nothing. `slot` says what stands there, `masks` what it accesses.
 fn is_pair(window: &Window, before: &Item, slot: &Slot, masks: &Masks) -> bool
-    ensures { before.now.written ≡ false → (g : Graph) (has_stop : Place → Bool) (j : Place) → IsUnderWay g has_stop window.now j slot.now masks.now → Decides result (IsViolatedAt g has_stop j) }
+    ensures { before.now.written ≡ false → (g : Graph) (has_stop : Place → Bool) (j : Place) → HasWindow g has_stop window.now j slot.now masks.now → Decides result (IsViolatedAt g has_stop j) }
 {
     !before.written && window.has_violation(slot, masks)
 }

@@ -6,7 +6,7 @@ use Rattle.std.proofs.lemmas.List.{length-map}
 use Rattle.std.proofs.lemmas.List.FromFn.{length-range_with_len}
 use Rattle.ia_insn.specs.declared.ending.GroupEvent.{GroupEvent}
 use Rattle.watch_seam.specs.Watchers.{WatchState, after, is_full}
-use Rattle.watch_seam.specs.Watching.{HasRoom, Numbered, numbered, numbered_report, reports_after, left_after, reports, after_all, staying, IsAmidGroup, IsCutShort}
+use Rattle.watch_seam.specs.Watching.{AwaitsGroups, Numbered, numbered, numbered_report, reports_after, left_after, reports, after_all, staying, IsAmidGroup, IsCutShort}
 
 -- what the watchers have seen, without their numbers
 abbrev states : List Numbered → List WatchState
@@ -28,10 +28,10 @@ stays_full : (events : List GroupEvent) (w : WatchState) → is_full w ≡ true 
 stays_full [] w full = full
 stays_full (e ∷ events) w full = stays_full events (after w e) (grind (arith, full))
 
-has_room_of : (w : WatchState) → is_full w ≡ false → HasRoom w
+has_room_of : (w : WatchState) → is_full w ≡ false → AwaitsGroups w
 has_room_of w more = grind (arith, more)
 
-not_full_of : (w : WatchState) → HasRoom w → is_full w ≡ false
+not_full_of : (w : WatchState) → AwaitsGroups w → is_full w ≡ false
 not_full_of w room = grind (arith, room)
 
 -- Those that are left after a group stay at the end where they would have stayed from the beginning.
@@ -44,23 +44,23 @@ stay_on e events (w ∷ ws) =
     ]
     refl
 
-nobody_has_room : All HasRoom []
+nobody_has_room : All AwaitsGroups []
 nobody_has_room k d below = absurd (omega (arith, below))
 
-and_room : (w : WatchState) (ws : List WatchState) → HasRoom w → All HasRoom ws → All HasRoom (w ∷ ws)
+and_room : (w : WatchState) (ws : List WatchState) → AwaitsGroups w → All AwaitsGroups ws → All AwaitsGroups (w ∷ ws)
 and_room w ws room rooms zero d below = room
 and_room w ws room rooms (suc k) d below = rooms k d (omega (arith, below))
 
-left_has_room : (e : GroupEvent) (ws : List Numbered) → All HasRoom (states (left_after e ws))
+left_has_room : (e : GroupEvent) (ws : List Numbered) → All AwaitsGroups (states (left_after e ws))
 left_has_room e [] = nobody_has_room
 left_has_room e (w ∷ ws) =
-    elim (is_full (after w.1 e)) as (λ t. is_full (after w.1 e) ≡ t → All HasRoom (states (left_after e (w ∷ ws)))) [
+    elim (is_full (after w.1 e)) as (λ t. is_full (after w.1 e) ≡ t → All AwaitsGroups (states (left_after e (w ∷ ws)))) [
       | true ↦ (λ full. rw full (left_has_room e ws))
       | false ↦ (λ more. rw more (and_room (after w.1 e) (states (left_after e ws)) (has_room_of (after w.1 e) more) (left_has_room e ws)))
     ]
     refl
 
-all_stay : (ws : List WatchState) → All HasRoom ws → staying [] ws ≡ ws
+all_stay : (ws : List WatchState) → All AwaitsGroups ws → staying [] ws ≡ ws
 all_stay [] room = refl
 all_stay (w ∷ ws) room = rw (not_full_of w (room 0 w (omega arith))) (ap (λ xs. w ∷ xs) (all_stay ws (λ k d below. room (suc k) d (omega (arith, below)))))
 
@@ -96,13 +96,13 @@ amid_first e events (w ∷ ws) now (inr a) = inr (a.0, a.1, a.2, a.3, amid_first
 -- The list that was handed in, what it reports over all groups of a run, and the groups that are still to come.
 pub record IsWatched {B : Type 0} (seen : B → WatchState) (all : List GroupEvent) (old : List WatchState) (events : List GroupEvent) (text numbers : List ℕ) (list : List B) : Type 0 where
   pub as_many : length numbers ≡ length list
-  pub room : All HasRoom (map seen list)
+  pub room : All AwaitsGroups (map seen list)
   pub reported : text ++ reports events (zip numbers (map seen list)) ≡ reports all (numbered old)
   pub stay : staying events (map seen list) ≡ staying all old
   pub cut : (now : List WatchState) → IsCutShort events (map seen list) now → IsCutShort all old now
 
 pub at_beginning : {B : Type 0} (seen : B → WatchState) (all : List GroupEvent) (text numbers : List ℕ) (list : List B)
-    → All HasRoom (map seen list) → text ≡ [] → numbers ≡ range_with_len 0 (length list) → IsWatched seen all (map seen list) all text numbers list
+    → All AwaitsGroups (map seen list) → text ≡ [] → numbers ≡ range_with_len 0 (length list) → IsWatched seen all (map seen list) all text numbers list
 at_beginning seen all text numbers list room none from_0 =
     record {
       as_many = ap length from_0 ∙ length-range_with_len 0 (length list);
@@ -121,8 +121,8 @@ left_are : {B : Type 0} (seen : B → WatchState) (e : GroupEvent) (ws : List Nu
 left_are seen e ws numbers list as_many left = sym (states_of_zip numbers (map seen list) (as_many ∙ sym (length-map list seen))) ∙ ap states left
 
 -- They are still to see groups.
-pub still_room : {B : Type 0} (seen : B → WatchState) (e : GroupEvent) (ws : List Numbered) (numbers : List ℕ) (list : List B) → length numbers ≡ length list → zip numbers (map seen list) ≡ left_after e ws → All HasRoom (map seen list)
-still_room seen e ws numbers list as_many left = subst (All HasRoom) (sym (left_are seen e ws numbers list as_many left)) (left_has_room e ws)
+pub still_room : {B : Type 0} (seen : B → WatchState) (e : GroupEvent) (ws : List Numbered) (numbers : List ℕ) (list : List B) → length numbers ≡ length list → zip numbers (map seen list) ≡ left_after e ws → All AwaitsGroups (map seen list)
+still_room seen e ws numbers list as_many left = subst (All AwaitsGroups) (sym (left_are seen e ws numbers list as_many left)) (left_has_room e ws)
 
 -- one group further
 pub one_further : {B : Type 0} (seen : B → WatchState) (all : List GroupEvent) (old : List WatchState) (e : GroupEvent) (events : List GroupEvent) (text numbers : List ℕ) (list : List B) (text_1 numbers_1 : List ℕ) (list_1 : List B)

@@ -8,7 +8,7 @@ use Rattle.std.proofs.lemmas.List.Edits.{length-remove}
 use Rattle.ia_insn.specs.declared.ending.GroupEvent.{GroupEvent}
 use Rattle.watch_seam.specs.declared.watch.Keep.TheVariants.{Stay, Full}
 use Rattle.watch_seam.specs.Watchers.{WatchState, after, is_full, keep_of}
-use Rattle.watch_seam.specs.Watching.{HasRoom, IsAmidGroup, left_after, numbered_report, reports_after}
+use Rattle.watch_seam.specs.Watching.{AwaitsGroups, IsAmidGroup, left_after, numbered_report, reports_after}
 
 -- The list as it was and what was reported then, what is reported now, and the parts of the list now: those before the
 -- place have seen the group, and those that are left haven't. What watchers in boxes have seen is told by a function.
@@ -16,7 +16,7 @@ pub record IsShownTo {B : Type 0} (seen : B → WatchState) (e : GroupEvent) (te
     (text numbers_before numbers_left : List ℕ) (before left : List B) : Type 0 where
   pub as_many_before : length numbers_before ≡ length before
   pub as_many : length numbers_left ≡ length left
-  pub room : All HasRoom (map seen left)
+  pub room : All AwaitsGroups (map seen left)
   pub reported : text ++ reports_after e (zip numbers_left (map seen left)) ≡ text_0 ++ reports_after e (zip numbers_0 (map seen list_0))
   pub stay : zip numbers_before (map seen before) ++ left_after e (zip numbers_left (map seen left)) ≡ left_after e (zip numbers_0 (map seen list_0))
   pub amid : (now : List WatchState) → IsAmidGroup (e ∷ []) 0 (map seen left) now → IsAmidGroup (e ∷ []) 0 (map seen list_0) (map seen before ++ now)
@@ -34,7 +34,7 @@ pub record IsShown {B : Type 0} (seen : B → WatchState) (e : GroupEvent) (text
   pub shown : IsShownTo seen e text_0 numbers_0 list_0 text numbers_before numbers_left before left
 
 pub at_first : {B : Type 0} (seen : B → WatchState) (e : GroupEvent) (text numbers : List ℕ) (list : List B)
-    → length numbers ≡ length list → All HasRoom (map seen list) → IsShown seen e text numbers list text numbers list 0
+    → length numbers ≡ length list → All AwaitsGroups (map seen list) → IsShown seen e text numbers list text numbers list 0
 at_first seen e text numbers list as_many room =
     record {
       numbers_before = [];
@@ -60,7 +60,7 @@ zip_end [] (b ∷ ys) x y same = cc
 zip_end (a ∷ xs) [] x y same = cc
 zip_end (a ∷ xs) (b ∷ ys) x y same = ap (λ zs. (a, b) ∷ zs) (zip_end xs ys x y (omega (arith, same)))
 
-tail_has_room : (w : WatchState) (ws : List WatchState) → All HasRoom (w ∷ ws) → All HasRoom ws
+tail_has_room : (w : WatchState) (ws : List WatchState) → All AwaitsGroups (w ∷ ws) → All AwaitsGroups ws
 tail_has_room w ws room k d below = room (suc k) d (omega (arith, below))
 
 -- One that isn't full stays where it is, and has seen the group.
@@ -164,11 +164,11 @@ remove_at xs before x left at parts is = rw (parts, sym is) (remove_seam before 
 
 -- It has room for the group.
 pub has_room : {B : Type 0} (seen : B → WatchState) (e : GroupEvent) (text_0 numbers_0 : List ℕ) (list_0 : List B) (text numbers : List ℕ) (list : List B) (at : ℕ) (old : B)
-    → IsShown seen e text_0 numbers_0 list_0 text numbers list at → at < length list → old ≡ get_or list at old → HasRoom (seen old)
+    → IsShown seen e text_0 numbers_0 list_0 text numbers list at → at < length list → old ≡ get_or list at old → AwaitsGroups (seen old)
 has_room seen e text_0 numbers_0 list_0 text numbers list at old s below is =
     let a = at_watcher seen e text_0 numbers_0 list_0 text numbers list at s below in
     let its : old ≡ a.watcher = is ∙ get_at list a.before a.watcher old a.left at a.list_parts a.place in
-    subst (λ b. HasRoom (seen b)) (sym its) (a.shown.room 0 (seen a.watcher) (omega arith))
+    subst (λ b. AwaitsGroups (seen b)) (sym its) (a.shown.room 0 (seen a.watcher) (omega arith))
 
 -- It has seen the group, and stays.
 pub after_stay : {B : Type 0} (seen : B → WatchState) (e : GroupEvent) (text_0 numbers_0 : List ℕ) (list_0 : List B) (text numbers : List ℕ) (list : List B) (at : ℕ) (old now : B)

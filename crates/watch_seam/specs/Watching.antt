@@ -5,12 +5,12 @@ use Rattle.ia_insn.specs.declared.ending.GroupEvent.{GroupEvent}
 use Rattle.watch_seam.specs.Watchers.{WatchState, after, is_full, line, report_text}
 
 -- there are groups that a watcher is still to see
-abbrev pub HasRoom : WatchState → Type 0
-HasRoom w = w.groups < w.fill
+abbrev pub AwaitsGroups : WatchState → Type 0
+AwaitsGroups w = w.groups < w.fill
 
 -- all of them are still to see groups
-abbrev pub HaveRoom : List WatchState → Type 0
-HaveRoom ws = All HasRoom ws
+abbrev pub AwaitGroups : List WatchState → Type 0
+AwaitGroups ws = All AwaitsGroups ws
 
 -- a watcher, and its number in the list that was handed in
 abbrev pub Numbered : Type 0

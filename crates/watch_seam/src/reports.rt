@@ -3,7 +3,7 @@
 ghost use Rattle.std.specs.Prelude.{◌≡◌, ◌<◌, ◌∷◌, ◌++◌, [], IfOk, OnOk, OnErr, flat_map, get_or, length, map, remove, zip};
 ghost use Rattle.std.specs.List.{range_with_len};
 ghost use Rattle.watch_seam.specs.Watchers.{after, counter, fresh, keep_of, report_text};
-ghost use Rattle.watch_seam.specs.Watching.{HaveRoom, IsAmidGroup, left_after, numbered_report, reports_after};
+ghost use Rattle.watch_seam.specs.Watching.{AwaitGroups, IsAmidGroup, left_after, numbered_report, reports_after};
 
 use crate::watch::{Keep, Watch};
 use ia_insn::GroupEvent;
@@ -102,11 +102,11 @@ impl Reports {
         watchers: &mut Vec<Box<dyn Watch>>,
     ) -> Result<(), AllocError>
         requires as_many { length self.old.numbers ≡ length watchers.old.items }
-        requires room { HaveRoom (map (λ b. state b) watchers.old.items) }
+        requires room { AwaitGroups (map (λ b. state b) watchers.old.items) }
         ensures as_many { OnOk result (length self.new.numbers ≡ length watchers.new.items) }
         ensures text { OnOk result (self.new.text ≡ self.old.text ++ reports_after event.now (zip self.old.numbers (map (λ b. state b) watchers.old.items))) }
         ensures left { OnOk result (zip self.new.numbers (map (λ b. state b) watchers.new.items) ≡ left_after event.now (zip self.old.numbers (map (λ b. state b) watchers.old.items))) }
-        ensures still_room { OnOk result (HaveRoom (map (λ b. state b) watchers.new.items)) }
+        ensures still_room { OnOk result (AwaitGroups (map (λ b. state b) watchers.new.items)) }
         ensures cut_short { OnErr result (IsAmidGroup (event.now ∷ []) 0 (map (λ b. state b) watchers.old.items) (map (λ b. state b) watchers.new.items)) }
     {
         let mut at = 0;

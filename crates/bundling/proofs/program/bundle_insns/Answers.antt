@@ -1,7 +1,7 @@
 use Rattle.std.proofs.Common.{arith, ◌≡◌, ◌<◌, ◌∙◌, sym, ap, subst, length, List, Option, None}
 use Rattle.std.specs.Prelude.{IfSome, slice_index_or, option_map}
 use Rattle.asm_build.specs.declared.address.Address.{Address}
-use Rattle.asm_build.specs.Addresses.{IsWithin}
+use Rattle.asm_build.specs.Addresses.{IsReachable}
 use Rattle.loose_text.specs.declared.item.Item.{Item}
 use Rattle.bundling.specs.Bundled.{relocated, bundle_in}
 use Rattle.bundling.proofs.Making.{target_within, moved_within}
@@ -17,4 +17,4 @@ put_in-requires-clause-there c =
     let within = target_within s c.loop-n.n c.is_loose.ensures (subst (λ (xs : List Item). c.loop-n.n < length xs) items inside) in
     let is : c.relocated-target.result ≡ option_map (relocated f) (slice_index_or s.targets c.loop-n.n None) =
     c.relocated-target.ensures ∙ ap (λ (xs : List (Option Address)). option_map (relocated f) (slice_index_or xs c.loop-n.n None)) targets in
-    subst (λ (o : Option Address). IfSome o IsWithin) (sym is) (moved_within f (slice_index_or s.targets c.loop-n.n None) c.requires within)
+    subst (λ (o : Option Address). IfSome o IsReachable) (sym is) (moved_within f (slice_index_or s.targets c.loop-n.n None) c.requires within)

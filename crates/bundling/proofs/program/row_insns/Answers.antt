@@ -1,7 +1,7 @@
 use Rattle.std.proofs.Common.{arith, ◌≡◌, ◌<◌, sym, subst, length, List, Option, None}
 use Rattle.std.specs.Prelude.{IfSome, slice_index_or}
 use Rattle.asm_build.specs.declared.address.Address.{Address}
-use Rattle.asm_build.specs.Addresses.{IsWithin}
+use Rattle.asm_build.specs.Addresses.{IsReachable}
 use Rattle.loose_text.specs.declared.item.Item.{Item}
 use Rattle.bundling.proofs.Making.{target_within}
 use Rattle.bundling.proofs.program.row_insns.Goals as goal
@@ -13,4 +13,4 @@ put_in-requires-clause-there c =
     let targets : c.targets-targets.result.now ≡ s.targets = c.targets-targets.ensures in
     let inside : c.loop-n.n < length c.items-items.result.now = omega (arith, c.loop-n-test.true) in
     let within = target_within s c.loop-n.n c.is_loose.ensures (subst (λ (xs : List Item). c.loop-n.n < length xs) items inside) in
-    subst (λ (xs : List (Option Address)). IfSome (slice_index_or xs c.loop-n.n None) IsWithin) (sym targets) within
+    subst (λ (xs : List (Option Address)). IfSome (slice_index_or xs c.loop-n.n None) IsReachable) (sym targets) within

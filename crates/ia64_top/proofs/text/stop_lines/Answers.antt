@@ -1,5 +1,6 @@
 use Rattle.std.proofs.Common.{[], refl}
-use Rattle.ia64_top.specs.Texts.{line, stop_text}
+use Rattle.ia_meaning.specs.StateText.{line}
+use Rattle.ia64_top.specs.Texts.{stop_text}
 use Rattle.ia64_top.proofs.Printing.{grows}
 use Rattle.ia64_top.proofs.text.stop_lines.Goals as goal
 

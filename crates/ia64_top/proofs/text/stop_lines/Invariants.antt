@@ -1,6 +1,7 @@
 use Rattle.std.proofs.Common.{◌≡◌, take}
 use Rattle.std.specs.Prelude.{string_bytes, flat_map}
-use Rattle.ia64_top.specs.Texts.{line, stop_text}
+use Rattle.ia_meaning.specs.StateText.{line}
+use Rattle.ia64_top.specs.Texts.{stop_text}
 use Rattle.ia64_top.proofs.text.stop_lines.Given as goal
 
 abbrev pub invariant-loop-stop : goal.invariant-loop-stop

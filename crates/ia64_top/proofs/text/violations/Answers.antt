@@ -1,7 +1,8 @@
 use Rattle.std.proofs.Common.{◌++◌, ◌∙◌, sym}
 use Rattle.std.specs.Prelude.{codes, decimal}
 use Rattle.std.proofs.lemmas.List.{append-nil}
-use Rattle.ia64_top.specs.Texts.{line, violation_text}
+use Rattle.ia_meaning.specs.StateText.{line}
+use Rattle.ia64_top.specs.Texts.{violation_text}
 use Rattle.ia64_top.proofs.Printing.{grows}
 use Rattle.ia64_top.proofs.text.violations.Goals as goal
 

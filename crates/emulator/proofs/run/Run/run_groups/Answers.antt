@@ -1,48 +1,64 @@
-use Rattle.std.proofs.Common.{◌∙◌, arith}
-use Rattle.ia_meaning.specs.Steps.{seq_step}
-use Rattle.emulator.specs.Progress.{state_of, progress_of}
-use Rattle.emulator.proofs.Groups.{none_of, some_of, is_over, is_within, has_room, over_groups, within_groups}
+use Rattle.std.proofs.Common.{◌-◌, sym, ◌∙◌, inl, inr, arith}
+use Rattle.emulator.specs.Progress.{progress_of}
+use Rattle.emulator.proofs.Groups.{none_of, some_of, is_over, is_within, over_groups, within_groups, no_further}
 use Rattle.emulator.proofs.run.Run.run_groups.Goals as goal
+use Rattle.emulator.proofs.run.Run.run_groups.Goals.{then-left-eq0-via-then-left-eq0, then-left-eq0-via-else-left-eq0+then-is_some}
 
-pub loop-left-preserved-then-is_some : goal.loop-left-preserved-then-is_some
-loop-left-preserved-then-is_some c =
+pub returns-then-left-eq0-clause-value : goal.returns-then-left-eq0-clause-value
+returns-then-left-eq0-clause-value c =
     let p = c.args.table.now in
-    let now = progress_of c.loop-left.self in
+    let now = progress_of c.loop-how.self in
     let next = progress_of c.advance.new.self in
-    let told = c.advance.ensures in
-    let running = none_of c.loop-left.self.end c.if-is_none.ensures in
-    let ends = some_of (seq_step p (state_of c.loop-left.self)).how (cc) in
-    let over = is_over p now next ends.0 running told.value ends.1 in
-    let room = has_room p now next c.loop-left.left running told.value c.loop-left.invariant.room c.loop-left.invariant.between in
+    let over = is_over p now next c.in-Some.how c.loop-how.invariant.running c.in-Some.ensures.value (sym c.in-Some.ensures.how) in
+    let rest = over_groups p now next c.loop-how.left c.loop-how.invariant.some over.group ∙ c.loop-how.invariant.rest in
+    sym
+    (no_further (c.loop-how.left - 1) p next
+    (elim c.then-left-eq0.branch [
+      | then-left-eq0-via-then-left-eq0 w ↦ inl w.if-left-eq0.true
+      | then-left-eq0-via-else-left-eq0+then-is_some w ↦ inr (some_of c.advance.new.self.end (sym w.if-is_some.ensures))
+    ]))
+    ∙ rest
+
+pub returns-then-left-eq0-clause-event : goal.returns-then-left-eq0-clause-event
+returns-then-left-eq0-clause-event c one =
+    let over = is_over c.args.table.now (progress_of c.loop-how.self) (progress_of c.advance.new.self) c.in-Some.how c.loop-how.invariant.running c.in-Some.ensures.value (sym c.in-Some.ensures.how) in
+    rw c.here-last.ensures (over.event ∙ c.loop-how.invariant.event one)
+
+pub loop-how-preserved-in-Some : goal.loop-how-preserved-in-Some
+loop-how-preserved-in-Some c =
+    let p = c.args.table.now in
+    let now = progress_of c.loop-how.self in
+    let next = progress_of c.advance.new.self in
+    let left = c.loop-how.left in
+    let over = is_over p now next c.in-Some.how c.loop-how.invariant.running c.in-Some.ensures.value (sym c.in-Some.ensures.how) in
     record {
-      rest = over_groups p now next c.loop-left.left c.loop-left-test.true over.group ∙ c.loop-left.invariant.rest;
-      under_way = told.under_way;
-      room = omega (arith, room, c.loop-left-test.true);
-      between = λ _. omega (arith, room, c.loop-left-test.true);
+      some = omega (arith, c.loop-how.invariant.some, c.if-left-eq0.false);
+      most = omega (arith, c.loop-how.invariant.most);
+      rest = over_groups p now next left c.loop-how.invariant.some over.group ∙ c.loop-how.invariant.rest;
+      event = λ one. absurd (omega (arith, one, c.loop-how.invariant.some, c.loop-how.invariant.most, c.if-left-eq0.false));
+      running = none_of c.advance.new.self.end (sym c.if-is_some.ensures);
+      under_way = c.in-Some.ensures.under_way;
+      room = over.room left c.loop-how.invariant.some c.loop-how.invariant.room;
     }
 
-pub loop-left-smaller : goal.loop-left-smaller
-loop-left-smaller c =
-    let p = c.args.table.now in
-    let told = c.advance.ensures in
-    let running = none_of c.loop-left.self.end c.if-is_none.ensures in
-    let on = none_of (seq_step p (state_of c.loop-left.self)).how (cc) in
-    let within = is_within p (progress_of c.loop-left.self) (progress_of c.advance.new.self) c.requires.program c.loop-left.invariant.under_way running told.value on in
-    omega (arith, within.few, within.slots, c.loop-left-test.true)
+pub loop-how-smaller : goal.loop-how-smaller
+loop-how-smaller c =
+    let within = is_within c.args.table.now (progress_of c.loop-how.self) (progress_of c.advance.new.self) c.requires.program c.loop-how.invariant.under_way c.loop-how.invariant.running c.in_default.ensures.value (sym c.in_default.ensures.how) in
+    omega (arith, within.few, within.slots, c.loop-how.invariant.some)
 
-pub loop-left-preserved : goal.loop-left-preserved
-loop-left-preserved c =
+pub loop-how-preserved : goal.loop-how-preserved
+loop-how-preserved c =
     let p = c.args.table.now in
-    let now = progress_of c.loop-left.self in
+    let now = progress_of c.loop-how.self in
     let next = progress_of c.advance.new.self in
-    let told = c.advance.ensures in
-    let running = none_of c.loop-left.self.end c.if-is_none.ensures in
-    let on = none_of (seq_step p (state_of c.loop-left.self)).how (cc) in
-    let within = is_within p now next c.requires.program c.loop-left.invariant.under_way running told.value on in
-    let room = has_room p now next c.loop-left.left running told.value c.loop-left.invariant.room c.loop-left.invariant.between in
+    let left = c.loop-how.left in
+    let within = is_within p now next c.requires.program c.loop-how.invariant.under_way c.loop-how.invariant.running c.in_default.ensures.value (sym c.in_default.ensures.how) in
     record {
-      rest = within_groups p now next c.loop-left.left c.loop-left-test.true within.group ∙ c.loop-left.invariant.rest;
-      under_way = told.under_way;
-      room = room;
-      between = λ none. absurd (omega (arith, within.slots, none));
+      some = c.loop-how.invariant.some;
+      most = c.loop-how.invariant.most;
+      rest = within_groups p now next left c.loop-how.invariant.some within.group ∙ c.loop-how.invariant.rest;
+      event = λ one. within.event ∙ c.loop-how.invariant.event one;
+      running = c.in_default.ensures.goes_on;
+      under_way = c.in_default.ensures.under_way;
+      room = within.room left c.loop-how.invariant.room;
     }

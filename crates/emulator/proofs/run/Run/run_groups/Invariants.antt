@@ -1,17 +1,22 @@
-use Rattle.std.proofs.Common.{◌≡◌, ◌-◌, ◌*◌, ◌<◌, ◌≤◌, ◌+◌, ◌^◌}
+use Rattle.std.proofs.Common.{◌≡◌, ◌-◌, ◌*◌, ◌<◌, ◌≤◌}
+use Rattle.std.specs.Prelude.{None}
 use Rattle.ia_insn.specs.declared.limits.TheConstants.{RUN_LIMIT}
 use Rattle.ia_meaning.specs.Progress.{groups_further}
-use Rattle.ia_meaning.specs.Runs.{IsUnderWay}
+use Rattle.ia_meaning.specs.Runs.{IsUnderWay, event_further}
 use Rattle.emulator.specs.Progress.{progress_of}
+use Rattle.emulator.proofs.Groups.{CanCount}
 use Rattle.emulator.proofs.run.Run.run_groups.Given as goal
 
-abbrev pub invariant-loop-left : goal.invariant-loop-left
-invariant-loop-left l = record {
+abbrev pub invariant-loop-how : goal.invariant-loop-how
+invariant-loop-how l = record {
+  some : 0 < l.left;
+  most : l.left ≤ l.groups;
   rest : groups_further l.left l.table (progress_of l.self) ≡ groups_further l.groups l.table (progress_of l.fn.self);
+  event : l.groups ≡ 1 → event_further l.table (progress_of l.self) ≡ event_further l.table (progress_of l.fn.self);
+  running : l.self.end ≡ None;
   under_way : IsUnderWay l.table (progress_of l.self);
-  room : l.self.groups + l.left ≤ 2 ^ 64;
-  between : l.self.slots ≡ 0 → l.self.groups + l.left < 2 ^ 64;
+  room : CanCount (progress_of l.self) l.left;
 }
 
-abbrev pub decreases-loop-left : goal.decreases-loop-left
-decreases-loop-left l = RUN_LIMIT * l.left - l.self.slots
+abbrev pub decreases-loop-how : goal.decreases-loop-how
+decreases-loop-how l = RUN_LIMIT * l.left - l.self.slots

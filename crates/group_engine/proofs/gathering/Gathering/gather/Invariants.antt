@@ -4,12 +4,12 @@ use Rattle.ia_insn.specs.Places.{IsPlaceOf}
 use Rattle.ia_meaning.specs.ParallelGroups.{gathered_from, now_of}
 use Rattle.group_engine.specs.declared.limits.TheConstants.{SLOT_WRITE_LIMIT}
 use Rattle.group_engine.specs.Kept.{steering_of}
-use Rattle.group_engine.specs.Groups.{gathered_of, state_of, rest_of, ComesTo}
+use Rattle.group_engine.specs.Groups.{gathered_of, state_of, rest_of, HasRestOf}
 use Rattle.group_engine.proofs.gathering.Gathering.gather.Given as goal
 
 abbrev pub invariant-loop-n : goal.invariant-loop-n
 invariant-loop-n l = record {
-  rest : ComesTo (rest_of RUN_LIMIT l.table true (gathered_from (state_of l.fn.self))) (rest_of (RUN_LIMIT - l.n) l.table (l.n == 0) (gathered_of l.self));
+  rest : HasRestOf (rest_of RUN_LIMIT l.table true (gathered_from (state_of l.fn.self))) (rest_of (RUN_LIMIT - l.n) l.table (l.n == 0) (gathered_of l.self));
   place : IsPlaceOf l.table.bundles l.self.place;
   latest : l.self.kept.latest ≡ steering_of (now_of (gathered_of l.self));
   begins : l.n ≡ 0 → (l.self.kept.writes ≡ []) × (l.self.frame_ahead ≡ false);
