@@ -5,7 +5,7 @@
 //! one sequential step, and [`Machine::run`] goes so many groups further, which from the start is the
 //! sequential run (`ia_meaning::progress_is_run`).
 //!
-//! The functions on the way of every slot are marked to be inlined always, as is each that hands the effect of
+//! The larger functions on the way of every slot are marked to be inlined always, as is each that hands the effect of
 //! a slot on to another: where no call takes its address, it stays in registers.
 #![tactic(auto)]
 

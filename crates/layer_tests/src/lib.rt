@@ -1,4 +1,5 @@
-//! The tests of the crates below the top call, a file each: values from outside, and what no clause says.
+//! The tests of the crates below the top call that aren't in `machine_tests`, a file each: values from outside, and
+//! what no clause says.
 #![tactic(auto)]
 
 #[cfg(test)]

@@ -1,4 +1,5 @@
-//! The tests of the crates that a run goes through, a file each: values from outside, and what no clause says.
+//! The tests of the two engines, of data memory and of lanes, a file each: values from outside, and what no clause
+//! says.
 #![tactic(auto)]
 
 #[cfg(test)]
