@@ -133,20 +133,20 @@ slots_inside labels count n (Long i j) b all none =
     let two = found_none (is_named labels n (j, b.second)) (j, b.second) _ one.1 in
     (named_inside labels count n i.op b.first.target all one.0, named_inside labels count n j.op b.second.target all two.0)
 
-or_none_first : (o p : Option ℕ) → or_else o p ≡ None → (o ≡ None) × (p ≡ None)
-or_none_first None p e = (refl, e)
-or_none_first (Some line) p e = cc
+pub both_none : (o p : Option ℕ) → or_else o p ≡ None → (o ≡ None) × (p ≡ None)
+both_none None p e = (refl, e)
+both_none (Some line) p e = cc
 
 -- so does each of bundles, the first of which is the n-th
 bundles_inside : (labels : Labels) (count n : ℕ) (bs : List BundleLines) → AllByRecursion (IsInside count) (values_of labels) → unnamed_bundle labels n bs ≡ None
     → (k m : ℕ) → m ≡ n + k → IfSome (slice_get (bundles_named labels n bs) k) (λ b. AreTargetsInside count m b.slots)
 bundles_inside labels count n [] all none k m is = tt
 bundles_inside labels count n (b ∷ bs) all none zero m is =
-    let one = or_none_first (unnamed_slot labels n b) (unnamed_bundle labels (n + 1) bs) none in
+    let one = both_none (unnamed_slot labels n b) (unnamed_bundle labels (n + 1) bs) none in
     let here : m ≡ n = omega (arith, is) in
     rw here (slots_inside labels count n b.bundle.slots b all one.0)
 bundles_inside labels count n (b ∷ bs) all none (suc k) m is =
-    let one = or_none_first (unnamed_slot labels n b) (unnamed_bundle labels (n + 1) bs) none in
+    let one = both_none (unnamed_slot labels n b) (unnamed_bundle labels (n + 1) bs) none in
     bundles_inside labels count (n + 1) bs all one.1 k m (omega (arith, is))
 
 if_slot : (count n : ℕ) (here : Bool) (i : Insn) (other : Option Insn) → HasTargetInside count n i.op → IfSome other (λ i. HasTargetInside count n i.op)

@@ -8,13 +8,13 @@ use Rattle.std.specs.Ordering.{nat_cmp, is_eq}
 use Rattle.std.proofs.lemmas.Cmp.{nat_list_cmp_total, tied_itself}
 use Rattle.std.proofs.lemmas.Fmt.{decimal_injective}
 use Rattle.std.proofs.lemmas.Map.Lookups.{exact_bytes}
+use Rattle.std.proofs.lemmas.Bool.{true≢false}
 use Rattle.ia_insn.specs.declared.limits.TheConstants.{BUNDLE_LIMIT}
 use Rattle.asm_printing.specs.SlotTexts.{label_text}
 use Rattle.asm_build.specs.declared.address.Address.TheVariants.{Bundle}
 use Rattle.asm_build.specs.Addresses.{IsInside}
 use Rattle.asm_build.specs.CanonicalText.{is_among}
 use Rattle.asm_build.specs.TextParts.{Labels, address_of}
-use Rattle.asm_build.proofs.Choices.{true_is_not_false}
 use Rattle.asm_build.proofs.LabelValues.{kept_among}
 use Rattle.asm_build.proofs.PutIn.{put_here, put_elsewhere}
 
@@ -69,5 +69,5 @@ same_labels entries targets count n labels other h = record {
 }
   where
     at : (m : ℕ) → (m ≡ n) ⊎ (m < n) → (is_among entries m || is_among targets m) ≡ true → address_of labels (label_text m) ≡ Some (Bundle m)
-    at m (inl e) is = absurd (true_is_not_false (sym is ∙ ap (λ k. is_among entries k || is_among targets k) e ∙ other))
+    at m (inl e) is = absurd (true≢false (sym is ∙ ap (λ k. is_among entries k || is_among targets k) e ∙ other))
     at m (inr before) is = h.named m before is

@@ -14,7 +14,6 @@ pub mod Finishing
 pub mod OneReading
 mod OneOutcome
 pub mod Answering
-mod Choices
 mod TextLines
 mod PrintedLines
 mod PrintedNumbers

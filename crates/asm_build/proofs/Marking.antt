@@ -6,6 +6,7 @@ use Rattle.std.proofs.lemmas.List.Folds.{list_any-append}
 use Rattle.std.proofs.lemmas.List.{append_assoc, append-nil, take_more}
 use Rattle.std.proofs.Math.Bool.{or_assoc}
 use Rattle.std.specs.Prelude.{slice_index_or, Contains, ◌↔◌, IsTrue}
+use Rattle.std.proofs.lemmas.Bool.{or_right}
 use Rattle.ia_insn.specs.declared.insn.Insn.{Insn}
 use Rattle.ia_insn.specs.declared.bundle.Slots.{Slots}
 use Rattle.ia_insn.specs.declared.bundle.Slots.TheVariants.{Three, Long}
@@ -31,10 +32,6 @@ none_marked marks = record { same = refl; each = λ n inside. or_nothing (get_or
 eqb_same : (n : ℕ) → (n == n) ≡ true
 eqb_same n = grind (arith, nat_tests)
 
-or_true : (b : Bool) → (b || true) ≡ true
-or_true true = refl
-or_true false = refl
-
 among_both : (n : ℕ) (xs ys : List ℕ) → is_among (xs ++ ys) n ≡ (is_among xs n || is_among ys n)
 among_both n xs ys = list_any-append (λ m. m == n) xs ys
 
@@ -52,7 +49,7 @@ more_marks count xs ys a b g h = record {
 
 among_here : (xs : List ℕ) (n x k : ℕ) → (Contains xs n → is_among xs n ≡ true) → k < length (x ∷ xs) → slice_index_or (x ∷ xs) k n ≡ n → is_among (x ∷ xs) n ≡ true
 among_here xs n x zero more less is = rw (is, eqb_same n) refl
-among_here xs n x (suc k) more less is = rw (more (k, omega (arith, less), is)) (or_true (x == n))
+among_here xs n x (suc k) more less is = rw (more (k, omega (arith, less), is)) (or_right (x == n) true refl)
 
 pub among_from : (xs : List ℕ) (n : ℕ) → Contains xs n → is_among xs n ≡ true
 among_from [] n h = absurd (omega (arith, h.1))

@@ -2,7 +2,7 @@
 use Rattle.std.proofs.Common.{◌≡◌, ◌∙◌, ℕ, ◌+◌, ◌<◌, true, false, ◌==◌, List, [], ◌∷◌, ◌++◌, Some, None, is_some, ℤ, pos, negsuc, refl, ap}
 use Rattle.std.specs.Prelude.{IfSome, unwrap_or, ◌+ℤ◌, ◌-ℤ◌, ◌≤ℤ◌, ◌<ℤ◌, not, find}
 use Rattle.std.specs.Option.{option_map}
-use Rattle.std.proofs.lemmas.Bool.{eq-eqb}
+use Rattle.std.proofs.lemmas.Bool.{eq-eqb, or_left, or_right}
 use Rattle.std.proofs.lemmas.List.Folds.{list_any-append}
 use lib.Dec.{ltb→lt}
 use lib.IntN.{+ℤ_comm, +ℤ-neg_ℤ_cancel}
@@ -22,7 +22,6 @@ use Rattle.asm_build.specs.CanonicalText.{is_among, listed_once, bundle_targets,
 use Rattle.asm_build.specs.Marks.{IsSound, AreSound}
 use Rattle.asm_build.specs.Names.{addressed_by, named, is_named, put_in, slot_names, slots_named, bundle_named, bundles_named, unnamed_slot, unnamed_bundle, or_else}
 use Rattle.asm_build.specs.TextParts.{Labels, address_of}
-use Rattle.asm_build.proofs.Choices.{true_or, or_true}
 use Rattle.asm_build.proofs.UntargetedSlots.{until_named}
 use Rattle.asm_build.proofs.WrittenBundles.{name_in, slots_until, HasNames, AreLinesOf}
 use Rattle.asm_build.proofs.WrittenTexts.{AreAllLinesOf, AreGood}
@@ -32,10 +31,10 @@ abbrev pub AreLabelled : Labels → ℕ → List ℕ → Type 0
 AreLabelled labels count ns = (m : ℕ) → m < count → is_among ns m ≡ true → address_of labels (label_text m) ≡ Some (address.Bundle m)
 
 first_labelled : (labels : Labels) (count : ℕ) (xs ys : List ℕ) → AreLabelled labels count (xs ++ ys) → AreLabelled labels count xs
-first_labelled labels count xs ys h m less is = h m less (list_any-append (λ k. k == m) xs ys ∙ true_or (is_among xs m) (is_among ys m) is)
+first_labelled labels count xs ys h m less is = h m less (list_any-append (λ k. k == m) xs ys ∙ or_left (is_among xs m) (is_among ys m) is)
 
 second_labelled : (labels : Labels) (count : ℕ) (xs ys : List ℕ) → AreLabelled labels count (xs ++ ys) → AreLabelled labels count ys
-second_labelled labels count xs ys h m less is = h m less (list_any-append (λ k. k == m) xs ys ∙ or_true (is_among xs m) (is_among ys m) is)
+second_labelled labels count xs ys h m less is = h m less (list_any-append (λ k. k == m) xs ys ∙ or_right (is_among xs m) (is_among ys m) is)
 
 -- the bundle of a target by its number
 natural_is : (z : ℤ) → pos 0 ≤ℤ z → pos (natural_of z) ≡ z
@@ -54,7 +53,7 @@ found_target : (labels : Labels) (count n : ℕ) (disp : ℤ) → IsBundleAt cou
     → address_of labels (label_text (natural_of (pos n +ℤ disp))) ≡ Some (address.Bundle (natural_of (pos n +ℤ disp)))
 found_target labels count n disp inside h =
     let m = natural_of (pos n +ℤ disp) in
-    h m (natural_below (pos n +ℤ disp) count inside.0 inside.1) (true_or (m == m) false (eq-eqb m m refl))
+    h m (natural_below (pos n +ℤ disp) count inside.0 inside.1) (or_left (m == m) false (eq-eqb m m refl))
 
 -- the operation with its displacement again
 operation_back : (labels : Labels) (count n : ℕ) (x : Op) → IfSome (displacement x) (IsBundleAt count n) → AreLabelled labels count (listed_once (target_of n x))

@@ -1,6 +1,8 @@
 -- What the printed lines other than slots say.
 use Rattle.std.proofs.Common.{◌≡◌, ◌∙◌, ℕ, ◌<◌, ◌≤◌, ◌^◌, true, List, [], ◌∷◌, ◌++◌, length, map, codes, Ok, refl, sym, ap, arith, length-append}
 use Rattle.std.specs.Fmt.{decimal}
+use Rattle.std.proofs.lemmas.List.{append-nil}
+use Rattle.std.proofs.lemmas.Bool.{cond-false}
 use Rattle.asm_words.specs.declared.limits.TheConstants.{LINE_LIMIT}
 use Rattle.asm_words.specs.declared.word.WordKind.TheVariants as kind
 use Rattle.asm_words.specs.Bytes.{has_only_plain}
@@ -18,7 +20,6 @@ use Rattle.asm_reading.specs.Lines.{◌>>=◌, named, directive_value, IsListedL
 use Rattle.asm_printing.specs.SlotTexts.{label_text}
 use Rattle.asm_text.proofs.OperandTexts.{label_is_name}
 use Rattle.asm_text.proofs.SlotLines.{read_plain}
-use Rattle.asm_build.proofs.Choices.{otherwise}
 use Rattle.asm_build.specs.CanonicalText.{unit_letter}
 use Rattle.asm_build.specs.TemplateNames.{units_named}
 use Rattle.asm_build.specs.TextReading.{Says}
@@ -48,13 +49,9 @@ entry_lexed n l = name_lexed 46 (codes "entry") (32 ∷ label_text n) refl refl 
 name_alone : (n : ℕ) → n < 2 ^ 32 → lexed 0 (label_text n ++ []) ≡ (kind.Name, label_text n) ∷ []
 name_alone n l = name_lexed 76 (decimal n) [] refl refl (decimal_is_name_bytes n (omega (arith, l))) refl
 
-nothing_more : (xs : List ℕ) → xs ++ [] ≡ xs
-nothing_more [] = refl
-nothing_more (x ∷ xs) = ap (λ ys. x ∷ ys) (nothing_more xs)
-
 entry_value : (n : ℕ) → n < 2 ^ 32 → value_of ((kind.Name, codes ".entry") ∷ (kind.Name, label_text n) ∷ []) ≡ Ok (line.Entry (label_text n))
 entry_value n l =
-    otherwise (is_colon (token_of kind.Name (label_text n))) _ _ (ap is_colon (label_reads n l))
+    cond-false (is_colon (token_of kind.Name (label_text n))) _ _ (ap is_colon (label_reads n l))
     ∙ ap (λ x. read_form (form.Entry ∷ []) (x ∷ []) (x ∷ []) >>= λ f. directive_value f ((kind.Name, label_text n) ∷ [])) (label_reads n l)
     ∙ ap (λ o. named o (λ name. line.Entry name)) (label_is_name n (omega (arith, l)))
 
@@ -64,7 +61,7 @@ entry_says n l = record {
   short = omega (arith, label_is_short n l);
   reads = record {
     reading = read_plain (codes ".entry " ++ label_text n) (label_plain n l)
-        ∙ ap value_of (entry_lexed n l ∙ ap (λ ws. (kind.Name, codes ".entry") ∷ ws) (ap (lexed 0) (sym (nothing_more (label_text n))) ∙ name_alone n l)) ∙ entry_value n l;
+        ∙ ap value_of (entry_lexed n l ∙ ap (λ ws. (kind.Name, codes ".entry") ∷ ws) (ap (lexed 0) (sym (append-nil (label_text n))) ∙ name_alone n l)) ∙ entry_value n l;
     listed = tt;
   };
 }

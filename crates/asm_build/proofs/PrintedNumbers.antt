@@ -1,7 +1,7 @@
 -- What a printed line of data says.
 use Rattle.std.proofs.Common.{◌≡◌, ◌∙◌, ℕ, ◌+◌, ◌*◌, ◌<◌, ◌≤◌, ◌%◌, ◌^◌, true, false, ◌==◌, leb, List, [], ◌∷◌, ◌++◌, length, codes, Ok, refl, ap, arith, length-append}
 use Rattle.std.specs.Fmt.{digits}
-use Rattle.std.proofs.lemmas.Bool.{lt-ltb, le-leb, eq-eqb, ne_eqb}
+use Rattle.std.proofs.lemmas.Bool.{lt-ltb, le-leb, eq-eqb, ne_eqb, cond-false}
 use Rattle.asm_words.specs.declared.limits.TheConstants.{NUMBER_TOKEN_LIMIT}
 use Rattle.asm_words.specs.declared.word.WordKind.TheVariants as kind
 use Rattle.asm_words.specs.declared.tokens.Token.{Token}
@@ -19,7 +19,6 @@ use Rattle.asm_printing.proofs.Short.{hex_is_short}
 use Rattle.asm_text.proofs.SlotLines.{read_plain}
 use Rattle.asm_build.specs.TextReading.{Says}
 use Rattle.asm_build.proofs.DataBack.{AreWords}
-use Rattle.asm_build.proofs.Choices.{otherwise}
 
 abbrev pub hex_text : ℕ → List ℕ
 hex_text w = 48 ∷ 120 ∷ digits 16 false w
@@ -92,7 +91,7 @@ data_value w ws few l h =
     rw (same, odd, numbers_back w ws l h) refl
 
 after_name : (x : KindAndText) (ws : List KindAndText) → is_colon (token_of x.0 x.1) ≡ false → value_of ((kind.Name, codes "data8") ∷ x ∷ ws) ≡ data_of size.Eight (tokens (x ∷ ws))
-after_name x ws h = otherwise (is_colon (token_of x.0 x.1)) _ _ h
+after_name x ws h = cond-false (is_colon (token_of x.0 x.1)) _ _ h
 
 led_value : (w : ℕ) (ws : List KindAndText) → token_of kind.Number (hex_text w) ≡ t.Number false w → value_of ((kind.Name, codes "data8") ∷ (kind.Number, hex_text w) ∷ ws) ≡ data_of size.Eight (t.Number false w ∷ tokens ws)
 led_value w ws e = after_name (kind.Number, hex_text w) ws (ap is_colon e) ∙ ap (λ x. data_of size.Eight (x ∷ tokens ws)) e

@@ -3,7 +3,7 @@ use Rattle.std.proofs.Common.{◌≡◌, ◌∙◌, ℕ, zero, suc, ◌-◌, ◌
 use Rattle.std.specs.Prelude.{slice_index}
 use Rattle.std.specs.List.{AllByRecursion}
 use Rattle.std.specs.Map.{values_of}
-use Rattle.std.proofs.lemmas.Bool.{eq-eqb}
+use Rattle.std.proofs.lemmas.Bool.{eq-eqb, or_left, or_right}
 use Rattle.first_fault.specs.Stages.{ArePassed}
 use Rattle.ia_insn.specs.declared.limits.TheConstants.{DATA_LIMIT}
 use Rattle.bstr.specs.Text.{without_terminator}
@@ -27,7 +27,6 @@ use Rattle.asm_build.specs.Relations.{all_related, relation_stages}
 use Rattle.asm_build.specs.RoundTrip.{CanonicalTextReads}
 use Rattle.asm_build.specs.TextParts.{TextParts, Labels, start, address_of, AreLabelsInside}
 use Rattle.asm_build.specs.TextReading.{text_lines, ComesTo, AllSay, Reads}
-use Rattle.asm_build.proofs.Choices.{true_or, or_true}
 use Rattle.asm_build.proofs.DataBack.{words_small, words_back}
 use Rattle.asm_build.proofs.EntriesSoFar.{each_below, entries_rise, declared_in_turn}
 use Rattle.asm_build.proofs.KeysBelow.{none_below_zero, all_below}
@@ -64,8 +63,8 @@ data_finishes bs es rs ls line (b ∷ bytes) small eights room =
 
 among_at : (xs : List ℕ) (k : ℕ) → k < length xs → is_among xs (slice_index xs k) ≡ true
 among_at [] k h = absurd (omega (arith, h))
-among_at (x ∷ xs) zero h = true_or (x == x) (is_among xs x) (eq-eqb x x refl)
-among_at (x ∷ xs) (suc k) h = or_true (x == slice_index xs k) (is_among xs (slice_index xs k)) (among_at xs k (omega (arith, h)))
+among_at (x ∷ xs) zero h = or_left (x == x) (is_among xs x) (eq-eqb x x refl)
+among_at (x ∷ xs) (suc k) h = or_right (x == slice_index xs k) (is_among xs (slice_index xs k)) (among_at xs k (omega (arith, h)))
 
 -- data of whole words stay
 nothing_padded : (bytes : List ℕ) → length bytes % 8 ≡ 0 → padded bytes ≡ bytes
@@ -92,13 +91,13 @@ given_back : (p : Program) → IsProgram p → (s : Section) (bs : List BundleLi
 given_back p h s bs es rs ls next so_far good goes =
     let count = length p.bundles in
     let there : length bs ≡ count = as_many 0 p.bundles bs so_far.bundles in
-    let labelled : AreLabelled ls count (targets_from 0 p.bundles) = λ m less is. so_far.labels.named m less (or_true (is_among p.entries m) (is_among (targets_from 0 p.bundles) m) is) in
+    let labelled : AreLabelled ls count (targets_from 0 p.bundles) = λ m less is. so_far.labels.named m less (or_right (is_among p.entries m) (is_among (targets_from 0 p.bundles) m) is) in
     let bundles : bundles_named ls 0 bs ≡ p.bundles = bundles_back ls count 0 p.bundles bs good so_far.bundles labelled in
     let names : unnamed_bundle ls 0 bs ≡ None = all_names_mean ls count 0 p.bundles bs good so_far.bundles labelled in
     let inside : (k : ℕ) → k < length p.entries → slice_index p.entries k < count = λ k less. (h.entries k less).inside in
     let lines : map (λ (e : EntryLine). e.name) es ≡ map label_text p.entries = so_far.entry_lines ∙ ap (map label_text) (all_below (λ m. m) count p.entries (each_below count p.entries inside)) in
     let found : (k : ℕ) → k < length p.entries → address_of ls (label_text (slice_index p.entries k)) ≡ Some (address.Bundle (slice_index p.entries k)) =
-    λ k less. so_far.labels.named (slice_index p.entries k) (inside k less) (true_or (is_among p.entries (slice_index p.entries k)) (is_among (targets_from 0 p.bundles) (slice_index p.entries k)) (among_at p.entries k less)) in
+    λ k less. so_far.labels.named (slice_index p.entries k) (inside k less) (or_left (is_among p.entries (slice_index p.entries k)) (is_among (targets_from 0 p.bundles) (slice_index p.entries k)) (among_at p.entries k less)) in
     let entries : all_declared ls [] es ≡ Ok p.entries = declared_in_turn ls [] p.entries es lines found 1 (omega arith) tt (entries_rise count p.entries h.entries) (omega (arith, h.counts.entries)) in
     let no_fault : name_fault (finished s bs es rs ls p.bytes) ≡ None = ap (λ o. earlier o (all_declared ls [] es)) names ∙ ap (earlier None) entries in
     let relation_lines : AreRelationLines p.relations rs = subst (λ ds. AreRelationLines ds rs) (all_below bundle_of count p.relations (relations_inside p.bundles p.entries p.relations h.relations)) so_far.relation_lines in

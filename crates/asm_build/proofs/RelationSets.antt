@@ -7,6 +7,7 @@ use Rattle.std.specs.Cmp.{nat_cmp_is}
 use Rattle.std.specs.Ordering.{nat_cmp, ordering_then}
 use Rattle.std.proofs.lemmas.List.{drop_more}
 use Rattle.std.proofs.lemmas.Bool.{cases_order, cases_lt, lt-ltb, le-ltb}
+use Rattle.std.proofs.lemmas.List.Elements.{Contains-append_left, Contains-append_right, Contains-append_cases, recursion_from_All}
 use Rattle.ia_insn.specs.declared.relations.Relation.{Relation}
 use Rattle.ia_insn.specs.Bundles.{Bundle}
 use Rattle.ia_insn.specs.Programs.{IsEntryOf, IsRelationBefore, AreRelations, no_relation, relation_at, relation_before}
@@ -15,7 +16,7 @@ use Rattle.ia_insn.specs.declared.limits.TheConstants.{RELATION_LIMIT}
 use Rattle.asm_build.specs.declared.reason.TextError.{TextError}
 use Rattle.asm_build.specs.declared.text_parts.RelationLine.{RelationLine}
 use Rattle.asm_build.specs.Relations.{relation_cmp, relations_above, relations_among, with_relations, related, IsFit, AreRelationsOf}
-use Rattle.asm_build.proofs.Membership.{first_there, later_there, first_or_later, none_there, in_first, in_second, in_either, all_both, by_recursion}
+use Rattle.asm_build.proofs.Membership.{first_there, later_there, first_or_later, none_there, all_both}
 use Rattle.asm_build.proofs.SortedSets.{Ways, IsOrderedBy, Chain, put_there, still_there, was_there, chain_grows}
 
 -- relations are compared by their numbers
@@ -141,7 +142,7 @@ pub record IsBetween (n : ℕ) (ps qs : List ℕ) (r : Relation) : Type 0 where
 
 pub between_is : (bundle : ℕ) (ps qs : List ℕ) (r : Relation) → Contains (flat_map (λ p. relations_above bundle p qs) ps) r → IsBetween bundle ps qs r
 between_is bundle [] qs r h = absurd (none_there r h)
-between_is bundle (p ∷ ps) qs r h = elim (in_either (relations_above bundle p qs) (flat_map (λ p. relations_above bundle p qs) ps) r h) [
+between_is bundle (p ∷ ps) qs r h = elim (Contains-append_cases (relations_above bundle p qs) (flat_map (λ p. relations_above bundle p qs) ps) r h) [
   | inl one ↦
       let is = above_is bundle p qs r one in
       record { bundle = is.bundle; lower = subst (Contains (p ∷ ps)) (sym is.lower) (first_there p ps); higher = is.higher; apart = is.apart }
@@ -154,10 +155,10 @@ pub is_between : (bundle : ℕ) (ps qs : List ℕ) (r : Relation) → IsBetween 
 is_between bundle [] qs r h = absurd (none_there r.p h.lower)
 is_between bundle (p ∷ ps) qs r h = elim (first_or_later p r.p ps h.lower) [
   | inl same ↦
-      in_first (relations_above bundle p qs) (flat_map (λ p. relations_above bundle p qs) ps) r
+      Contains-append_left (relations_above bundle p qs) (flat_map (λ p. relations_above bundle p qs) ps) r
       (is_above bundle p qs r (record { bundle = h.bundle; lower = sym same; higher = h.higher; apart = h.apart }))
   | inr among ↦
-      in_second (relations_above bundle p qs) (flat_map (λ p. relations_above bundle p qs) ps) r
+      Contains-append_right (relations_above bundle p qs) (flat_map (λ p. relations_above bundle p qs) ps) r
       (is_between bundle ps qs r (record { bundle = h.bundle; lower = among; higher = h.higher; apart = h.apart }))
 ]
 
@@ -256,7 +257,7 @@ fit_of_relations bundles entries rs h = fit_of_all (IsEntryOf bundles entries) r
 pub related_stay : (IsEntry : ℕ → Type 0) (before after : List Relation) (bundle : ℕ) (ps : List ℕ) → IsEntry bundle → All IsRelated ps → after ≡ with_relations before (relations_among bundle ps)
     → AreRelationsOf IsEntry before → AreRelationsOf IsEntry after
 related_stay IsEntry before after bundle ps entry all is h =
-    let each = by_recursion IsRelated ps all in
+    let each = recursion_from_All IsRelated ps all in
     let fit = fit_between IsEntry bundle ps ps entry each each in
     let good = all_of_fit IsEntry (with_relations before (relations_among bundle ps)) (fit_with IsEntry before (relations_among bundle ps) fit (fit_of_all IsEntry before h)) in
     subst (AreRelationsOf IsEntry) (sym is) good

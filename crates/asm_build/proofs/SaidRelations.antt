@@ -3,6 +3,7 @@ use Rattle.std.proofs.Common.{◌≡◌, ◌∙◌, refl, sym, ap, subst, inl, i
 use Rattle.std.specs.List.{AllByRecursion}
 use Rattle.std.specs.BTreeSet.{insert_key}
 use Rattle.std.proofs.lemmas.Bool.{cases_order, cases_lt, lt-ltb, le-ltb}
+use Rattle.std.proofs.lemmas.List.Elements.{Contains-append_left, Contains-append_right, Contains-append_cases}
 use Rattle.first_fault.specs.Stages.{ArePassed}
 use Rattle.ia_insn.specs.declared.relations.Relation.{Relation}
 use Rattle.ia_insn.specs.Programs.{IsRelationBefore, no_relation}
@@ -13,7 +14,7 @@ use Rattle.asm_build.specs.declared.text_parts.RelationLine.{RelationLine}
 use Rattle.asm_build.specs.Relations.{relation_cmp, relations_above, relations_among, with_relations, related, all_related}
 use Rattle.asm_build.specs.TextParts.{TextParts, start, after, value_stages, closed_of, with_bundle}
 use Rattle.asm_build.specs.WholeTexts.{bundles_in, IsRelationSaid, RelationsRise}
-use Rattle.asm_build.proofs.Membership.{first_there, later_there, first_or_later, none_there, in_first, in_second, in_either, all_both}
+use Rattle.asm_build.proofs.Membership.{first_there, later_there, first_or_later, none_there, all_both}
 use Rattle.asm_build.proofs.RelationSets.{kept_with, put_with, from_with, between_is, is_between, relations_ordered, chain_rises}
 use Rattle.asm_build.proofs.SortedSets.{Chain, chain_grows}
 use Rattle.asm_build.proofs.SaidLabels.{begun, one_begun, none_open}
@@ -42,7 +43,7 @@ moved ls ms n ps same h = subst (λ ks. IsAmong ks n ps) same h
 
 -- a line stays
 one_kept : (s : TextParts) (k : ℕ) (v : Line) (n : ℕ) (ps : List ℕ) → IsAmong s.relations n ps → IsAmong (after s k v).relations n ps
-one_kept s k (line.Relation qs) n ps h = record { declaring = h.declaring; among = in_first s.relations _ h.declaring h.among; bundle = h.bundle; predicates = h.predicates }
+one_kept s k (line.Relation qs) n ps h = record { declaring = h.declaring; among = Contains-append_left s.relations _ h.declaring h.among; bundle = h.bundle; predicates = h.predicates }
 one_kept s k line.Close n ps h = moved s.relations (with_bundle s (closed_of s.current)).relations n ps (sym (closed_relations s (closed_of s.current))) h
 one_kept s k v n ps h = h
 
@@ -58,13 +59,13 @@ found_after : (s : TextParts) (k : ℕ) (before after_ : List Line) (t : TextPar
 found_after s k [] after_ t ps h =
     let l : RelationLine = record { line = k; bundle = length s.bundles; predicates = ps } in
     let bundle : length s.bundles ≡ begun s + 0 = omega (arith, here_begun s h.0.0.closed) in
-    all_kept (after s k (line.Relation ps)) (k + 1) after_ t (begun s + 0) ps h.1 (record { declaring = l; among = in_second s.relations (l ∷ []) l (first_there l []); bundle = bundle; predicates = refl })
+    all_kept (after s k (line.Relation ps)) (k + 1) after_ t (begun s + 0) ps h.1 (record { declaring = l; among = Contains-append_right s.relations (l ∷ []) l (first_there l []); bundle = bundle; predicates = refl })
 found_after s k (v ∷ before) after_ t ps h =
     subst (λ n. IsAmong t.relations n ps) (sym (one_begun s k v before h.0)) (found_after (after s k v) (k + 1) before after_ t ps h.1)
 
 -- What is found is there before or on a line.
 one_on : (s : TextParts) (k : ℕ) (v : Line) (vs : List Line) (n : ℕ) (ps : List ℕ) → ArePassed (value_stages s v) → IsAmong (after s k v).relations n ps → IsAmong s.relations n ps ⊎ IsOn s (v ∷ vs) n ps
-one_on s k (line.Relation qs) vs n ps passed h = by (in_either s.relations (record { line = k; bundle = length s.bundles; predicates = qs } ∷ []) h.declaring h.among)
+one_on s k (line.Relation qs) vs n ps passed h = by (Contains-append_cases s.relations (record { line = k; bundle = length s.bundles; predicates = qs } ∷ []) h.declaring h.among)
   where
     last : (record { line = k; bundle = length s.bundles; predicates = qs } ≡ h.declaring) ⊎ Contains [] h.declaring → IsAmong s.relations n ps ⊎ IsOn s (line.Relation qs ∷ vs) n ps
     last (inl same) =

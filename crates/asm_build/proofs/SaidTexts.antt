@@ -15,7 +15,7 @@ use Rattle.asm_build.specs.declared.draft.BundleLines.{BundleLines}
 use Rattle.asm_build.specs.declared.draft.SlotName.{SlotName}
 use Rattle.asm_build.specs.declared.reason.TextError.{TextError}
 use Rattle.asm_build.specs.Addresses.{IsInside, addressed}
-use Rattle.asm_build.specs.Names.{addressed_by, named, is_named, put_in, slot_names, slots_named, bundle_named, bundles_named, unnamed_among, unnamed_slot, unnamed_bundle, or_else, all_declared, earlier, name_fault, or_none, padded, program_of}
+use Rattle.asm_build.specs.Names.{addressed_by, named, is_named, put_in, slot_names, slots_named, bundle_named, bundles_named, unnamed_among, unnamed_slot, unnamed_bundle, all_declared, earlier, name_fault, or_none, padded, program_of}
 use Rattle.asm_build.specs.Relations.{relation_stages}
 use Rattle.asm_build.specs.TextParts.{TextParts, Labels, start, address_of, AreLabelsInside}
 use Rattle.asm_build.specs.TextReading.{text_lines}
@@ -29,6 +29,7 @@ use Rattle.asm_build.proofs.Membership.{none_there}
 use Rattle.asm_build.proofs.RelationFaults.{related_landed}
 use Rattle.asm_build.proofs.SaidRelations.{relation_said, said_relation, rise_with}
 use Rattle.asm_build.proofs.SaidLines.{Follow, taken_as, all_data, all_entries, names_of}
+use Rattle.asm_build.proofs.Finishing.{length_named, both_none}
 
 -- what is found among labels is a label on a line
 abbrev AreSaidLabels : List Line → Labels → Type 0
@@ -99,10 +100,6 @@ slots_of labels n l none (x ∷ y ∷ z ∷ []) name lines said (template, conte
     )
 slots_of labels n l none slots name lines said drafted = absurd drafted
 
-both_none : (a b : Option ℕ) → or_else a b ≡ None → (a ≡ None) × (b ≡ None)
-both_none None b none = (refl, none)
-both_none (Some m) b none = absurd cc
-
 bundles_said : (lines : List Line) (labels : Labels) (n : ℕ) (saids : List (List SlotSaid × TemplateName)) (ls : List BundleLines) → AreSaidLabels lines labels → AreDrafted saids ls → unnamed_bundle labels n ls ≡ None
     → AreBundlesSaid lines n saids (bundles_named labels n ls)
 bundles_said lines labels n [] [] said drafted none = tt
@@ -111,10 +108,6 @@ bundles_said lines labels n (x ∷ xs) [] said drafted none = absurd drafted
 bundles_said lines labels n (x ∷ xs) (l ∷ ls) said drafted none =
     let nones = both_none (unnamed_slot labels n l) (unnamed_bundle labels (n + 1) ls) none in
     (slots_of labels n l nones.0 x.0 x.1 lines said drafted.0, bundles_said lines labels (n + 1) xs ls said drafted.1 nones.1)
-
-length_named : (labels : Labels) (n : ℕ) (ls : List BundleLines) → length (bundles_named labels n ls) ≡ length ls
-length_named labels n [] = refl
-length_named labels n (l ∷ ls) = omega (arith, length_named labels (n + 1) ls)
 
 -- where names have no fault, they mean what fits, and so many entries are declared
 record NoNameFault (s : TextParts) : Type 0 where

@@ -1,6 +1,6 @@
 -- How a text that begins with a whole line breaks into lines.
 use Rattle.std.proofs.Common.{◌≡◌, ◌≢◌, ◌∙◌, ℕ, zero, suc, ◌+◌, ◌-◌, ◌<◌, true, ◌&&◌, ◌==◌, ltb, List, [], ◌∷◌, ◌++◌, length, take, map, slice_index, refl, sym, ap, inr, arith, length-append}
-use Rattle.std.proofs.lemmas.Bool.{ne_eqb, eq-eqb, lt-ltb}
+use Rattle.std.proofs.lemmas.Bool.{ne_eqb, eq-eqb, lt-ltb, cond-true, cond-false, and_from, and_right}
 use Rattle.std.proofs.lemmas.Bool.Decides.{nat_tests}
 use Rattle.std.proofs.Math.Seq.{take-append_seam}
 use Rattle.bstr.specs.Text.{lines_of, without_terminator, no_cr}
@@ -9,7 +9,6 @@ use Rattle.asm_words.specs.Bytes.{is_plain_byte, has_only_plain}
 use Rattle.asm_words.proofs.Bools.{left, right}
 use Rattle.asm_build.specs.CanonicalText.{line}
 use Rattle.asm_build.specs.TextReading.{text_lines}
-use Rattle.asm_build.proofs.Choices.{chosen, otherwise, both_true, and_false}
 
 -- each byte of a line that may be read is a plain one
 plain_at : (bytes : List ℕ) (k : ℕ) → has_only_plain bytes ≡ true → k < length bytes → is_plain_byte (slice_index bytes k) ≡ true
@@ -45,7 +44,7 @@ no_cr_kept : (bytes : List ℕ) → has_only_plain bytes ≡ true → no_cr byte
 no_cr_kept [] h = refl
 no_cr_kept (c ∷ cs) h =
     let last = slice_index (c ∷ cs) (length (c ∷ cs) - 1) in
-    otherwise (ltb 0 (length (c ∷ cs)) && (last == 13)) (take (length (c ∷ cs) - 1) (c ∷ cs)) (c ∷ cs) (and_false (ltb 0 (length (c ∷ cs))) (last == 13) (ne_eqb last 13 (no_return last (plain_at (c ∷ cs) (length (c ∷ cs) - 1) h (omega arith)))))
+    cond-false (ltb 0 (length (c ∷ cs)) && (last == 13)) (take (length (c ∷ cs) - 1) (c ∷ cs)) (c ∷ cs) (and_right (ltb 0 (length (c ∷ cs))) (last == 13) (ne_eqb last 13 (no_return last (plain_at (c ∷ cs) (length (c ∷ cs) - 1) h (omega arith)))))
 
 -- the line feed is taken off
 without_feed : (bytes : List ℕ) → has_only_plain bytes ≡ true → without_terminator (line bytes) ≡ bytes
@@ -56,7 +55,7 @@ without_feed bytes h =
     let front : take (length (line bytes) - 1) (line bytes) ≡ bytes = rw last (take-append_seam bytes (10 ∷ [])) in
     let some = ltb 0 (length (line bytes)) in
     let feed = slice_index (line bytes) (length (line bytes) - 1) == 10 in
-    chosen (some && feed) (no_cr (take (length (line bytes) - 1) (line bytes))) (line bytes) (both_true some feed (lt-ltb 0 (length (line bytes)) (omega (arith, long))) (eq-eqb _ 10 ends)) ∙ ap no_cr front ∙ no_cr_kept bytes h
+    cond-true (some && feed) (no_cr (take (length (line bytes) - 1) (line bytes))) (line bytes) (and_from some feed (lt-ltb 0 (length (line bytes)) (omega (arith, long))) (eq-eqb _ 10 ends)) ∙ ap no_cr front ∙ no_cr_kept bytes h
 
 -- The first line of a text, and those of the rest.
 pub lines_after : (bytes rest : List ℕ) → has_only_plain bytes ≡ true → text_lines (line bytes ++ rest) ≡ bytes ∷ text_lines rest

@@ -2,7 +2,7 @@
 use Rattle.std.proofs.Common.{◌≡◌, ◌∙◌, ℕ, zero, suc, ◌+◌, ◌≤◌, ◌%◌, true, ◌||◌, ◌==◌, List, [], ◌∷◌, ◌++◌, length, take, drop, codes, None, refl, sym, ap, subst, arith, append_assoc, append-nil, length-append, length-drop, take-append-drop}
 use Rattle.std.specs.Prelude.{if◌then◌else◌}
 use Rattle.std.specs.Int.{w64, to_le_bytes}
-use Rattle.std.proofs.lemmas.Bool.{eq-eqb, ne_eqb}
+use Rattle.std.proofs.lemmas.Bool.{eq-eqb, ne_eqb, or_right}
 use Rattle.std.proofs.lemmas.Grind.{flat_map-append}
 use Rattle.ia_insn.specs.declared.limits.TheConstants.{DATA_LIMIT}
 use Rattle.asm_reading.specs.declared.line.Line.TheVariants as says
@@ -12,7 +12,6 @@ use Rattle.asm_build.specs.declared.text_parts.RelationLine.{RelationLine}
 use Rattle.asm_build.specs.declared.text_parts.Section.TheVariants as section
 use Rattle.asm_build.specs.CanonicalText.{line as text_line, words_text, is_nothing}
 use Rattle.asm_build.specs.TextParts.{TextParts, Labels, numbers_bytes}
-use Rattle.asm_build.proofs.Choices.{or_true}
 use Rattle.asm_build.proofs.DataBack.{AreWords}
 use Rattle.asm_build.proofs.PrintedLines.{data_says}
 use Rattle.asm_build.proofs.PrintedNumbers.{hex_text, more_text, numbers_text, numbers_say}
@@ -31,7 +30,7 @@ end_of_line : (k : ℕ) (ws : List ℕ) → k % 8 ≡ 7 → end_text k ws ≡ 10
 end_of_line k ws h = rw (eq-eqb (k % 8) 7 h) refl
 
 end_of_data : (k : ℕ) → end_text k [] ≡ 10 ∷ []
-end_of_data k = rw (or_true (k % 8 == 7) true refl) refl
+end_of_data k = rw (or_right (k % 8 == 7) true refl) refl
 
 no_end : (k w : ℕ) (ws : List ℕ) → (k % 8 ≡ 7 → ⊥) → end_text k (w ∷ ws) ≡ []
 no_end k w ws h = rw (ne_eqb (k % 8) 7 h) refl

@@ -5,6 +5,7 @@ use Rattle.std.specs.BTreeMap.{insert_entry}
 use Rattle.std.specs.List.{AllByRecursion}
 use Rattle.std.specs.Cmp.Lexicographic.{slice_cmp}
 use Rattle.std.specs.Ordering.{nat_cmp}
+use Rattle.std.proofs.lemmas.List.{map-append}
 use Rattle.ia_insn.specs.declared.limits.TheConstants.{BUNDLE_LIMIT}
 use Rattle.ia_insn.specs.Bundles.{Bundle, IsBundle}
 use Rattle.ia_insn.specs.declared.relations.Relation.{Relation}
@@ -75,18 +76,10 @@ label_goes : (is : Bool) (bs : List BundleLines) (es : List EntryLine) (rs : Lis
 label_goes true bs es rs ls k n low new = line_goes (outside bs es rs ls) k (label_text n ++ codes ":") (line.Label (label_text n)) (label_says n low) (refl, (new, (tt, (tt, (tt, tt)))))
 label_goes false bs es rs ls k n low new = stays (outside bs es rs ls) k
 
-map_both : (xs ys : List ℕ) → map label_text (xs ++ ys) ≡ map label_text xs ++ map label_text ys
-map_both [] ys = refl
-map_both (x ∷ xs) ys = ap (λ zs. label_text x ∷ zs) (map_both xs ys)
-
-names_both : (xs ys : List EntryLine) → map (λ (e : EntryLine). e.name) (xs ++ ys) ≡ map (λ (e : EntryLine). e.name) xs ++ map (λ (e : EntryLine). e.name) ys
-names_both [] ys = refl
-names_both (x ∷ xs) ys = ap (λ zs. x.name ∷ zs) (names_both xs ys)
-
 -- the entry lines with that of the n-th bundle
 entry_lines_next : (is : Bool) (es : List EntryLine) (before after : List ℕ) (k n : ℕ) → map (λ (e : EntryLine). e.name) es ≡ map label_text before → after ≡ before ++ (if is then n ∷ [] else [])
     → map (λ (e : EntryLine). e.name) (entry_if is es k n) ≡ map label_text after
-entry_lines_next true es before after k n h grown = names_both es (record { line = k; name = label_text n } ∷ []) ∙ ap (λ xs. xs ++ label_text n ∷ []) h ∙ sym (ap (map label_text) grown ∙ map_both before (n ∷ []))
+entry_lines_next true es before after k n h grown = map-append (λ (e : EntryLine). e.name) es (record { line = k; name = label_text n } ∷ []) ∙ ap (λ xs. xs ++ label_text n ∷ []) h ∙ sym (ap (map label_text) grown ∙ map-append label_text before (n ∷ []))
 entry_lines_next false es before after k n h grown = h ∙ sym (ap (map label_text) (grown ∙ append-nil before))
 
 labels_next : (entries targets : List ℕ) (count n : ℕ) (is : Bool) (ls : Labels) → (is_among entries n || is_among targets n) ≡ is → n < count → count ≤ BUNDLE_LIMIT → HasLabels entries targets count n ls → HasLabels entries targets count (n + 1) (label_if is ls n n)

@@ -12,10 +12,10 @@ use Rattle.ia_insn.specs.declared.choices.LoadKind.TheVariants as load
 use Rattle.ia_insn.specs.declared.choices.StoreKind.TheVariants as store
 use Rattle.ia_insn.specs.declared.choices.BranchKind.TheVariants as branch
 use Rattle.ia_insn.specs.declared.choices.Unit.TheVariants as unit
+use Rattle.asm_words.proofs.Bools.{left, right}
 use Rattle.asm_forms.specs.Completers.{text_of}
 use Rattle.asm_forms.specs.Naming.{completers_in, is_same}
 use Rattle.asm_forms.specs.Rows.{rows}
-use Rattle.asm_forms.proofs.Bools.{left, right}
 use Rattle.asm_forms.proofs.Clear.{products}
 
 pub same_is : (x y : Completer) → is_same x y ≡ true → x ≡ y

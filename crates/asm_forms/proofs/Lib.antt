@@ -1,4 +1,4 @@
-pub mod Bools
+pub mod ListTests
 pub mod Chosen
 pub mod Clear
 pub mod Fits

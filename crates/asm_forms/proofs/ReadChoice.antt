@@ -2,13 +2,14 @@
 use Rattle.std.proofs.Common.{◌≡◌, refl, sym, subst, Bool, true, false, ◌||◌, List, [], ◌∷◌, map, Some}
 use Rattle.std.specs.Prelude.{flat_map}
 use Rattle.std.specs.List.{list_all, list_any}
+use Rattle.asm_words.proofs.Bools.{left, right}
 use Rattle.asm_forms.specs.declared.completer.Completer.{Completer}
 use Rattle.asm_forms.specs.declared.completer.CompleterSet.{CompleterSet}
 use Rattle.asm_forms.specs.declared.form.Form.{Form}
 use Rattle.asm_forms.specs.Completers.{text_of, members}
 use Rattle.asm_forms.specs.Naming.{completers_in, is_same, is_choice}
 use Rattle.asm_forms.specs.Rows.{row_of}
-use Rattle.asm_forms.proofs.Bools.{left, right, all_flat, all_map}
+use Rattle.asm_forms.proofs.ListTests.{all_flat, all_map}
 use Rattle.asm_forms.proofs.Chosen.{same_is, reads, reads_is, all_read}
 use Rattle.asm_forms.proofs.Clear.{products}
 use Rattle.asm_forms.proofs.RowFacts.{of_row}

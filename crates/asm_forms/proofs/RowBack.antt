@@ -4,7 +4,9 @@ use Rattle.std.specs.Prelude.{flat_map, filter, is_some, nat_eq}
 use Rattle.std.specs.List.{find, list_all}
 use Rattle.std.specs.Str.{bytes_eq}
 use Rattle.std.specs.Cmp.Lexicographic.{pointwise, same_text}
-use Rattle.std.proofs.lemmas.Bool.{eqb-true, eq-eqb, not-true}
+use Rattle.std.proofs.lemmas.Bool.{eqb-true, eq-eqb, not-true, and_from, or_right}
+use Rattle.std.proofs.Math.Seq.{drop-append_seam}
+use Rattle.std.proofs.lemmas.Option.{same_Some}
 use Rattle.asm_words.specs.declared.tokens.Token.{Token}
 use Rattle.asm_words.specs.declared.tokens.Token.TheVariants as t
 use Rattle.ia_insn.specs.declared.registers.Ar.TheVariants as ar
@@ -13,6 +15,7 @@ use Rattle.ia_insn.specs.declared.choices.LoadKind.TheVariants as load
 use Rattle.ia_insn.specs.declared.choices.StoreKind.TheVariants as store
 use Rattle.ia_insn.specs.declared.choices.BranchKind.TheVariants as branch
 use Rattle.ia_insn.specs.declared.choices.Unit.TheVariants as unit
+use Rattle.asm_words.proofs.Bools.{left, right}
 use Rattle.asm_forms.specs.declared.completer.Completer.{Completer}
 use Rattle.asm_forms.specs.declared.completer.Completer.TheVariants as c
 use Rattle.asm_forms.specs.declared.completer.CompleterSet.{CompleterSet}
@@ -30,7 +33,7 @@ use Rattle.asm_forms.specs.Items.{mark_token, is_mark, accepts, filled, prints, 
 use Rattle.asm_forms.specs.Matching.{is_spelled}
 use Rattle.asm_forms.specs.Naming.{begins, ends_part, and_more, completers_in, has_completers_if, is_named, named_forms}
 use Rattle.asm_forms.specs.Rows.{FormRow, rows, first_row, row_of, place}
-use Rattle.asm_forms.proofs.Bools.{left, right, both, all_take, all_both, all_found, all_flat, all_map}
+use Rattle.asm_forms.proofs.ListTests.{all_take, all_both, all_found, all_flat, all_map}
 use Rattle.asm_forms.proofs.Clear.{tells, differ, products, never_named, is_clear, all_clear, is_other, words_alone, words_dotted}
 use Rattle.asm_forms.proofs.Fits.{spelled, told}
 use Rattle.asm_forms.proofs.RowFacts.{form_back, in_table, of_row}
@@ -107,11 +110,7 @@ of_products p (s ∷ ss) name cs h e =
 -- a name's own front
 own_front : (w rest : List ℕ) → pointwise nat_eq w (take (length w) (w ++ rest)) ≡ true
 own_front [] rest = refl
-own_front (x ∷ w) rest = both _ _ (eq-eqb x x refl) (own_front w rest)
-
-pub past_front : (w rest : List ℕ) → drop (length w) (w ++ rest) ≡ rest
-past_front [] rest = refl
-past_front (x ∷ w) rest = past_front w rest
+own_front (x ∷ w) rest = and_from _ _ (eq-eqb x x refl) (own_front w rest)
 
 -- a completer begins with a dot, or is nothing
 first_dot : (x : Completer) (rest : List ℕ) → ends_part rest ≡ true → ends_part (text_of x ++ rest) ≡ true
@@ -141,7 +140,7 @@ dots (x ∷ cs) = first_dot x (flat_map text_of cs) (dots cs)
 -- a row's own word and completers name it
 pub named_own : (r : FormRow) (cs : List Completer) → completers_in r.sets (flat_map text_of cs) ≡ Some cs → is_named (r.word ++ flat_map text_of cs) r ≡ true
 named_own r cs e =
-    let d : drop (length r.word) (r.word ++ flat_map text_of cs) ≡ flat_map text_of cs = past_front r.word (flat_map text_of cs) in
+    let d : drop (length r.word) (r.word ++ flat_map text_of cs) ≡ flat_map text_of cs = drop-append_seam r.word (flat_map text_of cs) in
     rw (own_front r.word (flat_map text_of cs), d, dots cs, e) refl
 
 passed : (p : FormRow → Bool) (x : FormRow) (ys : List FormRow) (o : Option FormRow) (b a : Bool) → p x ≡ a → not (b && a) ≡ true → find p ys ≡ o → find p (cond b (x ∷ ys) ys) ≡ o
@@ -179,7 +178,7 @@ unread r q cs xs h e clear other = by_word (bytes_eq r.word q.word) refl clear o
         by_items : (d : Bool) → differ r.items q.items ≡ d → (d || never_named r.sets q.sets) ≡ true → not (is_named (r.word ++ flat_map text_of cs) q && is_read (filled r.items xs) q) ≡ true
         by_items true d n = not_second (is_named (r.word ++ flat_map text_of cs) q) _ (not_spelled r.items q.items xs h d)
         by_items false d n =
-            let w : drop (length q.word) (r.word ++ flat_map text_of cs) ≡ flat_map text_of cs = subst (λ v. drop (length v) (r.word ++ flat_map text_of cs) ≡ flat_map text_of cs) (same_text r.word q.word b) (past_front r.word (flat_map text_of cs)) in
+            let w : drop (length q.word) (r.word ++ flat_map text_of cs) ≡ flat_map text_of cs = subst (λ v. drop (length v) (r.word ++ flat_map text_of cs) ≡ flat_map text_of cs) (same_text r.word q.word b) (drop-append_seam r.word (flat_map text_of cs)) in
             let u : is_some (completers_in q.sets (flat_map text_of cs)) ≡ false = not-true _ (of_products (λ ds. not (is_some (completers_in q.sets (flat_map text_of ds)))) r.sets (flat_map text_of cs) cs n e) in
             not_first (begins (r.word ++ flat_map text_of cs) q.word) q.sets (drop (length q.word) (r.word ++ flat_map text_of cs)) _ (rw (w) u)
 
@@ -195,10 +194,7 @@ others rest (inr (cs, e)) = subst (λ z. list_all (λ r. list_all (is_other z r)
 -- what is found among rows is found among their forms, where a row is found by its form
 found_first : (p : FormRow → Bool) (row : Form → FormRow) (x r : FormRow) (us : List FormRow) (b a : Bool) → p x ≡ a → row x.form ≡ x → (find p us ≡ Some r → find (λ f. p (row f)) (map (λ y. y.form) us) ≡ Some r.form)
     → find p (cond b (x ∷ us) us) ≡ Some r → find (λ f. p (row f)) (map (λ y. y.form) (cond b (x ∷ us) us)) ≡ Some r.form
-found_first p row x r us true true e i k h = let s : x ≡ r = some_same x r (rw e at h) in rw (i, e) (ap (λ y. Some y.form) s)
-  where
-    some_same : (y z : FormRow) → Some y ≡ Some z → y ≡ z
-    some_same y z q = cc
+found_first p row x r us true true e i k h = let s : x ≡ r = same_Some x r (rw e at h) in rw (i, e) (ap (λ y. Some y.form) s)
 found_first p row x r us true false e i k h = rw (i, e) (k (rw e at h))
 found_first p row x r us false a e i k h = k h
 
@@ -229,9 +225,5 @@ alike : (r q : FormRow) (rest : List ℕ) → is_other rest r q ≡ true → (no
 alike r q rest o = by_word (bytes_eq r.word q.word) o
   where
     by_word : (b : Bool) → (b || not (begins (r.word ++ rest) q.word)) ≡ true → (not (is_named (r.word ++ rest) q) || b) ≡ true
-    by_word true h = or_true (not (is_named (r.word ++ rest) q))
-      where
-        or_true : (a : Bool) → (a || true) ≡ true
-        or_true true = refl
-        or_true false = refl
+    by_word true h = or_right (not (is_named (r.word ++ rest) q)) true refl
     by_word false h = rw (not-true (begins (r.word ++ rest) q.word) h) refl

@@ -4,7 +4,7 @@ use Rattle.std.specs.List.{list_all}
 use Rattle.asm_forms.specs.declared.form.Form.{Form}
 use Rattle.asm_forms.specs.declared.form.Form.TheVariants as form
 use Rattle.asm_forms.specs.Rows.{FormRow, rows, first_row, row_of, place}
-use Rattle.asm_forms.proofs.Bools.{all_at}
+use Rattle.asm_forms.proofs.ListTests.{all_at}
 
 -- the forms stand in the order of their rows
 pub form_back : (f : Form) → (row_of f).form ≡ f

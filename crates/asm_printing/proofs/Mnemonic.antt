@@ -1,7 +1,8 @@
 -- The text of a mnemonic is one name.
-use Rattle.std.proofs.Common.{◌≡◌, refl, sym, ℕ, Bool, true, false, ◌&&◌, not, List, [], ◌∷◌, ◌++◌}
+use Rattle.std.proofs.Common.{◌≡◌, refl, ℕ, Bool, true, false, ◌&&◌, not, List, [], ◌∷◌, ◌++◌}
 use Rattle.std.specs.Prelude.{flat_map}
 use Rattle.std.specs.List.{list_all}
+use Rattle.std.proofs.lemmas.Bool.{not-true}
 use Rattle.asm_words.specs.declared.word.WordKind.TheVariants as kind
 use Rattle.asm_words.specs.Bytes.{is_name_byte, is_digit_byte}
 use Rattle.asm_words.proofs.Lexed.{lexed, is_end}
@@ -78,14 +79,10 @@ mnemonic_bytes f cs = names_both (row_of f).word (flat_map text_of cs) (word_byt
 pub mnemonic_begins : (f : Form) (cs : List Completer) → begins_name (mnemonic_text f cs) ≡ true
 mnemonic_begins f cs = begins_both (row_of f).word (flat_map text_of cs) (word_begins f)
 
-not_false : (b : Bool) → not b ≡ true → b ≡ false
-not_false true h = sym h
-not_false false h = refl
-
 -- a name before an end is one word
 pub name_cut : (n cs : List ℕ) → begins_name n ≡ true → list_all is_name_byte n ≡ true → is_end cs ≡ true → lexed 0 (n ++ cs) ≡ (kind.Name, n) ∷ lexed 0 cs
 name_cut [] cs b h e = cc
-name_cut (c ∷ n) cs b h e = name_lexed c n cs (left _ _ b) (not_false _ (right (is_name_byte c) _ b)) (right (is_name_byte c) _ h) e
+name_cut (c ∷ n) cs b h e = name_lexed c n cs (left _ _ b) (not-true _ (right (is_name_byte c) _ b)) (right (is_name_byte c) _ h) e
 
 -- and so is a mnemonic
 pub mnemonic_lexed : (f : Form) (completers : List Completer) (cs : List ℕ) → is_end cs ≡ true → lexed 0 (mnemonic_text f completers ++ cs) ≡ (kind.Name, mnemonic_text f completers) ∷ lexed 0 cs

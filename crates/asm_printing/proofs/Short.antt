@@ -13,6 +13,7 @@ use Rattle.ia_insn.specs.declared.registers.Ar.TheVariants as ar
 use Rattle.asm_words.specs.declared.tokens.Token.{Token}
 use Rattle.asm_words.specs.declared.tokens.Token.TheVariants as t
 use Rattle.asm_words.proofs.HexDigits.{hex_one, hex_step}
+use Rattle.asm_words.proofs.Bools.{left, right}
 use Rattle.asm_forms.specs.declared.completer.Completer.{Completer}
 use Rattle.asm_forms.specs.declared.form.Form.{Form}
 use Rattle.asm_forms.specs.declared.items.FormItem.{FormItem}
@@ -23,7 +24,6 @@ use Rattle.asm_forms.specs.Completers.{text_of}
 use Rattle.asm_forms.specs.Items.{mark_token, filled, prints, fits}
 use Rattle.asm_forms.specs.Naming.{completers_in}
 use Rattle.asm_forms.specs.Rows.{rows, row_of}
-use Rattle.asm_forms.proofs.Bools.{left, right}
 use Rattle.asm_forms.proofs.Clear.{products}
 use Rattle.asm_forms.proofs.RowBack.{of_products}
 use Rattle.asm_forms.proofs.RowFacts.{of_row}
@@ -164,7 +164,7 @@ parts_are_short pr m d s hp hd hs =
     omega (arith, hp, hd, hs, a, b, e)
 
 -- 0 counts where there is no target
-small_target : (target : Option ℕ) → IfSome target (λ n. n < 2 ^ 34) → or_zero target < 2 ^ 34
+pub small_target : (target : Option ℕ) → IfSome target (λ n. n < 2 ^ 34) → or_zero target < 2 ^ 34
 small_target None h = omega arith
 small_target (Some n) h = h
 

@@ -2,6 +2,7 @@
 use Rattle.std.proofs.Common.{◌≡◌, refl, sym, ℕ, Bool, true, false, not, ◌&&◌, cond, eqb, List, [], ◌∷◌, Option, Some, None}
 use Rattle.std.specs.Option.{option_map}
 use Rattle.std.specs.Str.{bytes_eq}
+use Rattle.std.proofs.lemmas.Bool.{not-true}
 use Rattle.asm_words.specs.declared.tokens.Token.{Token}
 use Rattle.asm_words.specs.declared.tokens.Token.TheVariants as t
 use Rattle.asm_words.specs.declared.word.WordKind.{WordKind}
@@ -10,7 +11,7 @@ use Rattle.asm_words.specs.Bytes.{begins_letter}
 use Rattle.asm_words.specs.Registers.{look_up, aliases, alias_of, numbered, numbered_register, register_of}
 use Rattle.asm_words.specs.Tokens.{other_name, name_token, token_of}
 use Rattle.asm_words.specs.Words.{pick}
-use Rattle.asm_forms.proofs.Bools.{left, right}
+use Rattle.asm_words.proofs.Bools.{left, right}
 use Rattle.asm_reading.specs.Lines.{is_open, is_close, is_colon}
 
 abbrev is_mark : Token → Bool
@@ -35,13 +36,9 @@ abbrev no_marks : List (List ℕ × Token) → Bool
 no_marks [] = true
 no_marks (e ∷ es) = not (is_mark e.1) && no_marks es
 
-not_false : (b : Bool) → not b ≡ true → b ≡ false
-not_false true h = sym h
-not_false false h = refl
-
 look_no_mark : (es : List (List ℕ × Token)) (name : List ℕ) → no_marks es ≡ true → some_mark (look_up es name) ≡ false
 look_no_mark [] name h = refl
-look_no_mark (e ∷ es) name h = elim (bytes_eq name e.0) as (λ b. some_mark (cond b (Some e.1) (look_up es name)) ≡ false) [ true ↦ not_false _ (left _ _ h) | false ↦ look_no_mark es name (right (not (is_mark e.1)) _ h) ]
+look_no_mark (e ∷ es) name h = elim (bytes_eq name e.0) as (λ b. some_mark (cond b (Some e.1) (look_up es name)) ≡ false) [ true ↦ not-true _ (left _ _ h) | false ↦ look_no_mark es name (right (not (is_mark e.1)) _ h) ]
 
 register_no_mark : (f : ℕ → Token) → ((n : ℕ) → is_mark (f n) ≡ false) → (r : Option ℕ) → some_mark (option_map f r) ≡ false
 register_no_mark f h None = refl

@@ -3,9 +3,10 @@ use Rattle.std.proofs.Common.{◌≡◌, refl, ◌∙◌, ap, sym, ℕ, Bool, tr
 use Rattle.std.specs.Prelude.{filter, Ok, IfSome}
 use Rattle.std.specs.List.{find, list_all, starts_with}
 use Rattle.std.specs.Option.{option_map}
-use Rattle.std.proofs.lemmas.Bool.{eqb-true}
+use Rattle.std.proofs.lemmas.Bool.{eqb-true, and_from}
 use Rattle.asm_words.specs.declared.tokens.Token.{Token}
 use Rattle.asm_words.specs.declared.fault.LineFault.TheVariants as fault
+use Rattle.asm_words.proofs.Bools.{left, right}
 use Rattle.asm_forms.specs.declared.completer.Completer.{Completer}
 use Rattle.asm_forms.specs.declared.completer.CompleterSet.{CompleterSet}
 use Rattle.asm_forms.specs.declared.form.Form.{Form}
@@ -14,7 +15,6 @@ use Rattle.asm_forms.specs.Items.{taken}
 use Rattle.asm_forms.specs.Matching.{is_spelled, read_form}
 use Rattle.asm_forms.specs.Naming.{is_named, begins, has_completers_if, named_forms, completers}
 use Rattle.asm_forms.specs.Rows.{FormRow, rows, row_of}
-use Rattle.asm_forms.proofs.Bools.{left, right, both}
 use Rattle.asm_reading.specs.declared.line.Line.{Line}
 use Rattle.ia_insn.specs.declared.insn.Op.{Op}
 use Rattle.asm_reading.specs.declared.line.Line.TheVariants as line
@@ -77,7 +77,7 @@ kept_slots name [] plain known = refl
 kept_slots name (r ∷ rs) plain known = kept_one (is_named name r) refl (kept_slots name rs plain (right _ _ known))
   where
     kept_one : (b : Bool) → b ≡ is_named name r → list_all is_instruction (map (λ q. q.form) (filter (is_named name) rs)) ≡ true → list_all is_instruction (map (λ q. q.form) (cond b (r ∷ filter (is_named name) rs) (filter (is_named name) rs))) ≡ true
-    kept_one true e m = both _ _ (one_slot name r plain (left _ _ known) (sym e)) m
+    kept_one true e m = and_from _ _ (one_slot name r plain (left _ _ known) (sym e)) m
     kept_one false e m = m
 
 pub all_slots : (name : List ℕ) → is_directive_name name ≡ false → list_all is_instruction (named_forms name) ≡ true
@@ -95,7 +95,7 @@ slot_made qp forms name xs after f value read is =
     rw read (lined (op_of f (completers_or_none f name) (taken (row_of f).items (without_stop xs))) (λ x. line.Slot (draft_of f (completers_or_none f name) qp after x) (ends_in_stop xs))
     ∙ ap (λ o. or_fault o fault.Form) is)
 
-found_read : (forms : List Form) (operands xs : List Token) (f : Form) → find (is_spelled operands) forms ≡ Some f → read_form forms operands xs ≡ Ok f
+pub found_read : (forms : List Form) (operands xs : List Token) (f : Form) → find (is_spelled operands) forms ≡ Some f → read_form forms operands xs ≡ Ok f
 found_read forms operands xs f h = rw h refl
 
 -- a slot line whose parts are found is what the name says

@@ -1,13 +1,13 @@
 -- The printed completers are in their sets, and their choices come back.
 use Rattle.std.proofs.Common.{◌≡◌, ◌≢◌, ◌⊎◌, inl, inr, refl, ℕ, ◌≤◌, Bool, true, false, cond, eqb, [], ◌∷◌, arith}
 use Rattle.std.specs.List.{list_any}
+use Rattle.std.proofs.lemmas.Bool.{and_from}
 use Rattle.asm_forms.specs.declared.completer.Completer.TheVariants as c
 use Rattle.asm_forms.specs.declared.completer.CompleterSet.TheVariants as set
 use Rattle.asm_forms.specs.declared.choices.Whether.TheVariants as wh
 use Rattle.asm_forms.specs.declared.choices.CacheHint.TheVariants as hint
 use Rattle.asm_forms.specs.Completers.{members}
 use Rattle.asm_forms.specs.Naming.{is_same, is_choice}
-use Rattle.asm_forms.proofs.Bools.{both}
 use Rattle.ia_insn.specs.declared.choices.LoadKind.{LoadKind}
 use Rattle.ia_insn.specs.declared.choices.LoadKind.TheVariants as load
 use Rattle.ia_insn.specs.declared.choices.StoreKind.{StoreKind}
@@ -31,7 +31,7 @@ clr_in false = refl
 
 -- the hints of a branch after its first completer
 pub hints_in : (w : ℕ) (many clr : Bool) → is_choice (set.Whether ∷ set.Prefetch ∷ set.DeallocClr ∷ []) (branch_hints w many clr) ≡ true
-hints_in w many clr = both _ _ (whether_in (eqb w 0) (eqb w 1) (eqb w 2)) (both _ _ (many_in many) (both _ _ (clr_in clr) refl))
+hints_in w many clr = and_from _ _ (whether_in (eqb w 0) (eqb w 1) (eqb w 2)) (and_from _ _ (many_in many) (and_from _ _ (clr_in clr) refl))
 
 -- the hints' numbers come back
 pub many_back : (many : Bool) → is_many (prefetch_hint many) ≡ many
@@ -84,11 +84,11 @@ fill_in load.Plain = refl
 fill_in k = refl
 
 pub load_choice : (k : LoadKind) (h : ℕ) → is_fill k ≡ false → is_choice (set.LoadType ∷ set.LoadHint ∷ []) (c.Load k ∷ (c.Hint (cache_hint h)) ∷ []) ≡ true
-load_choice k h n = both _ _ (load_in k n) (both _ _ (cache_hint_in (eqb h 0) (eqb h 1)) refl)
+load_choice k h n = and_from _ _ (load_in k n) (and_from _ _ (cache_hint_in (eqb h 0) (eqb h 1)) refl)
 
 -- which may be a fill, of 8 bytes
 pub fill_choice : (k : LoadKind) (h : ℕ) → is_choice (set.LoadTypeFill ∷ set.LoadHint ∷ []) (c.Load k ∷ (c.Hint (cache_hint h)) ∷ []) ≡ true
-fill_choice k h = both _ _ (fill_in k) (both _ _ (cache_hint_in (eqb h 0) (eqb h 1)) refl)
+fill_choice k h = and_from _ _ (fill_in k) (and_from _ _ (cache_hint_in (eqb h 0) (eqb h 1)) refl)
 
 -- the completers of a store
 abbrev pub is_spill : StoreKind → Bool
@@ -108,11 +108,11 @@ spill_in store.Plain = refl
 spill_in k = refl
 
 pub store_choice : (k : StoreKind) (h : ℕ) → is_spill k ≡ false → (h ≡ 0) ⊎ (h ≡ 3) → is_choice (set.StoreType ∷ set.StoreHint ∷ []) (c.Store k ∷ (c.Hint (cache_hint h)) ∷ []) ≡ true
-store_choice k h n g = both _ _ (store_in k n) (both _ _ (store_hint_in h g) refl)
+store_choice k h n g = and_from _ _ (store_in k n) (and_from _ _ (store_hint_in h g) refl)
 
 -- which may be a spill, of 8 bytes
 pub spill_choice : (k : StoreKind) (h : ℕ) → (h ≡ 0) ⊎ (h ≡ 3) → is_choice (set.StoreTypeSpill ∷ set.StoreHint ∷ []) (c.Store k ∷ (c.Hint (cache_hint h)) ∷ []) ≡ true
-spill_choice k h g = both _ _ (spill_in k) (both _ _ (store_hint_in h g) refl)
+spill_choice k h g = and_from _ _ (spill_in k) (and_from _ _ (store_hint_in h g) refl)
 
 pub store_hint_back : (h : ℕ) → (h ≡ 0) ⊎ (h ≡ 3) → hint_of (c.Hint (cache_hint h)) ≡ h
 store_hint_back h (inl e) = rw e refl
@@ -120,7 +120,7 @@ store_hint_back h (inr e) = rw e refl
 
 -- the completers of an exchange
 pub exchange_choice : (h : ℕ) → is_choice (set.LoadHint ∷ []) ((c.Hint (cache_hint h)) ∷ []) ≡ true
-exchange_choice h = both _ _ (cache_hint_in (eqb h 0) (eqb h 1)) refl
+exchange_choice h = and_from _ _ (cache_hint_in (eqb h 0) (eqb h 1)) refl
 
 -- the completers of a fetch-and-add
 semaphore_in : (release : Bool) → list_any (is_same (semaphore_type release)) (members set.SemaphoreType) ≡ true
@@ -128,7 +128,7 @@ semaphore_in true = refl
 semaphore_in false = refl
 
 pub fetch_add_choice : (release : Bool) (h : ℕ) → is_choice (set.SemaphoreType ∷ set.LoadHint ∷ []) (semaphore_type release ∷ (c.Hint (cache_hint h)) ∷ []) ≡ true
-fetch_add_choice release h = both _ _ (semaphore_in release) (both _ _ (cache_hint_in (eqb h 0) (eqb h 1)) refl)
+fetch_add_choice release h = and_from _ _ (semaphore_in release) (and_from _ _ (cache_hint_in (eqb h 0) (eqb h 1)) refl)
 
 pub release_back : (release : Bool) → is_release (semaphore_type release) ≡ release
 release_back true = refl

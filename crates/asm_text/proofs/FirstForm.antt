@@ -1,6 +1,7 @@
 -- The first of the forms that the name of a slot line names is that of a slot line.
 use Rattle.std.proofs.Common.{◌≡◌, refl, subst, sym, ℕ, Bool, true, false, not, ◌||◌, List, [], ◌∷◌, ◌++◌, flat_map}
 use Rattle.std.specs.List.{list_all}
+use Rattle.std.proofs.lemmas.Bool.{not-true}
 use Rattle.asm_forms.specs.declared.completer.Completer.{Completer}
 use Rattle.asm_forms.specs.declared.form.Form.{Form}
 use Rattle.asm_forms.specs.Completers.{text_of}
@@ -21,14 +22,10 @@ plain_word (c ∷ d ∷ cs) = not (is_directive_name (c ∷ d ∷ cs))
 words_plain : list_all (λ r. not (is_instruction r.form) || plain_word r.word) rows ≡ true
 words_plain = refl
 
-not_false : (b : Bool) → not b ≡ true → b ≡ false
-not_false true h = cc
-not_false false h = refl
-
 goes_on_plain : (w more : List ℕ) → plain_word w ≡ true → is_directive_name (w ++ more) ≡ false
 goes_on_plain [] more h = cc
 goes_on_plain (c ∷ []) more h = cc
-goes_on_plain (c ∷ d ∷ cs) more h = not_false (is_directive_name (c ∷ d ∷ cs)) h
+goes_on_plain (c ∷ d ∷ cs) more h = not-true (is_directive_name (c ∷ d ∷ cs)) h
 
 pub named_slots : (f : Form) (cs : List Completer) → is_instruction f ≡ true → list_all is_instruction (named_forms (mnemonic_text f cs)) ≡ true
 named_slots f cs h =

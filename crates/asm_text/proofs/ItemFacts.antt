@@ -4,8 +4,10 @@ use Rattle.std.proofs.Common.{◌≡◌, refl, ◌∙◌, ap, Bool, true, false,
 use Rattle.std.specs.Prelude.{ℤ}
 use Rattle.std.specs.Option.{option_map}
 use Rattle.std.specs.List.{AllByRecursion, list_all, list_any}
+use Rattle.std.proofs.lemmas.Bool.{and_from}
 use Rattle.asm_words.specs.declared.tokens.Token.{Token}
 use Rattle.asm_words.specs.declared.tokens.Token.TheVariants as t
+use Rattle.asm_words.proofs.Bools.{left, right}
 use Rattle.asm_forms.specs.declared.form.Form.{Form}
 use Rattle.asm_forms.specs.declared.items.FormItem.{FormItem}
 use Rattle.asm_forms.specs.declared.items.FormItem.TheVariants.{Is, Takes}
@@ -14,7 +16,6 @@ use Rattle.asm_forms.specs.declared.items.Mark.{Mark}
 use Rattle.asm_forms.specs.declared.items.Mark.TheVariants as m
 use Rattle.asm_forms.specs.Items.{mark_token, filled, prints, fits, is_label_item}
 use Rattle.asm_forms.specs.Rows.{rows, row_of}
-use Rattle.asm_forms.proofs.Bools.{left, right, both}
 use Rattle.asm_forms.proofs.RowFacts.{of_row}
 use Rattle.asm_printing.proofs.Written.{IsPrinted}
 use Rattle.asm_text.proofs.OperandTexts.{is_wordlike, are_apart, label_token}
@@ -52,11 +53,11 @@ apart [] xs h e = refl
 apart (Is a ∷ []) xs h e = refl
 apart (Takes kind ∷ []) [] h e = cc
 apart (Takes kind ∷ []) (x ∷ xs) h e = refl
-apart (Is a ∷ Is b ∷ is) xs h e = both _ _ (left _ _ e) (apart (Is b ∷ is) xs h (right _ _ e))
+apart (Is a ∷ Is b ∷ is) xs h e = and_from _ _ (left _ _ e) (apart (Is b ∷ is) xs h (right _ _ e))
 apart (Is a ∷ Takes kind ∷ is) [] h e = cc
-apart (Is a ∷ Takes kind ∷ is) (x ∷ xs) h e = both _ _ (first_of_two (is_wordlike (mark_token a)) (is_wordlike x) (left _ _ e)) (apart (Takes kind ∷ is) (x ∷ xs) h (right _ _ e))
+apart (Is a ∷ Takes kind ∷ is) (x ∷ xs) h e = and_from _ _ (first_of_two (is_wordlike (mark_token a)) (is_wordlike x) (left _ _ e)) (apart (Takes kind ∷ is) (x ∷ xs) h (right _ _ e))
 apart (Takes kind ∷ is) [] h e = cc
-apart (Takes kind ∷ Is b ∷ is) (x ∷ xs) h e = both _ _ (second_of_two (is_wordlike x) (is_wordlike (mark_token b)) (left _ _ e)) (apart (Is b ∷ is) xs (right _ _ h) (right _ _ e))
+apart (Takes kind ∷ Is b ∷ is) (x ∷ xs) h e = and_from _ _ (second_of_two (is_wordlike x) (is_wordlike (mark_token b)) (left _ _ e)) (apart (Is b ∷ is) xs (right _ _ h) (right _ _ e))
 apart (Takes kind ∷ Takes other ∷ is) (x ∷ xs) h e = cc
 
 pub row_apart : (f : Form) (xs : List Token) → fits (row_of f).items xs ≡ true → are_apart (filled (row_of f).items xs) ≡ true

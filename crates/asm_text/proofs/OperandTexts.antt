@@ -6,6 +6,7 @@ use Rattle.std.specs.List.{AllByRecursion}
 use Rattle.std.specs.Fmt.{decimal}
 use Rattle.std.proofs.lemmas.Fmt.{length-decimal-le}
 use Rattle.std.proofs.lemmas.Bool.{le-leb}
+use Rattle.std.proofs.lemmas.Option.{same_Some}
 use Rattle.asm_words.specs.declared.limits.TheConstants.{NAME_LIMIT}
 use Rattle.ia_insn.specs.declared.registers.Ar.TheVariants as ar
 use Rattle.asm_words.specs.declared.tokens.Token.{Token}
@@ -232,9 +233,6 @@ pub operands_back : (target : ℕ) (is : List FormItem) (xs : List Token) (cs : 
     → tokens (lexed 0 (tokens_text target is xs ++ cs)) ≡ xs ++ tokens (lexed 0 cs)
 operands_back target is xs cs l n p a e = ap tokens (operands_lexed target is xs cs l n p a e) ∙ words_read target is xs (lexed 0 cs) l n p
 
-some_same : (x y : Token) → Some x ≡ Some y → x ≡ y
-some_same x y h = cc
-
 name_at : (target : ℕ) (hex : Bool) (x : Token) → target < 2 ^ 34 → x ≡ t.Name → name_of (token_text target hex x) ≡ Some (label_text target)
 name_at target hex x l e = rw e (label_is_name target l)
 
@@ -243,7 +241,7 @@ words_name target [] xs ws l h = cc
 words_name target (i ∷ is) [] ws l h = cc
 words_name target (i ∷ is) (x ∷ xs) ws l h =
     elim (is_label_item i) as (λ b. cond b (Some x) (label_token is xs) ≡ Some t.Name → cond b (name_of (token_text target (item_hex i) x)) (label_name is (words_of target is xs ++ ws)) ≡ Some (label_text target)) [
-      | true ↦ λ k. name_at target (item_hex i) x l (some_same x t.Name k)
+      | true ↦ λ k. name_at target (item_hex i) x l (same_Some x t.Name k)
       | false ↦ λ k. words_name target is xs ws l k
     ] h
 

@@ -1,6 +1,7 @@
 -- A line that declares two predicates is read back.
 use Rattle.std.proofs.Common.{◌≡◌, ◌∙◌, ◌≤◌, ◌<◌, ◌^◌, ℕ, true, List, [], ◌∷◌, ◌++◌, codes, Ok, refl, sym, ap, arith, append_assoc}
 use Rattle.std.specs.Fmt.{decimal}
+use Rattle.std.proofs.lemmas.List.{append-nil}
 use Rattle.asm_words.specs.declared.word.WordKind.TheVariants as kind
 use Rattle.asm_words.specs.declared.tokens.Token.TheVariants as t
 use Rattle.asm_words.specs.Bytes.{has_only_plain}
@@ -23,14 +24,10 @@ words p q =
     (kind.Name, codes ".pred.rel") ∷ (kind.Quoted, codes "\"mutex\"") ∷ (kind.Mark, codes ",") ∷ (kind.Name, 112 ∷ decimal p)
     ∷ (kind.Mark, codes ",") ∷ (kind.Name, 112 ∷ decimal q) ∷ []
 
-nothing_more : (xs : List ℕ) → xs ++ [] ≡ xs
-nothing_more [] = refl
-nothing_more (x ∷ xs) = ap (λ ys. x ∷ ys) (nothing_more xs)
-
 last_lexed : (q : ℕ) → q < 2 ^ 64 → lexed 0 (codes ",p" ++ decimal q) ≡ (kind.Mark, codes ",") ∷ (kind.Name, 112 ∷ decimal q) ∷ []
 last_lexed q l =
     ap (λ ws. (kind.Mark, codes ",") ∷ ws)
-    (ap (λ ds. lexed 0 (112 ∷ ds)) (sym (nothing_more (decimal q))) ∙ name_lexed 112 (decimal q) [] refl refl (decimal_is_name_bytes q l) refl)
+    (ap (λ ds. lexed 0 (112 ∷ ds)) (sym (append-nil (decimal q))) ∙ name_lexed 112 (decimal q) [] refl refl (decimal_is_name_bytes q l) refl)
 
 relation_lexed : (p q : ℕ) → p < 2 ^ 64 → q < 2 ^ 64 → lexed 0 (relation_text p q) ≡ words p q
 relation_lexed p q lp lq =

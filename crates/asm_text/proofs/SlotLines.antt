@@ -4,8 +4,9 @@ use Rattle.std.specs.Prelude.{flat_map, IfSome, unwrap_or, slice_get}
 use Rattle.std.specs.List.{AllByRecursion, find}
 use Rattle.std.specs.Option.{option_map}
 use Rattle.std.specs.Fmt.{decimal}
-use Rattle.std.proofs.lemmas.Bool.{eqb-true}
+use Rattle.std.proofs.lemmas.Bool.{eqb-true, cond-true, cond-false}
 use Rattle.std.proofs.lemmas.List.{length-append}
+use Rattle.std.proofs.Math.Seq.{drop-append_seam}
 use Rattle.asm_words.specs.declared.tokens.Token.{Token}
 use Rattle.asm_words.specs.declared.tokens.Token.TheVariants as t
 use Rattle.asm_words.specs.declared.word.WordKind.TheVariants as kind
@@ -26,10 +27,10 @@ use Rattle.asm_forms.specs.Matching.{is_spelled, read_form}
 use Rattle.asm_forms.specs.Naming.{completers_in, named_forms}
 use Rattle.asm_forms.specs.Rows.{row_of}
 use Rattle.asm_forms.proofs.Fits.{taken_back}
-use Rattle.asm_forms.proofs.RowBack.{past_front, row_back}
 use Rattle.ia_insn.specs.declared.insn.Insn.{Insn}
 use Rattle.ia_insn.specs.declared.insn.Op.{Op}
 use Rattle.ia_insn.specs.Targets.{displacement}
+use Rattle.asm_forms.proofs.RowBack.{row_back}
 use Rattle.asm_reading.specs.declared.line.Draft.{Draft}
 use Rattle.asm_reading.specs.declared.line.Line.{Line}
 use Rattle.asm_reading.specs.declared.line.Line.TheVariants as line
@@ -37,9 +38,10 @@ use Rattle.asm_reading.specs.Instructions.{op_of}
 use Rattle.asm_reading.specs.Lines.{◌>>=◌, or_fault, KindAndText, tokens, label_name, is_open, is_close, lead_at, led_at, is_some_stop, ends_in_stop, without_stop, predicate_of, is_bare, draft_of, completers_or_none, slot_of, worded, led, is_name_word, is_colon, value_of, reading_of}
 use Rattle.asm_printing.specs.SlotTexts.{label_text, spaced, mnemonic_text, predicate_text, stop_text, target_of, or_zero, slot_text}
 use Rattle.asm_reading.proofs.NoMarks.{name_is_not_open}
-use Rattle.asm_reading.proofs.SlotForms.{slot_first}
+use Rattle.asm_reading.proofs.SlotForms.{slot_first, found_read}
 use Rattle.asm_printing.proofs.Mnemonic.{mnemonic_bytes, mnemonic_lexed}
 use Rattle.asm_printing.proofs.Written.{form_of, completers_of, operands_of, items_of, tokens_of, name_of_op, IsPrinted}
+use Rattle.asm_printing.proofs.Short.{small_target}
 use Rattle.asm_text.specs.ReadBack.{untargeted}
 use Rattle.asm_text.proofs.FirstForm.{named_slots}
 use Rattle.asm_text.proofs.ItemFacts.{as_many, row_apart, label_token_of}
@@ -108,11 +110,8 @@ no_label w [] h = refl
 no_label w (x ∷ ws) h = neither (is_name_word w) (is_colon (token_of x.0 x.1)) _ _ h
 
 -- the words before the leading one
-otherwise : {A : Type 0} (b : Bool) (x y : A) → b ≡ false → cond b x y ≡ y
-otherwise b x y h = rw h refl
-
 lead_first : (m : List ℕ) (ws : List KindAndText) → lead_at (tokens ((kind.Name, m) ∷ ws)) ≡ Some 0
-lead_first m ws = otherwise (is_open (name_token m)) _ (Some 0) (name_is_not_open m)
+lead_first m ws = cond-false (is_open (name_token m)) _ (Some 0) (name_is_not_open m)
 
 lead_fourth : (x : Token) (xs : List Token) → is_close x ≡ false → lead_at (t.OpenParenthesis ∷ x ∷ t.CloseParenthesis ∷ xs) ≡ Some 3
 lead_fourth x xs h = rw h refl
@@ -135,14 +134,10 @@ joined : (q : Result ℕ LineFault) (r : Result Form LineFault) (build : Form �
     → q ≡ Ok qp → r ≡ Ok f → build f ≡ Some x → drafted f qp x ≡ d → e ≡ stop → slot_by q r build drafted e ≡ Ok (line.Slot d stop)
 joined q r build drafted e qp f x d stop eq er eb ed ee = rw (eq, er, eb, ed, ee) refl
 
--- what is found among the forms is read
-found_read : (forms : List Form) (operands ts : List Token) (f : Form) → find (is_spelled operands) forms ≡ Some f → read_form forms operands ts ≡ Ok f
-found_read forms operands ts f h = rw h refl
-
 -- the completers after a word are those of the form
 own_completers : (f : Form) (cs : List Completer) → completers_in (row_of f).sets (flat_map text_of cs) ≡ Some cs → completers_or_none f (mnemonic_text f cs) ≡ cs
 own_completers f cs h =
-    ap (λ text. unwrap_or (completers_in (row_of f).sets text) []) (past_front (row_of f).word (flat_map text_of cs)) ∙ ap (λ o. unwrap_or o []) h
+    ap (λ text. unwrap_or (completers_in (row_of f).sets text) []) (drop-append_seam (row_of f).word (flat_map text_of cs)) ∙ ap (λ o. unwrap_or o []) h
 
 -- The words after the leading one are read as the instruction that was printed.
 slot_reads : (x : Op) (before after : List KindAndText) (qp : ℕ) (name : Option (List ℕ)) (stop : Bool) → ReadsBack x → AllByRecursion IsPrinted (tokens_of x) → predicate_of (tokens before) ≡ Ok qp
@@ -236,10 +231,6 @@ spaced_lexed : (text cs : List ℕ) → lexed 0 (spaced text ++ cs) ≡ lexed 0 
 spaced_lexed [] cs = refl
 spaced_lexed (c ∷ text) cs = refl
 
-small_target : (target : Option ℕ) → IfSome target (λ n. n < 2 ^ 34) → or_zero target < 2 ^ 34
-small_target None h = omega arith
-small_target (Some n) h = h
-
 -- the name of the line is the label of the target, where there is one
 label_back : (is : List FormItem) (xs : List Token) (cs : List ℕ) (target : Option ℕ) → IfSome target (λ n. n < 2 ^ 34) → length is ≡ length xs → AllByRecursion IsPrinted xs → are_apart xs ≡ true → is_end cs ≡ true
     → label_token is xs ≡ option_map (λ n. t.Name) target → label_name is (lexed 0 (tokens_text (or_zero target) is xs ++ cs)) ≡ option_map label_text target
@@ -267,11 +258,8 @@ parts_plain pr m text stop hp hm ht =
 parts_lexed : (pr m d s : List ℕ) → lexed 0 (codes "  " ++ pr ++ m ++ d ++ s) ≡ lexed 0 (pr ++ (m ++ (d ++ s)))
 parts_lexed pr m d s = ap (lexed 0) (append_assoc (pr ++ m) d s ∙ append_assoc pr m (d ++ s))
 
-chosen : {A : Type 0} (b : Bool) (x y : A) → b ≡ true → cond b x y ≡ x
-chosen b x y h = rw h refl
-
 pub read_plain : (bytes : List ℕ) → has_only_plain bytes ≡ true → reading_of bytes ≡ value_of (lexed 0 bytes)
-read_plain bytes h = chosen (has_only_plain bytes) _ _ h ∙ ap value_of (words_lexed bytes)
+read_plain bytes h = cond-true (has_only_plain bytes) _ _ h ∙ ap value_of (words_lexed bytes)
 
 -- the operands of a line by the number of their target
 line_back : (x : Op) (qp : ℕ) (target : Option ℕ) (stop : Bool) → ReadsBack x → AllByRecursion IsPrinted (tokens_of x) → qp < 64 → are_apart (tokens_of x) ≡ true

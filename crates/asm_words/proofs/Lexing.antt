@@ -1,7 +1,8 @@
 -- A name or a number before an end is one word.
-use Rattle.std.proofs.Common.{◌≡◌, refl, sym, ◌∙◌, ap, ℕ, ◌+◌, Bool, true, false, cond, eqb, List, [], ◌∷◌, ◌++◌, length, drop, take, arith}
+use Rattle.std.proofs.Common.{◌≡◌, refl, sym, ◌∙◌, ℕ, ◌+◌, Bool, true, false, cond, eqb, List, [], ◌∷◌, ◌++◌, length, take, arith}
 use Rattle.std.specs.List.{list_all}
 use Rattle.std.proofs.lemmas.Bool.Decides.{nat_tests}
+use Rattle.std.proofs.Math.Seq.{drop-append_seam, take-append_seam}
 use Rattle.asm_words.specs.declared.word.WordKind.{WordKind}
 use Rattle.asm_words.specs.declared.word.WordKind.TheVariants as word
 use Rattle.asm_words.specs.Bytes.{is_blank, begins_with, is_name_byte, is_digit_byte}
@@ -18,14 +19,6 @@ run_is (c ∷ n) cs h e = rw (left (is_name_byte c) _ h, run_is n cs (right (is_
 skip_all : (n cs : List ℕ) → lexed (length n) (n ++ cs) ≡ lexed 0 cs
 skip_all [] cs = refl
 skip_all (c ∷ n) cs = skip_all n cs
-
-take_all_of : (n cs : List ℕ) → take (length n) (n ++ cs) ≡ n
-take_all_of [] cs = refl
-take_all_of (c ∷ n) cs = ap (λ x. c ∷ x) (take_all_of n cs)
-
-drop_all_of : (n cs : List ℕ) → drop (length n) (n ++ cs) ≡ cs
-drop_all_of [] cs = refl
-drop_all_of (c ∷ n) cs = drop_all_of n cs
 
 not_blank : (c : ℕ) → is_name_byte c ≡ true → is_blank c ≡ false
 not_blank c h = grind (arith, nat_tests)
@@ -44,14 +37,14 @@ no_sharp (c ∷ cs) e = elim (eqb c 35) as (λ b. cond (is_name_byte c) false (c
 pieces : (c : ℕ) (n cs : List ℕ) (k : WordKind) (m s : ℕ) → {j : WordKind} → k ≡ j → m ≡ length n → s ≡ 0 → (k, c ∷ take m (n ++ cs)) ∷ lexed (m + s) (n ++ cs) ≡ (j, c ∷ n) ∷ lexed 0 cs
 pieces c n cs k m s ek em es =
     let z : length n + 0 ≡ length n = omega arith in
-    rw (ek, em, es, z, take_all_of n cs, skip_all n cs) refl
+    rw (ek, em, es, z, take-append_seam n cs, skip_all n cs) refl
 
 pub name_lexed : (c : ℕ) (n cs : List ℕ) → is_name_byte c ≡ true → is_digit_byte c ≡ false → list_all is_name_byte n ≡ true → is_end cs ≡ true
     → lexed 0 (c ∷ n ++ cs) ≡ (word.Name, c ∷ n) ∷ lexed 0 cs
 name_lexed c n cs a d h e =
     let k : kind_at c (n ++ cs) ≡ word.Name = rw (a, d) refl in
     let r = run_is n cs h e in
-    let s : sharp_at c (n ++ cs) ≡ 0 = rw (k, r, drop_all_of n cs, no_sharp cs e) refl in
+    let s : sharp_at c (n ++ cs) ≡ 0 = rw (k, r, drop-append_seam n cs, no_sharp cs e) refl in
     let m : more_at c (n ++ cs) ≡ length n = rw k r in
     let all : lexed 0 (c ∷ n ++ cs) ≡ (kind_at c (n ++ cs), c ∷ take (more_at c (n ++ cs)) (n ++ cs)) ∷ lexed (more_at c (n ++ cs) + sharp_at c (n ++ cs)) (n ++ cs) = rw (not_blank c a, not_comment c (n ++ cs) a) refl in
     all ∙ pieces c n cs (kind_at c (n ++ cs)) (more_at c (n ++ cs)) (sharp_at c (n ++ cs)) k m s

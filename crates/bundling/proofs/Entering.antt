@@ -11,9 +11,9 @@ use Rattle.ia_insn.specs.declared.bundle.Slots.TheVariants.{Three, Long}
 use Rattle.ia_insn.specs.Bundles.{Bundle, slot_insn}
 use Rattle.ia_insn.specs.Places.{bundle_insn, insn_at}
 use Rattle.ia_insn.specs.Programs.{IsCall, HasCall, IsAfterCall, IsEntryOf, no_relation, relation_at, relations_at}
+use Rattle.resource_sets.proofs.Members.{in_map, from_map}
 use Rattle.predicate_rel.specs.Pairs.{Pairs, no_pairs, with_pair}
 use Rattle.flow_facts.specs.Graphs.{IsRowEntry, with_relations, known_at_entry}
-use Rattle.group_checker.proofs.SetLists.{in_map, from_map}
 use Rattle.slot_layouts.specs.Filled.{filled}
 use Rattle.row_laws.specs.Spreads.{IsFiller, IsHead}
 use Rattle.loose_text.specs.declared.item.Item.{Item}

@@ -1,5 +1,5 @@
 -- An instruction with its target put in is listed as before and of the same class, and its target is inside.
-use Rattle.std.proofs.Common.{arith, ◌≡◌, ℕ, ◌<◌, ◌≤◌, inl, inr, refl, sym, subst, true, List, length, Option, Some, None, IsSome, ℤ}
+use Rattle.std.proofs.Common.{arith, ◌≡◌, ℕ, ◌<◌, ◌≤◌, refl, sym, subst, true, List, length, Option, Some, None, IsSome, ℤ}
 use Rattle.std.specs.Prelude.{IfSome, unwrap_or}
 use Rattle.ia_insn.specs.declared.insn.Insn.{Insn}
 use Rattle.ia_insn.specs.declared.insn.Op.{Op}
@@ -8,8 +8,9 @@ use Rattle.ia_insn.specs.declared.choices.BranchKind.TheVariants as branch
 use Rattle.ia_insn.specs.declared.choices.Unit.{Unit as ExecutionUnit}
 use Rattle.ia_insn.specs.declared.choices.Unit.TheVariants as units
 use Rattle.ia_insn.specs.Listed.{IsListed}
-use Rattle.ia_insn.specs.Fits.{Fits, FitsUnit}
+use Rattle.ia_insn.specs.Fits.{Fits}
 use Rattle.ia_insn.specs.Targets.{displacement, IsBundleAt}
+use Rattle.ia_insn.proofs.ListedSlots.{unit_listed}
 use Rattle.slot_layouts.specs.declared.classes.SlotClass.{SlotClass}
 use Rattle.slot_layouts.specs.declared.classes.SlotClass.TheVariants.{A, I, M, F, B, Loop, X}
 use Rattle.slot_layouts.specs.Classes.{class_of, has_place}
@@ -59,15 +60,6 @@ place_there Loop = refl
 place_there X = refl
 
 -- what fits a slot is listed
-listed_as : (i : Insn) (u : ExecutionUnit) (slot : ℕ) → FitsUnit i u slot → IsListed i
-listed_as i units.M slot (inl a) = inl a
-listed_as i units.M slot (inr a) = inr (inr (inl a))
-listed_as i units.I slot (inl a) = inl a
-listed_as i units.I slot (inr a) = inr (inl a)
-listed_as i units.F slot a = inr (inr (inr (inr (inl a))))
-listed_as i units.B slot a = inr (inr (inr (inl a.0)))
-listed_as i units.L slot a = inr (inr (inr (inr (inr a.0))))
-listed_as i units.X slot a = inr (inr (inr (inr (inr a.0))))
 
 under : (P Q : Op → Type 0) (o : Option Op) → ((y : Op) → P y → Q y) → IfSome o P → IfSome o Q
 under P Q None f p = tt
@@ -80,7 +72,7 @@ listed_stays law i a n within here listed =
     let slot = slot_for class in
     let fits : Fits i u slot = (law i u slot (slot_small class) listed).0 (place_there class) in
     under (λ y. Fits (record { qp = i.qp; op = y }) u slot) (λ y. IsListed (record { qp = i.qp; op = y })) (addressed i.op a n)
-    (λ y f. listed_as (record { qp = i.qp; op = y }) u slot f.kind)
+    (λ y f. unit_listed (record { qp = i.qp; op = y }) u slot f.kind)
     (fit_stays i a n u slot within here fits)
 
 class_stays : (x : Op) (a : Address) (n : ℕ) → IfSome (addressed x a n) (λ y. class_of y ≡ class_of x)

@@ -5,11 +5,8 @@ use Rattle.ia_insn.specs.Bundles.{Bundle}
 use Rattle.ia_insn.specs.Places.{IsPlaceOf, IsBefore, place_number}
 use Rattle.ia_insn.specs.Runs.{EndsRun, StandBefore}
 use Rattle.ia_insn.proofs.InOrder.{slot_small}
+use Rattle.group_checker.proofs.Falling.{number_rises}
 use Rattle.bundling.proofs.Locating.{in_bundle}
-
-number_rises : (p q : Place) → p.slot < 3 → IsBefore p q → place_number p < place_number q
-number_rises p q small (inl less) = omega (arith, less, small)
-number_rises p q small (inr (same, less)) = omega (arith, same, less)
 
 -- of two places one comes before the other, or they are the same
 compared_numbers : (a b : ℕ) → (a < b) ⊎ ((a ≡ b) ⊎ (b < a))

@@ -12,6 +12,7 @@ use Rattle.ia_insn.proofs.InOrder.{is_place, bundle_small}
 use Rattle.ia_meaning.specs.Sequence.{first_of, is_stopped}
 use Rattle.slot_layouts.specs.declared.layout.Wanted.{Wanted}
 use Rattle.slot_layouts.specs.Laws.{HasStopWhere}
+use Rattle.group_checker.proofs.Falling.{none_before_first}
 use Rattle.row_laws.specs.Spreads.{IsBetween, AreStops}
 use Rattle.loose_text.specs.declared.item.Item.{Item}
 use Rattle.loose_text.specs.LooseTexts.{Loose, IsLoose}
@@ -215,12 +216,8 @@ has_one_stop laws s cs loose are = record { one = one; none_before = none_before
       | inr none ↦ absurd (nowhere n x none first.below)
     ]
       where
-        before_all : (x : Place) → IsBefore x (first_of 0) → ⊥
-        before_all x (inl less) = omega arith
-        before_all x (inr (same, less)) = omega arith
-
         nowhere : (n : ℕ) (x : Place) → length s.items ≤ suc n → IsBefore x (place_of cs (n + 1)) → ⊥
-        nowhere n x none below = before_all x (subst (IsBefore x) (no_place laws.layouts cs s.items (n + 1) are.chunks (omega arith)) below)
+        nowhere n x none below = none_before_first x (subst (IsBefore x) (no_place laws.layouts cs s.items (n + 1) are.chunks (omega arith)) below)
 
     none_before : (x : Place) → IsPlaceOf (bundles_of s cs) x → IsBefore x (place_of cs 0) → is_stopped (bundles_of s cs) x ≡ false
     none_before x is before =

@@ -1,7 +1,7 @@
 -- Rows that are marked.
-use Rattle.std.proofs.Common.{◌≡◌, ℕ, ◌+◌, ◌<◌, ◌≤◌, ◌⊎◌, Bool, true, false, cond, eqb, ◌||◌, None, Some, List, length, get_or, set, length-set, refl, sym, ap, ◌∙◌, subst, arith, inl, inr}
+use Rattle.std.proofs.Common.{◌≡◌, ℕ, ◌+◌, ◌<◌, ◌≤◌, ◌⊎◌, Bool, true, false, cond, eqb, None, Some, List, length, get_or, set, length-set, refl, sym, ap, ◌∙◌, subst, arith, inl, inr}
 use Rattle.std.specs.Prelude.{bit_or}
-use Rattle.std.proofs.lemmas.Bool.{cases_Bool, or_parts, true≢false}
+use Rattle.std.proofs.lemmas.Bool.{cases_Bool, or_parts, true≢false, or_right}
 use Rattle.std.proofs.lemmas.Option.{none-some}
 use Rattle.std.proofs.lemmas.List.Sums.{sum_by-set}
 use Rattle.ia_insn.specs.declared.place.Place.{Place}
@@ -56,11 +56,7 @@ marked_there d n rows k l e = ap (marked (set d n (bit_or (get_or d n 0) rows)))
 
 -- each row of a place is marked
 pub all_marked : (d : List ℕ) (n : ℕ) (k : Place) → n < length d → k ≡ place_at n → HasAllRows (marked (set d n (bit_or (get_or d n 0) 18446744073709551615)) k)
-all_marked d n k l e x m = ap (λ (w : ℕ). has_bit w x) (marked_there d n 18446744073709551615 k l e) ∙ has_bit_or (marked d k) 18446744073709551615 x ∙ (rw (has_bit_all x m) (or_true (has_bit (marked d k) x)))
-  where
-    or_true : (b : Bool) → (b || true) ≡ true
-    or_true true = refl
-    or_true false = refl
+all_marked d n k l e x m = ap (λ (w : ℕ). has_bit w x) (marked_there d n 18446744073709551615 k l e) ∙ has_bit_or (marked d k) 18446744073709551615 x ∙ (rw (has_bit_all x m) (or_right (has_bit (marked d k) x) true refl))
 
 -- nothing has changed
 pub no_progress : (t : List Known) (d : List ℕ) → MarksChanges t d t d

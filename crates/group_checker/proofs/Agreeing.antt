@@ -1,6 +1,7 @@
 -- In a program without violations each slot's view agrees with the state.
 use Rattle.std.proofs.Common.{◌≡◌, ℕ, zero, suc, ◌⊎◌, inl, inr, Bool, true, false, ◌&&◌, if◌then◌else◌, List, [], ◌∷◌, Option, Some, None, refl, sym, ◌∙◌, ap, subst}
 use Rattle.std.specs.Prelude.{Contains}
+use Rattle.std.proofs.lemmas.Bool.{false_from_ne_true}
 use Rattle.ia_insn.specs.declared.insn.Insn.{Insn}
 use Rattle.ia_insn.specs.declared.place.Place.{Place}
 use Rattle.ia_insn.specs.Places.{insn_at}
@@ -15,9 +16,9 @@ use Rattle.ia_meaning.specs.Sequence.{next_of, is_stopped}
 use Rattle.ia_meaning.specs.Steps.{place_after, outcome_of, Step, step_by, seq_step}
 use Rattle.resource_sets.specs.AccessLaws.{TheUnat, location}
 use Rattle.ia_meaning.specs.Actions.{is_alloc, insn_action, allocates}
+use Rattle.resource_sets.proofs.Members.{in_head, in_tail}
 use Rattle.flow_facts.specs.Walks.{Walk, earlier_in_group}
 use Rattle.group_checker.specs.Reports.{IsFree}
-use Rattle.group_checker.proofs.Members.{in_head, in_tail}
 use Rattle.group_checker.specs.Traces.{walk_after, IsKnown}
 use Rattle.ia_meaning.proofs.StepHere.{insn_here}
 use Rattle.ia_meaning.specs.ParallelGroups.{Gathered, gathered_from, slot_outcome, gathers}
@@ -26,7 +27,7 @@ use Rattle.ia_meaning.proofs.Codes.{permutation_has_code}
 use Rattle.group_checker.proofs.Orders.{orders}
 use Rattle.group_checker.proofs.Untouched.{Mem, TouchedBy, SameAt, same_apply}
 use Rattle.group_checker.proofs.NoClashes.{no_alloc}
-use Rattle.group_checker.proofs.GroupOrders.{state_of, IsGroupOnWalk, Joins, on_next, plain_step, plain_joins, plain_same, by_test}
+use Rattle.group_checker.proofs.GroupOrders.{state_of, IsGroupOnWalk, Joins, on_next, plain_step, plain_joins, plain_same}
 use Rattle.group_checker.proofs.FirstSlots.{begun_on, alloc_step, alloc_joins, alloc_outcome}
 
 contains_mem : {X : Type 0} (x : X) (xs : List X) → Mem x xs → Contains xs x
@@ -87,7 +88,7 @@ From p n begins g x = if_some (on_by p (begins && allocates x) g (slot_outcome p
 module _ (p : Program) (program : IsProgram p) (free : IsFree p) where
   same_here : (g : Gathered) (past : List Place) (w : Walk) → IsGroupOnWalk p g past w → (i : Place) → Contains (earlier_in_group p w) i → (j : Insn) → insn_at p.bundles g.place ≡ Some j → slot_outcome p g (Some j) ≡ outcome_of p (state_of g) j
   same_here g past w on i c j at =
-      plain_same p program free g past w on j at (by_test (is_alloc (insn_action j)) (no_alloc p free (state_of g) w on.known j at i c))
+      plain_same p program free g past w on j at (false_from_ne_true (is_alloc (insn_action j)) (no_alloc p free (state_of g) w on.known j at i c))
 
   rest_agrees : (n : ℕ) → RestAgrees p n
   rest_agrees zero g past w h on i c e =
@@ -97,7 +98,7 @@ module _ (p : Program) (program : IsProgram p) (free : IsFree p) where
     where
       go : RestAgrees p n → (j : Insn) × (insn_at p.bundles g.place ≡ Some j) → Agrees p h (steps_on (suc n) p (state_of g))
       go rest (j, at) =
-          let na : is_alloc (insn_action j) ≡ false = by_test (is_alloc (insn_action j)) (no_alloc p free (state_of g) w on.known j at i c) in
+          let na : is_alloc (insn_action j) ≡ false = false_from_ne_true (is_alloc (insn_action j)) (no_alloc p free (state_of g) w on.known j at i c) in
           slot_agrees p program n rest false g past w h on (slot_outcome p g (Some j))
           (plain_step p program free g past w on j at na) (plain_joins p program free g past w on j at na)
           (sym (ap (From p n false g) at) ∙ e)

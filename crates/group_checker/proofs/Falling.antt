@@ -12,13 +12,14 @@ use Rattle.ia_insn.specs.Programs.{Program}
 use Rattle.ia_insn.proofs.InOrder.{slot_small}
 use Rattle.ia_meaning.specs.Sequence.{first_of, next_of}
 use Rattle.ia_meaning.proofs.Follows.{next_is}
+use Rattle.resource_sets.proofs.Members.{not_in_none, cases_in}
 use Rattle.predicate_rel.specs.declared.edge.Edge.{Edge}
 use Rattle.predicate_rel.specs.declared.edge.Edge.TheVariants.{Falls, Taken}
 use Rattle.predicate_rel.specs.Pairs.{Pairs}
 use Rattle.predicate_rel.specs.Edges.{HasEdge, edge_of, edge_end, may_fall, pairs_past, pairs_past_insn}
 use Rattle.flow_facts.specs.Graphs.{Graph, over_program, over_row, InsnRow, HasRowEdge, row_insn, row_next, row_end_of, row_past, insn_in, next_in, IsPlaceIn, IsEdgeIn, pairs_past_in}
 use Rattle.flow_facts.specs.Walks.{Walk, begins, goes_on, IsWalkIn, end_of, facts_in, group_since}
-use Rattle.group_checker.proofs.Members.{not_in_none, cases_in}
+use Rattle.flow_facts.proofs.Numbering.{same_place}
 
 -- the order of places goes on
 pub before_trans : (a b c : Place) → IsBefore a b → IsBefore b c → IsBefore a c
@@ -32,9 +33,10 @@ pub not_before_itself : (a : Place) → IsBefore a a → ⊥
 not_before_itself a (inl h) = omega arith
 not_before_itself a (inr h) = omega (arith, h.1)
 
--- a place is told by its bundle and slot
-pub same_place : (a b : Place) → a.bundle ≡ b.bundle → a.slot ≡ b.slot → a ≡ b
-same_place a b bundle slot = λ i. record { bundle = bundle i; slot = slot i }
+-- nor any before the first
+pub none_before_first : (a : Place) → IsBefore a (first_of 0) → ⊥
+none_before_first a (inl h) = omega arith
+none_before_first a (inr h) = omega (arith, h.1)
 
 -- of two places one comes before the other, or they are one
 pub place_cases : (a b : Place) → IsBefore a b ⊎ ((a ≡ b) ⊎ IsBefore b a)
@@ -113,7 +115,7 @@ row_slot insns i is = of (i.slot == 0) refl is
     of false t h = absurd cc
 
 -- and each below its length stands there
-row_place : (insns : List Insn) (n : ℕ) → n < length insns → IsSome (row_insn insns (first_of n))
+pub row_place : (insns : List Insn) (n : ℕ) → n < length insns → IsSome (row_insn insns (first_of n))
 unfolding row_insn
 row_place insns n l = elim (slice_get_cases insns n).1 [
   | inl (x, short, is, at) ↦ subst IsSome (sym is) refl

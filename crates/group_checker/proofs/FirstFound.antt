@@ -15,6 +15,7 @@ use Rattle.resource_sets.specs.declared.sets.ResourceSet.{ResourceSet}
 use Rattle.resource_sets.specs.declared.clashes.Rule.{Rule}
 use Rattle.resource_sets.specs.declared.clashes.Rule.TheVariants.{Raw, Waw, War63, AllocFirst, ClearLast}
 use Rattle.resource_sets.specs.ResourceSets.{has_resource, resources_in}
+use Rattle.resource_sets.proofs.Members.{not_in_none, cases_in, head_in}
 use Rattle.flow_facts.specs.Graphs.{Graph}
 use Rattle.group_checker.specs.declared.violation.Violation.{Violation}
 use Rattle.group_checker.specs.declared.window.EarlierSlot.{EarlierSlot}
@@ -25,7 +26,6 @@ use Rattle.group_checker.specs.Windows.{IsAt, IsWindow}
 use Rattle.group_checker.specs.Findings.{IsNthPair, IsPairViolated, IsFirstOfPair, AreBroken}
 use Rattle.group_checker.specs.Firsts.{IsViolatedAt, IsFirstAt}
 use Rattle.group_checker.specs.Broken.{broken_on, is_broken, violations_by, violations_of}
-use Rattle.group_checker.proofs.Members.{not_in_none, cases_in, head_in}
 use Rattle.group_checker.proofs.SetLists.{in_each, in_resources, from_resources}
 use Rattle.group_checker.proofs.Rising.{precedes_by_first}
 

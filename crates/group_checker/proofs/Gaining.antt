@@ -17,13 +17,13 @@ use Rattle.resource_sets.specs.declared.clashes.Rule.TheVariants.{AllocFirst, Cl
 use Rattle.resource_sets.specs.ResourceSets.{has_resource}
 use Rattle.resource_sets.specs.Clashes.{clash, clash_of}
 use Rattle.resource_sets.specs.Masks.{may_clash}
+use Rattle.resource_sets.proofs.Members.{not_in_none, cases_in}
 use Rattle.slot_table.specs.declared.slot.Slot.{Slot}
 use Rattle.group_checker.specs.declared.violation.Violation.{Violation}
 use Rattle.group_checker.specs.declared.window.EarlierSlot.{EarlierSlot}
 use Rattle.group_checker.specs.declared.broken.Broken.{Broken}
 use Rattle.group_checker.specs.Broken.{Gains}
 use Rattle.group_checker.specs.Findings.{FindsBy, may_be_excused, excused_by, IsSlotRule}
-use Rattle.group_checker.proofs.Members.{not_in_none, cases_in}
 
 -- the same of a property that says the same
 pub gains_like : (old new : Broken) (P Q : Violation → Type 0) → ((v : Violation) → P v → Q v) → ((v : Violation) → Q v → P v) → Gains old new P → Gains old new Q

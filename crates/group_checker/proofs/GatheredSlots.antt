@@ -2,6 +2,7 @@
 use Rattle.std.proofs.Common.{◌≡◌, ℕ, zero, suc, Bool, true, false, ◌&&◌, if◌then◌else◌, List, [], ◌∷◌, ◌++◌, Option, Some, None, refl, sym, ◌∙◌, subst, true≢false}
 use Rattle.std.specs.Prelude.{⊤}
 use Rattle.std.proofs.lemmas.List.{append-nil}
+use Rattle.std.proofs.lemmas.Bool.{and_parts}
 use Rattle.ia_insn.specs.declared.limits.TheConstants.{RUN_LIMIT}
 use Rattle.ia_insn.specs.declared.insn.Insn.{Insn}
 use Rattle.ia_insn.specs.declared.place.Place.{Place}
@@ -93,14 +94,10 @@ leads_from p begins g k h [] s l = and_then g k h s l
 leads_from p begins g k h (x ∷ xs) s l =
     (record { same = and_then g k x.before s l.0.same; first = l.0.first; cause = λ e. absurd (true≢false (let c = l.0.cause e in sym c.0)); to = l.0.to }, l.1)
 
-both : (a b : Bool) → (a && b) ≡ true → (a ≡ true) × (b ≡ true)
-both true b e = (refl, e)
-both false b e = absurd (cc)
-
 leads_on : (p : Program) (begins : Bool) (g : Gathered) (insn : Option Insn) (to : Place) (rest : List GatheredSlot) (all : Gathered) → IsOn (slot_outcome p g insn).next
     → Leads p false (with_slot p begins g insn to) rest all → Leads p begins g (slot_here g insn ++ rest) all
 leads_on p begins g None to rest all on l = leads_from p begins g (with_slot p begins g None to) all rest (none_there p begins g to) l
-leads_on p begins g (Some insn) to rest all on l = (record { same = same g; first = begins && allocates (Some insn); cause = both begins (allocates (Some insn)); to = to }, l)
+leads_on p begins g (Some insn) to rest all on l = (record { same = same g; first = begins && allocates (Some insn); cause = and_parts begins (allocates (Some insn)); to = to }, l)
 
 pub slots_lead : SlotsLead
 slots_lead p s = by_slots p (Leads p) (λ begins g. same g) (leads_on p) RUN_LIMIT true (gathered_from s)

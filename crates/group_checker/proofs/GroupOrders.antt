@@ -2,6 +2,7 @@
 use Rattle.std.proofs.Common.{◌≡◌, ℕ, zero, suc, ◌+◌, inl, inr, Bool, true, false, ◌&&◌, if◌then◌else◌, List, [], ◌∷◌, ◌++◌, Option, Some, None, refl, sym, ◌∙◌, ap, subst, append_assoc}
 use Rattle.std.specs.Prelude.{Contains}
 use Rattle.std.proofs.lemmas.List.{append-nil}
+use Rattle.std.proofs.lemmas.Bool.{false_from_ne_true}
 use Rattle.ia_insn.specs.declared.insn.Insn.{Insn}
 use Rattle.ia_insn.specs.declared.place.Place.{Place}
 use Rattle.ia_insn.specs.declared.ending.End.{End}
@@ -29,7 +30,6 @@ use Rattle.resource_sets.proofs.Regularity.{named_as_found}
 use Rattle.flow_facts.specs.Graphs.{over_program}
 use Rattle.flow_facts.specs.Walks.{Walk, earlier_in_group}
 use Rattle.group_checker.specs.Reports.{IsFree}
-use Rattle.group_checker.proofs.Members.{in_head, in_tail, head_in}
 use Rattle.group_checker.specs.Traces.{walk_after, IsKnown, group_after}
 use Rattle.ia_meaning.proofs.StepHere.{step_here, insn_here}
 use Rattle.group_checker.proofs.Walked.{steps_known, walks_group}
@@ -37,6 +37,7 @@ use Rattle.ia_insn.proofs.ListedSlots.{listed_at}
 use Rattle.ia_meaning.specs.WriteOrders.{arranged}
 use Rattle.ia_meaning.specs.Views.{view}
 use Rattle.ia_meaning.specs.ParallelGroups.{Gathered, now_of, outcome_from, slot_outcome, gathers, GatheredGroup, ends_with, one_more, gathered_by, gathered_within, made}
+use Rattle.resource_sets.proofs.Members.{in_head, in_tail, head_in}
 use Rattle.group_checker.proofs.Orders.{orders, frames}
 use Rattle.group_checker.proofs.Untouched.{Mem, each_of, fit_of}
 use Rattle.group_checker.proofs.Gathering.{joined, IsGathering, ClashesWithNone}
@@ -248,10 +249,6 @@ From p code most begins g x =
     ordered code (gathered_by p (begins && allocates x) g (slot_outcome p g x) (slot_outcome p g x).next
     (gathered_within most p false (gathers (begins && allocates x) g (slot_outcome p g x) (place_after g.place (next_of p.bundles g.place)))))
 
-pub by_test : (b : Bool) → (b ≡ true → ⊥) → b ≡ false
-by_test true h = absurd (h refl)
-by_test false h = refl
-
 pub rest_is : (p : Program) → IsProgram p → IsFree p → (code : List ℕ) (most : ℕ) → RestIs p code most
 rest_is p program free code zero g past w on i c =
     ordered_is p past code (gathered_within 0 p false g) on.way
@@ -260,7 +257,7 @@ rest_is p program free code (suc most) g past w on i c = go (rest_is p program f
   where
     go : RestIs p code most → (j : Insn) × (insn_at p.bundles g.place ≡ Some j) → ordered code (gathered_within (suc most) p false g) ≡ added (frames_of g) (group_within (suc most) p (state_of g))
     go rest (j, at) =
-        let na : is_alloc (insn_action j) ≡ false = by_test (is_alloc (insn_action j)) (no_alloc p free (state_of g) w on.known j at i c) in
+        let na : is_alloc (insn_action j) ≡ false = false_from_ne_true (is_alloc (insn_action j)) (no_alloc p free (state_of g) w on.known j at i c) in
         ap (From p code most false g) at
         ∙ slot_is p program code most rest false g past w on (slot_outcome p g (Some j))
         (plain_step p program free g past w on j at na) (plain_joins p program free g past w on j at na)

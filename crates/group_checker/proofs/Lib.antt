@@ -1,8 +1,6 @@
-pub mod Members
 pub mod SetLists
 pub mod Rising
 pub mod Falling
-pub mod Masks
 pub mod Meets
 pub mod EarlierSlots
 pub mod Slots

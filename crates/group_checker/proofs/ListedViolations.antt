@@ -1,20 +1,22 @@
 -- The list of what two slots break.
-use Rattle.std.proofs.Common.{◌≡◌, ℕ, suc, true, List, [], ◌∷◌, ◌++◌, length, refl, sym, ap, ◌∙◌, subst, inl, inr}
-use Rattle.std.specs.Prelude.{Contains, map}
+use Rattle.std.proofs.Common.{◌≡◌, true, List, ◌++◌, length, refl, sym, ◌∙◌, subst, inl, inr}
+use Rattle.std.specs.Prelude.{Contains}
 use Rattle.std.specs.declared.cmp.Ordering.TheVariants.{Less}
 use Rattle.std.proofs.lemmas.List.Elements.{Contains-append_left, Contains-append_right, Contains-append_cases}
+use Rattle.std.proofs.lemmas.List.{length-map}
 use Rattle.ia_insn.specs.declared.place.Place.{Place}
 use Rattle.resource_sets.specs.declared.access.Resource.{Resource}
 use Rattle.resource_sets.specs.declared.sets.ResourceSet.{ResourceSet}
 use Rattle.resource_sets.specs.declared.clashes.Rule.{Rule}
 use Rattle.resource_sets.specs.declared.clashes.Rule.TheVariants.{Raw, Waw, War63, AllocFirst, ClearLast}
 use Rattle.resource_sets.specs.ResourceSets.{has_resource, resources_in}
+use Rattle.resource_sets.proofs.Members.{in_map, from_map}
 use Rattle.group_checker.specs.declared.violation.Violation.{Violation}
 use Rattle.group_checker.specs.declared.broken.Broken.{Broken}
 use Rattle.group_checker.specs.Order.{rule_cmp, resource_cmp, compare, Precedes, Rises, IsListOf}
 use Rattle.group_checker.specs.Broken.{broken_on, is_broken, violations_by, violations_of}
 use Rattle.group_checker.specs.Findings.{IsPair}
-use Rattle.group_checker.proofs.SetLists.{sorted_map, in_map, from_map, resources_rise, in_resources, from_resources}
+use Rattle.group_checker.proofs.SetLists.{sorted_map, resources_rise, in_resources, from_resources}
 use Rattle.group_checker.proofs.Rising.{precedes_by_rule, compared_by_resource, rises_append}
 
 abbrev violation : Place → Place → Rule → Resource → Violation
@@ -41,11 +43,7 @@ from_by first second rule resources v c =
 -- as many as the set has resources
 pub by_length : (first second : Place) (rule : Rule) (resources : ResourceSet) → length (violations_by first second rule resources) ≡ length (resources_in resources)
 unfolding violations_by
-by_length first second rule resources = map_length (violation second first rule) (resources_in resources)
-  where
-    map_length : {X Y : Type 0} (g : X → Y) (xs : List X) → length (map g xs) ≡ length xs
-    map_length g [] = refl
-    map_length g (x ∷ xs) = ap (λ (n : ℕ). suc n) (map_length g xs)
+by_length first second rule resources = length-map (resources_in resources) (violation second first rule)
 
 by_rises : (first second : Place) (rule : Rule) (resources : ResourceSet) → Rises (violations_by first second rule resources)
 unfolding violations_by

@@ -18,12 +18,12 @@ use Rattle.resource_sets.specs.AccessLaws.{HasAccess}
 use Rattle.ia_meaning.specs.Actions.{is_alloc, allocates, insn_action}
 use Rattle.resource_sets.specs.Regularity.{IsExcepted}
 use Rattle.resource_sets.proofs.Regularity.{changes_clash}
+use Rattle.resource_sets.proofs.Members.{not_in_none, head_in}
 use Rattle.flow_facts.specs.Graphs.{over_program}
 use Rattle.flow_facts.specs.Walks.{Walk, end_of, earlier_in_group}
 use Rattle.group_checker.specs.Excuses.{accesses_at, IsLatest, IsExcused}
 use Rattle.group_checker.specs.Violations.{ClashesUnexcused, allocates_at, Breaks}
 use Rattle.group_checker.specs.Reports.{IsFree}
-use Rattle.group_checker.proofs.Members.{not_in_none, head_in}
 use Rattle.group_checker.specs.Traces.{IsKnown}
 use Rattle.group_checker.proofs.Untouched.{Mem}
 use Rattle.group_checker.proofs.Gathering.{MayBeWrittenSince, ClashesWithNone}

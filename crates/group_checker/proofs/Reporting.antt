@@ -1,7 +1,7 @@
 -- The report counts and begins to show the one rising list of all violations.
 use Rattle.std.proofs.Common.{◌≡◌, ℕ, zero, suc, ◌+◌, ◌-◌, ◌*◌, ◌<◌, ◌≤◌, ◌⊎◌, Bool, true, false, cond, eqb, eq-eqb, None, Some, List, [], ◌∷◌, ◌++◌, length, length-append, length-take, take, get_or, append_assoc, refl, sym, ap, ◌∙◌, subst, arith, inl, inr}
 use Rattle.std.specs.Prelude.{Contains, map}
-use Rattle.std.proofs.lemmas.List.{take_all, take_more}
+use Rattle.std.proofs.lemmas.List.{take_all, take_more, append-nil, map-append}
 use Rattle.std.proofs.lemmas.Bool.{cases_eq, ne_eqb}
 use Rattle.std.proofs.Math.Seq.{take-append-add}
 use Rattle.std.proofs.lemmas.List.Elements.{Contains-append_left, Contains-append_right, Contains-append_cases}
@@ -18,6 +18,7 @@ use Rattle.resource_sets.specs.declared.sets.TheConstants.{RESOURCE_COUNT}
 use Rattle.resource_sets.specs.declared.clashes.Rule.{Rule}
 use Rattle.resource_sets.specs.declared.clashes.Rule.TheVariants.{Raw, Waw, War63, AllocFirst, ClearLast}
 use Rattle.resource_sets.specs.ResourceSets.{resources_in}
+use Rattle.resource_sets.proofs.Members.{not_in_none}
 use Rattle.flow_facts.specs.Graphs.{Graph, over_program}
 use Rattle.group_checker.specs.declared.violation.Violation.{Violation}
 use Rattle.group_checker.specs.declared.window.EarlierSlot.{EarlierSlot}
@@ -32,7 +33,6 @@ use Rattle.group_checker.specs.Findings.{IsPair, IsNthPair, AreBroken}
 use Rattle.group_checker.specs.declared.broken.Broken.{Broken}
 use Rattle.group_checker.specs.Broken.{is_broken, violations_by, violations_of}
 use Rattle.group_checker.specs.Progress.{HasReported, IsEarlier, IsEarlierPair, IsUpTo, pair_bound, place_bound}
-use Rattle.group_checker.proofs.Members.{not_in_none}
 use Rattle.group_checker.proofs.EarlierSlots.{at_once}
 use Rattle.group_checker.proofs.ListedViolations.{listed}
 use Rattle.group_checker.proofs.Falling.{before_trans, number_rises, place_cases, next_after, comes_from}
@@ -54,21 +54,17 @@ take_room n xs ys zs l e =
 pub shown_more : {A : Type 0} (n : ℕ) (xs zs : List A) (x : A) → length xs < n → zs ≡ xs ++ x ∷ [] → zs ≡ take n (xs ++ x ∷ [])
 shown_more n xs zs x l e = e ∙ sym (take_all n (xs ++ x ∷ []) (omega (arith, length-append xs (x ∷ []))))
 
-append_none : {A : Type 0} (ys : List A) → ys ++ [] ≡ ys
-append_none [] = refl
-append_none (y ∷ ys) = ap (λ l. y ∷ l) (append_none ys)
-
 -- and none where there is none
 pub shown_full : {A : Type 0} (n : ℕ) (xs : List A) (x : A) → length xs ≤ n → n ≤ length xs → xs ≡ take n (xs ++ x ∷ [])
-shown_full n xs x l m = take_room n xs (x ∷ []) xs l (let none : n - length xs ≡ 0 = omega arith in rw none (sym (append_none xs)))
+shown_full n xs x l m = take_room n xs (x ∷ []) xs l (let none : n - length xs ≡ 0 = omega arith in rw none (sym (append-nil xs)))
 
 -- no more
 pub none_more : {A : Type 0} (n : ℕ) (xs : List A) → length xs ≤ n → xs ≡ take n (xs ++ [])
 none_more n xs l = take_room n xs [] xs l (none (n - length xs))
   where
     none : (k : ℕ) → xs ≡ xs ++ take k []
-    none zero = sym (append_none xs)
-    none (suc k) = sym (append_none xs)
+    none zero = sym (append-nil xs)
+    none (suc k) = sym (append-nil xs)
 
 -- what is shown, and more of it
 pub shown_again : {A : Type 0} (n : ℕ) (old xs ys mid new : List A) → mid ≡ take n (old ++ xs) → new ≡ take n (mid ++ ys) → new ≡ take n (old ++ (xs ++ ys))
@@ -77,11 +73,7 @@ shown_again n old xs ys mid new a b =
 
 -- one more image of a list
 pub map_more : {A B : Type 0} (g : A → B) (xs : List A) (k : ℕ) (d : A) → k < length xs → map g (take (k + 1) xs) ≡ map g (take k xs) ++ g (get_or xs k d) ∷ []
-map_more g xs k d short = ap (λ l. map g l) (take_more xs k d short) ∙ map_append g (take k xs) (get_or xs k d ∷ [])
-  where
-    map_append : {A B : Type 0} (g : A → B) (xs ys : List A) → map g (xs ++ ys) ≡ map g xs ++ map g ys
-    map_append g [] ys = refl
-    map_append g (x ∷ xs) ys = ap (λ l. g x ∷ l) (map_append g xs ys)
+map_more g xs k d short = ap (λ l. map g l) (take_more xs k d short) ∙ map-append g (take k xs) (get_or xs k d ∷ [])
 
 -- what is shown of a rule
 pub shown_by : (was old : List Violation) (found : List Resource) (resources : ResourceSet) (first second : Place) (rule : Rule) (new : List Violation) → was ≡ old → found ≡ resources_in resources
@@ -93,7 +85,7 @@ shown_by was old found resources first second rule new a b e =
 
 -- once a hundred are shown, no more are
 pub shown_over : {A : Type 0} (n : ℕ) (xs ys : List A) → length xs ≤ n → n ≤ length xs → xs ≡ take n (xs ++ ys)
-shown_over n xs ys l m = take_room n xs ys xs l (let none : n - length xs ≡ 0 = omega arith in rw none (sym (append_none xs)))
+shown_over n xs ys l m = take_room n xs ys xs l (let none : n - length xs ≡ 0 = omega arith in rw none (sym (append-nil xs)))
 
 -- what is reported by one rule after the other
 pub record IsAdded (old new : Report) (found : List Violation) : Type 0 where

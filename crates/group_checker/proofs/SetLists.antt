@@ -15,8 +15,8 @@ use Rattle.resource_sets.specs.declared.access.Resource.{Resource}
 use Rattle.resource_sets.specs.declared.access.Resource.TheVariants.{Gr, Pr, Br, Unat, Pfs, Lc, Ec, Cfm}
 use Rattle.resource_sets.specs.declared.sets.ResourceSet.{ResourceSet}
 use Rattle.resource_sets.specs.ResourceSets.{has_resource, numbered, others, resources_in}
+use Rattle.resource_sets.proofs.Members.{not_in_none, cases_in, in_head, in_tail, head_in}
 use Rattle.group_checker.specs.Order.{resource_cmp}
-use Rattle.group_checker.proofs.Members.{not_in_none, cases_in, in_head, in_tail, head_in}
 use Rattle.group_checker.proofs.Untouched.{each_append}
 
 pub each_of : {X : Type 0} (P : X → Type 0) (xs : List X) → ((x : X) → Contains xs x → P x) → Each P xs
@@ -45,18 +45,6 @@ unfolding IsStrictlySortedBy
 sorted_map g cmp order same [] h = tt
 sorted_map g cmp order same (x ∷ xs) h =
     (each_mapped g (λ y. cmp x y ≡ Less) (λ y. order (g x) y ≡ Less) (λ y e. same x y ∙ e) xs h.0, sorted_map g cmp order same xs h.1)
-
--- what the image has
-pub in_map : {X Y : Type 0} (g : X → Y) (xs : List X) (x : X) → Contains xs x → Contains (map g xs) (g x)
-in_map g [] x c = absurd (not_in_none x c)
-in_map g (y ∷ ys) x c = elim (cases_in y x ys c) [ inl e ↦ in_head (g y) (g x) (map g ys) (ap g e) | inr d ↦ in_tail (g y) (g x) (map g ys) (in_map g ys x d) ]
-
-pub from_map : {X Y : Type 0} (g : X → Y) (xs : List X) (y : Y) → Contains (map g xs) y → (x : X) × Contains xs x × (g x ≡ y)
-from_map g [] y c = absurd (not_in_none y c)
-from_map g (x ∷ xs) y c = elim (cases_in (g x) y (map g xs) c) [
-  | inl e ↦ (x, head_in x xs, e)
-  | inr d ↦ (let (z, m, e) = from_map g xs y d in (z, in_tail x z xs m, e))
-]
 
 -- what a filter lets through
 in_filter : {X : Type 0} (p : X → Bool) (xs : List X) (x : X) → Contains xs x → p x ≡ true → Contains (filter p xs) x

@@ -1,6 +1,7 @@
 -- A program has one verdict.
 use Rattle.std.proofs.Common.{◌≡◌, ◌≤◌, List, [], ◌∷◌, length, take, refl, sym, ap, ◌∙◌, arith}
 use Rattle.ia_insn.specs.Programs.{Program}
+use Rattle.resource_sets.proofs.Members.{in_head}
 use Rattle.group_checker.specs.declared.violation.Violation.{Violation}
 use Rattle.group_checker.specs.declared.report.TheConstants.{SHOWN_LIMIT}
 use Rattle.group_checker.specs.declared.report.Verdict.TheVariants.{Accepted, Violations}
@@ -8,7 +9,6 @@ use Rattle.group_checker.specs.Order.{IsListOf}
 use Rattle.group_checker.specs.Shown.{Report}
 use Rattle.group_checker.specs.Violations.{Violates}
 use Rattle.group_checker.specs.Reports.{IsReport, OneVerdict}
-use Rattle.group_checker.proofs.Members.{in_head}
 use Rattle.group_checker.proofs.Rising.{one_rising_list}
 
 -- the rising list of what has a property is one

@@ -1,6 +1,7 @@
 -- A group of a program without violations, gathered to its end.
 use Rattle.std.proofs.Common.{◌≡◌, ℕ, zero, suc, ◌⊎◌, inl, inr, Bool, true, false, ◌&&◌, List, [], ◌∷◌, ◌++◌, Option, Some, None, refl, sym, ◌∙◌, ap, subst}
 use Rattle.std.specs.Prelude.{Contains}
+use Rattle.std.proofs.lemmas.Bool.{false_from_ne_true, and_right}
 use Rattle.ia_insn.specs.declared.insn.Insn.{Insn}
 use Rattle.ia_insn.specs.declared.place.Place.{Place}
 use Rattle.ia_insn.specs.Places.{insn_at}
@@ -25,7 +26,7 @@ use Rattle.group_checker.proofs.GatheredSlots.{IsOn, with_slot, by_slots, no_mor
 use Rattle.group_checker.proofs.Untouched.{Mem}
 use Rattle.group_checker.proofs.Gathering.{IsGathering}
 use Rattle.group_checker.proofs.NoClashes.{no_alloc}
-use Rattle.group_checker.proofs.GroupOrders.{state_of, IsGroupOnWalk, Joins, on_next, plain_step, plain_joins, by_test}
+use Rattle.group_checker.proofs.GroupOrders.{state_of, IsGroupOnWalk, Joins, on_next, plain_step, plain_joins}
 use Rattle.group_checker.proofs.FirstSlots.{begun_on, alloc_step, alloc_joins, alloc_outcome}
 
 -- the slots that a group is gathered of
@@ -77,7 +78,7 @@ rest_gathered p program free (suc most) g past w on i c = go (rest_gathered p pr
   where
     go : RestIsGathered p most → (j : Insn) × (insn_at p.bundles g.place ≡ Some j) → IsGathered p (gathered_within (suc most) p false g).all
     go rest (j, at) =
-        let na : is_alloc (insn_action j) ≡ false = by_test (is_alloc (insn_action j)) (no_alloc p free (state_of g) w on.known j at i c) in
+        let na : is_alloc (insn_action j) ≡ false = false_from_ne_true (is_alloc (insn_action j)) (no_alloc p free (state_of g) w on.known j at i c) in
         subst (λ x. IsGathered p (From p most false g x).all) (sym at)
         (slot_gathered p program most rest false g past w on (slot_outcome p g (Some j)) (plain_step p program free g past w on j at na) (plain_joins p program free g past w on j at na))
 
@@ -132,10 +133,6 @@ next_or_later g (Some insn) rest [] ys x e =
     inl (record { insn = ap (λ (z : GatheredSlot). Some z.insn) same; before = ap (λ (z : GatheredSlot). z.before) same })
 next_or_later g (Some insn) rest (z ∷ zs) ys x e = inr (zs, let tail : rest ≡ zs ++ x ∷ ys = cc in tail)
 
-and_false : (a b : Bool) → b ≡ false → (a && b) ≡ false
-and_false true b h = h
-and_false false b h = refl
-
 -- the slots write these, where no `alloc` begins the group
 plain_writes : (b : Bool) (g : Gathered) (o : Outcome) (to : Place) → b ≡ false → (gathers b g o to).writes ≡ g.writes ++ o.writes
 plain_writes b g o to h = subst (λ c. (gathers c g o to).writes ≡ g.writes ++ o.writes) (sym h) refl
@@ -165,7 +162,7 @@ module _ (p : Program) (ys : List GatheredSlot) (x : GatheredSlot) (plain : is_a
       written : IsNext g insn x ⊎ IsLater rest ys x → Mem v all.writes
       written (inl n) =
           let same : o ≡ done_by p x = ap (slot_outcome p g) n.insn ∙ ap (λ h. slot_outcome p h (Some x.insn)) n.before in
-          among (and_false begins (allocates insn) (ap allocates n.insn ∙ plain)) (mem_right v g.writes o.writes (subst (λ (z : Outcome). Mem v z.writes) (sym same) m))
+          among (and_right begins (allocates insn) (ap allocates n.insn ∙ plain)) (mem_right v g.writes o.writes (subst (λ (z : Outcome). Mem v z.writes) (sym same) m))
       written (inr l) = later.1 l.0 l.1
 
   pub is_written : (most : ℕ) (begins : Bool) (g : Gathered) (xs : List GatheredSlot) → slots_within most p begins g ≡ xs ++ x ∷ ys → Mem v (gathered_within most p begins g).all.writes

@@ -5,19 +5,21 @@ use Rattle.std.proofs.lemmas.Bool.{cases_eq, or_cases, or_left, or_right, true�
 use Rattle.ia_insn.specs.declared.place.Place.{Place}
 use Rattle.ia_insn.specs.Places.{place_number, IsBefore}
 use Rattle.ia_meaning.specs.Sequence.{first_of}
+use Rattle.ia_meaning.specs.Arithmetic.{bit}
 use Rattle.resource_sets.specs.Clashes.{may_write_guard}
+use Rattle.resource_sets.specs.declared.access.Access.{Access}
+use Rattle.resource_sets.proofs.Members.{cases_in, in_head, in_tail}
 use Rattle.predicate_rel.specs.declared.edge.Edge.TheVariants.{Falls}
 use Rattle.predicate_rel.specs.Pairs.{Pairs, has_bit, pairs_of}
+use Rattle.predicate_rel.proofs.BitLemmas.{has_bit_or}
 use Rattle.flow_facts.specs.Graphs.{Graph, next_in, IsPlaceIn, IsEdgeIn, pairs_past_in}
 use Rattle.flow_facts.specs.Walks.{Walk, goes_on, EndsIn, end_of, facts_in, group_since, IsMeetIn, NoWalkIn}
 use Rattle.group_checker.specs.declared.window.EarlierSlot.{EarlierSlot}
 use Rattle.group_checker.specs.Excuses.{accesses_at}
 use Rattle.group_checker.specs.Violations.{clears_at}
 use Rattle.group_checker.specs.Windows.{IsThrough, IsMeetOf, IsAt, IsCarried, HasWriter, IsWritten, HasPlace, IsWindow, IsGuardMask, GoesOn, HasAdvanced}
-use Rattle.group_checker.proofs.Members.{cases_in, in_head, in_tail}
-use Rattle.group_checker.proofs.Falling.{before_trans, not_before_itself, number_rises, edge_inside, slot_below, falls_next, same_before, falls_up, comes_from, falls_group}
+use Rattle.group_checker.proofs.Falling.{before_trans, not_before_itself, number_rises, edge_inside, slot_below, falls_next, same_before, falls_up, comes_from, falls_group, none_before_first}
 use Rattle.group_checker.proofs.Meets.{GoOn, meet_past, meet_at}
-use Rattle.group_checker.proofs.Masks.{has_bit_or}
 use Rattle.group_checker.proofs.EarlierSlots.{at_once, earlier_at, at_push, pushed_left, pushed_last}
 
 -- where no walk has an earlier slot in its group the window is empty
@@ -36,11 +38,7 @@ empty_window g has_stop j none = record {
 pub first_window : (g : Graph) (has_stop : Place → Bool) → IsWindow g has_stop [] (first_of 0)
 first_window g has_stop = empty_window g has_stop (first_of 0) (λ w there i c.
     let from = comes_from g has_stop w i there.walks c in
-    nothing (end_of from.before) (subst (IsBefore (end_of from.before)) there.ends (falls_up g (end_of from.before) (end_of w) from.edge)))
-  where
-    nothing : (i : Place) → IsBefore i (first_of 0) → ⊥
-    nothing i (inl h) = omega arith
-    nothing i (inr h) = omega (arith, h.1)
+    none_before_first (end_of from.before) (subst (IsBefore (end_of from.before)) there.ends (falls_up g (end_of from.before) (end_of w) from.edge)))
 
 -- A walk to the next place that has an earlier slot in its group came from the place before.
 pub record Came (g : Graph) (has_stop : Place → Bool) (j next : Place) (w : Walk) : Type 0 where
@@ -312,3 +310,8 @@ one_advanced g j mask old now n a b adv at on = record {
   where
     kept : (m : ℕ) (c : EarlierSlot) → (m ≡ n → ⊥) → IsAt (set now n b) m c → IsAt now m c
     kept m c ne h = record { short = omega (arith, h.short, length-set now n b); is = sym (get_or-set_other now n m b c ne) ∙ h.is }
+
+-- the predicates that are written
+pub guard_mask : (mask : ℕ) (accesses : List Access) → ((g : ℕ) → g < 64 → bit mask g ≡ may_write_guard g accesses) → IsGuardMask mask accesses
+unfolding has_bit
+guard_mask mask accesses each = each

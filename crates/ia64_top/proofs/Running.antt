@@ -1,6 +1,7 @@
 -- What is stated of `run` and `watch`.
 use Rattle.std.proofs.Common.{◌≡◌, ℕ, inl, inr, List, refl, sym, ap, ◌∙◌, subst}
 use Rattle.std.specs.Prelude.{◌↔◌, ◌⊎◌}
+use Rattle.std.proofs.lemmas.Option.{same_Some}
 use Rattle.ia_insn.specs.Programs.{Program}
 use Rattle.ia_insn.specs.declared.ending.End.{End}
 use Rattle.ia_insn.specs.declared.ending.End.TheVariants as end
@@ -123,15 +124,12 @@ judged_of one none (command.Run groups) ws input bytes status o judges = run_vio
 judged_of one none (command.Watch groups) ws input bytes status o judges = run_violated_where_not_free (watch_text ws) groups as_either one none input bytes status o
 judged_of one none c ws input bytes status o judges = absurd judges
 
-same_groups : (n groups : ℕ) → Some n ≡ Some groups → n ≡ groups
-same_groups n groups e = cc
-
 pub ended_of : GivesOne as_either → RefusesNone as_either → (c : Command) (ws : List WatchState) (input bytes : List ℕ) (status : Status) → IsCommandOutput c ws input bytes status
     → (groups : ℕ) → groups_of c ≡ Some groups → (p : Program) → as_either.Gives input p → IsFree p → status ≡ end_status (run_of p groups).end
 ended_of one none (command.Run n) ws input bytes status o groups runs p gives free =
-    status_of_run run_text n as_either one none input bytes status o p gives free ∙ ap (λ k. end_status (run_of p k).end) (same_groups n groups runs)
+    status_of_run run_text n as_either one none input bytes status o p gives free ∙ ap (λ k. end_status (run_of p k).end) (same_Some n groups runs)
 ended_of one none (command.Watch n) ws input bytes status o groups runs p gives free =
-    status_of_run (watch_text ws) n as_either one none input bytes status o p gives free ∙ ap (λ k. end_status (run_of p k).end) (same_groups n groups runs)
+    status_of_run (watch_text ws) n as_either one none input bytes status o p gives free ∙ ap (λ k. end_status (run_of p k).end) (same_Some n groups runs)
 ended_of one none c ws input bytes status o groups runs p gives free = cc
 
 -- One number of groups is that of `watch`.

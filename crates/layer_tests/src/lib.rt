@@ -1,5 +1,5 @@
-//! The tests of the crates below the top call that aren't in `machine_tests`, a file each: values from outside, and
-//! what no clause says.
+//! The tests of the crates below the top call but for the two engines, a file each: values from outside, and what no
+//! clause says.
 #![tactic(auto)]
 
 #[cfg(test)]
@@ -14,6 +14,10 @@ mod flow_facts_tests;
 mod image_form_tests;
 #[cfg(test)]
 mod io_seam_tests;
+#[cfg(test)]
+mod lane_ops_tests;
+#[cfg(test)]
+mod nat_alat_tests;
 #[cfg(test)]
 mod predicate_rel_tests;
 #[cfg(test)]

@@ -1,7 +1,7 @@
 -- The plain packing, with one instruction more.
 use Rattle.std.proofs.Common.{◌≡◌, ◌∙◌, refl, sym, ap, ℕ, zero, suc, ◌+◌, ◌-◌, ◌*◌, ◌<◌, ◌≤◌, Bool, true, false, not, ◌&&◌, List, [], ◌∷◌, ◌++◌, length, get_or, set, Option, Some, None, arith, append_assoc}
 use Rattle.std.specs.Prelude.{is_some, if◌then◌else◌}
-use Rattle.std.proofs.lemmas.List.{length-append, length-map}
+use Rattle.std.proofs.lemmas.List.{length-append, length-map, append-nil}
 use Rattle.ia_insn.specs.declared.limits.TheConstants.{BUNDLE_LIMIT}
 use Rattle.slot_layouts.specs.declared.layout.Wanted.{Wanted}
 use Rattle.slot_layouts.specs.Layouts.{laid_out}
@@ -78,13 +78,9 @@ held_few (Two a b) = omega arith
 held_few (Three a b c) = omega arith
 
 -- how many bundles there are
-append_none : (items : List Item) → items ++ [] ≡ items
-append_none [] = refl
-append_none (i ∷ is) = ap (λ js. i ∷ js) (append_none is)
-
 pub packed_count : (items : List Item) (current : List Wanted) (before : Item) (bundles : ℕ) → IsPacked items current before bundles → length (plain_of items) ≡ bundles
 packed_count items current before bundles h =
-    let all : plain_of items ≡ h.closed ++ current ∷ [] = ap plain_of (sym (append_none items)) ∙ h.rest [] in
+    let all : plain_of items ≡ h.closed ++ current ∷ [] = ap plain_of (sym (append-nil items)) ∙ h.rest [] in
     ap length all ∙ length-append h.closed (current ∷ []) ∙ h.count
 
 pub packed_few : (items : List Item) (current : List Wanted) (before : Item) (bundles : ℕ) → IsPacked items current before bundles → length current ≤ 3 → length items ≤ 3 * bundles

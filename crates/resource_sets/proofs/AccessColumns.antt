@@ -2,7 +2,7 @@
 use Rattle.std.proofs.Common.{◌≡◌, ℕ, ◌*◌, ◌%◌, ◌^◌, ◌<◌, Bool, true, false, ◌&&◌, ◌||◌, eqb, refl, sym, ap, ◌∙◌, arith, inl, inr, true≢false}
 use Rattle.std.specs.Prelude.{bit_or}
 use Rattle.std.specs.Option.{is_some}
-use Rattle.std.proofs.lemmas.Bool.{cases_Bool}
+use Rattle.std.proofs.lemmas.Bool.{cases_Bool, and_right}
 use Rattle.std.specs.Int.{w64, w128}
 use Rattle.ia_meaning.specs.Arithmetic.{bit}
 use Rattle.resource_sets.specs.declared.access.Resource.{Resource}
@@ -13,10 +13,6 @@ use Rattle.resource_sets.specs.declared.bits.AccessBits.{AccessBits}
 use Rattle.resource_sets.specs.Clashes.{is_resource, clash_of}
 use Rattle.resource_sets.specs.Bits.{is_used_so, Column, register, predicate, loop_target, or_target, and_target, branch, other, bit_of, column_of, is_column, is_seen, bars, other_made, other_barred}
 use Rattle.resource_sets.proofs.BitWords.{or_false, bit_none, bit_more, bit_barred, bit_or_at, bit_power}
-
-pub neither : (x y : Bool) → (x || y) ≡ false → (x ≡ false) × (y ≡ false)
-neither true y h = absurd (true≢false h)
-neither false y h = (refl, h)
 
 -- Words that share no bit.
 pub at_each : (a b : AccessBits) → ((n : ℕ) → (bit a.registers n && bit b.registers n) ≡ false) → ((n : ℕ) → (bit a.predicates n && bit b.predicates n) ≡ false)
@@ -87,23 +83,20 @@ branch_barred s b l Cfm Write h = sym (or_false _)
 branch_barred s b l q k h = sym (or_false _)
 
 -- What reads as others do bars nothing.
-and_false : (b : Bool) → (b && false) ≡ false
-and_false true = refl
-and_false false = refl
 
 pub read_bars : (r : Resource) (q : Resource) (k : Kind) → bars r Read q k ≡ false
 unfolding clash_of
-read_bars r q k = and_false (is_resource r q)
+read_bars r q k = and_right (is_resource r q) false refl
 
 pub fill_bars : (r : Resource) (q : Resource) (k : Kind) → bars r Fill q k ≡ false
 unfolding clash_of
-fill_bars r q k = and_false (is_resource r q)
+fill_bars r q k = and_right (is_resource r q) false refl
 
 -- Of what reads as a branch does, only predicates bar something.
 pub branch_bars : (b : ℕ) (q : Resource) (k : Kind) → is_seen q k ≡ true → bars (Br b) BranchRead q k ≡ false
 unfolding clash_of
-branch_bars b (Br n) Read h = and_false (eqb b n)
-branch_bars b (Br n) Write h = and_false (eqb b n)
+branch_bars b (Br n) Read h = and_right (eqb b n) false refl
+branch_bars b (Br n) Write h = and_right (eqb b n) false refl
 branch_bars b (Br n) k h = absurd (true≢false (sym h))
 branch_bars b q k h = refl
 
@@ -176,7 +169,7 @@ unfolding clash_of
 or_write_barred s p l (Pr n) Read h = bit_barred w64 s.predicates p n l
 or_write_barred s p l (Pr n) Write h = bit_barred w64 s.predicates p n l
 or_write_barred s p l (Pr n) LoopWrite h = bit_barred w64 s.loop_targets p n l
-or_write_barred s p l (Pr n) OrWrite h = kept s (Pr p) OrWrite (Pr n) OrWrite (and_false (eqb p n))
+or_write_barred s p l (Pr n) OrWrite h = kept s (Pr p) OrWrite (Pr n) OrWrite (and_right (eqb p n) false refl)
 or_write_barred s p l (Pr n) AndWrite h = bit_barred w64 s.and_targets p n l
 or_write_barred s p l (Pr n) k h = absurd (true≢false (sym h))
 or_write_barred s p l Unat Spill h = sym (or_false _)
@@ -191,7 +184,7 @@ and_write_barred s p l (Pr n) Read h = bit_barred w64 s.predicates p n l
 and_write_barred s p l (Pr n) Write h = bit_barred w64 s.predicates p n l
 and_write_barred s p l (Pr n) LoopWrite h = bit_barred w64 s.loop_targets p n l
 and_write_barred s p l (Pr n) OrWrite h = bit_barred w64 s.or_targets p n l
-and_write_barred s p l (Pr n) AndWrite h = kept s (Pr p) AndWrite (Pr n) AndWrite (and_false (eqb p n))
+and_write_barred s p l (Pr n) AndWrite h = kept s (Pr p) AndWrite (Pr n) AndWrite (and_right (eqb p n) false refl)
 and_write_barred s p l (Pr n) k h = absurd (true≢false (sym h))
 and_write_barred s p l Unat Spill h = sym (or_false _)
 and_write_barred s p l Cfm Write h = sym (or_false _)
@@ -201,10 +194,10 @@ pub branch_read_barred : (s : AccessBits) (p : ℕ) → p < 64 → (q : Resource
     → bit_of (record s { loop_targets = with_bit s.loop_targets p }) (column_of q k) ≡ (bit_of s (column_of q k) || bars (Pr p) BranchRead q k)
 unfolding clash_of
 branch_read_barred s p l (Pr n) LoopWrite h = bit_barred w64 s.loop_targets p n l
-branch_read_barred s p l (Pr n) Read h = kept s (Pr p) BranchRead (Pr n) Read (and_false (eqb p n))
-branch_read_barred s p l (Pr n) Write h = kept s (Pr p) BranchRead (Pr n) Write (and_false (eqb p n))
-branch_read_barred s p l (Pr n) OrWrite h = kept s (Pr p) BranchRead (Pr n) OrWrite (and_false (eqb p n))
-branch_read_barred s p l (Pr n) AndWrite h = kept s (Pr p) BranchRead (Pr n) AndWrite (and_false (eqb p n))
+branch_read_barred s p l (Pr n) Read h = kept s (Pr p) BranchRead (Pr n) Read (and_right (eqb p n) false refl)
+branch_read_barred s p l (Pr n) Write h = kept s (Pr p) BranchRead (Pr n) Write (and_right (eqb p n) false refl)
+branch_read_barred s p l (Pr n) OrWrite h = kept s (Pr p) BranchRead (Pr n) OrWrite (and_right (eqb p n) false refl)
+branch_read_barred s p l (Pr n) AndWrite h = kept s (Pr p) BranchRead (Pr n) AndWrite (and_right (eqb p n) false refl)
 branch_read_barred s p l (Pr n) k h = absurd (true≢false (sym h))
 branch_read_barred s p l Unat Spill h = sym (or_false _)
 branch_read_barred s p l Cfm Write h = sym (or_false _)

@@ -1,9 +1,10 @@
 -- The accesses of an instruction in sets.
-use Rattle.std.proofs.Common.{◌≡◌, ℕ, zero, suc, Bool, true, false, ◌&&◌, ◌||◌, if◌then◌else◌, eqb-true, eq-eqb, List, [], ◌∷◌, ◌++◌, refl, sym, ap, subst, ◌∙◌, ◌⊎◌, arith, inl, inr, true≢false}
+use Rattle.std.proofs.Common.{◌≡◌, ℕ, zero, suc, Bool, true, false, ◌&&◌, ◌||◌, if◌then◌else◌, eqb-true, eq-eqb, List, [], ◌∷◌, ◌++◌, refl, sym, ap, subst, ◌∙◌, inl, inr, true≢false}
 use Rattle.std.specs.Prelude.{Contains}
 use Rattle.std.specs.List.{list_any}
 use Rattle.std.proofs.lemmas.Bool.{and_parts, and_from, or_cases, or_left, or_right}
 use Rattle.std.proofs.lemmas.List.Elements.{Contains-append_left, Contains-append_right, Contains-append_cases}
+use Rattle.std.proofs.lemmas.List.{append-nil}
 use Rattle.ia_meaning.specs.declared.action.Action.{Action}
 use Rattle.ia_meaning.specs.declared.action.Action.TheVariants as action
 use Rattle.ia_meaning.specs.declared.action.FetchSource.TheVariants as source
@@ -20,22 +21,8 @@ use Rattle.resource_sets.specs.Accesses.{place_rows, mask_rows, placed_rows, fra
 use Rattle.resource_sets.specs.Clashes.{is_resource}
 use Rattle.resource_sets.specs.ResourceSets.{has_resource}
 use Rattle.resource_sets.specs.AccessSets.{IsInSet, AreSetsOf, placed_kind}
+use Rattle.resource_sets.proofs.Members.{not_in_none, cases_in, in_head, in_tail}
 use Rattle.resource_sets.proofs.Listing.{in_parts}
-
--- the empty list has no element
-pub not_in_none : {A : Type 0} (x : A) → Contains [] x → ⊥
-not_in_none x c = omega (arith, c.1)
-
--- an element is the first or one of the others
-pub cases_in : {A : Type 0} (x y : A) (xs : List A) → Contains (x ∷ xs) y → (x ≡ y) ⊎ Contains xs y
-cases_in x y xs (zero, l, e) = inl e
-cases_in x y xs (suc k, l, e) = inr (k, omega arith, e)
-
-in_head : {A : Type 0} (x y : A) (xs : List A) → x ≡ y → Contains (x ∷ xs) y
-in_head x y xs e = (0, omega arith, e)
-
-in_tail : {A : Type 0} (x y : A) (xs : List A) → Contains xs y → Contains (x ∷ xs) y
-in_tail x y xs (k, l, e) = (suc k, omega arith, e)
 
 -- resources that pass the test are one
 pub same_resource : (a b : Resource) → is_resource a b ≡ true → a ≡ b
@@ -147,16 +134,12 @@ set_of_row qp row s there k u h = rw there (record {
   ];
 })
 
-append_none : {A : Type 0} (xs : List A) → xs ++ [] ≡ xs
-append_none [] = refl
-append_none (x ∷ xs) = ap (λ l. x ∷ l) (append_none xs)
-
 -- a row that isn't there is in no set
 pub row_apart : (qp : ℕ) (row : AccessRow) (earlier : List Access) (sets : List AccessSet) → row.there ≡ false → AreSetsOf earlier sets → AreSetsOf (earlier ++ listed qp (row ∷ [])) sets
-row_apart qp row earlier sets there h = rw (there, append_none earlier) h
+row_apart qp row earlier sets there h = rw (there, append-nil earlier) h
 
 pub rows_apart : (qp : ℕ) (rows : List AccessRow) (earlier : List Access) (sets : List AccessSet) → rows ≡ [] → AreSetsOf earlier sets → AreSetsOf (earlier ++ listed qp rows) sets
-rows_apart qp rows earlier sets none h = rw (none, append_none earlier) h
+rows_apart qp rows earlier sets none h = rw (none, append-nil earlier) h
 
 -- the rows of predicates by place are alike
 place_alike : (left n mask : ℕ) (kind : Kind) → AreAlike kind (place_rows left n mask kind)

@@ -3,7 +3,7 @@ use Rattle.std.proofs.Common.{◌≡◌, ℕ, ◌+◌, ◌<◌, ◌≤◌, zero,
 use Rattle.std.specs.Option.{is_some}
 use Rattle.std.specs.List.{list_any, list_all}
 use Rattle.std.proofs.lemmas.Bool.{cases_Bool, and_parts, and_from, or_cases, or_left, or_right}
-use Rattle.std.proofs.lemmas.List.{take_more}
+use Rattle.std.proofs.lemmas.List.{take_more, append-nil}
 use Rattle.std.proofs.lemmas.List.Folds.{list_any-append, list_all-append}
 use Rattle.ia_meaning.specs.declared.action.Action.{Action}
 use Rattle.ia_meaning.specs.declared.action.Action.TheVariants as action
@@ -48,13 +48,9 @@ pub row_taken : (qp : ℕ) (earlier : List Access) (row : AccessRow) (made barre
     → AreBits earlier made barred → AreBits (earlier ++ listed qp (row ∷ [])) made_on barred_on
 row_taken qp earlier row made barred made_on barred_on there f m b h = rw there (bits_more earlier (access qp row) made barred made_on barred_on f m b h)
 
-append_none : {A : Type 0} (xs : List A) → xs ++ [] ≡ xs
-append_none [] = refl
-append_none (x ∷ xs) = ap (λ l. x ∷ l) (append_none xs)
-
 -- no more rows
 pub rows_none : (earlier : List Access) (made barred : AccessBits) → AreBits earlier made barred → AreBits (earlier ++ []) made barred
-rows_none earlier made barred h = subst (λ (l : List Access). AreBits l made barred) (sym (append_none earlier)) h
+rows_none earlier made barred h = subst (λ (l : List Access). AreBits l made barred) (sym (append-nil earlier)) h
 
 -- or isn't
 pub row_left : (qp : ℕ) (earlier : List Access) (row : AccessRow) (made barred : AccessBits) → row.there ≡ false → AreBits earlier made barred → AreBits (earlier ++ listed qp (row ∷ [])) made barred

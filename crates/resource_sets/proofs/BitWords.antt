@@ -4,7 +4,7 @@ use Rattle.std.specs.Prelude.{bit_and, bit_or, min, max}
 use Rattle.std.specs.Int.{bit_at, trailing_zeros, Width}
 use mir.Val.{bits}
 use Rattle.std.proofs.lemmas.Nat.{and_le_l}
-use Rattle.std.proofs.lemmas.Bool.{cases_eq, ne_eqb, and_parts, not-true, true≢false}
+use Rattle.std.proofs.lemmas.Bool.{cases_eq, ne_eqb, and_parts, not-true, true≢false, not-false, or_right}
 use Rattle.std.proofs.lemmas.Bool.Decides.{nat_tests}
 use Rattle.std.proofs.lemmas.Nat.Bits.{bit_at_and, bit_at_or, bit_at-lt, bit_at-zero, bit_at-pow_same, bit_at-pow_other, bit_at_set_same, bit_at_set_other, bit_at-trailing_zeros}
 use Rattle.ia_meaning.specs.Arithmetic.{bit}
@@ -35,10 +35,6 @@ some_shared w a b some fits =
     let n = trailing_zeros w (bit_and a b) in
     (n, sym (bit_and_at a b n) ∙ eq-eqb (bit_at (bit_and a b) n) 1 one)
 
-or_true : (b : Bool) → (b || true) ≡ true
-or_true true = refl
-or_true false = refl
-
 pub or_false : (b : Bool) → (b || false) ≡ b
 or_false true = refl
 or_false false = refl
@@ -46,7 +42,7 @@ or_false false = refl
 -- a word with one more bit
 pub bit_more : (w : Width) (a k y : ℕ) → k < bits w → bit (bit_or a (1 * 2 ^ k % 2 ^ bits w)) y ≡ (bit a y || eqb y k)
 bit_more w a k y l = elim (cases_eq y k) [
-  | inl e ↦ rw (eq-eqb y k e) (rw e (eq-eqb _ 1 (bit_at_set_same w a k l)) ∙ sym (or_true (bit a y)))
+  | inl e ↦ rw (eq-eqb y k e) (rw e (eq-eqb _ 1 (bit_at_set_same w a k l)) ∙ sym (or_right (bit a y) true refl))
   | inr e ↦ rw (ne_eqb y k e) (ap (λ (v : ℕ). eqb v 1) (bit_at_set_other w a k l y e) ∙ sym (or_false (bit a y)))
 ]
 
@@ -82,8 +78,4 @@ share_some w a b fits h =
     ]
 
 pub share_none : (a b : ℕ) → not (eqb (bit_and a b) 0) ≡ false → (n : ℕ) → (bit a n && bit b n) ≡ false
-share_none a b h n = none_shared a b n (eqb-true (bit_and a b) 0 (flip (eqb (bit_and a b) 0) h))
-  where
-    flip : (t : Bool) → not t ≡ false → t ≡ true
-    flip true e = refl
-    flip false e = sym e
+share_none a b h n = none_shared a b n (eqb-true (bit_and a b) 0 (not-false (eqb (bit_and a b) 0) h))

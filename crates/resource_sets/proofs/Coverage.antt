@@ -1,8 +1,8 @@
 -- What an instruction writes is what it accesses so.
-use Rattle.std.proofs.Common.{◌≡◌, ℕ, zero, suc, ◌+◌, ◌-◌, ◌%◌, ◌<◌, ◌≤◌, ⊎_elim, inl, inr, Bool, true, false, ◌&&◌, if◌then◌else◌, List, [], ◌∷◌, Option, Some, None, refl, ap, ◌∙◌, arith, le-leb}
+use Rattle.std.proofs.Common.{◌≡◌, ℕ, zero, suc, ◌+◌, ◌-◌, ◌%◌, ◌<◌, ◌≤◌, ⊎_elim, inl, inr, Bool, true, false, if◌then◌else◌, List, [], ◌∷◌, Option, Some, None, refl, ap, ◌∙◌, arith, le-leb}
 use Rattle.std.specs.Prelude.{ℤ}
 use Rattle.std.specs.List.{AllByRecursion as Each}
-use Rattle.std.proofs.lemmas.Bool.{cases_lt}
+use Rattle.std.proofs.lemmas.Bool.{cases_lt, and_from}
 use Rattle.std.proofs.lemmas.Bool.Decides.{nat_tests}
 use Rattle.std.proofs.lemmas.List.Elements.{All-from_recursion}
 use Rattle.ia_insn.specs.declared.choices.CmpKind.{CmpKind}
@@ -47,7 +47,7 @@ use Rattle.resource_sets.specs.declared.access.Access.{Access}
 use Rattle.resource_sets.specs.Rows.{is_named}
 use Rattle.resource_sets.specs.Accesses.{test_rows, is_updated, own_rows, placed_rows, qp_rows, mask_rows, rotating_rows, counting_rows, rows_by_name, rows}
 use Rattle.resource_sets.proofs.Listing.{has_left, has_right, mask_row}
-use Rattle.ia_meaning.proofs.PredicatePlaces.{holds_zero}
+use Rattle.ia_meaning.proofs.PredicatePlaces.{holds_zero, low_place}
 use Rattle.resource_sets.specs.AccessLaws.{location, spot_location, location_of, naming_frame, writes_registers, MayPut, HasRow, IsCovered, WritesAreAccesses, CellsAreInside, SpillsAreAccesses, PredicateAt, CellAt}
 use Rattle.resource_sets.proofs.Renaming.{spot_inside}
 
@@ -102,9 +102,6 @@ each_base : (P : Write → Type 0) (f : FrameShape) (r : ℕ) (u : Update) (d : 
 each_base P f r update.None d base more e h = tt
 each_base P f r (update.Reg r2) d base more e h = each_spot P f r d _ [] e (h refl) tt
 each_base P f r (update.Imm imm) d base more e h = each_spot P f r d _ [] e (h refl) tt
-
-both : (a b : Bool) → a ≡ true → b ≡ true → (a && b) ≡ true
-both a b e h = rw (e, h) refl
 
 -- The kinds of the accesses of a test's two targets, and their guard.
 abbrev first_kind : CmpKind → Kind
@@ -210,10 +207,6 @@ each_place : (P : Write → Type 0) (mask x : ℕ) → PlacesFrom P 63 1 mask �
 unfolding predicate_writes
 each_place P mask x h = each_masked P 63 1 mask x h
 
-low_name : (f : FrameShape) (k : ℕ) → k < 16 → predicate_place f k ≡ k
-unfolding predicate_place
-low_name f k h = grind (arith, nat_tests)
-
 high_name : (f : FrameShape) (k : ℕ) → 16 ≤ k → k < 64 → f.rrbs.pr < 48 → predicate_place f (16 + (k + 32 - f.rrbs.pr) % 48) ≡ k
 unfolding predicate_place
 high_name f k h i b = let high : 16 ≤ 16 + (k + 32 - f.rrbs.pr) % 48 = omega arith in rw (le-leb _ _ high) (omega arith)
@@ -234,7 +227,7 @@ module _ (qp r2 mask : ℕ) (w : MovedWord) (v : Registers) (base : v.frame.rrbs
 
   place_covered : PlacesFrom (IsCovered qp mask_action v) 63 1 mask
   place_covered k b i j e =
-      ⊎_elim (λ low. named_place_covered k k b (low_name v.frame k low) (mask_row qp k mask Writes i j e))
+      ⊎_elim (λ low. named_place_covered k k b (low_place v.frame k low) (mask_row qp k mask Writes i j e))
       (λ high.
       let p : ℕ = 16 + (k + 32 - v.frame.rrbs.pr) % 48 in
       let masked : is_masked mask p ≡ true = masks_high mask k p high (omega arith) e in
@@ -352,7 +345,7 @@ act_covered s qp (FromMemory size kind r1 r3 u) v m x base g =
     let named : WritesOf (IsCovered qp action v) v.frame r1 =
     λ w n. own_covered qp action v (Gr r1) w g (inr (inr (inl (n, refl)))) in
     let updated : is_updated u ≡ true → WritesOf (IsCovered qp action v) v.frame r3 =
-    λ t w n. own_covered qp action v (Gr r3) w g (inr (inr (inr (inl (both _ _ t n, refl))))) in (
+    λ t w n. own_covered qp action v (Gr r3) w g (inr (inr (inr (inl (and_from _ _ t n, refl))))) in (
       λ _. tt,
       λ d e y z at_d at_e _ _.
           let rest : Each (IsCovered qp action v) (base_writes u e y z) = each_base _ v.frame r3 u e y z at_e updated in
@@ -365,7 +358,7 @@ act_covered s qp (FromMemory size kind r1 r3 u) v m x base g =
 act_covered s qp (ToMemory size kind r3 r2 u) v m x base g =
     let action : Action = ToMemory size kind r3 r2 u in
     let updated : is_updated u ≡ true → WritesOf (IsCovered qp action v) v.frame r3 =
-    λ t w n. own_covered qp action v (Gr r3) w g (inr (inr (inl (both _ _ t n, refl)))) in
+    λ t w n. own_covered qp action v (Gr r3) w g (inr (inr (inl (and_from _ _ t n, refl)))) in
     (λ _. tt, λ e y z at_e _ _ _ _ _. each_base _ v.frame r3 u e y zero_cell at_e updated)
 act_covered s qp (Exchange size r1 r3 r2 inc) v m x base g =
     let named : WritesOf (IsCovered qp (Exchange size r1 r3 r2 inc) v) v.frame r1 =

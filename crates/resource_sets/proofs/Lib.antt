@@ -1,3 +1,4 @@
+pub mod Members
 pub mod Listing
 pub mod Dependence
 pub mod Renaming

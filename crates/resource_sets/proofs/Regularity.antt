@@ -30,7 +30,7 @@ use Rattle.ia_meaning.specs.Names.{is_stacked, is_rotating, holds}
 use Rattle.ia_meaning.specs.Actions.{action_of, is_branch, is_indirect, is_alloc, insn_action}
 use Rattle.ia_meaning.specs.Loads.{update_register}
 use Rattle.resource_sets.specs.declared.access.Resource.{Resource}
-use Rattle.resource_sets.specs.declared.access.Resource.TheVariants.{Gr, Pr, Br, Unat, Cfm}
+use Rattle.resource_sets.specs.declared.access.Resource.TheVariants.{Pr, Br, Unat, Cfm}
 use Rattle.resource_sets.specs.declared.access.Kind.{Kind}
 use Rattle.resource_sets.specs.declared.access.Kind.TheVariants.{Read, BranchRead, Write, AllocWrite, LoopWrite, OrWrite, AndWrite, Spill, Fill}
 use Rattle.resource_sets.specs.declared.access.Access.{Access}
@@ -38,10 +38,11 @@ use Rattle.resource_sets.specs.declared.row.AccessRow.{AccessRow}
 use Rattle.resource_sets.specs.declared.clashes.Rule.TheVariants.{Raw, Waw}
 use Rattle.resource_sets.specs.Rows.{is_named, access, gr, pr, listed}
 use Rattle.resource_sets.specs.Accesses.{test_rows, is_updated, base_row, own_rows, other_name, application, call_rows, counting_rows, rotating_rows, loop_rows, place_rows, mask_rows, placed_rows, reads_plainly, qp_rows, is_framed, any_framed, frame_row, rows_by_name, rows, reads_as_branch}
-use Rattle.resource_sets.specs.Clashes.{is_resource, clash_of, clash, writes_guard, may_write_guard}
+use Rattle.resource_sets.specs.Clashes.{clash_of, clash, writes_guard, may_write_guard}
 use Rattle.resource_sets.specs.AccessLaws.{AgreesOn, AgreesAtEach, AgreesByPlace, HasRow, HasAccess}
 use Rattle.resource_sets.specs.Regularity.{IsLoop, IsChange, NamedAsFound, AgreeByAccesses, frame_read, HasNamedAccess, IsTarget, IsName, IsPredicate, IsCountOrFrame, GoesBy, IsRegular, AccessesAreRegular, GuardsAreRead, IsAccessByPlace, NamedAccessesAreAccesses, AccessesAreNamedOrPlaced, AccessesAreGuarded, AllocWritesAreOfAlloc, PredicatesAreRead, StaticsAreRead, ListedAreRows, AccessesAreListed, GuardsAreWritten, IsInRange, AccessesAreInRange, GuardsAreInRange, IsExcepted, AccessesClash, ChangesClash}
 use Rattle.resource_sets.proofs.Listing.{has_left, has_right, mask_row}
+use Rattle.resource_sets.proofs.AccessSets.{resource_itself}
 
 -- Rows of a list that is put together.
 pub has_append : (qp : ℕ) (a : Access) (front back : List AccessRow) → HasRow qp a (front ++ back)
@@ -523,11 +524,6 @@ guards_in_range insn listed = by_number insn.qp (below insn.qp insn.op listed).g
     by_number (suc p) h = inr (omega arith, h)
 
 -- Accesses that clash.
-same_resource : (q : Resource) → is_resource q q ≡ true
-same_resource (Gr n) = eq-eqb n n refl
-same_resource (Pr n) = eq-eqb n n refl
-same_resource (Br n) = eq-eqb n n refl
-same_resource _ = refl
 
 kinds_clash : (first second : Kind) → IsChange first
     → (clash_of first second ≡ Some Raw) ⊎ ((clash_of first second ≡ Some Waw) ⊎ IsExcepted first second)
@@ -547,7 +543,7 @@ kinds_clash _ _ w = inr (inl refl)
 
 -- by which rule a change clashes with a later access
 pub changes_clash : ChangesClash
-changes_clash a b same w = rw (← same) (rw (same_resource a.resource) (kinds_clash a.kind b.kind w))
+changes_clash a b same w = rw (← same) (rw (resource_itself a.resource) (kinds_clash a.kind b.kind w))
 
 -- which accesses clash
 pub accesses_clash : AccessesClash

@@ -6,6 +6,7 @@ use Rattle.std.specs.Int.{Width, w8, w64, w128}
 use mir.Val.{bits, bool_byte}
 use Rattle.std.proofs.lemmas.Bool.{cases_eq, ne_eqb, lt-ltb}
 use Rattle.std.proofs.lemmas.Nat.Bits.{bit_at-suc, bit_at_lowest}
+use Rattle.std.proofs.lemmas.List.{append-nil}
 use Rattle.ia_meaning.specs.Arithmetic.{bit}
 use Rattle.resource_sets.specs.declared.access.Resource.{Resource}
 use Rattle.resource_sets.specs.declared.access.Resource.TheVariants.{Gr, Pr, Br, Unat, Pfs, Lc, Ec, Cfm}
@@ -107,11 +108,7 @@ pub number_none : (h : Resource → Bool) (sort : ℕ → Resource) (old : List 
 unfolding numbered
 number_none h sort old limit n e =
     let z : limit - n ≡ 0 = omega arith in
-    rw z (append_none old)
-  where
-    append_none : (xs : List Resource) → xs ++ [] ≡ xs
-    append_none [] = refl
-    append_none (x ∷ xs) = ap (λ l. x ∷ l) (append_none xs)
+    rw z (append-nil old)
 
 -- how many resources of a sort a set has
 count_more : (b : Bool) (x : Resource) (rest : List Resource) → length (cond b (x ∷ rest) rest) ≡ bool_byte b + length rest

@@ -2,7 +2,7 @@
 use Rattle.std.proofs.Common.{◌≡◌, ℕ, ◌<◌, Bool, true, false, ◌&&◌, ◌||◌, eqb, List, [], ◌∷◌, refl, sym, ap, ◌∙◌, arith, inl, inr, true≢false}
 use Rattle.std.specs.Prelude.{bit_or}
 use Rattle.std.specs.List.{list_any, list_all}
-use Rattle.std.proofs.lemmas.Bool.{and_parts, cases_lt, le-leb, ne_eqb, eq-eqb}
+use Rattle.std.proofs.lemmas.Bool.{and_parts, cases_lt, le-leb, ne_eqb, eq-eqb, and_right}
 use Rattle.std.proofs.lemmas.Bool.Decides.{nat_tests}
 use Rattle.std.specs.Int.{bit_at}
 use Rattle.std.proofs.lemmas.Nat.Bits.{bit_at_mask_inside, bit_at_mask_below}
@@ -33,10 +33,6 @@ all : (b : Bool) → (b && true) ≡ b
 all true = refl
 all false = refl
 
-no : (b : Bool) → (b && false) ≡ false
-no true = refl
-no false = refl
-
 -- what writes a predicate bars a read of it, or of the frame
 writes_bars : (g : ℕ) (q : Resource) (k : Kind) → is_used_so q k ≡ true → writes_guard g q k ≡ (bars q k (Pr g) Read || (is_rotating g && bars q k Cfm Read))
 unfolding clash_of
@@ -48,15 +44,15 @@ writes_bars g (Pr p) OrWrite f = sym (some (eqb p g) (is_rotating g))
 writes_bars g (Pr p) AndWrite f = sym (some (eqb p g) (is_rotating g))
 writes_bars g (Pr p) k f = absurd (true≢false (sym f))
 writes_bars g Cfm Write f = sym (all (is_rotating g))
-writes_bars g Cfm Read f = sym (no (is_rotating g))
-writes_bars g Cfm AllocWrite f = sym (no (is_rotating g))
+writes_bars g Cfm Read f = sym (and_right (is_rotating g) false refl)
+writes_bars g Cfm AllocWrite f = sym (and_right (is_rotating g) false refl)
 writes_bars g Cfm k f = absurd (true≢false (sym f))
-writes_bars g q k f = sym (no (is_rotating g))
+writes_bars g q k f = sym (and_right (is_rotating g) false refl)
 
 -- so it is of lists
 spread : (f h t : Access → Bool) (r : Bool) (fit : Access → Bool) (accesses : List Access) → ((a : Access) → fit a ≡ true → t a ≡ (f a || (r && h a))) → list_all fit accesses ≡ true
     → list_any t accesses ≡ (list_any f accesses || (r && list_any h accesses))
-spread f h t r fit [] each are_used_so = sym (no r)
+spread f h t r fit [] each are_used_so = sym (and_right r false refl)
 spread f h t r fit (a ∷ accesses) each are_used_so =
     let parts = and_parts (fit a) (list_all fit accesses) are_used_so in
     ap (λ (b : Bool). b || list_any t accesses) (each a parts.0)
@@ -95,5 +91,5 @@ module _ (accesses : List Access) (made barred : AccessBits) (h : AreBits access
   -- and without
   pub written_unframed : bit barred.others 5 ≡ false → bit barred.predicates g ≡ may_write_guard g accesses
   written_unframed unframed =
-      sym (or_false (bit barred.predicates g)) ∙ ap (λ (b : Bool). bit barred.predicates g || b) (sym (no (is_rotating g)) ∙ ap (λ (b : Bool). is_rotating g && b) (sym unframed))
+      sym (or_false (bit barred.predicates g)) ∙ ap (λ (b : Bool). bit barred.predicates g || b) (sym (and_right (is_rotating g) false refl) ∙ ap (λ (b : Bool). is_rotating g && b) (sym unframed))
       ∙ sym written

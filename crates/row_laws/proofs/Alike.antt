@@ -10,11 +10,11 @@ use Rattle.ia_meaning.specs.Sequence.{first_of}
 use Rattle.resource_sets.specs.declared.access.Resource.{Resource}
 use Rattle.resource_sets.specs.declared.access.Access.{Access}
 use Rattle.resource_sets.specs.declared.clashes.Rule.{Rule}
+use Rattle.resource_sets.proofs.Members.{not_in_none}
 use Rattle.flow_facts.specs.Graphs.{Graph, InsnRow, over_program, over_row, row_insn}
 use Rattle.flow_facts.specs.Walks.{Walk, end_of}
 use Rattle.group_checker.specs.Excuses.{accesses_in, accesses_at, IsExcused}
 use Rattle.group_checker.specs.Violations.{Clashes, ClashesUnexcused, clears_in, allocates_at, clears_at}
-use Rattle.group_checker.proofs.Members.{not_in_none}
 use Rattle.row_laws.specs.Spreads.{IsSpread}
 use Rattle.row_laws.proofs.Rows.{IsNumbered, row_numbered}
 use Rattle.row_laws.proofs.Fillers.{filler_accesses, filler_no_alloc, filler_no_clear}

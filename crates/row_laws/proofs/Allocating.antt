@@ -11,8 +11,9 @@ use Rattle.predicate_rel.specs.Edges.{HasEdge}
 use Rattle.predicate_rel.proofs.EdgeEnds.{falls_next}
 use Rattle.flow_facts.specs.Graphs.{InsnRow, over_program, over_row}
 use Rattle.flow_facts.specs.Walks.{Walk, begins, goes_on, end_of, IsWalkIn, group_since}
+use Rattle.flow_facts.proofs.Numbering.{same_place}
 use Rattle.group_checker.specs.Violations.{allocates_at}
-use Rattle.group_checker.proofs.Falling.{before_trans, not_before_itself, same_place, place_cases}
+use Rattle.group_checker.proofs.Falling.{before_trans, not_before_itself, place_cases}
 use Rattle.row_laws.specs.Spreads.{IsSpread, KeepsSlotRules, IsHead}
 use Rattle.row_laws.proofs.Rows.{row_inside}
 use Rattle.row_laws.proofs.Between.{IsFirstFrom, Stands, own, filler, at_place, stands, first_once, first_landing}

@@ -7,13 +7,13 @@ use Rattle.ia_insn.specs.declared.place.Place.{Place}
 use Rattle.ia_insn.specs.Places.{IsBefore, IsNext, IsPlaceOf}
 use Rattle.ia_insn.specs.Programs.{Program, IsProgram, IsEntry}
 use Rattle.ia_meaning.specs.Sequence.{first_of}
+use Rattle.resource_sets.proofs.Members.{not_in_none}
 use Rattle.predicate_rel.specs.declared.edge.Edge.TheVariants.{Falls, Taken}
 use Rattle.predicate_rel.specs.Edges.{HasEdge, may_fall}
 use Rattle.predicate_rel.proofs.EdgeEnds.{falls_next}
 use Rattle.flow_facts.specs.Graphs.{InsnRow, over_program, over_row, known_at_entry, HasRowEdge}
 use Rattle.flow_facts.specs.Walks.{Walk, begins, goes_on, end_of, IsWalkIn, EndsIn, facts_in, group_since}
 use Rattle.group_checker.proofs.Falling.{fall_edge, fall_is, place_cases}
-use Rattle.group_checker.proofs.Members.{not_in_none}
 use Rattle.row_laws.specs.Spreads.{IsSpread, AreStops}
 use Rattle.row_laws.proofs.Rows.{row_inside, row_next_is}
 use Rattle.row_laws.proofs.Fillers.{walk_bounded, filler_past}

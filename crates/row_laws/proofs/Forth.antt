@@ -8,12 +8,12 @@ use Rattle.ia_insn.specs.Programs.{Program, IsProgram}
 use Rattle.ia_insn.proofs.InOrder.{slot_small}
 use Rattle.ia_meaning.specs.Sequence.{first_of}
 use Rattle.ia_meaning.proofs.Follows.{next_is}
+use Rattle.resource_sets.proofs.Members.{not_in_none}
 use Rattle.predicate_rel.specs.declared.edge.Edge.TheVariants.{Falls, Taken}
 use Rattle.predicate_rel.specs.Edges.{HasEdge, may_fall}
 use Rattle.flow_facts.specs.Graphs.{InsnRow, over_program, over_row, HasRowEdge, IsRowEntry}
 use Rattle.flow_facts.specs.Walks.{Walk, begins, goes_on, end_of, IsWalkIn, EndsIn, facts_in, group_since}
 use Rattle.group_checker.proofs.Falling.{before_trans, fall_edge, fall_is, place_cases, number_rises, not_before_itself}
-use Rattle.group_checker.proofs.Members.{not_in_none}
 use Rattle.row_laws.specs.Spreads.{IsSpread, AreStops}
 use Rattle.row_laws.proofs.Rows.{IsNumbered, row_inside, row_walk_place, row_fall_is}
 use Rattle.row_laws.proofs.Fillers.{walk_bounded, filler_past, filler_falls}

@@ -11,6 +11,7 @@ use Rattle.resource_sets.specs.declared.access.Access.{Access}
 use Rattle.resource_sets.specs.declared.clashes.Rule.{Rule}
 use Rattle.resource_sets.specs.declared.clashes.Rule.TheVariants.{Raw, Waw, War63, AllocFirst, ClearLast}
 use Rattle.resource_sets.specs.Clashes.{may_write_guard}
+use Rattle.resource_sets.proofs.Members.{in_head}
 use Rattle.predicate_rel.specs.declared.edge.Edge.TheVariants.{Falls}
 use Rattle.predicate_rel.specs.Pairs.{Pairs}
 use Rattle.flow_facts.specs.Graphs.{InsnRow, over_program, over_row, HasRowEdge}
@@ -19,7 +20,6 @@ use Rattle.group_checker.specs.declared.violation.Violation.{Violation}
 use Rattle.group_checker.specs.Excuses.{accesses_at, IsExcused, IsLatest}
 use Rattle.group_checker.specs.Violations.{ClashesUnexcused, Breaks, ViolatesIn, allocates_at, clears_at}
 use Rattle.group_checker.proofs.Falling.{ComesFrom, comes_from, falls_group}
-use Rattle.group_checker.proofs.Members.{in_head}
 use Rattle.row_laws.specs.Spreads.{IsSpread, AreStops}
 use Rattle.row_laws.specs.Laws.{ViolatedInTheProgram}
 use Rattle.row_laws.proofs.Rows.{IsNumbered, IsRowFall, row_walk_place, row_fall_is}

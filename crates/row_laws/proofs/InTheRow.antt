@@ -14,6 +14,7 @@ use Rattle.resource_sets.specs.declared.access.Access.{Access}
 use Rattle.resource_sets.specs.declared.clashes.Rule.{Rule}
 use Rattle.resource_sets.specs.declared.clashes.Rule.TheVariants.{Raw, Waw, War63, AllocFirst, ClearLast}
 use Rattle.resource_sets.specs.Clashes.{may_write_guard}
+use Rattle.resource_sets.proofs.Members.{in_head, in_tail}
 use Rattle.predicate_rel.specs.declared.edge.Edge.TheVariants.{Falls}
 use Rattle.predicate_rel.specs.Pairs.{Pairs}
 use Rattle.flow_facts.specs.Graphs.{InsnRow, over_program, over_row, IsEdgeIn}
@@ -22,7 +23,6 @@ use Rattle.group_checker.specs.declared.violation.Violation.{Violation}
 use Rattle.group_checker.specs.Excuses.{accesses_at, IsExcused, IsLatest}
 use Rattle.group_checker.specs.Violations.{Clashes, ClashesUnexcused, Breaks, ViolatesIn, allocates_at, clears_at}
 use Rattle.group_checker.proofs.Falling.{ComesFrom, before_trans, comes_from, edge_inside, falls_next, place_cases, same_before}
-use Rattle.group_checker.proofs.Members.{in_head, in_tail}
 use Rattle.row_laws.specs.Laws.{ViolatedInTheRow}
 use Rattle.row_laws.specs.Spreads.{IsSpread, IsBetween, AreStops, KeepsSlotRules}
 use Rattle.row_laws.proofs.Rows.{row_next_is}

@@ -10,7 +10,8 @@ use Rattle.ia_meaning.specs.Sequence.{first_of}
 use Rattle.predicate_rel.specs.declared.edge.Edge.TheVariants.{Falls}
 use Rattle.flow_facts.specs.Graphs.{InsnRow, over_row, row_insn, row_next, HasRowEdge}
 use Rattle.flow_facts.specs.Walks.{Walk, begins, goes_on, end_of, IsWalkIn}
-use Rattle.group_checker.proofs.Falling.{same_place, falls_next}
+use Rattle.flow_facts.proofs.Numbering.{same_place}
+use Rattle.group_checker.proofs.Falling.{falls_next}
 
 -- the number of the instruction at a place of the row
 pub record IsNumbered (insns : List Insn) (place : Place) : Type 0 where

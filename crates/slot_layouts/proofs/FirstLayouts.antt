@@ -1,7 +1,7 @@
 -- The first layout of a list is a layout, and a list of more than three instructions has none.
 use Rattle.std.proofs.Common.{arith, ◌≡◌, ℕ, zero, suc, ◌+◌, ◌/◌, ◌<◌, ◌⊎◌, inl, inr, ◌↔◌, ltb, refl, sym, ◌∙◌, subst, ap, add-one, Bool, true, false, IsTrue, ◌&&◌, cond, List, [], ◌∷◌, length, take, drop, filter, find, get_or, Contains, slice_get, Option, Some, None, IsSome, option_map, unwrap_or}
 use Rattle.std.specs.Option.{option_or}
-use Rattle.std.proofs.lemmas.Bool.{ltb-true}
+use Rattle.std.proofs.lemmas.Bool.{ltb-true, and_right}
 use Rattle.ia_insn.specs.declared.choices.Unit.{Unit as ExecutionUnit}
 use Rattle.ia_insn.specs.declared.choices.Unit.TheVariants.{M}
 use Rattle.ia_insn.specs.declared.insn.Insn.{Insn}
@@ -52,11 +52,7 @@ unfit : (units : List ExecutionUnit) (ws : List Wanted) (ks : List ℕ) → leng
 unfit units [] [] h = absurd (omega arith)
 unfit units [] (k ∷ ks) h = refl
 unfit units (w ∷ ws) [] h = refl
-unfit units (w ∷ ws) (k ∷ ks) h = and_false (fits_slot (slice_get units k) w.class k) (all_fit units ws ks) (unfit units ws ks (omega arith))
-  where
-    and_false : (a b : Bool) → b ≡ false → (a && b) ≡ false
-    and_false true b h = h
-    and_false false b h = refl
+unfit units (w ∷ ws) (k ∷ ks) h = and_right (fits_slot (slice_get units k) w.class k) (all_fit units ws ks) (unfit units ws ks (omega arith))
 
 not_layout : (code : ℕ) (ws : List Wanted) (end : Bool) (ks : List ℕ) → length ks < length ws → is_layout code ws end ks ≡ false
 not_layout code ws end ks h = rw (unfit (units_of code) ws ks h) refl

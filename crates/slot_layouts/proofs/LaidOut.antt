@@ -2,7 +2,7 @@
 use Rattle.std.proofs.Common.{arith, ◌≡◌, ℕ, zero, suc, ◌+◌, ◌<◌, ◌≤◌, ◌⊎◌, inl, inr, refl, sym, ◌∙◌, ap, subst, add-one, Bool, true, false, not, ◌&&◌, ◌||◌, ◌==◌, nat_le, nat_lt, List, [], ◌∷◌, length, Some, IsSome, slice_get}
 use Rattle.std.specs.Prelude.{◌≢◌, option_map}
 use Rattle.std.specs.Cmp.Derive.{both_true}
-use Rattle.std.proofs.lemmas.Bool.{eqb-true, leb-true, le-leb, ltb-true}
+use Rattle.std.proofs.lemmas.Bool.{eqb-true, leb-true, le-leb, ltb-true, not-true}
 use Rattle.std.proofs.lemmas.Option.{same_Some}
 use Rattle.ia_insn.specs.declared.insn.Insn.{Insn}
 use Rattle.ia_insn.specs.Templates.{units_of}
@@ -223,10 +223,6 @@ last_b_last ws end code ks is n k w laid at b last there =
     eqb-true k (last_place code) (entailed (is_b one.w.class) (k == last_place code) rule (subst (λ w. is_b w.class ≡ true) same (ap is_b b)))
     ∙ sym (last_slot-filled code ks is)
 
-false_from_not : (b : Bool) → not b ≡ true → b ≡ false
-false_from_not true h = absurd (cc)
-false_from_not false h = refl
-
 pub next_right_behind_b : (ws : List Wanted) (end : Bool) (code : ℕ) (ks : List ℕ) (n k l : ℕ) (w x : Wanted) → laid_out ws end ≡ Some (code, ks)
     → slice_get ws n ≡ Some w → w.class ≡ B → slice_get ws (n + 1) ≡ Some x → slice_get ks n ≡ Some k → slice_get ks (n + 1) ≡ Some l
     → (l ≡ k + 1) × (x.gap ≡ false)
@@ -237,4 +233,4 @@ next_right_behind_b ws end code ks n k l w x laid at b next there beyond =
     let slot : pair.k ≡ k = same_Some pair.k k (sym pair.slot ∙ there) in
     let rule = right (not (is_m x.class && x.gap) || stop_right_before code l) _ (right (stop_in_where x.gap code pair.k l) _ pair.holds) in
     let both = entailed (is_b pair.w.class) ((l == pair.k + 1) && not x.gap) rule (subst (λ w. is_b w.class ≡ true) same (ap is_b b)) in
-    (eqb-true l (pair.k + 1) (left (l == pair.k + 1) _ both) ∙ ap (λ (k : ℕ). k + 1) slot, false_from_not x.gap (right (l == pair.k + 1) _ both))
+    (eqb-true l (pair.k + 1) (left (l == pair.k + 1) _ both) ∙ ap (λ (k : ℕ). k + 1) slot, not-true x.gap (right (l == pair.k + 1) _ both))

@@ -1,5 +1,6 @@
 -- Tests of all lists of instructions and of all template codes, by computation.
 use Rattle.std.proofs.Common.{arith, ◌≡◌, ℕ, zero, suc, ◌<◌, ◌⊎◌, inl, inr, refl, sym, subst, Bool, true, false, ◌&&◌, ◌||◌, not, List, [], ◌∷◌}
+use Rattle.std.proofs.lemmas.Bool.{or_cases}
 use Rattle.slot_layouts.specs.declared.classes.SlotClass.{SlotClass}
 use Rattle.slot_layouts.specs.declared.classes.SlotClass.TheVariants.{A, I, M, F, B, Loop, X}
 use Rattle.slot_layouts.specs.declared.layout.Wanted.{Wanted}
@@ -111,14 +112,10 @@ abbrev pub any_below : (ℕ → Bool) → ℕ → Bool
 any_below p zero = false
 any_below p (suc n) = p n || any_below p n
 
-either : (a b : Bool) → (a || b) ≡ true → (a ≡ true) ⊎ (b ≡ true)
-either true b h = inl refl
-either false b h = inr h
-
 pub some_below : (p : ℕ → Bool) (n : ℕ) → any_below p n ≡ true → (k : ℕ) × (p k ≡ true)
 some_below p zero h = absurd (cc)
 some_below p (suc n) h =
-    elim (either (p n) (any_below p n) h) as (λ _. (k : ℕ) × (p k ≡ true)) [
+    elim (or_cases (p n) (any_below p n) h) as (λ _. (k : ℕ) × (p k ≡ true)) [
       | inl here ↦ (n, here)
       | inr less ↦ some_below p n less
     ]

@@ -1,6 +1,5 @@
 -- A program without one of its stops: what stands at its places, and the first violation that it has.
-use Rattle.std.proofs.Common.{◌≡◌, ◌⊎◌, ◌==◌, ◌&&◌, not, eq-eqb, Bool, true, false, [], None, Some, refl, sym, ap, ◌∙◌, subst, arith, inl, inr}
-use Rattle.std.proofs.lemmas.Bool.Decides.{nat_tests}
+use Rattle.std.proofs.Common.{◌≡◌, ◌⊎◌, ◌==◌, ◌&&◌, not, eq-eqb, Bool, true, false, [], None, Some, refl, sym, ap, ◌∙◌, subst, inl, inr}
 use Rattle.ia_insn.specs.declared.place.Place.{Place}
 use Rattle.ia_insn.specs.Places.{IsPlaceOf, IsBefore}
 use Rattle.ia_insn.specs.Programs.{Program, IsProgram}
@@ -15,13 +14,13 @@ use Rattle.group_checker.specs.Violations.{ViolatesIn}
 use Rattle.group_checker.specs.Firsts.{IsViolatedAt, IsFirstAt, IsFirst}
 use Rattle.group_checker.specs.Order.{Precedes}
 use Rattle.group_checker.specs.Windows.{IsWindow, Describes}
-use Rattle.group_checker.proofs.Falling.{before_trans, place_cases, same_place, comes_from}
+use Rattle.group_checker.proofs.Falling.{before_trans, place_cases, comes_from}
 use Rattle.group_checker.proofs.Rising.{precedes_by_second}
 use Rattle.group_checker.proofs.Slots.{slot_describes}
 use Rattle.group_checker.proofs.Windowing.{first_window, parted_window}
 use Rattle.stop_placer.specs.Placing.{without_stop}
 use Rattle.stop_placer.specs.Caused.{unstopped, IsCut}
-use Rattle.stop_placer.proofs.PackFree.{violated_behind}
+use Rattle.stop_placer.proofs.PackFree.{violated_behind, without_elsewhere}
 
 -- at the place itself there is no stop then
 without_here : (p : Program) (out : Place) → without_stop p out out ≡ false
@@ -32,19 +31,6 @@ without_here p out = of (is_stopped p.bundles out) (out.bundle == out.bundle) (o
     of false x y e f = refl
     of true false y e f = cc
     of true true false e f = cc
-
--- and at the others there are those of the program
-without_other : (p : Program) (out place : Place) → (place ≡ out → ⊥) → without_stop p out place ≡ is_stopped p.bundles place
-without_other p out place apart = of (is_stopped p.bundles place) (place.bundle == out.bundle) (place.slot == out.slot) refl refl
-  where
-    of : (b x y : Bool) → (place.bundle == out.bundle) ≡ x → (place.slot == out.slot) ≡ y → (b && not (x && y)) ≡ b
-    of false x y e f = refl
-    of true false y e f = refl
-    of true true false e f = refl
-    of true true true e f =
-        let bundle : place.bundle ≡ out.bundle = grind (arith, nat_tests) in
-        let slot : place.slot ≡ out.slot = grind (arith, nat_tests) in
-        absurd (apart (same_place place out bundle slot))
 
 with_stop : (g : Graph) (has_stop other : Place → Bool) (j : Place) (s : Slot) → other j ≡ has_stop j → Describes g has_stop j s → Describes g other j s
 with_stop g has_stop other j s e d = record { insn = d.insn; here = d.here; action = d.action; qp = d.qp; falls = d.falls; stop = d.stop ∙ sym e }
@@ -57,7 +43,7 @@ describes_here p j out s e at =
 
 pub describes_other : (p : Program) (j out : Place) (s : Slot) → (j ≡ out → ⊥) → slot_at p.bundles j ≡ Some s → Describes (over_program p) (without_stop p out) j s
 describes_other p j out s apart at =
-    with_stop (over_program p) (is_stopped p.bundles) (without_stop p out) j s (without_other p out j apart) (slot_describes p j s at)
+    with_stop (over_program p) (is_stopped p.bundles) (without_stop p out) j s (without_elsewhere p out j apart) (slot_describes p j s at)
 
 -- the second slot of a violation stands at a place
 second_place : (p : Program) (has_stop : Place → Bool) (v : Violation) → ViolatesIn (over_program p) has_stop v → IsPlaceOf p.bundles v.second
@@ -82,7 +68,7 @@ cut_window p behind out cut = of cut.parted
     of (inr (before, is, stopped, follows)) =
         let n = next_is p.bundles before behind follows in
         let apart : before ≡ out → ⊥ = λ e. cut.low (subst (λ (q : Place). IsBefore q behind) e n.after) in
-        parted_window (over_program p) (without_stop p out) before behind is follows (λ edge. without_other p out before apart ∙ stopped)
+        parted_window (over_program p) (without_stop p out) before behind is follows (λ edge. without_elsewhere p out before apart ∙ stopped)
 
 -- none before the next place, where none is at this one
 pub none_next : (p : Program) (out place next : Place) → HasNoneBefore p out place → ¬ IsViolatedAt (over_program p) (without_stop p out) place → next_of p.bundles place ≡ Some next → HasNoneBefore p out next

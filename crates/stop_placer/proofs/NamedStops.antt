@@ -1,22 +1,20 @@
 -- The stops of a program with their reasons are one list.
-use Rattle.std.proofs.Common.{◌≡◌, ◌≤◌, ◌<◌, ◌+◌, ◌⊎◌, inl, inr, ℕ, suc, Bool, List, [], ◌∷◌, map, length, refl, sym, ap, ◌∙◌, subst, arith}
+use Rattle.std.proofs.Common.{◌≡◌, ◌≤◌, ◌<◌, ◌+◌, ◌⊎◌, inl, inr, ℕ, suc, Bool, List, [], ◌∷◌, length, refl, sym, ap, ◌∙◌, subst, arith}
 use Rattle.std.specs.Prelude.{Contains, Option, Some, slice_get}
 use Rattle.std.specs.Cmp.{IsTotalOrder}
 use Rattle.std.proofs.lemmas.Bool.{cases_lt, cases_order}
-use Rattle.std.proofs.lemmas.List.{length-map, get_or-map}
-use Rattle.std.proofs.lemmas.Option.{same_Some, slice_get_within, slice_get-get_or, get_or_from_slice_get}
+use Rattle.std.proofs.lemmas.Option.{same_Some, slice_get_within, slice_get-get_or}
 use Rattle.ia_insn.specs.declared.place.Place.{Place}
 use Rattle.ia_insn.specs.Places.{IsBefore}
 use Rattle.ia_insn.specs.Programs.{Program}
+use Rattle.resource_sets.proofs.Members.{not_in_none, cases_in, in_tail, head_in, from_map}
 use Rattle.flow_facts.specs.Graphs.{Graph, over_program}
 use Rattle.group_checker.specs.contracts.violation.ViolationOrd.TheImpl.Laws as laws
 use Rattle.group_checker.specs.declared.violation.Violation.{Violation}
 use Rattle.group_checker.specs.Firsts.{IsFirst}
 use Rattle.group_checker.specs.Order.{compare, Precedes}
 use Rattle.group_checker.proofs.Falling.{before_trans, not_before_itself}
-use Rattle.group_checker.proofs.Members.{not_in_none, cases_in, in_tail, head_in}
 use Rattle.group_checker.proofs.Rising.{not_before_itself as not_preceding_itself}
-use Rattle.bundling.proofs.Lists.{element}
 use Rattle.stop_placer.specs.declared.packing.Cause.{Cause}
 use Rattle.stop_placer.specs.declared.packing.Cause.TheVariants as cause
 use Rattle.stop_placer.specs.declared.packed.Why.{Why}
@@ -93,14 +91,6 @@ one_rising (x ∷ xs) (y ∷ ys) a b f g =
     kept u v us vs rises joins z c (inl e) = absurd (not_before_itself z.after (subst (λ (q : StopWhy). IsBefore q.after z.after) (joins z e) (first_before u z us rises c)))
     kept u v us vs rises joins z c (inr d) = d
 
--- what a list of values contains comes from an element
-in_map : {X Y : Type 0} (f : X → Y) (xs : List X) (y : Y) → Contains (map f xs) y → (x : X) × Contains xs x × (f x ≡ y)
-in_map f xs y (k, inside, is) =
-    let room : k < length xs = omega (arith, length-map xs f) in
-    let found = element xs k room in
-    let at = get_or_from_slice_get xs k found.0 found.0 found.1 in
-    (found.0, (k, room, at), sym (ap f at) ∙ sym (get_or-map f xs k found.0 y room) ∙ is)
-
 module _ (p : Program) (at : ℕ → Place) (causes : List (Option Cause)) (rises : (n m : ℕ) → n < m → m < length causes → IsBefore (at n) (at m)) where
   -- a stop that stands behind an instruction doesn't stand behind a later one
   not_behind_later : (x y : StopWhy) (a : IsExplained p at causes x) (b : IsExplained p at causes y) → x.after ≡ y.after → a.n < b.n → ⊥
@@ -137,7 +127,7 @@ module _ (p : Program) (at : ℕ → Place) (causes : List (Option Cause)) (rise
   named_in : (xs ys : List StopWhy) → NamesStops p at causes xs → NamesStops p at causes ys → (z : StopWhy) → Contains xs z → Contains ys z
   named_in xs ys a b z c =
       let is = a.only z c in
-      let found = in_map (λ (s : StopWhy). s.after) ys z.after (b.has z.after is.0 is.1) in
+      let found = from_map (λ (s : StopWhy). s.after) ys z.after (b.has z.after is.0 is.1) in
       subst (Contains ys) (one_explained found.0 z (b.explained found.0 found.1) (a.explained z c) found.2) found.1
 
   pub one_naming : (xs ys : List StopWhy) → NamesStops p at causes xs → NamesStops p at causes ys → xs ≡ ys

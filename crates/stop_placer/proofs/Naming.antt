@@ -4,14 +4,15 @@ use Rattle.std.specs.Prelude.{Contains, slice_get}
 use Rattle.std.proofs.lemmas.Bool.{cases_Bool}
 use Rattle.std.proofs.lemmas.List.Elements.{Contains-append_left, Contains-append_right, Contains-append_cases}
 use Rattle.std.proofs.lemmas.Option.{slice_get_within, same_Some}
+use Rattle.std.proofs.lemmas.List.{map-append}
 use Rattle.ia_insn.specs.declared.place.Place.{Place}
 use Rattle.ia_insn.specs.Places.{IsPlaceOf, IsBefore, IsNext}
 use Rattle.ia_insn.specs.Programs.{Program}
 use Rattle.ia_meaning.specs.Sequence.{first_of, next_of, is_stopped}
 use Rattle.ia_meaning.proofs.Follows.{next_is}
 use Rattle.ia_meaning.proofs.Sequences.{next_fits}
-use Rattle.group_checker.proofs.Falling.{before_trans, not_before_itself, place_cases}
-use Rattle.group_checker.proofs.Members.{not_in_none, cases_in, in_head}
+use Rattle.resource_sets.proofs.Members.{not_in_none, cases_in, in_head}
+use Rattle.group_checker.proofs.Falling.{before_trans, not_before_itself, place_cases, none_before_first}
 use Rattle.stop_placer.specs.declared.packing.Cause.{Cause}
 use Rattle.stop_placer.specs.declared.packed.StopWhy.{StopWhy}
 use Rattle.stop_placer.specs.Placing.{IsReason, IsExplained, NamesStops}
@@ -31,14 +32,10 @@ pub record NamesAmong (p : Program) (at : ℕ → Place) (causes : List (Option 
 abbrev pub IsUpTo : Place → Place → Type 0
 IsUpTo place q = IsBefore q place ⊎ (q ≡ place)
 
-nothing_first : (q : Place) → IsBefore q (first_of 0) → ⊥
-nothing_first q (inl h) = omega arith
-nothing_first q (inr h) = omega (arith, h.1)
-
 pub names_none : (p : Program) (at : ℕ → Place) (causes : List (Option Cause)) → NamesAmong p at causes [] (λ q. IsBefore q (first_of 0))
 names_none p at causes = record {
   rises = λ m n s t h k l. absurd cc;
-  has = λ q is stopped low. absurd (nothing_first q low);
+  has = λ q is stopped low. absurd (none_before_first q low);
   only = λ s c. absurd (not_in_none s c);
   explained = λ s c. absurd (not_in_none s c);
 }
@@ -56,10 +53,6 @@ names_same p at causes stops place names none = record {
     of : (q : Place) → IsPlaceOf p.bundles q → is_stopped p.bundles q ≡ true → IsUpTo place q → Contains (map after_of stops) q
     of q is stopped (inl low) = names.has q is stopped low
     of q is stopped (inr e) = absurd (let f : is_stopped p.bundles q ≡ false = ap (is_stopped p.bundles) e ∙ none in cc)
-
-map_append : (xs ys : List StopWhy) → map after_of (xs ++ ys) ≡ map after_of xs ++ map after_of ys
-map_append [] ys = refl
-map_append (x ∷ xs) ys = ap (λ (l : List Place). x.after ∷ l) (map_append xs ys)
 
 -- an element of a list with one more at its end
 pushed : (stops : List StopWhy) (stop : StopWhy) (n : ℕ) (t : StopWhy) → slice_get (stops ++ stop ∷ []) n ≡ Some t → (slice_get stops n ≡ Some t) ⊎ ((n ≡ length stops) × (t ≡ stop))
@@ -85,7 +78,7 @@ names_push : (p : Program) (at : ℕ → Place) (causes : List (Option Cause)) (
     → is_stopped p.bundles place ≡ true → stop.after ≡ place → IsExplained p at causes stop → NamesAmong p at causes (stops ++ stop ∷ []) (IsUpTo place)
 names_push p at causes stops place stop names is stopped after explained = record {
   rises = rises;
-  has = λ q is stopped done. subst (λ (l : List Place). Contains l q) (sym (map_append stops (stop ∷ []))) (has q is stopped done);
+  has = λ q is stopped done. subst (λ (l : List Place). Contains l q) (sym (map-append after_of stops (stop ∷ []))) (has q is stopped done);
   only = λ s c. only s (Contains-append_cases stops (stop ∷ []) s c);
   explained = λ s c. known s (Contains-append_cases stops (stop ∷ []) s c);
 }
@@ -169,10 +162,10 @@ due_at p places causes n behind place gap caused last is from at = record {
 
 -- at the first place
 pub last_first : (p : Program) (places : List Place) (causes : List (Option Cause)) → AreCaused p places causes → IsLastBefore places 0 (first_of 0)
-last_first p places causes caused = record { inside = caused.some; from = inl refl; below = λ inside h. nothing_first (place_in places 1) h }
+last_first p places causes caused = record { inside = caused.some; from = inl refl; below = λ inside h. none_before_first (place_in places 1) h }
 
 pub from_first : (p : Program) → IsPlaceOf p.bundles (first_of 0) → IsFrom p (first_of 0) (first_of 0)
-from_first p is = record { is = is; parted = inl refl; low = nothing_first (first_of 0) }
+from_first p is = record { is = is; parted = inl refl; low = none_before_first (first_of 0) }
 
 -- and at the next place
 pub last_next : (p : Program) (places : List Place) (causes : List (Option Cause)) (n : ℕ) (place next : Place) → AreCaused p places causes → IsLastUpTo places n place → next_of p.bundles place ≡ Some next → IsLastBefore places n next

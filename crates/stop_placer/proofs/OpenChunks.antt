@@ -2,7 +2,7 @@
 use Rattle.std.proofs.Common.{◌≡◌, ◌≤◌, ℕ, suc, ◌+◌, Bool, true, false, ◌&&◌, not, List, [], ◌∷◌, ◌++◌, length, take, drop, refl, sym, ap, subst, arith}
 use Rattle.std.specs.Prelude.{Option, Some, None, is_some, IsSome}
 use Rattle.std.specs.Option.{option_map}
-use Rattle.std.proofs.lemmas.List.{length-take, take_at, drop_at, take-append-le, drop-append-le}
+use Rattle.std.proofs.lemmas.List.{length-take, take_at, drop_at, take-append-le, drop-append-le, append-nil}
 use Rattle.ia_insn.specs.declared.insn.Op.{Op}
 use Rattle.ia_insn.specs.declared.insn.Op.TheVariants.{BrCall, BrCallInd}
 use Rattle.ia_insn.specs.Programs.{IsCall}
@@ -100,11 +100,7 @@ chunk_first c cs items more is are =
 
 -- and one behind chunks
 pub chunk_last : (cs : List Chunk) (c : Chunk) (items more : List Item) → AreChunks cs items → IsChunk c more → AreChunks (cs ++ c ∷ []) (items ++ more)
-chunk_last [] c [] more are is = subst (AreChunks (c ∷ [])) (append_none more) (chunk_first c [] more [] is tt)
-  where
-    append_none : (xs : List Item) → xs ++ [] ≡ xs
-    append_none [] = refl
-    append_none (x ∷ xs) = ap (λ (l : List Item). x ∷ l) (append_none xs)
+chunk_last [] c [] more are is = subst (AreChunks (c ∷ [])) (append-nil more) (chunk_first c [] more [] is tt)
 chunk_last [] c (item ∷ items) more are is = absurd are
 chunk_last (d ∷ cs) c items more (first, are) is = (
   subst (IsChunk d) (sym (take-append-le (length d.wanted) items more room)) first,

@@ -144,7 +144,8 @@ without_here p q place e = of (is_stopped p.bundles place) (place.bundle == q.bu
     of true false c x y = let same : place.bundle ≡ q.bundle = ap (λ (k : Place). k.bundle) e in absurd (grind (arith, nat_tests))
     of true true false x y = let same : place.slot ≡ q.slot = ap (λ (k : Place). k.slot) e in absurd (grind (arith, nat_tests))
 
-without_elsewhere : (p : Program) (q place : Place) → (place ≡ q → ⊥) → without_stop p q place ≡ is_stopped p.bundles place
+-- at another place there are those of the program
+pub without_elsewhere : (p : Program) (q place : Place) → (place ≡ q → ⊥) → without_stop p q place ≡ is_stopped p.bundles place
 without_elsewhere p q place other = of (is_stopped p.bundles place) (place.bundle == q.bundle) (place.slot == q.slot) refl refl
   where
     of : (a b c : Bool) → (place.bundle == q.bundle) ≡ b → (place.slot == q.slot) ≡ c → (a && not (b && c)) ≡ a

@@ -1,20 +1,21 @@
 -- The window goes over the row of a text while its stops are set.
 use Rattle.std.proofs.Common.{◌≡◌, ◌+◌, ◌<◌, ◌≤◌, ℕ, zero, suc, Bool, true, false, cond, List, [], ◌∷◌, ◌++◌, length, get_or, refl, sym, ap, ◌∙◌, subst, arith}
-use Rattle.std.specs.Prelude.{Option, Some, None, IsSome, is_some, slice_index_or, nat_lt}
+use Rattle.std.specs.Prelude.{Option, Some, None, is_some, slice_index_or}
 use Rattle.std.proofs.Math.Seq.{get_or-append_seam}
-use Rattle.std.proofs.lemmas.Bool.Decides.{nat_tests}
-use Rattle.std.proofs.lemmas.Option.{slice_get_read, slice_get-get_or}
+use Rattle.std.proofs.lemmas.Option.{slice_get_read}
 use Rattle.ia_insn.specs.declared.insn.Insn.{Insn}
 use Rattle.ia_insn.specs.declared.place.Place.{Place}
 use Rattle.ia_meaning.specs.Sequence.{first_of}
 use Rattle.resource_sets.specs.declared.access.Access.{Access}
 use Rattle.resource_sets.specs.Accesses.{accesses_of}
 use Rattle.slot_table.specs.declared.slot.Slot.{Slot}
-use Rattle.flow_facts.specs.Graphs.{Graph, InsnRow, over_row, insn_in, row_insn, row_next}
+use Rattle.flow_facts.specs.Graphs.{Graph, InsnRow, over_row, insn_in, row_insn}
 use Rattle.group_checker.specs.declared.window.EarlierSlot.{EarlierSlot}
 use Rattle.group_checker.specs.Windows.{IsWindow, Describes, HasWindow}
 use Rattle.group_checker.proofs.Slots.{slot_accesses}
 use Rattle.group_checker.proofs.Windowing.{parted_window}
+use Rattle.group_checker.proofs.Falling.{row_place}
+use Rattle.row_laws.proofs.Rows.{row_next_is}
 use Rattle.stop_placer.specs.declared.packing.Cause.{Cause}
 use Rattle.stop_placer.specs.Packs.{stopped_by}
 
@@ -35,18 +36,6 @@ pub row_under_way : (row : InsnRow) (insns : List Insn) (has_stop : Place → Bo
 row_under_way row insns has_stop es n i s seconds e inside is unstopped describes accesses win =
     let here = subst (λ (l : List Insn). row_insn l (first_of n) ≡ Some i) e (row_here insns n i inside is) in
     described_under_way (over_row row) has_stop es (first_of n) s seconds (describes (over_row row) has_stop (first_of n) here unstopped) accesses win
-
-row_is_place : (insns : List Insn) (n : ℕ) → n < length insns → IsSome (row_insn insns (first_of n))
-unfolding row_insn
-row_is_place [] n inside = absurd (omega (arith, inside))
-row_is_place (x ∷ insns) n inside = subst IsSome (sym (slice_get-get_or (x ∷ insns) n x inside)) refl
-
--- and the next one follows
-pub row_follows : (insns : List Insn) (n : ℕ) → n + 1 < length insns → row_next insns (first_of n) ≡ Some (first_of (n + 1))
-unfolding row_next
-row_follows insns n inside =
-    let t : nat_lt (n + 1) (length insns) ≡ true = grind (arith, nat_tests) in
-    ap (λ (b : Bool). cond b (Some (first_of (n + 1))) None) t
 
 -- what is behind the end is read from nothing
 default_last : {A : Type 0} (xs : List A) (n : ℕ) (d : A) → get_or (xs ++ d ∷ []) n d ≡ get_or xs n d
@@ -86,7 +75,7 @@ window_with_gap row causes cause n es r e inside win is = of cause refl
     of (Some x) c =
         let high : r ≡ true = is ∙ seam cause ∙ ap (λ (o : Option Cause). is_some o) c in
         subst (λ (b : Bool). IsWindow (over_row row) (stopped_by (causes ++ cause ∷ [])) (cond b [] es) (first_of (n + 1))) (sym high)
-        (parted_window (over_row row) (stopped_by (causes ++ cause ∷ [])) (first_of n) (first_of (n + 1)) (row_is_place row.insns n (omega (arith, inside))) (row_follows row.insns n inside) (λ edge. sym is ∙ high))
+        (parted_window (over_row row) (stopped_by (causes ++ cause ∷ [])) (first_of n) (first_of (n + 1)) (row_place row.insns n (omega (arith, inside))) (row_next_is row.insns n inside) (λ edge. sym is ∙ high))
 
 -- the same by the number of the next instruction
 pub window_at_next : (row : InsnRow) (causes : List (Option Cause)) (cause : Option Cause) (m n : ℕ) (es : List EarlierSlot) (r : Bool) → m + 1 ≡ n → length causes ≡ m → n < length row.insns

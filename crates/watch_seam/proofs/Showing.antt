@@ -3,7 +3,7 @@ use Rattle.std.proofs.Common.{◌≡◌, ◌<◌, ◌≤◌, ◌+◌, ◌-◌, �
 use Rattle.std.specs.Prelude.{Result, Ok, Err, IfOk, OnOk, OnErr}
 use Rattle.std.proofs.Math.Seq.{get_or-append_seam, set-append_seam, drop-cons}
 use native.Mathlib.Numerals.{unary_clauses}
-use Rattle.std.proofs.lemmas.List.{map-append, append-nil, length-map}
+use Rattle.std.proofs.lemmas.List.{map-append, append-nil, length-map, nil_from_length}
 use Rattle.std.proofs.lemmas.List.Edits.{length-remove}
 use Rattle.ia_insn.specs.declared.ending.GroupEvent.{GroupEvent}
 use Rattle.watch_seam.specs.declared.watch.Keep.TheVariants.{Stay, Full}
@@ -254,17 +254,13 @@ none_left xs before (x ∷ left) at parts is over =
     let more : length xs ≡ length before + suc (length left) = rw parts (length-append before (x ∷ left)) in
     absurd (omega (arith, more, is, over))
 
-no_numbers : (numbers : List ℕ) → length numbers ≡ 0 → numbers ≡ []
-no_numbers [] none = refl
-no_numbers (n ∷ numbers) none = cc
-
 -- Past the last one all have seen the group.
 pub at_end : {B : Type 0} (seen : B → WatchState) (e : GroupEvent) (text_0 numbers_0 : List ℕ) (list_0 : List B) (text numbers : List ℕ) (list : List B) (at : ℕ)
     → IsShown seen e text_0 numbers_0 list_0 text numbers list at → length list ≤ at
     → (text ≡ text_0 ++ reports_after e (zip numbers_0 (map seen list_0))) × (zip numbers (map seen list) ≡ left_after e (zip numbers_0 (map seen list_0)))
 at_end seen e text_0 numbers_0 list_0 text numbers list at s over =
     let left : s.left ≡ [] = none_left list s.before s.left at s.list_parts s.place over in
-    let numbers_left : s.numbers_left ≡ [] = no_numbers s.numbers_left (s.shown.as_many ∙ ap length left) in
+    let numbers_left : s.numbers_left ≡ [] = nil_from_length s.numbers_left (s.shown.as_many ∙ ap length left) in
     let all : list ≡ s.before = s.list_parts ∙ ap (λ xs. s.before ++ xs) left ∙ append-nil s.before in
     let all_numbers : numbers ≡ s.numbers_before = s.numbers_parts ∙ ap (λ xs. s.numbers_before ++ xs) numbers_left ∙ append-nil s.numbers_before in
     let none : zip s.numbers_left (map seen s.left) ≡ [] = rw numbers_left refl in

@@ -1,11 +1,11 @@
 use Rattle.std.proofs.Common.{◌≡◌, take, arith, subst, List}
 use Rattle.std.proofs.lemmas.List.{take_all}
 use Rattle.resource_sets.specs.declared.access_sets.AccessSet.{AccessSet}
+use Rattle.resource_sets.proofs.Members.{not_in_none}
 use Rattle.group_checker.specs.declared.violation.Violation.{Violation}
 use Rattle.group_checker.specs.Broken.{Gains}
 use Rattle.group_checker.specs.Findings.{FindsIn, FindsWith}
 use Rattle.group_checker.proofs.Gaining.{gains_nothing, gains_more}
-use Rattle.group_checker.proofs.Members.{not_in_none}
 use Rattle.group_checker.proofs.pairs.clashes.Goals as goal
 
 pub loop-a-init : goal.loop-a-init

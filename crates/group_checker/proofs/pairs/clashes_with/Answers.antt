@@ -1,10 +1,10 @@
 use Rattle.std.proofs.Common.{◌≡◌, take, arith, subst, List}
 use Rattle.std.proofs.lemmas.List.{take_all}
 use Rattle.resource_sets.specs.declared.access_sets.AccessSet.{AccessSet}
+use Rattle.resource_sets.proofs.Members.{not_in_none}
 use Rattle.group_checker.specs.Broken.{Gains}
 use Rattle.group_checker.specs.Findings.{FindsBy, FindsWith}
 use Rattle.group_checker.proofs.Gaining.{gains_nothing, gains_more}
-use Rattle.group_checker.proofs.Members.{not_in_none}
 use Rattle.group_checker.proofs.pairs.clashes_with.Goals as goal
 
 pub loop-b-init : goal.loop-b-init

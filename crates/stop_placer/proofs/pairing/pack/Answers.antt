@@ -7,6 +7,7 @@ use Rattle.flow_facts.specs.Graphs.{over_row}
 use Rattle.group_checker.specs.declared.window.EarlierSlot.{EarlierSlot}
 use Rattle.group_checker.specs.Windows.{IsWindow}
 use Rattle.group_checker.proofs.Windowing.{first_window}
+use Rattle.row_laws.proofs.Rows.{row_next_is}
 use Rattle.loose_text.specs.declared.item.Item.{Item}
 use Rattle.bundling.specs.Bundled.{row_of}
 use Rattle.stop_placer.specs.declared.packing.Cause.{Cause}
@@ -15,7 +16,7 @@ use Rattle.stop_placer.specs.Packs.{stopped_by, IsPairAt}
 use Rattle.stop_placer.proofs.PackFree.{row_length}
 use Rattle.stop_placer.proofs.PackSteps.{IsPackedSo, packed_first, last_so, next_so, packed_more, past_so, next_takes_one}
 use Rattle.stop_placer.proofs.Steps.{IsRight}
-use Rattle.stop_placer.proofs.RowWindows.{row_under_way, row_follows, open_gap, window_at_next}
+use Rattle.stop_placer.proofs.RowWindows.{row_under_way, open_gap, window_at_next}
 use Rattle.stop_placer.proofs.pairing.pack.Goals as goal
 
 pub loop-n-init : goal.loop-n-init
@@ -34,7 +35,7 @@ loop-n-init c =
       so = subst (IsPackedSo s 1) (sym c.begun_with-packing.ensures) (packed_first s c.index-items-0.result some is);
       room = rw c.begun_with-packing.ensures (omega arith);
       window = λ inside. c.in_ok-move_on.ensures (over_row row) (stopped_by c.begun_with-packing.result.causes) (first_of 1)
-          (rw (c.at.ensures, c.row_place.ensures) known) (rw c.row_place.ensures u) (rw c.row_place.ensures (row_follows row.insns 0 inside));
+          (rw (c.at.ensures, c.row_place.ensures) known) (rw c.row_place.ensures u) (rw c.row_place.ensures (row_next_is row.insns 0 inside));
     }
 
 pub index-requires-in-loop-n : goal.index-requires-in-loop-n
@@ -110,5 +111,5 @@ loop-n-preserved c =
       so = subst (IsPackedSo s (n + 1)) (sym c.in_ok-next.ensures) (packed_more s n k so before item pair last (next_so s n k so item inside is) right);
       room = omega (arith, one.closed, ap (λ (q : Packing). length q.closed) c.in_ok-next.ensures, c.loop-n.invariant.room, c.closed_count.ensures, c.if-closed_count-eq-BUNDLE_LIMIT.false);
       window = λ more. c.in_ok-move_on-2.ensures (over_row row) (stopped_by new.causes) (first_of (n + 1))
-          (rw (c.at-in-loop-n.ensures, c.row_place-in-loop-n.ensures) known) (rw c.row_place-in-loop-n.ensures under) (rw c.row_place-in-loop-n.ensures (row_follows row.insns n more));
+          (rw (c.at-in-loop-n.ensures, c.row_place-in-loop-n.ensures) known) (rw c.row_place-in-loop-n.ensures under) (rw c.row_place-in-loop-n.ensures (row_next_is row.insns n more));
     }

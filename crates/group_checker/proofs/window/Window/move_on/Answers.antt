@@ -2,9 +2,8 @@ use Rattle.std.proofs.Common.{◌≡◌, List, ◌∙◌, sym, subst, refl}
 use Rattle.predicate_rel.specs.Pairs.{pairs_of}
 use Rattle.group_checker.specs.declared.window.EarlierSlot.{EarlierSlot}
 use Rattle.group_checker.specs.Windows.{IsWindow, IsGuardMask}
-use Rattle.group_checker.proofs.Masks.{guard_mask}
 use Rattle.group_checker.proofs.Slots.{slot_place, slot_clears, slot_past, slot_joins, slot_parts}
-use Rattle.group_checker.proofs.Windowing.{next_window, parted_window, unreached_window}
+use Rattle.group_checker.proofs.Windowing.{next_window, parted_window, unreached_window, guard_mask}
 use Rattle.group_checker.proofs.window.Window.move_on.Goals as goal
 
 pub returns : goal.returns
