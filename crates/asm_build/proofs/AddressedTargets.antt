@@ -116,26 +116,26 @@ both : (P Q : Op → Type 0) (o : Option Op) → IfSome o P → IfSome o Q → I
 both P Q None p q = tt
 both P Q (Some y) p q = (p, q)
 
-under : (P Q : Op → Type 0) (o : Option Op) → ((y : Op) → P y → Q y) → IfSome o P → IfSome o Q
-under P Q None f p = tt
-under P Q (Some y) f p = f y p
+pub IfSome-weaken : {A : Type 0} (P Q : A → Type 0) (o : Option A) → ((y : A) → P y → Q y) → IfSome o P → IfSome o Q
+IfSome-weaken P Q None f p = tt
+IfSome-weaken P Q (Some y) f p = f y p
 
 unit_stays : (qp : ℕ) (x : Op) (a : Address) (n : ℕ) (u : ExecutionUnit) (slot : ℕ) → IsReachable a → n < reach
     → FitsUnit (record { qp = qp; op = x }) u slot → IfSome (addressed x a n) (λ y. FitsUnit (record { qp = qp; op = y }) u slot)
-unit_stays qp x a n unit.M slot h k (inl l) = under _ _ (addressed x a n) (λ y p. inl p) (stays_a qp x a n h k l)
-unit_stays qp x a n unit.M slot h k (inr l) = under _ _ (addressed x a n) (λ y p. inr p) (stays_m qp x a n h k l)
-unit_stays qp x a n unit.I slot h k (inl l) = under _ _ (addressed x a n) (λ y p. inl p) (stays_a qp x a n h k l)
-unit_stays qp x a n unit.I slot h k (inr l) = under _ _ (addressed x a n) (λ y p. inr p) (stays_i qp x a n h k l)
+unit_stays qp x a n unit.M slot h k (inl l) = IfSome-weaken _ _ (addressed x a n) (λ y p. inl p) (stays_a qp x a n h k l)
+unit_stays qp x a n unit.M slot h k (inr l) = IfSome-weaken _ _ (addressed x a n) (λ y p. inr p) (stays_m qp x a n h k l)
+unit_stays qp x a n unit.I slot h k (inl l) = IfSome-weaken _ _ (addressed x a n) (λ y p. inl p) (stays_a qp x a n h k l)
+unit_stays qp x a n unit.I slot h k (inr l) = IfSome-weaken _ _ (addressed x a n) (λ y p. inr p) (stays_i qp x a n h k l)
 unit_stays qp x a n unit.F slot h k l = stays_f qp x a n h k l
 unit_stays qp x a n unit.B slot h k l = both _ _ (addressed x a n) (stays_b qp x a n h k l.0) (branch_stays x a n slot l.1)
-unit_stays qp x a n unit.L slot h k l = under _ _ (addressed x a n) (λ y p. (p, l.1)) (stays_x qp x a n h k l.0)
-unit_stays qp x a n unit.X slot h k l = under _ _ (addressed x a n) (λ y p. (p, l.1)) (stays_x qp x a n h k l.0)
+unit_stays qp x a n unit.L slot h k l = IfSome-weaken _ _ (addressed x a n) (λ y p. (p, l.1)) (stays_x qp x a n h k l.0)
+unit_stays qp x a n unit.X slot h k l = IfSome-weaken _ _ (addressed x a n) (λ y p. (p, l.1)) (stays_x qp x a n h k l.0)
 
 -- An instruction with an address put in fits the slots that it fits without.
 pub fit_stays : (i : Insn) (a : Address) (n : ℕ) (u : ExecutionUnit) (slot : ℕ) → IsReachable a → n < reach
     → Fits i u slot → IfSome (addressed i.op a n) (λ y. Fits (record { qp = i.qp; op = y }) u slot)
 fit_stays i a n u slot h k f =
-    under _ _ (addressed i.op a n) (λ y p. record { place = f.place; kind = p }) (unit_stays i.qp i.op a n u slot h k f.kind)
+    IfSome-weaken _ _ (addressed i.op a n) (λ y p. record { place = f.place; kind = p }) (unit_stays i.qp i.op a n u slot h k f.kind)
 
 -- Its target, where it has one, is the bundle of the label.
 pub target_inside : (count : ℕ) (x : Op) (a : Address) (n : ℕ) → IsInside count a → IfSome (addressed x a n) (λ y. IfSome (displacement y) (IsBundleAt count n))

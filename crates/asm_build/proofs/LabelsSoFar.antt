@@ -10,6 +10,7 @@ use Rattle.std.proofs.lemmas.Fmt.{decimal_injective}
 use Rattle.std.proofs.lemmas.Map.Lookups.{exact_bytes}
 use Rattle.std.proofs.lemmas.Bool.{true≢false}
 use Rattle.ia_insn.specs.declared.limits.TheConstants.{BUNDLE_LIMIT}
+use Rattle.ia_insn.proofs.Tests.{last_or_below}
 use Rattle.asm_printing.specs.SlotTexts.{label_text}
 use Rattle.asm_build.specs.declared.address.Address.TheVariants.{Bundle}
 use Rattle.asm_build.specs.Addresses.{IsInside}
@@ -41,14 +42,11 @@ no_labels entries targets count = record {
   inside = tt;
 }
 
-order : (m n : ℕ) → m < n + 1 → (m ≡ n) ⊎ (m < n)
-order m n h = grind arith
-
 -- the label of the n-th bundle
 pub one_label : (entries targets : List ℕ) (count n : ℕ) (labels : Labels) → n < count → count ≤ BUNDLE_LIMIT → HasLabels entries targets count n labels
     → HasLabels entries targets count (n + 1) (insert_entry (slice_cmp nat_cmp) labels (label_text n) (Bundle n))
 one_label entries targets count n labels less few h = record {
-  named = λ m before is. at m (order m n before) is;
+  named = λ m before is. at m (last_or_below m n (omega (arith, before))) is;
   later = λ m more low. put_elsewhere (slice_cmp nat_cmp) nat_list_cmp_total labels (label_text n) (Bundle n) (label_text m) (differ m n low (omega (arith, less, few)) (λ e. omega (arith, e, more))) ∙ h.later m (omega (arith, more)) low;
   inside = kept_among (IsInside count) labels (label_text n) (Bundle n) h.inside less;
 }
@@ -63,7 +61,7 @@ one_label entries targets count n labels less few h = record {
 -- a bundle without a label
 pub same_labels : (entries targets : List ℕ) (count n : ℕ) (labels : Labels) → (is_among entries n || is_among targets n) ≡ false → HasLabels entries targets count n labels → HasLabels entries targets count (n + 1) labels
 same_labels entries targets count n labels other h = record {
-  named = λ m before is. at m (order m n before) is;
+  named = λ m before is. at m (last_or_below m n (omega (arith, before))) is;
   later = λ m more low. h.later m (omega (arith, more)) low;
   inside = h.inside;
 }

@@ -1,5 +1,5 @@
 -- The template of a name and its stops, and the name of each template.
-use Rattle.std.proofs.Common.{◌≡◌, ◌≢◌, ◌∙◌, ℕ, zero, suc, ◌/◌, ◌%◌, ◌<◌, ◌⊎◌, Bool, true, false, cond, ◌==◌, List, [], ◌∷◌, ◌++◌, map, Option, Some, None, refl, sym, ap, subst, inl, inr, arith}
+use Rattle.std.proofs.Common.{◌≡◌, ◌≢◌, ◌∙◌, ℕ, zero, suc, ◌/◌, ◌%◌, ◌<◌, Bool, true, false, cond, ◌==◌, List, [], ◌∷◌, ◌++◌, map, Option, Some, None, refl, sym, ap, subst, inl, inr, arith}
 use Rattle.std.specs.Prelude.{is_some, find, slice_index_or, unwrap_or, if◌then◌else◌, MatchOption}
 use Rattle.std.specs.Bool.{Decides}
 use Rattle.std.proofs.lemmas.Bool.Decides.{Decides-and}
@@ -10,6 +10,7 @@ use Rattle.ia_insn.specs.declared.bundle.Slots.{Slots}
 use Rattle.ia_insn.specs.Bundles.{FitUnits}
 use Rattle.ia_insn.specs.Templates.{Shape, no_shape, shape_of, IsTemplate, units_of, stops_of, StopsAs, HasShape}
 use Rattle.ia_insn.proofs.TemplateCodes.{one_template, code_small}
+use Rattle.ia_insn.proofs.Tests.{last_or_below}
 use Rattle.asm_reading.specs.declared.line.TemplateName.{TemplateName}
 use Rattle.asm_reading.specs.declared.line.TemplateName.TheVariants as template_name
 use Rattle.asm_build.specs.CanonicalText.{has_stop, is_among, unit_letter}
@@ -43,16 +44,13 @@ shape_test units stops code =
     Decides-and _ _ (λ h. letters_tell (units_of code) units (letters.0 h), λ e. letters.1 (ap (map unit_letter) e)) (bytes_eq-Decides (stops_of code) stops)
 
 -- what is found below a number
-order : (k n : ℕ) → k < suc n → (k ≡ n) ⊎ (k < n)
-order k n h = grind arith
-
 abbrev IsFoundBelow : (ℕ → Bool) → ℕ → Option ℕ → Type 0
 IsFoundBelow p n found = MatchOption found ((code : ℕ) → code < n → p code ≡ true → ⊥) (λ code. p code ≡ true)
 
 one_more : (p : ℕ → Bool) (n : ℕ) (found : Option ℕ) (b : Bool) → p n ≡ b → IsFoundBelow p n found → IsFoundBelow p (suc n) (cond b (Some n) found)
 one_more p n found true is h = is
 one_more p n (Some code) false is h = h
-one_more p n None false is h = λ code less passes. elim (order code n less) as (λ _. ⊥) [ inl e ↦ absurd cc | inr before ↦ h code before passes ]
+one_more p n None false is h = λ code less passes. elim (last_or_below code n less) as (λ _. ⊥) [ inl e ↦ absurd cc | inr before ↦ h code before passes ]
 
 found_below : (p : ℕ → Bool) (n : ℕ) → IsFoundBelow p n (find p (below n))
 found_below p zero = λ code less passes. omega arith

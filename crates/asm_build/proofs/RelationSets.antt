@@ -13,6 +13,7 @@ use Rattle.ia_insn.specs.Bundles.{Bundle}
 use Rattle.ia_insn.specs.Programs.{IsEntryOf, IsRelationBefore, AreRelations, no_relation, relation_at, relation_before}
 use Rattle.asm_reading.specs.Related.{IsRelated}
 use Rattle.ia_insn.specs.declared.limits.TheConstants.{RELATION_LIMIT}
+use Rattle.ia_insn.proofs.DeclaredRelations.{same_relation}
 use Rattle.asm_build.specs.declared.reason.TextError.{TextError}
 use Rattle.asm_build.specs.declared.text_parts.RelationLine.{RelationLine}
 use Rattle.asm_build.specs.Relations.{relation_cmp, relations_above, relations_among, with_relations, related, IsFit, AreRelationsOf}
@@ -32,10 +33,6 @@ by_lower r s o same h = cmp_of r s Equal o (nat_cmp r.q s.q) (nat_cmp_is r.bundl
 
 by_higher : (r s : Relation) (o : Ordering) → r.bundle ≡ s.bundle → r.p ≡ s.p → o ≡ nat_cmp r.q s.q → relation_cmp r s ≡ o
 by_higher r s o same also h = cmp_of r s Equal Equal o (nat_cmp_is r.bundle s.bundle Equal same) (nat_cmp_is r.p s.p Equal also) h
-
-same_relation : (r s : Relation) → r.bundle ≡ s.bundle → r.p ≡ s.p → r.q ≡ s.q → r ≡ s
-same_relation r s a b c =
-    ap (λ x. record { bundle = x; p = r.p; q = r.q }) a ∙ ap (λ x. record { bundle = s.bundle; p = x; q = r.q }) b ∙ ap (λ x. record { bundle = s.bundle; p = s.p; q = x }) c
 
 three_ways : (r s : Relation) → Ways relation_cmp IsRelationBefore r s
 three_ways r s = elim (cases_order r.bundle s.bundle) [

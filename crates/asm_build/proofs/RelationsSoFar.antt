@@ -9,6 +9,7 @@ use Rattle.ia_insn.specs.declared.limits.TheConstants.{RELATION_LIMIT}
 use Rattle.ia_insn.specs.declared.relations.Relation.{Relation}
 use Rattle.ia_insn.specs.Bundles.{Bundle}
 use Rattle.ia_insn.specs.Programs.{IsEntryOf, IsRelationBefore, AreRelations, no_relation, relations_at}
+use Rattle.ia_insn.proofs.DeclaredRelations.{rises_or_stays}
 use Rattle.asm_reading.specs.declared.line.Line.TheVariants as line
 use Rattle.asm_text.proofs.RelationLines.{relation_reads}
 use Rattle.asm_build.specs.declared.draft.BundleLines.{BundleLines}
@@ -38,10 +39,6 @@ abbrev pub BundlesFrom : ℕ → List Relation → Type 0
 BundlesFrom low rs = KeysFrom bundle_of low rs
 
 -- what is known of the relations of a program
-rises_or_stays : (r s : Relation) → IsRelationBefore r s → r.bundle ≤ s.bundle
-rises_or_stays r s (inl below) = omega (arith, below)
-rises_or_stays r s (inr (same, p)) = omega (arith, same)
-
 bundles_rise : (bundles : List Bundle) (entries : List ℕ) (low : Relation) (rs : List Relation) → AreFitFrom (IsEntryOf bundles entries) low rs → BundlesFrom low.bundle rs
 bundles_rise bundles entries low [] h = tt
 bundles_rise bundles entries low (r ∷ rs) h = (rises_or_stays low r h.0, bundles_rise bundles entries r rs h.2)

@@ -1,7 +1,7 @@
 //! Choices that the text spells out and that an instruction holds as a number or otherwise.
 
 /// A relation of a compare as it is written, crel and prel in the manual (volume 3, chapter 2, `cmp` and `pcmp`).
-#[derive(Clone, Copy, Debug, PartialEq, Eq)]
+#[derive(Clone, Copy)]
 pub enum CompareRelation {
     /// Equal.
     Eq,
@@ -26,7 +26,7 @@ pub enum CompareRelation {
 }
 
 /// The branch whether hint, bwh in the manual (volume 3, chapter 2, `br`).
-#[derive(Clone, Copy, Debug, PartialEq, Eq)]
+#[derive(Clone, Copy)]
 pub enum Whether {
     /// Static, taken.
     Sptk,
@@ -40,7 +40,7 @@ pub enum Whether {
 
 /// The cache hint of a load or a store, ldhint and sthint in the manual (volume 3, chapter 2, `ld` and
 /// `st`).
-#[derive(Clone, Copy, Debug, PartialEq, Eq)]
+#[derive(Clone, Copy)]
 pub enum CacheHint {
     /// No hint.
     None,
@@ -51,7 +51,7 @@ pub enum CacheHint {
 }
 
 /// How many bytes a number of a line of data has.
-#[derive(Clone, Copy, Debug, PartialEq, Eq)]
+#[derive(Clone, Copy)]
 pub enum AccessSize {
     /// 1 byte.
     One,

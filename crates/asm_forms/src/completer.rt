@@ -8,7 +8,7 @@ use crate::choices::{CacheHint, CompareRelation, Whether};
 use ia_insn::{BranchKind, CmpKind, LoadKind, StoreKind, Unit};
 
 /// A completer, or that none stands at its place.
-#[derive(Clone, Copy, Debug, PartialEq, Eq)]
+#[derive(Clone, Copy)]
 pub enum Completer {
     /// No completer, where one may be missing.
     Absent,
@@ -74,7 +74,7 @@ impl Default for Completer {
 }
 
 /// A place for a completer: which may stand there.
-#[derive(Clone, Copy, Debug, PartialEq, Eq)]
+#[derive(Clone, Copy)]
 pub enum CompleterSet {
     /// `.eq` and nine others: a compare of two registers.
     CompareRelation,

@@ -6,7 +6,7 @@ ghost use Rattle.asm_forms.specs.declared.form.Form.TheVariants as forms;
 /// A form of a slot line or of a directive: what its row says of the word that leads the line, of the word's
 /// completers and of the operands. The manual's formats (volume 3, chapter 4) stand in parentheses. The
 /// forms stand in the order of the rows.
-#[derive(Clone, Copy, Debug, PartialEq, Eq)]
+#[derive(Clone, Copy)]
 pub enum Form {
     /// `.data`.
     Data,

@@ -8,7 +8,7 @@ use ia_insn::limits::DATA_LIMIT;
 use ia_insn::{Ar, Gr};
 
 /// A field for a number.
-#[derive(Clone, Copy, Debug, PartialEq, Eq)]
+#[derive(Clone, Copy)]
 pub enum NumberField {
     /// -128 to 127.
     Imm8,
@@ -59,7 +59,7 @@ pub enum NumberField {
 }
 
 /// What stands at one place and is the same in each line.
-#[derive(Clone, Copy, Debug, PartialEq, Eq)]
+#[derive(Clone, Copy)]
 pub enum Mark {
     /// `=`
     Equals,
@@ -86,7 +86,7 @@ pub enum Mark {
 }
 
 /// A kind of operand.
-#[derive(Clone, Copy, Debug, PartialEq, Eq)]
+#[derive(Clone, Copy)]
 pub enum Kind {
     /// A general register.
     Gr,
@@ -103,7 +103,7 @@ pub enum Kind {
 }
 
 /// What a form wants at one place.
-#[derive(Clone, Copy, Debug, PartialEq, Eq)]
+#[derive(Clone, Copy)]
 pub enum FormItem {
     /// This mark.
     Is(Mark),

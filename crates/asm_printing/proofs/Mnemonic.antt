@@ -3,10 +3,15 @@ use Rattle.std.proofs.Common.{◌≡◌, refl, ℕ, Bool, true, false, ◌&&◌,
 use Rattle.std.specs.Prelude.{flat_map}
 use Rattle.std.specs.List.{list_all}
 use Rattle.std.proofs.lemmas.Bool.{not-true}
+use Rattle.ia_insn.specs.declared.choices.BranchKind.TheVariants as branch
+use Rattle.ia_insn.specs.declared.choices.CmpKind.TheVariants as cmp
+use Rattle.ia_insn.specs.declared.choices.LoadKind.TheVariants as load
+use Rattle.ia_insn.specs.declared.choices.StoreKind.TheVariants as store
+use Rattle.ia_insn.specs.declared.choices.Unit.TheVariants as unit
+use Rattle.ia_insn.proofs.Tests.{left, right}
 use Rattle.asm_words.specs.declared.word.WordKind.TheVariants as kind
 use Rattle.asm_words.specs.Bytes.{is_name_byte, is_digit_byte}
 use Rattle.asm_words.proofs.Lexed.{lexed, is_end}
-use Rattle.asm_words.proofs.Bools.{left, right}
 use Rattle.asm_words.proofs.Lexing.{name_lexed}
 use Rattle.asm_forms.specs.declared.choices.CompareRelation.TheVariants as rel
 use Rattle.asm_forms.specs.declared.choices.Whether.TheVariants as wh
@@ -17,11 +22,6 @@ use Rattle.asm_forms.specs.declared.form.Form.{Form}
 use Rattle.asm_forms.specs.Completers.{text_of}
 use Rattle.asm_forms.specs.Rows.{rows, row_of}
 use Rattle.asm_forms.proofs.RowFacts.{of_row}
-use Rattle.ia_insn.specs.declared.choices.BranchKind.TheVariants as branch
-use Rattle.ia_insn.specs.declared.choices.CmpKind.TheVariants as cmp
-use Rattle.ia_insn.specs.declared.choices.LoadKind.TheVariants as load
-use Rattle.ia_insn.specs.declared.choices.StoreKind.TheVariants as store
-use Rattle.ia_insn.specs.declared.choices.Unit.TheVariants as unit
 use Rattle.asm_printing.specs.SlotTexts.{mnemonic_text}
 
 -- the first byte is one of names and no digit

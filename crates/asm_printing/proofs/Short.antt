@@ -10,10 +10,10 @@ use Rattle.std.proofs.lemmas.List.{length-append}
 use native.Mathlib.Nat.{pow-suc}
 use Rattle.ia_insn.specs.declared.insn.Insn.{Insn}
 use Rattle.ia_insn.specs.declared.registers.Ar.TheVariants as ar
+use Rattle.ia_insn.proofs.Tests.{left, right}
 use Rattle.asm_words.specs.declared.tokens.Token.{Token}
 use Rattle.asm_words.specs.declared.tokens.Token.TheVariants as t
 use Rattle.asm_words.proofs.HexDigits.{hex_one, hex_step}
-use Rattle.asm_words.proofs.Bools.{left, right}
 use Rattle.asm_forms.specs.declared.completer.Completer.{Completer}
 use Rattle.asm_forms.specs.declared.form.Form.{Form}
 use Rattle.asm_forms.specs.declared.items.FormItem.{FormItem}

@@ -6,6 +6,7 @@ use Rattle.std.specs.Option.{option_and_then, option_map}
 use Rattle.std.proofs.lemmas.Bool.{eqb-true}
 use Rattle.std.proofs.lemmas.Option.{slice_get_within}
 use Rattle.first_fault.specs.Stages.{Stage, IsFirstFault, ArePassed}
+use Rattle.ia_insn.proofs.Tests.{left}
 use Rattle.asm_words.specs.declared.tokens.Token.{Token}
 use Rattle.asm_words.specs.declared.tokens.Token.TheVariants as t
 use Rattle.asm_words.specs.declared.word.WordKind.TheVariants as kind
@@ -28,7 +29,6 @@ use Rattle.asm_reading.specs.Instructions.{op_of}
 use Rattle.asm_reading.specs.Relations.{named_predicates, agreed_relation, relation_of}
 use Rattle.asm_reading.specs.Lines.{◌>>=◌, or_fault, KindAndText, tokens, label_name, name_of, lead_at, without_stop, predicate_of, completers_or_none, slot_under, slot_of, data_field, agreed_data, data_of, named, directive_value, directive_of, alone, formed, among, marked, template_name_of, opened_as, mark_led, led_by, led_at, led, is_name_word, is_colon, label_of, value_of}
 use Rattle.asm_reading.specs.FaultOrder.{Beside, beside, beside_name, beside_mark, beside_word, beside_at, beside_lead, beside_of, name_instruction, fault_in, predicate_fault, fault_before, Operands, Numbers, Predicates, OfForms, operands_of, right_count, fault_among, before_stage, after_stage}
-use Rattle.asm_words.proofs.Bools.{left}
 use Rattle.asm_reading.proofs.FaultOrderFronts.{right_within, fault_front, first_wrong, spelled_all, spelled_with_stop, found_all}
 
 -- A fault is what the stages find, or Form where they find nothing.

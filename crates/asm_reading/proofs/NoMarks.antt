@@ -3,6 +3,7 @@ use Rattle.std.proofs.Common.{◌≡◌, refl, sym, ℕ, Bool, true, false, not,
 use Rattle.std.specs.Option.{option_map}
 use Rattle.std.specs.Str.{bytes_eq}
 use Rattle.std.proofs.lemmas.Bool.{not-true}
+use Rattle.ia_insn.proofs.Tests.{left, right}
 use Rattle.asm_words.specs.declared.tokens.Token.{Token}
 use Rattle.asm_words.specs.declared.tokens.Token.TheVariants as t
 use Rattle.asm_words.specs.declared.word.WordKind.{WordKind}
@@ -11,7 +12,6 @@ use Rattle.asm_words.specs.Bytes.{begins_letter}
 use Rattle.asm_words.specs.Registers.{look_up, aliases, alias_of, numbered, numbered_register, register_of}
 use Rattle.asm_words.specs.Tokens.{other_name, name_token, token_of}
 use Rattle.asm_words.specs.Words.{pick}
-use Rattle.asm_words.proofs.Bools.{left, right}
 use Rattle.asm_reading.specs.Lines.{is_open, is_close, is_colon}
 
 abbrev is_mark : Token → Bool

@@ -4,9 +4,10 @@ use Rattle.std.specs.Prelude.{filter, Ok, IfSome}
 use Rattle.std.specs.List.{find, list_all, starts_with}
 use Rattle.std.specs.Option.{option_map}
 use Rattle.std.proofs.lemmas.Bool.{eqb-true, and_from}
+use Rattle.ia_insn.specs.declared.insn.Op.{Op}
+use Rattle.ia_insn.proofs.Tests.{left, right}
 use Rattle.asm_words.specs.declared.tokens.Token.{Token}
 use Rattle.asm_words.specs.declared.fault.LineFault.TheVariants as fault
-use Rattle.asm_words.proofs.Bools.{left, right}
 use Rattle.asm_forms.specs.declared.completer.Completer.{Completer}
 use Rattle.asm_forms.specs.declared.completer.CompleterSet.{CompleterSet}
 use Rattle.asm_forms.specs.declared.form.Form.{Form}
@@ -16,7 +17,6 @@ use Rattle.asm_forms.specs.Matching.{is_spelled, read_form}
 use Rattle.asm_forms.specs.Naming.{is_named, begins, has_completers_if, named_forms, completers}
 use Rattle.asm_forms.specs.Rows.{FormRow, rows, row_of}
 use Rattle.asm_reading.specs.declared.line.Line.{Line}
-use Rattle.ia_insn.specs.declared.insn.Op.{Op}
 use Rattle.asm_reading.specs.declared.line.Line.TheVariants as line
 use Rattle.asm_reading.specs.Instructions.{op_of}
 use Rattle.asm_reading.specs.FaultOrder.{is_instruction}

@@ -7,8 +7,9 @@ use Rattle.std.specs.Fmt.{decimal}
 use Rattle.std.proofs.lemmas.Fmt.{length-decimal-le}
 use Rattle.std.proofs.lemmas.Bool.{le-leb}
 use Rattle.std.proofs.lemmas.Option.{same_Some}
-use Rattle.asm_words.specs.declared.limits.TheConstants.{NAME_LIMIT}
 use Rattle.ia_insn.specs.declared.registers.Ar.TheVariants as ar
+use Rattle.ia_insn.proofs.Tests.{left, right}
+use Rattle.asm_words.specs.declared.limits.TheConstants.{NAME_LIMIT}
 use Rattle.asm_words.specs.declared.tokens.Token.{Token}
 use Rattle.asm_words.specs.declared.tokens.Token.TheVariants as t
 use Rattle.asm_words.specs.declared.word.WordKind.{WordKind}
@@ -16,7 +17,6 @@ use Rattle.asm_words.specs.declared.word.WordKind.TheVariants as kind
 use Rattle.asm_words.specs.Bytes.{is_name_byte, is_digit_byte, has_only_plain}
 use Rattle.asm_words.proofs.Lexed.{lexed, is_end}
 use Rattle.asm_words.specs.Tokens.{token_of}
-use Rattle.asm_words.proofs.Bools.{left, right}
 use Rattle.asm_words.proofs.Lexing.{name_lexed}
 use Rattle.asm_words.proofs.Readings.{gr_reads, pr_reads, br_reads, decimal_reads, minus_reads, hex_reads, minus_hex_reads, decimal_is_name_bytes, decimal_is_plain, hex_is_plain, both_plain, decimal_lexed, minus_decimal_lexed, hex_lexed, minus_hex_lexed}
 use Rattle.asm_forms.specs.declared.items.FormItem.{FormItem}

@@ -3,12 +3,12 @@ use Rattle.std.proofs.Common.{◌≡◌, refl, sym, ◌∙◌, ℕ, ◌+◌, Boo
 use Rattle.std.specs.List.{list_all}
 use Rattle.std.proofs.lemmas.Bool.Decides.{nat_tests}
 use Rattle.std.proofs.Math.Seq.{drop-append_seam, take-append_seam}
+use Rattle.ia_insn.proofs.Tests.{left, right}
 use Rattle.asm_words.specs.declared.word.WordKind.{WordKind}
 use Rattle.asm_words.specs.declared.word.WordKind.TheVariants as word
 use Rattle.asm_words.specs.Bytes.{is_blank, begins_with, is_name_byte, is_digit_byte}
 use Rattle.asm_words.specs.Words.{begins_comment, name_run, kind_at, more_at, sharp_at}
 use Rattle.asm_words.proofs.Lexed.{lexed, is_end}
-use Rattle.asm_words.proofs.Bools.{left, right}
 
 -- a run of name bytes before such an end
 run_is : (n cs : List ℕ) → list_all is_name_byte n ≡ true → is_end cs ≡ true → name_run (n ++ cs) ≡ length n

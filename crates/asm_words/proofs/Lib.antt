@@ -1,5 +1,4 @@
 pub mod Lexed
-pub mod Bools
 pub mod Bridge
 pub mod Cutting
 pub mod Gaps

@@ -8,6 +8,7 @@ use Rattle.std.proofs.lemmas.Fmt.{digits_is_IsNumeral, decimal_is_IsNumeral, len
 use Rattle.std.proofs.lemmas.Bool.Decides.{nat_tests}
 use Rattle.std.proofs.lemmas.Bool.{eqb-true, le-leb}
 use Rattle.std.proofs.lemmas.Str.Parse.{digit_from_value}
+use Rattle.ia_insn.proofs.Tests.{left, right, all_below, below}
 use Rattle.asm_words.specs.declared.limits.TheConstants.{NAME_LIMIT}
 use Rattle.asm_words.specs.declared.tokens.Token.{Token}
 use Rattle.asm_words.specs.declared.tokens.Token.TheVariants as t
@@ -16,7 +17,6 @@ use Rattle.asm_words.specs.Bytes.{is_name_byte, is_digit_byte, is_plain_byte, ha
 use Rattle.asm_words.proofs.Lexed.{lexed, is_end}
 use Rattle.asm_words.specs.Numbers.{number_token, unsigned_token, based, are_digits, numeral}
 use Rattle.asm_words.specs.Tokens.{token_of, name_token}
-use Rattle.asm_words.proofs.Bools.{left, right, all_below, below_is}
 use Rattle.asm_words.proofs.Lexing.{digit_is_name, number_lexed, minus_lexed}
 use Rattle.asm_words.proofs.Numerals.{is_held}
 
@@ -41,15 +41,15 @@ is_pr n = eqb (pr_of (name_token (112 ∷ decimal n))) (suc n)
 abbrev is_br : ℕ → Bool
 is_br n = eqb (br_of (name_token (98 ∷ decimal n))) (suc n)
 
-grs : all_below 128 is_gr ≡ true
+grs : all_below is_gr 128 ≡ true
 unfolding digits
 grs = refl
 
-prs : all_below 64 is_pr ≡ true
+prs : all_below is_pr 64 ≡ true
 unfolding digits
 prs = refl
 
-brs : all_below 8 is_br ≡ true
+brs : all_below is_br 8 ≡ true
 unfolding digits
 brs = refl
 
@@ -67,15 +67,15 @@ br_from n x h = cc
 
 -- `r` and a number below 128
 pub gr_reads : (n : ℕ) → n < 128 → token_of word.Name (114 ∷ decimal n) ≡ t.Gr n
-gr_reads n h = gr_from n _ (eqb-true _ _ (below_is 128 is_gr n grs h))
+gr_reads n h = gr_from n _ (eqb-true _ _ (below is_gr 128 n grs h))
 
 -- `p` and a number below 64
 pub pr_reads : (n : ℕ) → n < 64 → token_of word.Name (112 ∷ decimal n) ≡ t.Pr n
-pr_reads n h = pr_from n _ (eqb-true _ _ (below_is 64 is_pr n prs h))
+pr_reads n h = pr_from n _ (eqb-true _ _ (below is_pr 64 n prs h))
 
 -- `b` and a number below 8
 pub br_reads : (n : ℕ) → n < 8 → token_of word.Name (98 ∷ decimal n) ≡ t.Br n
-br_reads n h = br_from n _ (eqb-true _ _ (below_is 8 is_br n brs h))
+br_reads n h = br_from n _ (eqb-true _ _ (below is_br 8 n brs h))
 
 digits_are : (base : ℕ) (ds : List ℕ) → AllDigits base ds → are_digits base ds ≡ true
 digits_are base [] h = refl

@@ -18,7 +18,7 @@ use Rattle.slot_layouts.specs.Laws.{PlaceIsFit}
 use Rattle.asm_build.specs.declared.address.Address.{Address}
 use Rattle.asm_build.specs.declared.address.Address.TheVariants.{Bundle, Byte}
 use Rattle.asm_build.specs.Addresses.{IsInside, IsReachable, addressed, reach}
-use Rattle.asm_build.proofs.AddressedTargets.{fit_stays, target_inside}
+use Rattle.asm_build.proofs.AddressedTargets.{IfSome-weaken, fit_stays, target_inside}
 use Rattle.loose_text.specs.declared.item.Item.{Item}
 use Rattle.loose_text.specs.LooseTexts.{IsTargetOf}
 use Rattle.bundling.specs.Bundled.{put_in}
@@ -60,18 +60,13 @@ place_there Loop = refl
 place_there X = refl
 
 -- what fits a slot is listed
-
-under : (P Q : Op → Type 0) (o : Option Op) → ((y : Op) → P y → Q y) → IfSome o P → IfSome o Q
-under P Q None f p = tt
-under P Q (Some y) f p = f y p
-
 listed_stays : PlaceIsFit → (i : Insn) (a : Address) (n : ℕ) → IsReachable a → n < reach → IsListed i → IfSome (addressed i.op a n) (λ y. IsListed (record { qp = i.qp; op = y }))
 listed_stays law i a n within here listed =
     let class = class_of i.op in
     let u = unit_for class in
     let slot = slot_for class in
     let fits : Fits i u slot = (law i u slot (slot_small class) listed).0 (place_there class) in
-    under (λ y. Fits (record { qp = i.qp; op = y }) u slot) (λ y. IsListed (record { qp = i.qp; op = y })) (addressed i.op a n)
+    IfSome-weaken (λ y. Fits (record { qp = i.qp; op = y }) u slot) (λ y. IsListed (record { qp = i.qp; op = y })) (addressed i.op a n)
     (λ y f. unit_listed (record { qp = i.qp; op = y }) u slot f.kind)
     (fit_stays i a n u slot within here fits)
 

@@ -21,7 +21,7 @@ use std::alloc::{AllocError, Global};
 use std::marker::Model;
 
 /// A machine that runs a program. Contracts see the program and how far it has run.
-#[derive(Debug, Drop)]
+#[derive(Drop)]
 pub struct Machine<'a> {
     slots: SlotTable<'a>,
     run: Run,

@@ -45,14 +45,22 @@ some_fault (s ∷ later) (inr passed, others) = elim (some_fault later others) [
   | inr all ↦ inr (passed, all)
 ]
 
--- the same of stages of which it can't be told: they aren't without a first fault unless every one is passed
+-- a stage isn't without a fault unless it is passed
+abbrev pub IsNotOpen : {Fault : Type 0} → Stage Fault → Type 0
+IsNotOpen s = ((key : s.Key) → s.Finds key → ⊥) → (s.IsPassed → ⊥) → ⊥
+
+-- the same of stages of which it is known where those before are passed
 abbrev pub AreNotOpen : {Fault : Type 0} → List (Stage Fault) → Type 0
 AreNotOpen [] = Unit {0}
-AreNotOpen (s ∷ later) = (((key : s.Key) → s.Finds key → ⊥) → (s.IsPassed → ⊥) → ⊥) × AreNotOpen later
+AreNotOpen (s ∷ later) = IsNotOpen s × (s.IsPassed → AreNotOpen later)
 
+pub unless_not_open : {Fault : Type 0} (Holds : Type 0) (f : Fault) → IsNotOpen (unless Holds f)
+unless_not_open Holds f = λ none go. none tt go
+
+-- they aren't without a first fault unless every one is passed
 pub not_without : {Fault : Type 0} (stages : List (Stage Fault)) → AreNotOpen stages → ((f : Fault) → IsFirstFault stages f → ⊥) → (ArePassed stages → ⊥) → ⊥
 not_without [] closed none go = go tt
 not_without (s ∷ later) closed none go =
     closed.0
     (λ key finds. none (s.fault key) (inl (key, refl, finds)))
-    (λ passed. not_without later closed.1 (λ f is. none f (inr (passed, is))) (λ others. go (passed, others)))
+    (λ passed. not_without later (closed.1 passed) (λ f is. none f (inr (passed, is))) (λ others. go (passed, others)))

@@ -8,6 +8,7 @@ use Rattle.ia_insn.specs.declared.place.Place.{Place}
 use Rattle.ia_insn.specs.Places.{place_number, place_at, insn_at}
 use Rattle.ia_insn.specs.Programs.{Program, IsEntry}
 use Rattle.ia_insn.proofs.InOrder.{slot_small}
+use Rattle.ia_insn.proofs.Reaching.{place_at-number}
 use Rattle.ia_meaning.specs.Sequence.{first_of}
 use Rattle.predicate_rel.specs.declared.edge.Edge.{Edge}
 use Rattle.predicate_rel.specs.declared.edge.Edge.TheVariants.{Falls, Taken}
@@ -20,7 +21,7 @@ use Rattle.slot_table.specs.Slots.{slot_at}
 use Rattle.slot_table.proofs.SlotLaws.{pairs_by-slot}
 use Rattle.flow_facts.specs.Walks.{Known, known_at, Walk, begins, goes_on, EndsAt, known_first, facts_on}
 use Rattle.flow_facts.specs.Tables.{weight, place_count, AtMost, Joined, IsWitnessedAt, IsWitnessed, IsSameBut, HasCome, MarksChanges, Passed, IsBetweenSteps, marked, dirty_count}
-use Rattle.flow_facts.proofs.Numbering.{number_below, place_at-number, cases_place, value_read, value_at-place_at, value_at-set_other}
+use Rattle.flow_facts.proofs.Numbering.{number_below, cases_place, value_read, value_at-place_at, value_at-set_other}
 use Rattle.flow_facts.proofs.Marks.{no_progress, progress_marked, progress_same, progress_twice, same_trans, come_unknown, dirty_count-set}
 
 -- more before a place is more past it

@@ -5,11 +5,11 @@ use Rattle.ia_meaning.specs.declared.limits.TheConstants.{STACK_LIMIT}
 use Rattle.ia_insn.specs.declared.ending.FaultKind.TheVariants as kind
 use Rattle.ia_meaning.specs.declared.state.FrameShape.{FrameShape}
 use Rattle.ia_meaning.specs.State.{IsFrame}
-use Rattle.ia_meaning.specs.Frames.{is_frame, marked_frame, return_fault}
+use Rattle.ia_meaning.specs.Frames.{is_frame, marked_frame, return_fault, returned_frame}
 use Rattle.ia_meaning.proofs.ReturnFrames.{MayReturn, unrefused, moved_frame}
 use Rattle.frame_shapes.specs.declared.fault.StackFault.{StackFault}
 use Rattle.frame_shapes.specs.declared.fault.StackFault.TheVariants.{BadFrame, Underflow, StackLimit}
-use Rattle.frame_shapes.specs.Faults.{kind_of, return_fault_within, returned_frame, ReturnFaultIsThat}
+use Rattle.frame_shapes.specs.Faults.{kind_of, return_fault_within, ReturnFaultIsThat}
 
 by_tests : (bad under over : Bool) → option_map kind_of (if bad then Some BadFrame else if under then Some Underflow else if over then Some StackLimit else None) ≡ (if bad then Some kind.BadFrame else if under then Some kind.Underflow else if over then Some kind.StackLimit else None)
 by_tests true under over = refl

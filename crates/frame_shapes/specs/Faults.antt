@@ -1,11 +1,11 @@
--- Why `alloc` and returns are refused, and the frame that a return enters (volume 1, chapter 4, register stack).
+-- Why `alloc` and returns are refused (volume 1, chapter 4, register stack).
 use Rattle.std.specs.Prelude.{◌≡◌, ℕ, ◌+◌, ◌-◌, not, ◌&&◌, ◌==◌, if◌then◌else◌, Option, Some, None, nat_lt}
 use Rattle.std.specs.Option.{option_map}
 use Rattle.ia_insn.specs.declared.ending.FaultKind.{FaultKind}
 use Rattle.ia_insn.specs.declared.ending.FaultKind.TheVariants as kind
 use Rattle.ia_meaning.specs.declared.limits.TheConstants.{STACK_LIMIT}
 use Rattle.ia_meaning.specs.declared.state.FrameShape.{FrameShape}
-use Rattle.ia_meaning.specs.Frames.{has_zero_bases, is_frame, marked_frame, return_fault}
+use Rattle.ia_meaning.specs.Frames.{has_zero_bases, is_frame, return_fault}
 use Rattle.frame_shapes.specs.declared.fault.StackFault.{StackFault}
 use Rattle.frame_shapes.specs.declared.fault.StackFault.TheVariants.{OutOfFrame, BadFrame, Underflow, StackLimit, ReservedField}
 
@@ -21,10 +21,6 @@ return_fault_within limit base f =
     if not (is_frame f) then Some BadFrame
     else if nat_lt base f.sol then Some Underflow
     else if nat_lt limit (base - f.sol + f.sof) then Some StackLimit else None
-
--- the frame that a return to this previous function state enters
-abbrev pub returned_frame : ℕ → ℕ → FrameShape
-returned_frame base pfs = marked_frame (base - (marked_frame base pfs).sol) pfs
 
 -- the fault of the slot for one of the register stack
 abbrev pub kind_of : StackFault → FaultKind

@@ -4,8 +4,8 @@
 ghost use Rattle.std.specs.Prelude.{◌≡◌, ℕ, ◌+◌, ◌^◌, ◌<◌, ◌≤◌, None};
 ghost use Rattle.ia_meaning.specs.declared.limits.TheConstants.{STACK_LIMIT};
 ghost use Rattle.ia_meaning.specs.State.{IsFrame};
-ghost use Rattle.ia_meaning.specs.Frames.{frame_marker, marked_frame, is_frame, return_fault};
-ghost use Rattle.frame_shapes.specs.Faults.{return_fault_within, returned_frame};
+ghost use Rattle.ia_meaning.specs.Frames.{frame_marker, marked_frame, is_frame, return_fault, returned_frame};
+ghost use Rattle.frame_shapes.specs.Faults.{return_fault_within};
 
 use crate::fault::StackFault;
 use ia_insn::FaultKind;

@@ -10,6 +10,7 @@ use Rattle.ia_insn.specs.Bundles.{Bundle}
 use Rattle.ia_insn.specs.Places.{place_number, insn_at, IsBefore, IsNext, IsPlaceOf}
 use Rattle.ia_insn.specs.Programs.{Program}
 use Rattle.ia_insn.proofs.InOrder.{slot_small}
+use Rattle.ia_insn.proofs.Reaching.{same_place}
 use Rattle.ia_meaning.specs.Sequence.{first_of, next_of}
 use Rattle.ia_meaning.proofs.Follows.{next_is}
 use Rattle.resource_sets.proofs.Members.{not_in_none, cases_in}
@@ -19,7 +20,6 @@ use Rattle.predicate_rel.specs.Pairs.{Pairs}
 use Rattle.predicate_rel.specs.Edges.{HasEdge, edge_of, edge_end, may_fall, pairs_past, pairs_past_insn}
 use Rattle.flow_facts.specs.Graphs.{Graph, over_program, over_row, InsnRow, HasRowEdge, row_insn, row_next, row_end_of, row_past, insn_in, next_in, IsPlaceIn, IsEdgeIn, pairs_past_in}
 use Rattle.flow_facts.specs.Walks.{Walk, begins, goes_on, IsWalkIn, end_of, facts_in, group_since}
-use Rattle.flow_facts.proofs.Numbering.{same_place}
 
 -- the order of places goes on
 pub before_trans : (a b c : Place) → IsBefore a b → IsBefore b c → IsBefore a c

@@ -14,11 +14,11 @@ use Rattle.std.proofs.lemmas.Map.Views.{btree_set_contains_iff}
 use Rattle.ia_insn.specs.declared.place.Place.{Place}
 use Rattle.ia_insn.specs.Places.{IsBefore}
 use Rattle.ia_insn.specs.contracts.place.PlaceOrd.TheImpl.Laws as places
+use Rattle.ia_insn.proofs.Reaching.{same_place}
 use Rattle.resource_sets.specs.declared.access.Resource.{Resource}
 use Rattle.resource_sets.specs.declared.access.Resource.TheVariants.{Gr, Pr, Br, Unat, Pfs, Lc, Ec, Cfm}
 use Rattle.resource_sets.specs.declared.clashes.Rule.{Rule}
 use Rattle.resource_sets.specs.declared.clashes.Rule.TheVariants.{Raw, Waw, War63, AllocFirst, ClearLast}
-use Rattle.flow_facts.proofs.Numbering.{same_place}
 use Rattle.group_checker.specs.declared.violation.Violation.{Violation}
 use Rattle.group_checker.specs.contracts.violation.ViolationOrd.TheImpl.Laws as laws
 use Rattle.group_checker.specs.Order.{place_cmp, rule_cmp, resource_cmp, compare, Precedes, Rises}

@@ -7,7 +7,7 @@ ghost use Rattle.ia_meaning.specs.declared.write.FrameCause.TheVariants.{Resized
 ghost use Rattle.ia_meaning.specs.State.{Memory, IsFrame};
 ghost use Rattle.ia_meaning.specs.Names.{spot, predicate_place, predicate_spot, set_predicate};
 ghost use Rattle.ia_meaning.specs.Moves.{is_masked, masked_writes, predicate_writes};
-ghost use Rattle.ia_meaning.specs.Frames.{with_sizes, rotated, cleared, epilog_of, call_state, call_frame, marked_frame, return_fault};
+ghost use Rattle.ia_meaning.specs.Frames.{with_sizes, rotated, cleared, epilog_of, call_state, call_frame, marked_frame, return_fault, returned_frame};
 ghost use Rattle.ia_meaning.specs.Loops.{written, turn_writes};
 ghost use Rattle.slot_effects.specs.Changes.{application_write, set_at, held, update_at, load_update, writes_of, FitsApplication, MayAllocate, MayMake};
 ghost use Rattle.group_engine.specs.declared.limits.TheConstants.{SLOT_WRITE_LIMIT, WRITE_LIMIT};
@@ -247,7 +247,7 @@ impl KeptWrites {
         requires base { base ≤ STACK_LIMIT }
         requires may { return_fault base (marked_frame base pfs) ≡ None }
         requires room { length self.old.writes + 2 ≤ WRITE_LIMIT }
-        ensures value { self.new ≡ keeping (SetFrame Resized (marked_frame (base - (marked_frame base pfs).sol) pfs) ∷ SetEc (epilog_of pfs) ∷ []) self.old }
+        ensures value { self.new ≡ keeping (SetFrame Resized (returned_frame base pfs) ∷ SetEc (epilog_of pfs) ∷ []) self.old }
         ensures few { length self.new.writes ≤ length self.old.writes + 2 }
     {
         let frame = returned_frame(base, pfs);

@@ -33,7 +33,7 @@ use slot_table::{Slot, SlotTable};
 use std::alloc::{AllocError, Global};
 
 /// A group as far as its slots are gathered, or the state between two groups.
-#[derive(Debug, Drop)]
+#[derive(Drop)]
 pub(crate) struct Gathering {
     /// The registers of the group's start, with the frame of an `alloc` that is its first slot.
     pub registers: GroupRegisters,

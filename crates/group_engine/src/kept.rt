@@ -16,7 +16,7 @@ use std::alloc::{AllocError, Global};
 use std::marker::Model;
 
 /// The writes of a group, in program order, and what they leave of the registers that steer branches.
-#[derive(Debug, Drop)]
+#[derive(Drop)]
 pub(crate) struct KeptWrites {
     /// The writes.
     writes: Vec<Write>,

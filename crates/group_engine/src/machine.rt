@@ -15,7 +15,7 @@ use std::marker::Model;
 
 /// An engine that runs a program group by group, each group all at once. Contracts see the program, its state
 /// between two groups, the end of its run, the groups begun and the resident range of the register stack.
-#[derive(Debug, Drop)]
+#[derive(Drop)]
 pub struct GroupMachine<'a> {
     table: SlotTable<'a>,
     gathering: Gathering,

@@ -9,6 +9,10 @@ use Rattle.ia_insn.specs.declared.relations.Relation.{Relation}
 use Rattle.ia_insn.specs.Bundles.{Bundle}
 use Rattle.ia_insn.specs.Programs.{relations_at, relation_at, no_relation, IsCountBelow, IsRelationBefore, IsRelationAt, AreRelations}
 
+-- relations are the same where their bundles and their predicates are
+pub same_relation : (r s : Relation) → r.bundle ≡ s.bundle → r.p ≡ s.p → r.q ≡ s.q → r ≡ s
+same_relation r s bundle p q = λ i. record { bundle = bundle i; p = p i; q = q i }
+
 -- a test passes exactly what stands from s on and before e
 record PassesFrom {X : Type 0} (p : X → Bool) (xs : List X) (s e : ℕ) (d : X) : Type 0 where
   before : (k : ℕ) → k < s → k < length xs → p (get_or xs k d) ≡ false
@@ -57,7 +61,7 @@ found_between relations bundle start end a b = segment (λ r. r.bundle == bundle
 abbrev pub IsInOrder : List Relation → Type 0
 IsInOrder relations = IsNonDecreasingBy (λ r. r.bundle) relations
 
-rises_or_stays : (r s : Relation) → IsRelationBefore r s → r.bundle ≤ s.bundle
+pub rises_or_stays : (r s : Relation) → IsRelationBefore r s → r.bundle ≤ s.bundle
 rises_or_stays r s (inl below) = omega arith
 rises_or_stays r s (inr (same, p)) = omega arith
 

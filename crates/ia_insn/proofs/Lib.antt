@@ -1,4 +1,5 @@
 pub mod Numbers
+pub mod Tests
 pub mod Parts
 mod Examples
 pub mod TemplateCodes

@@ -4,13 +4,18 @@ use Rattle.std.specs.Prelude.{MatchOption, IfSome, slice_get}
 use Rattle.ia_insn.specs.declared.limits.TheConstants.{RUN_LIMIT}
 use Rattle.ia_insn.specs.declared.place.Place.{Place}
 use Rattle.ia_insn.specs.Bundles.{Bundle, IsBundle, AreBundles}
-use Rattle.ia_insn.specs.Places.{IsPlaceOf, IsBefore, IsNext, EachPlace, IsFirstBad}
+use Rattle.ia_insn.specs.Places.{place_number, place_at, IsPlaceOf, IsBefore, IsNext, EachPlace, IsFirstBad}
 use Rattle.ia_insn.specs.Runs.{EndsRun, StandBefore, IsWithinRun}
 use Rattle.ia_insn.specs.Targets.{IsTargetInside}
 use Rattle.ia_insn.proofs.InOrder.{slot_small, bundle_small, is_place, get_some}
 
-same_place : (p q : Place) → p.bundle ≡ q.bundle → p.slot ≡ q.slot → p ≡ q
+-- places are the same where their numbers of bundle and slot are
+pub same_place : (p q : Place) → p.bundle ≡ q.bundle → p.slot ≡ q.slot → p ≡ q
 same_place p q b s = λ i. record { bundle = b i; slot = s i }
+
+-- the place with the number of a place with a slot 0 to 2 is that place
+pub place_at-number : (q : Place) → q.slot < 3 → place_at (place_number q) ≡ q
+place_at-number q h = same_place (place_at (place_number q)) q (omega arith) (omega arith)
 
 -- of two places one comes first, or they are one
 pub order : (p q : Place) → IsBefore p q ⊎ (IsBefore q p ⊎ (p ≡ q))

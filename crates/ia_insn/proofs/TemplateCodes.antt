@@ -1,5 +1,5 @@
 -- The units and the stops of a template say its code.
-use Rattle.std.proofs.Common.{◌≡◌, ℕ, suc, zero, ◌+◌, ◌*◌, ◌/◌, ◌<◌, List, [], ◌∷◌, Bool, true, false, arith, ap, refl, sym, ◌∙◌, cond, eqb, subst, ◌⊎◌, inl, inr}
+use Rattle.std.proofs.Common.{◌≡◌, ℕ, ◌+◌, ◌*◌, ◌/◌, ◌<◌, List, [], ◌∷◌, Bool, true, false, arith, ap, refl, ◌∙◌, cond, eqb}
 use Rattle.std.specs.Prelude.{◌&&◌, is_some}
 use Rattle.std.proofs.lemmas.Bool.{eqb-true, eq-eqb}
 use Rattle.std.proofs.lemmas.Bool.Decides.{nat_tests}
@@ -7,30 +7,7 @@ use Rattle.std.specs.Cmp.Derive.{both_true}
 use Rattle.ia_insn.specs.Templates.{shape_of, IsTemplate, units_of, stops_of}
 use Rattle.ia_insn.specs.declared.choices.Unit.{Unit as ExecutionUnit}
 use Rattle.ia_insn.specs.declared.choices.Unit.TheVariants.{M, I, F, B, L, X}
-
--- a test of each number below a bound
-abbrev all_below : (ℕ → Bool) → ℕ → Bool
-all_below p zero = true
-all_below p (suc n) = p n && all_below p n
-
-both-left : (a b : Bool) → (a && b) ≡ true → a ≡ true
-both-left true b h = refl
-both-left false b h = h
-
-both-right : (a b : Bool) → (a && b) ≡ true → b ≡ true
-both-right true b h = h
-both-right false b h = absurd (cc)
-
-order : (k n : ℕ) → k < suc n → (k ≡ n) ⊎ (k < n)
-order k n h = grind arith
-
-below : (p : ℕ → Bool) (n k : ℕ) → all_below p n ≡ true → k < n → p k ≡ true
-below p zero k all h = absurd (omega arith)
-below p (suc n) k all h =
-    elim (order k n h) as (λ _. p k ≡ true) [
-      | inl e ↦ subst (λ m. p m ≡ true) (sym e) (both-left (p n) (all_below p n) all)
-      | inr less ↦ below p n k (both-right (p n) (all_below p n) all) less
-    ]
+use Rattle.ia_insn.proofs.Tests.{all_below, below}
 
 picked : (test answer : Bool) → cond test answer true ≡ true → test ≡ true → answer ≡ true
 picked true answer h is = h

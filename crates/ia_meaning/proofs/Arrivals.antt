@@ -1,5 +1,6 @@
 -- Where indirect branches arrive, and what the relations of entries ask of predicates.
-use Rattle.std.proofs.Common.{◌≡◌, ℕ, zero, suc, ◌<◌, ◌≤◌, ◌==◌, Bool, true, false, ◌&&◌, List, [], ◌∷◌, length, get_or, replicate, Option, Some, None, Ok, Err, refl, arith, eqb-true, eq-eqb, cond, if◌then◌else◌}
+use Rattle.std.proofs.Common.{◌≡◌, ℕ, zero, suc, ◌<◌, ◌≤◌, ◌==◌, Bool, true, false, List, [], ◌∷◌, length, get_or, replicate, Option, Some, None, Ok, Err, refl, arith, eqb-true, eq-eqb, cond, if◌then◌else◌}
+use Rattle.std.proofs.lemmas.Bool.{and_parts}
 use Rattle.std.proofs.lemmas.List.{get_or-replicate}
 use Rattle.std.specs.Prelude.{IfSome, IfOk, IsTrue, ◌↔◌}
 use Rattle.std.specs.List.{list_any}
@@ -61,14 +62,9 @@ relation_decides p low bundle = (
   (λ b. passing_is_found (are_both_one low) bundle p.relations (b.n, b.inside, b.here, rw (b.one, b.other) refl)),
 )
   where
-    both : (a b : Bool) → (a && b) ≡ true → (a ≡ true) × (b ≡ true)
-    both true true h = (refl, refl)
-    both true false h = absurd (cc)
-    both false b h = absurd (cc)
-
     broken : Passes (are_both_one low) bundle p.relations → IsBroken p low bundle
     broken (n, inside, here, passes) =
-        let ones = both (get_or low (relation_at p.relations n).p false) (get_or low (relation_at p.relations n).q false) passes in
+        let ones = and_parts (get_or low (relation_at p.relations n).p false) (get_or low (relation_at p.relations n).q false) passes in
         record { n = n; inside = inside; here = here; one = ones.0; other = ones.1 }
 
 -- among the first sixteen predicates of the zero state only p0 is 1

@@ -1,6 +1,7 @@
 -- What can come of a slot, by the actions: from these lemmas the facts of outcomes follow. Each case tells where
 -- its values come from.
-use Rattle.std.proofs.Common.{◌≡◌, ◌≢◌, ℕ, ℤ, ◌+◌, ◌-◌, ◌/◌, ◌%◌, ◌^◌, ◌≤◌, ◌⊎◌, inl, inr, Bool, true, false, not, ◌&&◌, ◌||◌, ◌==◌, nat_lt, List, [], ◌∷◌, Option, Some, None, Result, Ok, Err, refl, arith, if◌then◌else◌}
+use Rattle.std.proofs.Common.{◌≡◌, ◌≢◌, ℕ, ℤ, ◌+◌, ◌%◌, ◌≤◌, ◌⊎◌, inl, inr, Bool, true, false, not, ◌&&◌, ◌||◌, ◌==◌, nat_lt, List, [], ◌∷◌, Option, Some, None, Result, Ok, Err, refl, arith, if◌then◌else◌}
+use Rattle.std.proofs.lemmas.Bool.{and_parts, or_parts}
 use Rattle.std.proofs.lemmas.Bool.Decides.{nat_tests}
 use Rattle.ia_meaning.specs.declared.limits.TheConstants.{STACK_LIMIT}
 use Rattle.ia_insn.specs.declared.choices.CmpKind.{CmpKind}
@@ -29,7 +30,7 @@ use Rattle.ia_meaning.specs.declared.action.Action.TheVariants.{Compute, Fetch, 
 use Rattle.ia_meaning.specs.Actions.{value_of, result_of, moved}
 use Rattle.ia_meaning.specs.Moves.{computed, fetched, source_value, test_writes, test_made, test_skipped, predicate_writes, to_predicates, to_branch, has_reserved_zeros, application_written, to_application}
 use Rattle.ia_meaning.specs.Loads.{access_fault, loaded, forgotten, has_hit, has_entry, update_register, base_writes, is_speculative, is_check, load_alat, load_nat, deferred, load_hit, load_failed, load_tried, load_checked, from_memory, takes_nat, store_made, to_memory, exchange_made, exchange, check_nat, check_alat, forget}
-use Rattle.ia_meaning.specs.Frames.{with_sizes, has_zero_bases, allocated, cleared, epilog_of, call_writes, lands, marked_frame, return_fault}
+use Rattle.ia_meaning.specs.Frames.{with_sizes, has_zero_bases, allocated, cleared, epilog_of, call_writes, lands, marked_frame, return_fault, returned_frame}
 use Rattle.ia_meaning.specs.Loops.{turn_of, turn_writes, turned}
 use Rattle.ia_meaning.specs.declared.turn.Turn.{Turn}
 use Rattle.ia_meaning.specs.Landings.{target_of}
@@ -127,7 +128,7 @@ ActCases Q s (Call b1 (Indirect b2)) r m unat =
 ActCases Q s (Return b2) r m unat =
     Fails Q m
     × ((to : ℕ) → return_fault r.frame.base (marked_frame r.frame.base r.pfs) ≡ None → arrives s r b2 ≡ Ok to
-    → Q (goes (SetFrame Resized (marked_frame (r.frame.base - (marked_frame r.frame.base r.pfs).sol) r.pfs) ∷ SetEc (epilog_of r.pfs) ∷ []) m to))
+    → Q (goes (SetFrame Resized (returned_frame r.frame.base r.pfs) ∷ SetEc (epilog_of r.pfs) ∷ []) m to))
 ActCases Q s (ClearBases pred_only) r m unat = Q (falls (SetFrame Renamed (cleared pred_only r.frame) ∷ []) m)
 ActCases Q s (Stop unit imm) r m unat = Q (breaks imm m)
 ActCases Q s (Idle unit) r m unat = Q (falls [] m)
@@ -201,15 +202,11 @@ case_tried : (Q : Outcome → Type 0) (o : Option FaultKind) (kind : LoadKind) (
 case_tried Q None kind base e m unat ws is n h k = k.loads n is
 case_tried Q (Some cause) kind base e m unat ws is n h k = case_failed Q cause kind base e m unat ws h k
 
-both_true : (a b : Bool) → (a && b) ≡ true → (a ≡ true) × (b ≡ true)
-both_true true b h = (refl, h)
-both_true false b h = absurd (cc)
-
 case_checked : (Q : Outcome → Type 0) (kind : LoadKind) (base : Cell) (e : AlatEntry) (m : Memory) (unat : ℕ) (ws : List Write)
     → base.nat ≡ false → Fails Q m → LoadCases Q kind base e m unat ws → Q (load_checked kind e m unat ws)
 case_checked Q kind base e m unat ws n h k =
     either Q (is_check kind && has_hit m.alat e) _ _
-    (λ t. let both = both_true (is_check kind) (has_hit m.alat e) t in case_hit Q kind e.key m ws (k.hits n both.0 both.1))
+    (λ t. let both = and_parts (is_check kind) (has_hit m.alat e) t in case_hit Q kind e.key m ws (k.hits n both.0 both.1))
     (λ _. case_tried Q (access_fault m.bytes e.address e.size) kind base e m unat ws refl n h k)
 
 case_load : (Q : Outcome → Type 0) (size : ℕ) (kind : LoadKind) (u : Update) (o p : Option Spot) (x y : Option Cell) (m : Memory) (unat : ℕ) → Fails Q m
@@ -242,16 +239,12 @@ case_store Q size kind u (Some e) (Some base) (Some x) m h k =
     case_faults_or Q (access_fault m.bytes base.value size) m _ h (k e base x refl refl refl n.0 n.1))
 case_store Q size kind u _ _ _ m h k = h OutOfFrame
 
-no_nats : (a b : Bool) → (a || b) ≡ false → (a ≡ false) × (b ≡ false)
-no_nats true b h = absurd (cc)
-no_nats false b h = (refl, h)
-
 case_exchange : (Q : Outcome → Type 0) (size : ℕ) (inc : Option ℤ) (o : Option Spot) (y z : Option Cell) (m : Memory) → Fails Q m
     → ((d : Spot) (base x : Cell) → o ≡ Some d → y ≡ Some base → z ≡ Some x → base.nat ≡ false → x.nat ≡ false → access_fault m.bytes base.value size ≡ None → Q (exchange_made size inc d base.value x.value m))
     → Q (exchange size inc o y z m)
 case_exchange Q size inc (Some d) (Some base) (Some x) m h k =
     either Q (base.nat || x.nat) _ _ (λ _. h NatConsumed)
-    (λ t. let n = no_nats base.nat x.nat t in
+    (λ t. let n = or_parts base.nat x.nat t in
     case_faults_or Q (access_fault m.bytes base.value size) m _ h (k d base x refl refl refl n.0 n.1))
 case_exchange Q size inc _ _ _ m h k = h OutOfFrame
 
@@ -326,7 +319,7 @@ act_cases Q s (Loop kind disp) r m unat h = case_turn Q (turn_of kind true r.lc 
 act_cases Q s (Call b1 (Direct disp)) r m unat h = h
 act_cases Q s (Call b1 (Indirect b2)) r m unat h = case_lands Q (call_writes s.bundle b1 r.frame r.ec) m (arrives s r b2) h.0 h.1
 act_cases Q s (Return b2) r m unat h =
-    case_return Q (return_fault r.frame.base (marked_frame r.frame.base r.pfs)) (marked_frame (r.frame.base - (marked_frame r.frame.base r.pfs).sol) r.pfs)
+    case_return Q (return_fault r.frame.base (marked_frame r.frame.base r.pfs)) (returned_frame r.frame.base r.pfs)
     (epilog_of r.pfs) (arrives s r b2) m h.0 h.1
 act_cases Q s (ClearBases pred_only) r m unat h = h
 act_cases Q s (Stop unit imm) r m unat h = h

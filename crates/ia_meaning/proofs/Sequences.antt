@@ -12,6 +12,7 @@ use Rattle.ia_insn.specs.Bundles.{Bundle, last_slot, IsStopAfter}
 use Rattle.ia_insn.specs.Places.{IsPlaceOf, IsBefore, IsNext, IsStopped}
 use Rattle.ia_insn.specs.Programs.{Program, IsEntry, IsCall, HasCall, IsAfterCall}
 use Rattle.ia_insn.proofs.InOrder.{next_slot, next_bundle, no_next, none_beyond}
+use Rattle.ia_insn.proofs.Reaching.{same_place}
 use Rattle.ia_meaning.specs.Landings.{is_one_of, is_call, has_call, holds_call, is_entry}
 use Rattle.ia_meaning.specs.Sequence.{first_of, next_in, next_of, stops_after, stopped_in, is_stopped}
 
@@ -114,9 +115,6 @@ next_fits bundles place = of (slice_get bundles place.bundle) refl
     of : (o : Option Bundle) → slice_get bundles place.bundle ≡ o → FitsNext bundles place (next_in o (length bundles) place)
     of None e = none_beyond bundles place e
     of (Some b) e = next_in_bundle bundles place b e
-
-same_place : (p q : Place) → p.bundle ≡ q.bundle → p.slot ≡ q.slot → p ≡ q
-same_place p q bundle slot = rw (bundle, slot)
 
 before_or_same : (p q : Place) → (IsBefore p q → ⊥) → (IsBefore q p → ⊥) → p ≡ q
 before_or_same p q h k =

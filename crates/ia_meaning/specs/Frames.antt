@@ -98,8 +98,12 @@ return_fault base f =
     else if nat_lt base f.sol then Some Underflow
     else if nat_lt STACK_LIMIT (base - f.sol + f.sof) then Some StackLimit else None
 
+-- The frame that a return to this previous function state enters, below this base.
+abbrev pub returned_frame : ℕ → ℕ → FrameShape
+returned_frame base pfs = marked_frame (base - (marked_frame base pfs).sol) pfs
+
 -- A return: the frame and EC of the previous function state, below this base.
 abbrev pub returned : ℕ → ℕ → Result ℕ FaultKind → Memory → Outcome
 returned base pfs to m =
     faults_or (return_fault base (marked_frame base pfs)) m
-    (lands (SetFrame Resized (marked_frame (base - (marked_frame base pfs).sol) pfs) ∷ SetEc (epilog_of pfs) ∷ []) m to)
+    (lands (SetFrame Resized (returned_frame base pfs) ∷ SetEc (epilog_of pfs) ∷ []) m to)

@@ -13,7 +13,7 @@ use ia_insn::{
 };
 
 /// What an [`Action::Fetch`] copies into a general register.
-#[derive(Clone, Copy, Debug, PartialEq, Eq)]
+#[derive(Clone, Copy)]
 pub enum FetchSource {
     /// A branch register.
     Branch(Br),
@@ -26,7 +26,7 @@ pub enum FetchSource {
 }
 
 /// Where an [`Action::Call`] goes.
-#[derive(Clone, Copy, Debug, PartialEq, Eq)]
+#[derive(Clone, Copy)]
 pub enum Goal {
     /// So many bundles from its own.
     Direct(i32),
@@ -35,7 +35,7 @@ pub enum Goal {
 }
 
 /// What an [`Action::Compute`] computes of the values of its first and second operand.
-#[derive(Clone, Copy, Debug, PartialEq, Eq)]
+#[derive(Clone, Copy)]
 pub enum Function {
     /// An operation of the arithmetic and logic unit on both.
     Alu(AluFn),
@@ -65,7 +65,7 @@ pub enum Function {
 }
 
 /// What an [`Action::Test`] tests of its first and second operand.
-#[derive(Clone, Copy, Debug, PartialEq, Eq)]
+#[derive(Clone, Copy)]
 pub enum Condition {
     /// The relation of both or, where `four` is set, of their low four bytes.
     Compare { four: bool, rel: Rel },
@@ -78,7 +78,7 @@ pub enum Condition {
 }
 
 /// What an [`Action::ToPredicates`] or an [`Action::ToApplication`] moves.
-#[derive(Clone, Copy, Debug, PartialEq, Eq)]
+#[derive(Clone, Copy)]
 pub enum MovedWord {
     /// The value of the source.
     Register,
@@ -89,7 +89,7 @@ pub enum MovedWord {
 /// The action of an instruction: what it reads, what it computes, what it writes and how it goes on. r0 stands
 /// for an operand that the action has and the instruction lacks: it reads 0. A displacement `disp` is in
 /// bundles from the instruction's own. The small fields stand first, which keeps an action at 24 bytes.
-#[derive(Clone, Copy, Debug, PartialEq, Eq)]
+#[derive(Clone, Copy)]
 pub enum Action {
     /// The function of `r2` and `r3` goes into `r1`.
     Compute {

@@ -3,7 +3,7 @@
 use crate::state::{Cell, FrameShape};
 
 /// Why a frame is written (volume 1, chapter 4, register stack).
-#[derive(Clone, Copy, Debug, PartialEq, Eq)]
+#[derive(Clone, Copy, PartialEq, Eq)]
 pub enum FrameCause {
     /// `alloc`, a call and a return resize it.
     Resized,
@@ -13,7 +13,7 @@ pub enum FrameCause {
 
 /// A write of a register, by the place that holds it, whatever its name is in a frame (volume 1, chapter 3,
 /// instruction sequencing).
-#[derive(Clone, Copy, Debug, PartialEq, Eq)]
+#[derive(Clone, Copy)]
 pub enum Write {
     /// A static general register, by its number.
     SetStatic(u8, Cell),

@@ -2,8 +2,9 @@
 use Rattle.std.proofs.Common.{◌≡◌, inl, inr, ℕ, ◌+◌, ◌*◌, ◌/◌, ◌%◌, ◌<◌, ◌≤◌, List, [], ◌∷◌, length, drop, refl, subst, arith}
 use Rattle.std.proofs.lemmas.List.{take_all, length-take, length-drop}
 use Rattle.bundle_bits.specs.RawBundle.{AreBytes as AreSixteen}
-use Rattle.first_fault.specs.Stages.{Stage, unless, IsFirstFault, ArePassed}
+use Rattle.first_fault.specs.Stages.{Stage, ArePassed}
 use Rattle.first_fault.proofs.Firsts.{none_first}
+use Rattle.first_fault.proofs.Laws.{IsNotOpen, AreNotOpen, unless_not_open, not_without}
 use Rattle.ia_insn.specs.declared.place.Place.{Place}
 use Rattle.ia_insn.specs.declared.relations.Relation.{Relation}
 use Rattle.ia_insn.specs.Bundles.{Bundle}
@@ -12,6 +13,7 @@ use Rattle.ia_insn.specs.Runs.{IsWithinRun}
 use Rattle.ia_insn.specs.Targets.{IsTargetInside}
 use Rattle.ia_insn.specs.Programs.{Program, IsEntryAt, IsProgram, AreBytes, AreInRange}
 use Rattle.ia_insn.proofs.InOrder.{slot_small, bundle_small}
+use Rattle.ia_insn.proofs.Reaching.{place_at-number}
 use Rattle.insn_codec.specs.Laws as codec
 use Rattle.image_form.specs.declared.fault.ImageFault.{ImageFault}
 use Rattle.image_form.specs.declared.fault.ImageFault.TheVariants.{Short, Magic, Counts, Length, Target, LongRun}
@@ -25,25 +27,6 @@ use Rattle.image_form.proofs.RelationBytes.{length-relations_in}
 use Rattle.image_form.proofs.Spelled.{same_bundles, all_spelled, spelled_fit}
 use Rattle.image_form.proofs.Wholes.{ArePartsOf, IsPaddedImage, length-bundle_bytes, counts_right, entries_right, after_entries_are, image_of_parts, raw_counts}
 
--- a stage isn't without a fault unless it is passed
-abbrev IsNotOpen : {Fault : Type 0} → Stage Fault → Type 0
-IsNotOpen s = ((key : s.Key) → s.Finds key → ⊥) → (s.IsPassed → ⊥) → ⊥
-
--- the same of stages of which it is known where those before are passed
-abbrev AreNotOpen : {Fault : Type 0} → List (Stage Fault) → Type 0
-AreNotOpen [] = Unit {0}
-AreNotOpen (s ∷ later) = IsNotOpen s × (s.IsPassed → AreNotOpen later)
-
-not_without : {Fault : Type 0} (stages : List (Stage Fault)) → AreNotOpen stages → ((f : Fault) → IsFirstFault stages f → ⊥) → (ArePassed stages → ⊥) → ⊥
-not_without [] closed none go = go tt
-not_without (s ∷ later) closed none go =
-    closed.0
-    (λ key finds. none (s.fault key) (inl (key, refl, finds)))
-    (λ passed. not_without later (closed.1 passed) (λ f is. none f (inr (passed, is))) (λ others. go (passed, others)))
-
-unless_not_open : {Fault : Type 0} (Holds : Type 0) (f : Fault) → IsNotOpen (unless Holds f)
-unless_not_open Holds f = λ none go. none tt go
-
 -- sixteen bytes are bytes
 sixteen : (bytes : List ℕ) (n : ℕ) → 16 * n + 16 ≤ length bytes → AreBytes bytes → AreSixteen (chunk bytes n)
 sixteen bytes n inside are = record { count = simp (length-take, length-drop) (omega arith); small = bytes_take 16 (drop (16 * n) bytes) (bytes_drop (16 * n) bytes are) }
@@ -56,12 +39,6 @@ spelling_not_open some bytes count size are none go =
     some (chunk bytes n) (sixteen bytes n inside are) (λ b is. unspelled (b, is))
     (λ why fault. none (n, why) (record { inside = inside; fault = fault; first = before })))
     (λ each. let s = all_spelled bytes count each in go (s.0, subst (AreSpelled s.0) (take_all (16 * count) bytes (omega arith)) s.1, tt))
-
-place_back : (p : Place) → p.slot < 3 → place_at (place_number p) ≡ p
-place_back p small =
-    let b : place_number p / 3 ≡ p.bundle = omega arith in
-    let s : place_number p % 3 ≡ p.slot = omega arith in
-    λ i. record { bundle = b i; slot = s i }
 
 lower_number : (q : Place) (i : ℕ) → q.slot < 3 → IsBefore q (place_at i) → place_number q < i
 lower_number q i small (inl less) = omega arith
@@ -82,7 +59,7 @@ none_first_bad bundles Good none go =
     IsGood i = IsPlaceOf bundles (place_at i) → Good (place_at i)
 
     back : (q : Place) → IsPlaceOf bundles q → IsGood (place_number q) → Good q
-    back q p good = subst (λ (r : Place). IsPlaceOf bundles r → Good r) (place_back q (slot_small bundles q p)) good p
+    back q p good = subst (λ (r : Place). IsPlaceOf bundles r → Good r) (place_at-number q (slot_small bundles q p)) good p
 
 place_not_open : (bytes : List ℕ) (fault : Place → ImageFault) (Good : List Bundle → Place → Type 0) → (bundles : List Bundle) → AreSpelled bundles bytes → IsNotOpen (place_stage bytes fault Good)
 place_not_open bytes fault Good bundles spelled none go =

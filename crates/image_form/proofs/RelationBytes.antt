@@ -7,12 +7,10 @@ use Rattle.std.proofs.lemmas.Nat.{from_le_bytes-to_le_bytes_4}
 use Rattle.std.proofs.lemmas.List.{drop-drop, length-drop, get_or-drop, flat_map_more, take_more}
 use Rattle.ia_insn.specs.declared.relations.Relation.{Relation}
 use Rattle.ia_insn.specs.Programs.{AreBytes, relation_at}
+use Rattle.ia_insn.proofs.DeclaredRelations.{same_relation}
 use Rattle.image_form.specs.Images.{eight_bytes, written_relations}
 use Rattle.image_form.specs.Parts.{relation_in, relations_in, IsPadded, ArePadded}
 use Rattle.image_form.proofs.NumberBytes.{bytes_drop, first_four}
-
-same_relation : (r s : Relation) → r.bundle ≡ s.bundle → r.p ≡ s.p → r.q ≡ s.q → r ≡ s
-same_relation r s bundle p q = λ i. record { bundle = bundle i; p = p i; q = q i }
 
 -- the relation from a place on, of what is left from another place on
 relation_in-drop : (n at : ℕ) (bytes : List ℕ) → relation_in (drop n bytes) at ≡ relation_in bytes (n + at)

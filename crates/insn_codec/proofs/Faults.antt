@@ -56,13 +56,16 @@ slots_sound units words = tt
 bundle_sound : (raw : RawBundle) → stages.AreSound (bundle_stages raw)
 bundle_sound raw = (stages.unless_sound (IsTemplate raw.template) ReservedTemplate, slots_sound (units_of raw.template) raw.slots)
 
--- it isn't that it neither finds it nor is passed
-not_open : (Holds : Type 0) → ((key : Unit {0}) → ¬ Holds → ⊥) → (Holds → ⊥) → ⊥
-not_open Holds none go = none tt go
-
+-- no stage of a slot is without its fault unless it is passed
 slots_not_open : (units : List ExecutionUnit) (words : List ℕ) → stages.AreNotOpen (slot_stages units words)
-slots_not_open (u ∷ L ∷ w ∷ []) words = (not_open (HasInsn u 0 words), (not_open (HasLongInsn words), tt))
-slots_not_open (u ∷ v ∷ w ∷ []) words = (not_open (HasInsn u 0 words), (not_open (HasInsn v 1 words), (not_open (HasInsn w 2 words), tt)))
+slots_not_open (u ∷ L ∷ w ∷ []) words = (
+  stages.unless_not_open (HasInsn u 0 words) (Unlisted 0),
+  λ _. (stages.unless_not_open (HasLongInsn words) (Unlisted 1), λ _. tt),
+)
+slots_not_open (u ∷ v ∷ w ∷ []) words = (
+  stages.unless_not_open (HasInsn u 0 words) (Unlisted 0),
+  λ _. (stages.unless_not_open (HasInsn v 1 words) (Unlisted 1), λ _. (stages.unless_not_open (HasInsn w 2 words) (Unlisted 2), λ _. tt)),
+)
 slots_not_open units words = tt
 
 -- bytes have one first fault
@@ -82,7 +85,8 @@ pub fault_where_none_spelled : SomeRaw → FaultWhereNoneSpelled
 fault_where_none_spelled some bytes are none faultless =
     let raw = some bytes are in
     let parts : IsRawOf bytes raw.0 = record { widths = raw.1; number = raw.2 } in
-    stages.not_without (bundle_stages raw.0) (not_open (IsTemplate raw.0.template), slots_not_open (units_of raw.0.template) raw.0.slots)
+    stages.not_without (bundle_stages raw.0)
+    (stages.unless_not_open (IsTemplate raw.0.template) ReservedTemplate, λ _. slots_not_open (units_of raw.0.template) raw.0.slots)
     (λ f is. faultless f (raw.0, parts, is))
     (λ passed. let s = slots_stand (units_of raw.0.template) raw.0.slots (template_units raw.0.template passed.0) passed.1 in
     none (record { template = raw.0.template; slots = s.0 }) (record { raw = raw.0; parts = parts; are = are; code = refl; template = passed.0; slots = s.1 }))

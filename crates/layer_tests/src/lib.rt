@@ -1,5 +1,5 @@
-//! The tests of the crates below the top call but for the two engines, a file each: values from outside, and what no
-//! clause says.
+//! Tests of the crates below the top call, a file each: values from outside, and what no clause says. Those of the two
+//! engines stand with those of whole calls, and those of the register stack in its own crate.
 #![tactic(auto)]
 
 #[cfg(test)]

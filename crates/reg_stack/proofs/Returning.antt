@@ -9,11 +9,11 @@ use Rattle.ia_meaning.specs.declared.state.AlatKey.{AlatKey as Spot}
 use Rattle.ia_meaning.specs.declared.state.AlatKey.TheVariants.{Static, Stacked}
 use Rattle.ia_meaning.specs.State.{zero_cell, IsFrame}
 use Rattle.ia_meaning.specs.Names.{spot, is_stacked, frame_place}
-use Rattle.ia_meaning.specs.Frames.{with_sizes, call_frame, frame_marker, marked_frame, is_frame}
+use Rattle.ia_meaning.specs.Frames.{with_sizes, call_frame, frame_marker, marked_frame, is_frame, returned_frame}
 use Rattle.ia_meaning.proofs.Starts.{frame_decides}
 use Rattle.frame_shapes.specs.declared.fault.StackFault.{StackFault}
 use Rattle.frame_shapes.specs.declared.fault.StackFault.TheVariants.{BadFrame, Underflow, StackLimit}
-use Rattle.frame_shapes.specs.Faults.{alloc_fault_within, return_fault_within, returned_frame}
+use Rattle.frame_shapes.specs.Faults.{alloc_fault_within, return_fault_within}
 use Rattle.reg_stack.specs.Stacks.{StackState, with_cell, entered}
 use Rattle.reg_stack.specs.Returning.{StackCall, Set, Alloc, Call, Return, Rotate, Clear, unless_refused, after_call, after_calls, StaysFrom, CallerFindsItsRegisters}
 use Rattle.reg_stack.proofs.Resizing.{get_or-resized}

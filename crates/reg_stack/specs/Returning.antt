@@ -4,9 +4,9 @@ use Rattle.std.specs.Prelude.{◌≡◌, ℕ, ◌+◌, ◌<◌, ◌≤◌, Bool,
 use Rattle.ia_meaning.specs.declared.state.Cell.{Cell}
 use Rattle.ia_meaning.specs.State.{zero_cell}
 use Rattle.ia_meaning.specs.Names.{spot}
-use Rattle.ia_meaning.specs.Frames.{with_sizes, rotated, cleared, call_frame, frame_marker, marked_frame}
+use Rattle.ia_meaning.specs.Frames.{with_sizes, rotated, cleared, call_frame, frame_marker, marked_frame, returned_frame}
 use Rattle.frame_shapes.specs.declared.fault.StackFault.{StackFault}
-use Rattle.frame_shapes.specs.Faults.{alloc_fault_within, return_fault_within, returned_frame}
+use Rattle.frame_shapes.specs.Faults.{alloc_fault_within, return_fault_within}
 use Rattle.reg_stack.specs.Stacks.{StackState, IsStack, with_cell, entered}
 
 -- the calls that change a register stack, with what they are given

@@ -6,8 +6,8 @@ ghost use Rattle.std.specs.Result.{result_err};
 ghost use Rattle.ia_meaning.specs.declared.limits.TheConstants.{STACK_LIMIT};
 ghost use Rattle.ia_meaning.specs.State.{IsFrame};
 ghost use Rattle.ia_meaning.specs.Names.{spot};
-ghost use Rattle.ia_meaning.specs.Frames.{with_sizes, rotated, cleared, call_frame, marked_frame};
-ghost use Rattle.frame_shapes.specs.Faults.{alloc_fault_within, return_fault_within, returned_frame};
+ghost use Rattle.ia_meaning.specs.Frames.{with_sizes, rotated, cleared, call_frame, marked_frame, returned_frame};
+ghost use Rattle.frame_shapes.specs.Faults.{alloc_fault_within, return_fault_within};
 ghost use Rattle.reg_stack.specs.Stacks.{empty_stack, IsStack, cell_or_fault, place_fault, with_cell, entered};
 
 use crate::moves::{move_cells, zero_ring};

@@ -28,7 +28,7 @@ const FRAME: u8 = 5;
 
 /// The accesses of an instruction, with the bits by which it is soon seen that another one can't clash with it.
 /// Contracts see the list of the accesses.
-#[derive(Debug, Drop)]
+#[derive(Drop)]
 pub struct Masks {
     qp: Pr,
     action: Action,

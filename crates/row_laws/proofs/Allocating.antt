@@ -5,13 +5,13 @@ use Rattle.std.proofs.lemmas.Bool.{cases_eq}
 use Rattle.ia_insn.specs.declared.place.Place.{Place}
 use Rattle.ia_insn.specs.Places.{IsBefore, IsNext, IsPlaceOf}
 use Rattle.ia_insn.specs.Programs.{Program, IsProgram}
+use Rattle.ia_insn.proofs.Reaching.{same_place}
 use Rattle.ia_meaning.specs.Sequence.{first_of}
 use Rattle.predicate_rel.specs.declared.edge.Edge.TheVariants.{Falls, Taken}
 use Rattle.predicate_rel.specs.Edges.{HasEdge}
 use Rattle.predicate_rel.proofs.EdgeEnds.{falls_next}
 use Rattle.flow_facts.specs.Graphs.{InsnRow, over_program, over_row}
 use Rattle.flow_facts.specs.Walks.{Walk, begins, goes_on, end_of, IsWalkIn, group_since}
-use Rattle.flow_facts.proofs.Numbering.{same_place}
 use Rattle.group_checker.specs.Violations.{allocates_at}
 use Rattle.group_checker.proofs.Falling.{before_trans, not_before_itself, place_cases}
 use Rattle.row_laws.specs.Spreads.{IsSpread, KeepsSlotRules, IsHead}

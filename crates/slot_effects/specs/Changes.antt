@@ -1,5 +1,5 @@
 -- What a slot writes, as one change.
-use Rattle.std.specs.Prelude.{◌≡◌, ℕ, ◌-◌, ◌*◌, ◌/◌, ◌%◌, ◌^◌, ◌<◌, ◌≤◌, Bool, false, if◌then◌else◌, List, [], ◌∷◌, Option, Some, None, IsTrue}
+use Rattle.std.specs.Prelude.{◌≡◌, ℕ, ◌*◌, ◌<◌, ◌≤◌, Bool, false, if◌then◌else◌, List, [], ◌∷◌, Option, Some, None, IsTrue}
 use Rattle.ia_insn.specs.declared.registers.Ar.{Ar}
 use Rattle.ia_insn.specs.declared.registers.Ar.TheVariants.{Unat, Pfs, Lc, Ec}
 use Rattle.ia_insn.specs.declared.choices.Update.{Update}
@@ -17,7 +17,7 @@ use Rattle.ia_meaning.specs.Names.{spot, look, set_spot, predicate_spot, set_pre
 use Rattle.ia_meaning.specs.Outcomes.{Outcome}
 use Rattle.ia_meaning.specs.Moves.{predicate_writes}
 use Rattle.ia_meaning.specs.Loads.{access_fault, stored, forgotten, entered, untouched, update_register, base_writes, unat_bit}
-use Rattle.ia_meaning.specs.Frames.{with_sizes, cleared, epilog_of, call_state, call_frame, marked_frame, return_fault}
+use Rattle.ia_meaning.specs.Frames.{with_sizes, cleared, epilog_of, call_state, call_frame, marked_frame, return_fault, returned_frame}
 use Rattle.ia_meaning.specs.Loops.{turn_of, turn_writes}
 use Rattle.frame_shapes.specs.Faults.{alloc_fault}
 use Rattle.slot_effects.specs.declared.change.Change.{Change}
@@ -80,7 +80,7 @@ writes_of r (Turned kind qp) = turn_writes (turn_of kind qp r.lc r.ec) r.frame
 writes_of r (Called b1 address) =
     SetBranch b1 address ∷ SetPfs (call_state r.frame r.ec) ∷ SetFrame Resized (call_frame r.frame) ∷ []
 writes_of r Returned =
-    SetFrame Resized (marked_frame (r.frame.base - (marked_frame r.frame.base r.pfs).sol) r.pfs)
+    SetFrame Resized (returned_frame r.frame.base r.pfs)
     ∷ SetEc (epilog_of r.pfs) ∷ []
 writes_of r (Cleared pred_only) = SetFrame Renamed (cleared pred_only r.frame) ∷ []
 

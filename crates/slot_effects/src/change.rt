@@ -9,7 +9,7 @@ use ia_meaning::Cell;
 /// It holds what the slot read and computed, and no value that is found again where the change is made: no new
 /// base, no entry of the ALAT, no turn of a loop. So it is small, as the speed of a run wants it; the small
 /// fields of a variant come first, since fields lie in their order.
-#[derive(Clone, Copy, Debug)]
+#[derive(Clone, Copy)]
 pub enum Change {
     /// Nothing.
     Nothing,

@@ -21,7 +21,7 @@ use nat_alat::MemFault;
 use sem_ops::exchanged;
 
 /// A load whose registers are in the frame.
-#[derive(Clone, Copy, Debug)]
+#[derive(Clone, Copy)]
 struct FoundLoad {
     /// The load type.
     kind: LoadKind,

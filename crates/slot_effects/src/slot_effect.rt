@@ -9,7 +9,7 @@ use ia_insn::FaultKind;
 use ia_meaning::Next;
 
 /// What a slot does: what it writes, and how the run goes on.
-#[derive(Clone, Copy, Debug)]
+#[derive(Clone, Copy)]
 pub struct SlotEffect {
     /// What it writes.
     pub change: Change,

@@ -6,13 +6,14 @@ use Rattle.ia_insn.specs.declared.choices.Unit.{Unit as ExecutionUnit}
 use Rattle.ia_insn.specs.declared.choices.Unit.TheVariants as units
 use Rattle.ia_insn.specs.Templates.{units_of}
 use Rattle.ia_insn.specs.Bundles.{Bundle, last_slot}
+use Rattle.ia_insn.proofs.Tests.{all_below, left, right}
 use Rattle.slot_layouts.specs.declared.classes.SlotClass.{SlotClass}
 use Rattle.slot_layouts.specs.declared.classes.SlotClass.TheVariants.{A, M, B}
 use Rattle.slot_layouts.specs.declared.layout.Wanted.{Wanted}
 use Rattle.slot_layouts.specs.Layouts.{are_rising, first_below, laid_out}
 use Rattle.slot_layouts.specs.Filled.{filled}
 use Rattle.slot_layouts.specs.Laws.{has_stop}
-use Rattle.slot_layouts.proofs.Tables.{wanted, each_class, at_class, entailed, each_bool, at_bool, HoldsUpToThree, for_every, all_below, any_below, left, right}
+use Rattle.slot_layouts.proofs.Tables.{wanted, each_class, at_class, entailed, each_bool, at_bool, HoldsUpToThree, for_every, any_below}
 use Rattle.slot_layouts.proofs.FirstLayouts.{too_long}
 
 abbrev pub is_m : SlotClass → Bool
@@ -146,14 +147,54 @@ hold_if_some ws end (Some layout) = facts ws end layout.0 layout.1
 abbrev facts_hold : List Wanted → Bool
 facts_hold ws = each_bool (λ end. hold_if_some ws end (laid_out ws end))
 
-facts_up_to_three : HoldsUpToThree facts_hold
+-- the front of a list, all but its last one, has a layout where the whole has one
+abbrev front_of : List Wanted → List Wanted
+front_of [] = []
+front_of (w ∷ []) = []
+front_of (w ∷ x ∷ ws) = w ∷ front_of (x ∷ ws)
+
+abbrev is_laid_out_if : Option (ℕ × List ℕ) → List Wanted → Bool
+is_laid_out_if whole [] = true
+is_laid_out_if whole (w ∷ ws) = not (is_some whole) || is_some (laid_out (w ∷ ws) false)
+
+abbrev front_holds : List Wanted → Bool
+front_holds ws = each_bool (λ end. is_laid_out_if (laid_out ws end) (front_of ws))
+
+-- with a stop at the end: the same slots, and the next code
+abbrev same_slots : List ℕ → List ℕ → Bool
+same_slots [] [] = true
+same_slots (k ∷ ks) (l ∷ ls) = (k == l) && same_slots ks ls
+same_slots ks ls = false
+
+abbrev same_layout : Option (ℕ × List ℕ) → Option (ℕ × List ℕ) → Bool
+same_layout None None = true
+same_layout (Some a) (Some b) = (a.0 == b.0) && same_slots a.1 b.1
+same_layout a b = false
+
+abbrev with_next_code : Option (ℕ × List ℕ) → Option (ℕ × List ℕ)
+with_next_code o = option_map (λ layout. (layout.0 + 1, layout.1)) o
+
+abbrev end_takes_next : List Wanted → Bool
+end_takes_next ws = same_layout (laid_out ws true) (with_next_code (laid_out ws false))
+
+-- all of it holds of each list of up to three: a computation
+abbrev holds_all : List Wanted → Bool
+holds_all ws = facts_hold ws && (front_holds ws && end_takes_next ws)
+
+all_up_to_three : HoldsUpToThree holds_all
 unfolding laid_out first_below
-facts_up_to_three = record { none = refl; one = λ g. refl; two = λ g. refl; three = λ g. refl }
+all_up_to_three = record { none = refl; one = λ g. refl; two = λ g. refl; three = λ g. refl }
+
+-- and of each list, as a longer one has no layout
+all_hold : (ws : List Wanted) → (facts_hold ws ≡ true) × ((front_holds ws ≡ true) × (end_takes_next ws ≡ true))
+all_hold ws =
+    let all = for_every holds_all all_up_to_three (λ w x y z ws. rw (too_long w x y z ws true, too_long w x y z ws false) refl) ws in
+    let others = right (facts_hold ws) (front_holds ws && end_takes_next ws) all in
+    (left (facts_hold ws) (front_holds ws && end_takes_next ws) all, (left (front_holds ws) (end_takes_next ws) others, right (front_holds ws) (end_takes_next ws) others))
 
 pub facts_at : (ws : List Wanted) (end : Bool) (code : ℕ) (ks : List ℕ) → laid_out ws end ≡ Some (code, ks) → AreFacts ws end code ks
 facts_at ws end code ks is =
-    let all = for_every facts_hold facts_up_to_three (λ w x y z ws. rw (too_long w x y z ws true, too_long w x y z ws false) refl) ws in
-    let here : hold_if_some ws end (laid_out ws end) ≡ true = at_bool (λ end. hold_if_some ws end (laid_out ws end)) all end in
+    let here : hold_if_some ws end (laid_out ws end) ≡ true = at_bool (λ end. hold_if_some ws end (laid_out ws end)) (all_hold ws).0 end in
     facts_of ws end code ks (subst (λ l. hold_if_some ws end l ≡ true) is here)
 
 -- each single instruction has a layout
@@ -167,47 +208,19 @@ one_is_laid_out w end =
     (at_class (λ a. each_bool (λ end. is_some (laid_out (wanted a w.gap ∷ []) end))) (singles w.gap) w.class)
     end
 
--- a list without its last one has a layout where the whole has one
-abbrev front_of : List Wanted → List Wanted
-front_of [] = []
-front_of (w ∷ []) = []
-front_of (w ∷ x ∷ ws) = w ∷ front_of (x ∷ ws)
-
-abbrev is_laid_out_if : Option (ℕ × List ℕ) → List Wanted → Bool
-is_laid_out_if whole [] = true
-is_laid_out_if whole (w ∷ ws) = not (is_some whole) || is_some (laid_out (w ∷ ws) false)
-
-abbrev front_holds : List Wanted → Bool
-front_holds ws = each_bool (λ end. is_laid_out_if (laid_out ws end) (front_of ws))
-
-fronts_up_to_three : HoldsUpToThree front_holds
-unfolding laid_out first_below
-fronts_up_to_three = record { none = refl; one = λ g. refl; two = λ g. refl; three = λ g. refl }
-
 front_of-append : (ws : List Wanted) (x : Wanted) → front_of (ws ++ x ∷ []) ≡ ws
 front_of-append [] x = refl
 front_of-append (w ∷ []) x = refl
 front_of-append (w ∷ y ∷ ws) x = ap (λ (l : List Wanted). w ∷ l) (front_of-append (y ∷ ws) x)
 
+-- a list without its last one has a layout where the whole has one
 pub front_is_laid_out : (w : Wanted) (ws : List Wanted) (x : Wanted) (end : Bool) → IsSome (laid_out (w ∷ ws ++ x ∷ []) end) → IsSome (laid_out (w ∷ ws) false)
 front_is_laid_out w ws x end whole =
     let list = w ∷ ws ++ x ∷ [] in
-    let all = for_every front_holds fronts_up_to_three (λ w x y z ws. rw (too_long w x y z ws true, too_long w x y z ws false) refl) list in
-    let here : is_laid_out_if (laid_out list end) (front_of list) ≡ true = at_bool (λ end. is_laid_out_if (laid_out list end) (front_of list)) all end in
+    let here : is_laid_out_if (laid_out list end) (front_of list) ≡ true = at_bool (λ end. is_laid_out_if (laid_out list end) (front_of list)) (all_hold list).1.0 end in
     let there : is_laid_out_if (laid_out list end) (w ∷ ws) ≡ true =
     subst (λ front. is_laid_out_if (laid_out list end) front ≡ true) (front_of-append (w ∷ ws) x) here in
     entailed (is_some (laid_out list end)) (is_some (laid_out (w ∷ ws) false)) there whole
-
--- with a stop at the end: the same slots, and the next code
-abbrev same_slots : List ℕ → List ℕ → Bool
-same_slots [] [] = true
-same_slots (k ∷ ks) (l ∷ ls) = (k == l) && same_slots ks ls
-same_slots ks ls = false
-
-abbrev same_layout : Option (ℕ × List ℕ) → Option (ℕ × List ℕ) → Bool
-same_layout None None = true
-same_layout (Some a) (Some b) = (a.0 == b.0) && same_slots a.1 b.1
-same_layout a b = false
 
 same_slots-true : (ks ls : List ℕ) → same_slots ks ls ≡ true → ks ≡ ls
 same_slots-true [] [] h = refl
@@ -227,17 +240,7 @@ same_layout-true (Some a) (Some b) h =
     let f : a.1 ≡ b.1 = same_slots-true a.1 b.1 (right (a.0 == b.0) (same_slots a.1 b.1) h) in
     ap (λ (code : ℕ). Some (code, a.1)) e ∙ ap (λ (ks : List ℕ). Some (b.0, ks)) f
 
-abbrev with_next_code : Option (ℕ × List ℕ) → Option (ℕ × List ℕ)
-with_next_code o = option_map (λ layout. (layout.0 + 1, layout.1)) o
-
-abbrev end_takes_next : List Wanted → Bool
-end_takes_next ws = same_layout (laid_out ws true) (with_next_code (laid_out ws false))
-
-ends_up_to_three : HoldsUpToThree end_takes_next
-unfolding laid_out first_below
-ends_up_to_three = record { none = refl; one = λ g. refl; two = λ g. refl; three = λ g. refl }
-
+-- with a stop at the end a list takes the same slots and the next code
 pub end_takes_next_code : (ws : List Wanted) → laid_out ws true ≡ option_map (λ layout. (layout.0 + 1, layout.1)) (laid_out ws false)
 end_takes_next_code ws =
-    same_layout-true (laid_out ws true) (with_next_code (laid_out ws false))
-    (for_every end_takes_next ends_up_to_three (λ w x y z ws. rw (too_long w x y z ws true, too_long w x y z ws false) refl) ws)
+    same_layout-true (laid_out ws true) (with_next_code (laid_out ws false)) (all_hold ws).1.1

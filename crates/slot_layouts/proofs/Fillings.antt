@@ -1,5 +1,5 @@
 -- What the bundle of a template holds that is filled by instructions in given slots.
-use Rattle.std.proofs.Common.{arith, rules, ◌≡◌, ℕ, zero, suc, ◌<◌, ◌≤◌, ◌⊎◌, inr, refl, sym, subst, Bool, true, false, ◌&&◌, ◌||◌, ◌==◌, eqb, is_none, ◌/◌, List, [], ◌∷◌, Option, Some, None, slice_get, lit<, if◌then◌else◌, IsSome}
+use Rattle.std.proofs.Common.{arith, rules, ◌≡◌, ℕ, zero, suc, ◌<◌, ◌≤◌, inr, refl, sym, subst, Bool, true, false, ◌&&◌, ◌||◌, eqb, is_none, ◌/◌, List, [], ◌∷◌, Option, Some, None, slice_get, lit<, if◌then◌else◌, IsSome}
 use Rattle.std.specs.Prelude.{◌≢◌}
 use Rattle.std.proofs.lemmas.Bool.{eqb-true, eq-eqb, ltb-true}
 use Rattle.std.proofs.lemmas.Bool.Decides.{nat_tests}
@@ -12,13 +12,13 @@ use Rattle.ia_insn.specs.Templates.{IsTemplate, Shape, shape_of, units_of}
 use Rattle.ia_insn.specs.Fits.{Fits}
 use Rattle.ia_insn.specs.Bundles.{IsBundle, FitUnits, slot_insn, last_slot}
 use Rattle.ia_insn.proofs.TemplateCodes.{code_small}
+use Rattle.ia_insn.proofs.Tests.{left, right, all_below, below}
 use Rattle.ia_meaning.specs.Sequence.{stops_after}
 use Rattle.slot_layouts.specs.declared.layout.Wanted.{Wanted}
 use Rattle.slot_layouts.specs.Classes.{has_place}
 use Rattle.slot_layouts.specs.Layouts.{fits_slot, all_fit, are_rising, is_layout}
 use Rattle.slot_layouts.specs.Filled.{nop_of, slot_content, contents, filled, AreOf}
 use Rattle.slot_layouts.specs.Laws.{has_stop}
-use Rattle.slot_layouts.proofs.Tables.{left, right, all_below, below}
 use Rattle.slot_layouts.proofs.Facts.{blank, last_place, is_narrow, is_shape}
 use Rattle.slot_layouts.proofs.Families.{place_fits}
 use Rattle.slot_layouts.proofs.FirstLayouts.{is_template}

@@ -1,5 +1,5 @@
 -- The first layout of a list is a layout, and a list of more than three instructions has none.
-use Rattle.std.proofs.Common.{arith, ◌≡◌, ℕ, zero, suc, ◌+◌, ◌/◌, ◌<◌, ◌⊎◌, inl, inr, ◌↔◌, ltb, refl, sym, ◌∙◌, subst, ap, add-one, Bool, true, false, IsTrue, ◌&&◌, cond, List, [], ◌∷◌, length, take, drop, filter, find, get_or, Contains, slice_get, Option, Some, None, IsSome, option_map, unwrap_or}
+use Rattle.std.proofs.Common.{arith, ◌≡◌, ℕ, zero, suc, ◌+◌, ◌/◌, ◌<◌, inl, inr, ◌↔◌, ltb, refl, sym, ◌∙◌, subst, ap, add-one, Bool, true, false, IsTrue, ◌&&◌, cond, List, [], ◌∷◌, length, take, drop, filter, find, get_or, Contains, slice_get, Option, Some, None, IsSome, option_map, unwrap_or}
 use Rattle.std.specs.Option.{option_or}
 use Rattle.std.proofs.lemmas.Bool.{ltb-true, and_right}
 use Rattle.ia_insn.specs.declared.choices.Unit.{Unit as ExecutionUnit}
@@ -9,12 +9,12 @@ use Rattle.ia_insn.specs.declared.insn.Op.TheVariants.{Nop}
 use Rattle.ia_insn.specs.declared.bundle.Slots.TheVariants.{Three}
 use Rattle.ia_insn.specs.Bundles.{Bundle}
 use Rattle.ia_insn.specs.Templates.{IsTemplate, Shape, shape_of, no_shape, units_of, stops_of}
+use Rattle.ia_insn.proofs.Tests.{left, right, last_or_below}
 use Rattle.ia_meaning.specs.Landings.{is_one_of}
 use Rattle.ia_meaning.specs.Sequence.{is_stopped}
 use Rattle.ia_meaning.proofs.Sequences.{stop_same}
 use Rattle.slot_layouts.specs.declared.layout.Wanted.{Wanted}
 use Rattle.slot_layouts.specs.Layouts.{fits_slot, all_fit, are_rising, has_none_before, is_layout, rising_slots, least_slots, first_below, laid_out}
-use Rattle.slot_layouts.proofs.Tables.{left, right, order}
 
 -- what is found passes the test
 pub found_passes : (p : List ℕ → Bool) (lists : List (List ℕ)) (ks : List ℕ) → find p lists ≡ Some ks → p ks ≡ true
@@ -140,7 +140,7 @@ found_below : (bound code : ℕ) (ws : List Wanted) (end : Bool) (ks : List ℕ)
 unfolding first_below
 found_below zero code ws end ks less none here = absurd (omega arith)
 found_below (suc bound) code ws end ks less none here =
-    elim (order code bound less) as (λ _. first_below (suc bound) ws end ≡ Some (code, ks)) [
+    elim (last_or_below code bound less) as (λ _. first_below (suc bound) ws end ≡ Some (code, ks)) [
       | inl is ↦ else_found (first_below bound ws end) _ (code, ks) (subst (λ m. first_below m ws end ≡ None) is none)
           (ap (option_map (λ ks. (bound, ks))) (subst (λ m. least_slots m ws end ≡ Some ks) is here) ∙ ap (λ (m : ℕ). Some (m, ks)) (sym is))
       | inr lower ↦ first_found (first_below bound ws end) _ (code, ks) (found_below bound code ws end ks lower none here)

@@ -7,12 +7,13 @@ use Rattle.std.proofs.lemmas.Option.{same_Some}
 use Rattle.ia_insn.specs.declared.insn.Insn.{Insn}
 use Rattle.ia_insn.specs.Templates.{units_of}
 use Rattle.ia_insn.specs.Bundles.{slot_insn, last_slot}
+use Rattle.ia_insn.proofs.Tests.{left, right, below}
 use Rattle.slot_layouts.specs.declared.classes.SlotClass.TheVariants.{A, M, B}
 use Rattle.slot_layouts.specs.declared.layout.Wanted.{Wanted}
 use Rattle.slot_layouts.specs.Layouts.{are_rising, laid_out}
 use Rattle.slot_layouts.specs.Filled.{nop_of, filled}
 use Rattle.slot_layouts.specs.Laws.{HoldsInOrder, has_stop, HasNoStop, HasOneStop, HasStopWhere, HasStopsAsWanted}
-use Rattle.slot_layouts.proofs.Tables.{left, right, below, some_below, entailed}
+use Rattle.slot_layouts.proofs.Tables.{some_below, entailed}
 use Rattle.slot_layouts.proofs.Facts.{is_m, is_m_or_a, is_b, blank, last_place, is_no_stop, no_stop_in, is_only_stop, one_stop_in, stop_in_where, stop_right_before, is_as, each_pair, at_last, at_first, each_slot, pair_holds, last_holds, first_holds, AreFacts, facts_at}
 use Rattle.slot_layouts.proofs.Fillings.{has_stop-filled, last_slot-filled, IsPut, put_at, within_last, rising_pair, rest_rises, content-listed, content-other}
 

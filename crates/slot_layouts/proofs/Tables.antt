@@ -1,18 +1,10 @@
 -- Tests of all lists of instructions and of all template codes, by computation.
-use Rattle.std.proofs.Common.{arith, ◌≡◌, ℕ, zero, suc, ◌<◌, ◌⊎◌, inl, inr, refl, sym, subst, Bool, true, false, ◌&&◌, ◌||◌, not, List, [], ◌∷◌}
+use Rattle.std.proofs.Common.{◌≡◌, ℕ, zero, suc, inl, inr, Bool, true, false, ◌&&◌, ◌||◌, not, List, [], ◌∷◌}
 use Rattle.std.proofs.lemmas.Bool.{or_cases}
+use Rattle.ia_insn.proofs.Tests.{left, right}
 use Rattle.slot_layouts.specs.declared.classes.SlotClass.{SlotClass}
 use Rattle.slot_layouts.specs.declared.classes.SlotClass.TheVariants.{A, I, M, F, B, Loop, X}
 use Rattle.slot_layouts.specs.declared.layout.Wanted.{Wanted}
-
--- both of two tests that hold together
-pub left : (a b : Bool) → (a && b) ≡ true → a ≡ true
-left true b h = refl
-left false b h = h
-
-pub right : (a b : Bool) → (a && b) ≡ true → b ≡ true
-right true b h = h
-right false b h = absurd (cc)
 
 abbrev pub wanted : SlotClass → Bool → Wanted
 wanted class gap = record { class = class; gap = gap }
@@ -90,22 +82,6 @@ for_every t holds more (w ∷ x ∷ y ∷ []) =
     let at_c = at_class (λ c. each_bool (list w.class x.class x.gap c)) at_h y.class in
     at_bool (list w.class x.class x.gap y.class) at_c y.gap
 for_every t holds more (w ∷ x ∷ y ∷ z ∷ ws) = more w x y z ws
-
--- a test of each number below a bound
-abbrev pub all_below : (ℕ → Bool) → ℕ → Bool
-all_below p zero = true
-all_below p (suc n) = p n && all_below p n
-
-pub order : (k n : ℕ) → k < suc n → (k ≡ n) ⊎ (k < n)
-order k n h = grind arith
-
-pub below : (p : ℕ → Bool) (n k : ℕ) → all_below p n ≡ true → k < n → p k ≡ true
-below p zero k all h = absurd (omega arith)
-below p (suc n) k all h =
-    elim (order k n h) as (λ _. p k ≡ true) [
-      | inl e ↦ subst (λ m. p m ≡ true) (sym e) (left (p n) (all_below p n) all)
-      | inr less ↦ below p n k (right (p n) (all_below p n) all) less
-    ]
 
 -- a test of some number below a bound
 abbrev pub any_below : (ℕ → Bool) → ℕ → Bool

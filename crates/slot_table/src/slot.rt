@@ -9,7 +9,7 @@ use ia_meaning::{Action, action_of};
 use predicate_rel::Edge;
 
 /// What can be said of the instruction at a place before it runs.
-#[derive(Clone, Copy, Debug, PartialEq, Eq)]
+#[derive(Clone, Copy)]
 pub struct Slot {
     /// The action of the instruction.
     pub action: Action,

@@ -14,7 +14,7 @@ use std::alloc::{AllocError, Global};
 use std::marker::Model;
 
 /// The slots of a program, by the numbers of their places. Contracts see the program.
-#[derive(Debug, Drop)]
+#[derive(Drop)]
 pub struct SlotTable<'a> {
     program: &'a Program,
     slots: Vec<Option<Slot>>,

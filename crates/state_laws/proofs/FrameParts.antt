@@ -5,7 +5,7 @@ use Rattle.std.proofs.lemmas.Nat.{mod_below}
 use Rattle.ia_meaning.specs.declared.state.FrameShape.{FrameShape}
 use Rattle.ia_meaning.specs.State.{IsWord, HasReservedZeros, IsFrame}
 use Rattle.ia_meaning.specs.declared.limits.TheConstants.{STACK_LIMIT}
-use Rattle.ia_meaning.specs.Frames.{with_sizes, has_zero_bases, rotated, cleared, frame_marker, marked_frame, call_state, call_frame, return_fault}
+use Rattle.ia_meaning.specs.Frames.{with_sizes, has_zero_bases, rotated, cleared, frame_marker, marked_frame, call_state, call_frame, return_fault, returned_frame}
 use Rattle.ia_meaning.proofs.ReturnFrames.{may_return, moved_frame}
 
 -- a frame whose cells are no more than there may be
@@ -50,7 +50,7 @@ called_within f (h, within) =
     (record { size = omega arith; locals = omega arith; rotating = omega arith; general = inr refl; floating = omega arith; predicates = omega arith }, omega arith)
 
 -- that of a return
-pub returned_within : (base pfs : ℕ) → return_fault base (marked_frame base pfs) ≡ None → IsFrameWithin (marked_frame (base - (marked_frame base pfs).sol) pfs)
+pub returned_within : (base pfs : ℕ) → return_fault base (marked_frame base pfs) ≡ None → IsFrameWithin (returned_frame base pfs)
 unfolding marked_frame
 returned_within base pfs e =
     let may = may_return base (marked_frame base pfs) e in

@@ -9,6 +9,7 @@ use Rattle.ia_insn.specs.declared.limits.TheConstants.{BUNDLE_LIMIT}
 use Rattle.ia_insn.specs.declared.place.Place.{Place}
 use Rattle.ia_insn.specs.Places.{IsBefore}
 use Rattle.ia_insn.specs.Programs.{Program, IsProgram}
+use Rattle.ia_insn.proofs.Reaching.{same_place}
 use Rattle.ia_meaning.specs.Sequence.{first_of, is_stopped}
 use Rattle.predicate_rel.specs.declared.edge.Edge.TheVariants.{Falls}
 use Rattle.flow_facts.specs.Graphs.{InsnRow, over_program, over_row, IsEdgeIn}
@@ -152,7 +153,7 @@ without_elsewhere p q place other = of (is_stopped p.bundles place) (place.bundl
     of false b c x y = refl
     of true false c x y = refl
     of true true false x y = refl
-    of true true true x y = absurd (other (λ i. record { bundle = bundle i; slot = slot i }))
+    of true true true x y = absurd (other (same_place place q bundle slot))
       where
         bundle : place.bundle ≡ q.bundle
         bundle = grind (arith, nat_tests)
