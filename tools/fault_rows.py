@@ -88,7 +88,7 @@ def base_of_its_target(word):
 def out_of_range(row):
     """The changes that put an operand of the row out of its range: the hint of a load, a store, a
     semaphore or a move to a branch register, the base of an update, and the parts of a frame."""
-    has_update = "update: None" not in row.debug.template
+    has_update = row.text.template.endswith(("],$r2", ",$imm"))
     if row.name == "Load":
         return [field(28, 2, 2)] + has_update * [field(20, 7, 0), base_of_its_target]
     if row.name in ("Xchg", "FetchAdd"):

@@ -1,4 +1,4 @@
-"""Texts of slot lines beside those of the table of instructions, and lines that aren't slots.
+"""Texts of slot lines beside those of the table of instructions, lines that aren't slots, and the words of lines.
 
 In a text `$name` stands for an operand that is drawn (`OPERANDS`), `$n` for the number that is tried,
 and `%` for the label of the text's own bundle.
@@ -8,11 +8,11 @@ from instruction_rows import BR, GR, I_AR, LOW_GR, PR, TARGET, Operand, choice, 
 
 OPERANDS = {
     "r1": TARGET, "r2": GR, "r3": GR, "low": LOW_GR,
-    "high": register("r", "Gr", 4, 127), "p1": PR, "p2": PR, "b1": BR, "b2": BR,
+    "high": register("r", 4, 127), "p1": PR, "p2": PR, "b1": BR, "b2": BR,
     "ar": I_AR, "n": Operand(0, 63), "imm8": signed(8), "imm14": signed(14), "imm22": signed(22),
     "less8": Operand(-127, 128), "above14": Operand(8192, (1 << 21) - 1),
     "below14": Operand(-(1 << 21), -8193), "number": Operand(0, (1 << 21) - 1, hex),
-    "four": choice(("", ""), ("4", "")), "unc": choice(("", ""), (".unc", "")),
+    "four": choice("", "4"), "unc": choice("", ".unc"),
 }
 
 # What a pseudo-operation means: the units, its text, and the text of the instruction that it is.
@@ -255,4 +255,78 @@ LINES = (
     ("stop", " ;; // a stop"),
     ("close", "}"),
     ("close", "\t} //"),
+)
+
+# Lines and their words: of each its kind, its start and its end.
+WORDS = (
+    ("", ""),
+    ("", " \t // add r1"),
+    ("name 1 4 name 5 7 mark 7 8 name 8 10 mark 11 13", "\tadd r1=r2 ;;// r3"),
+    ("name 0 3 mark 4 5 number 5 7 mark 8 9 number 10 11", "_a$#=-5 - 5"),
+    ("name 0 1 mark 2 3 number 3 6", "a##1x."),
+    ("name 0 1 quoted 1 6 number 6 7 mark 8 9", 'a"// "1 "'),
+    ("quoted 0 2 mark 2 3", '"",// "'),
+    ("name 0 1 mark 2 3 mark 3 4", "a #/"),
+    ("number 0 1 mark 1 2 mark 2 4 mark 4 5", "1#;;;"),
+)
+
+
+def numbered(name, number):
+    return f"{name}({name} {{ number: {number} }})"
+
+
+def signed_number(negative, magnitude):
+    return f"Number {{ negative: {str(negative).lower()}, magnitude: {magnitude} }}"
+
+
+# Words, and what each may be read as, as the derived `Debug` prints it.
+WORD_TOKENS = (
+    (numbered("Gr", 1), "gp"),
+    (numbered("Gr", 12), "sp"),
+    (numbered("Gr", 13), "tp"),
+    *((numbered("Gr", 8 + n), f"ret{n}") for n in range(4)),
+    ("Name", "ret4"),
+    (numbered("Br", 0), "rp"),
+    *((f"Ar({name.capitalize()})", f"ar.{name}") for name in ("unat", "pfs", "lc", "ec")),
+    ("Predicates", "pr"),
+    ("RotatingPredicates", "pr.rot"),
+    ("Ip", "ip"),
+    (numbered("Gr", 0), "r0"),
+    (numbered("Gr", 127), "r127"),
+    *(("Name", name) for name in ("r128", "r08", "r", "R8")),
+    (numbered("Pr", 63), "p63"),
+    ("Name", "p64"),
+    (numbered("Br", 7), "b7"),
+    ("Name", "b8"),
+    ("Symbol", ".b7"),
+    ("Symbol", "_"),
+    (signed_number(False, 16), "0x10"),
+    (signed_number(False, 255), "0xfF"),
+    ("Malformed", "0X10"),
+    (signed_number(False, 8), "08"),
+    (signed_number(False, 0), "0"),
+    *(("Malformed", word) for word in ("0x", "1x", "12q", "1.5")),
+    (signed_number(False, (1 << 64) - 1), "18446744073709551615"),
+    ("TooLarge", "18446744073709551616"),
+    ("TooLarge", "0x10000000000000000"),
+    (signed_number(True, 1), "-1"),
+    (signed_number(True, 0), "-0"),
+    (signed_number(True, 16), "-0x10"),
+    ("Mutex", '"mutex"'),
+    ("Quoted", '"imply"'),
+    ("Equals", "="),
+    ("Comma", ","),
+    ("OpenBracket", "["),
+    ("CloseBracket", "]"),
+    ("OpenParenthesis", "("),
+    ("CloseParenthesis", ")"),
+    ("OpenBrace", "{"),
+    ("CloseBrace", "}"),
+    ("Colon", ":"),
+    ("Stop", ";;"),
+    ("OtherMark", ";"),
+    ("LongName", "a" * 64),
+    ("Name", "a" * 63),
+    ("LongSymbol", "." * 64),
+    ("Symbol", "." * 63),
 )

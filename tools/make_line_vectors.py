@@ -19,8 +19,10 @@ A line of `stdin` is one of these rows:
   has them, but for numbers past their edges, which are made here. The specification says what the
   fault is, and not the assembler.
 - `line WHAT|TEXT`: a line that isn't a slot's, and what it is (`line_texts.py`).
+- `words WORDS|TEXT`: a line and its words, and `token WHAT|TEXT`: a line of one word, and the debug text
+  of what the word may be read as (`line_texts.py`).
 
-The last lines are wrong on purpose, and `stdout` has `line_vectors` name them.
+The last lines are wrong on purpose, and `stdout` has `line_vectors` name the first ten of them.
 
 The assembler is given the text of a row as it stands, but where it doesn't take it or means something
 else by it. There it is given the same in its own words (`said`), and a comment says why:
@@ -52,10 +54,13 @@ import line_texts
 from gnu_as import SEPARATOR, TEMPLATES, nops, stop, units
 from instruction_rows import ROWS, combinations, last_of_a_group
 from line_faults import FAULTS
-from line_texts import EDGES, LINES, LONG, OTHERWISE, ODD_LABELS, PSEUDO, SHORT_SUM, TAG
+from line_texts import EDGES, LINES, LONG, OTHERWISE, ODD_LABELS, PSEUDO, SHORT_SUM, TAG, WORD_TOKENS, WORDS, numbered
 from make_vectors import PLACES
 
 FOLDER = Path(__file__).resolve().parent.parent / "crates" / "line_vectors"
+
+# How many differing lines the program names.
+NAMED = 10
 
 # How often a row of each table is drawn.
 DRAWN = 1
@@ -162,10 +167,10 @@ def of_row(row, values):
     if "disp" in texts:
         texts["disp"] = given["disp"] = "%"
     if "tag" in texts:
-        texts["tag"] = str(values["tag"])
+        texts["tag"] = row.operands["tag"].line(values["tag"])
     if row.name in ("Break", "Nop", "Hint"):
         # in the profile's number, where the assembler's is another
-        texts["imm"] = hex(int(row.operands["imm"].debug(values["imm"])))
+        texts["imm"] = row.operands["imm"].line(values["imm"])
     predicate = f"(p{values['qp']}) " if values["qp"] else ""
     more = row.more(values)
     text, said = (predicate + row.text.substitute(own, **more) for own in (texts, given))
@@ -444,6 +449,12 @@ def lines():
     return [f"line {what}|{text}\n" for what, text in LINES]
 
 
+def words():
+    print(f"lines and their words: {len(WORDS)}, and words and their tokens: {len(WORD_TOKENS)}")
+    return [f"{kind} {what}|{text}\n" for kind, rows in (("words", WORDS), ("token", WORD_TOKENS))
+            for what, text in rows]
+
+
 # A bundle of three nops.
 NOPS = "00000000010000000002000000000400"
 
@@ -451,7 +462,8 @@ NOPS = "00000000010000000002000000000400"
 def wrong_on_purpose(rows):
     """Rows that a program which looks at less than it has to would not tell from the others: another
     instruction, another label, another fault, another line, a stop that isn't there, another number or
-    size of data, another count, another template, and another number without a unit letter."""
+    size of data, another count, another template, another number without a unit letter, another end of
+    a word, and another register."""
     plain = re.compile(r"\w{32} \d (\(p\d+\) )?add r\d+=r\d+,r\d+\n")
     digits, slot, text = next(row for row in rows if plain.fullmatch(row)).split(" ", 2)
     named = next(row for row in rows if ":bundle" in row)
@@ -467,18 +479,21 @@ def wrong_on_purpose(rows):
         "line skip 5|.skip 6\n",
         "line open mii|{ .mmi\n",
         f"{NOPS} 1 nop 1\n",
+        "words name 0 2|a\n",
+        f"token {numbered('Gr', 2)}|gp\n",
     ]
 
 
 def main():
     gnu_as.require_tools()
-    rows = [*vectors(), *faults(), *lines()]
+    rows = [*vectors(), *faults(), *lines(), *words()]
     right = len(rows)
     rows += wrong_on_purpose(rows)
     FOLDER.mkdir(parents=True, exist_ok=True)
     (FOLDER / "stdin").write_text("".join(rows), encoding="utf-8")
     differing = [f"line {number} differs\n" for number in range(right + 1, len(rows) + 1)]
-    (FOLDER / "stdout").write_text(f"{''.join(differing)}{len(rows)} lines, {len(differing)} differ\n")
+    named = "".join(differing[:NAMED])
+    (FOLDER / "stdout").write_text(f"{named}{len(rows)} lines, {len(differing)} differ\n")
     print(f"{len(rows)} lines, {sum(len(row.encode()) for row in rows)} bytes")
 
 

@@ -10,11 +10,12 @@ objdump for IA-64 (`ia64-linux-gnu-as` and so on, of Debian's package binutils-i
 in any folder. It writes `crates/vectors/stdin` and `crates/vectors/stdout`, and prints what they
 cover. The same tools give the same files.
 
-A line of `stdin` has the sixteen bytes of a bundle as 32 hexadecimal digits, a space, and the text
-that the derived `Debug` prints of the decoder's answer. The bytes are those of the GNU assembler, and
-the text is made of the operands that the assembler was given: nothing comes from the decoder that
-`vectors` tries. `instruction_rows.py` is the table of instructions, with a row for each operation and
-form. A new operation is a new row there.
+A line of `stdin` has the sixteen bytes of a bundle as 32 hexadecimal digits, a space, and what they
+are: the code of the template and then, with a `|` before each, the canonical lines of its slots with
+their stops, as they are in bundle 2^20 of a text; or the name of a fault, and the slot that has it. The
+bytes are those of the GNU assembler, and the lines are made of the operands that the assembler was
+given: nothing comes from the decoder and the printer that `vectors` tries. `instruction_rows.py` is the
+table of instructions, with a row for each operation and form. A new operation is a new row there.
 
 The last lines are wrong on purpose, and `stdout` has `vectors` name them.
 
@@ -45,6 +46,7 @@ Where the assembler differs from the manual or from the profile:
 import collections
 import itertools
 import random as randoms
+import re
 import sys
 from pathlib import Path
 
@@ -79,13 +81,13 @@ class Case:
         self.fault = fault
 
     def answer(self):
-        """The text that `Debug` prints of the decoder's answer."""
+        """What the bundle is, as `vectors` reads it."""
         if self.fault is not None:
-            return f"Err({self.fault})"
-        kind, names = ("Long", ("first", "long")) if len(self.slots) == 2 else ("Three", "abc")
-        parts = ", ".join(f"{name}: {slot.debug}" for name, slot in zip(names, self.slots))
-        return (f"Ok(BundleOf {{ template: Template {{ code: {self.code} }}, "
-                f"slots: {kind} {{ {parts} }} }})")
+            return self.fault
+        last = len(self.slots) - 1
+        stops = [(2 if number == last else number) in TEMPLATES[self.code][1] for number in range(last + 1)]
+        lines = [slot.line + (" ;;" if stop else "") for slot, stop in zip(self.slots, stops)]
+        return "|".join((str(self.code), *lines))
 
 
 def make(cases):
@@ -319,18 +321,22 @@ def witnessed(cases, made):
     return seen
 
 
+# A difference of two registers in a line.
+DIFFERENCE = re.compile(r" sub (?=r\d+=r)")
+
+
 def wrong_on_purpose(lines):
     """Lines that a program which always agrees would not tell from the others: of a bundle and of a
-    fault, with one digit and with one word of the text changed, and one without a text."""
-    bundle = next(line for line in lines if " Ok" in line and "Alu " in line)
+    fault, with one digit, with one word of the text and with the slot changed, and one without a text."""
+    bundle = next(line for line in lines if DIFFERENCE.search(line))
     fault = next(line for line in lines if "slot: 1" in line)
     digits, text = bundle.split(" ", 1)
     changed = format(int(digits, 16) ^ 1 << 96, "032x")
     return [
         f"{changed} {text}",
-        bundle.replace("Alu { f: ", "Alu { f: X", 1),
+        DIFFERENCE.sub(" add ", bundle, 1),
         fault.replace("slot: 1", "slot: 2"),
-        fault.replace("Err(Unlisted", "Err(Listed"),
+        fault.replace("Unlisted", "Listed"),
         digits + "\n",
     ]
 

@@ -701,11 +701,12 @@ class Surroundings(Streams):
 
 
 class Wrapper(Streams):
-    """`./ia64` on the built program, and without one, where a stand-in for `rt` answers. Both have the program's statuses and
-    bytes, and say on standard error what a status means that prints nothing."""
+    """`./ia64` on the built program, on one that is kept without a proof, and without one, where a stand-in for `rt` answers.
+    All have the program's statuses and bytes, and say on standard error what a status means that prints nothing."""
 
     # As `rt try` it takes nothing of a writer that pauses and of a terminal, and says the same whether its output was taken or not.
     RT = """#!/bin/bash
+if [ "$1" = version ]; then exit; fi
 shift 2
 if [ -f /dev/stdin ]; then cat; fi > "$OUTLINE/input"
 "$PROGRAM" "$@" < "$OUTLINE/input" > "$OUTLINE/output"
@@ -717,6 +718,9 @@ cat "$OUTLINE/output" 2> /dev/null
     TERMINAL = b"ia64: standard input is a terminal: type the input and end it with Ctrl-D, or call ia64 check < FILE\n"
     NOT_BUILT = (b"ia64: the program is not built from the sources as they are: nothing is proved of this answer. "
                  b"./build proves and builds it\n")
+    NOT_KEPT = (b"ia64: compiling the program without a proof, once for these sources and this kit: one or two minutes\n"
+                b"ia64: a program without a proof can't be kept: the kit %s isn't laid out as it is looked for\n"
+                b"ia64: so it is compiled for each answer anew\n")
 
     def setUp(self):
         super().setUp()
@@ -725,10 +729,16 @@ cat "$OUTLINE/output" 2> /dev/null
         for folder in self.program.parent, self.temporary:
             folder.mkdir(parents=True)
         self.wrapper = shutil.copy(HERE / "ia64", self.outline)
+        self.sources_sum, kept = self.outline / "tools" / "sources_sum", self.outline / "out" / "unproved"
+        for folder in self.sources_sum.parent, kept:
+            folder.mkdir(parents=True)
+        for name in "tools/sources_sum", "tools/compile_unproved", "crates.txt":
+            shutil.copy(HERE / name, self.outline / name)
         self.standing_in("rt", self.RT)
         self.environment = {**os.environ, "PATH": f"{self.outline}:{os.environ['PATH']}", "TMPDIR": str(self.temporary),
-                            "PROGRAM": PROGRAM, "OUTLINE": str(self.outline)}
+                            "PROGRAM": PROGRAM, "OUTLINE": str(self.outline), "XDG_CACHE_HOME": str(self.folder / "cache")}
         self.environment.pop("IA64_PROVED", None)
+        self.compiled = kept / "-".join(["program", *self.summed().split()])
 
     def standing_in(self, name, script):
         path = self.outline / name
@@ -736,12 +746,24 @@ cat "$OUTLINE/output" 2> /dev/null
         path.chmod(0o755)
         return path
 
+    def summed(self, *words):
+        """What tools/sources_sum prints."""
+        return subprocess.run([self.sources_sum, *words], env=self.environment, stdout=subprocess.PIPE, check=True, text=True).stdout
+
+    def build(self, program):
+        """Puts a program where a built one stands, and has it count as built."""
+        self.program.symlink_to(program)
+        self.summed(str(self.program), *self.summed().split())
+
     def built_or_not(self):
-        """What is said in front of an answer: nothing of a built program, and then of none."""
-        self.program.symlink_to(PROGRAM)
+        """What is said in front of an answer: nothing of a built program, then of one that is kept, and then of none."""
+        self.build(PROGRAM)
         yield b""
         self.program.unlink()
+        self.compiled.symlink_to(PROGRAM)
         yield self.NOT_BUILT
+        self.compiled.unlink()
+        yield self.NOT_BUILT + self.NOT_KEPT % os.fsencode(self.outline.parent)
         self.assertEqual(list(self.temporary.iterdir()), [])
 
     def call(self, *words, **how):
@@ -766,7 +788,7 @@ cat "$OUTLINE/output" 2> /dev/null
                     ("a full output", ["check"], lambda: self.file(TEXT), lambda: self.opened("/dev/full", os.O_WRONLY), 6, None, self.WRITE_FAULT),
                     ("an output that nobody reads", ["check"], lambda: self.file(TEXT), self.unread, 6, None, self.WRITE_FAULT),
                     ("neither", ["check"], lambda: CLOSED, lambda: CLOSED, 5, None, self.READ_FAULT)):
-                with self.subTest(name, built=not before):
+                with self.subTest(name, before=before):
                     stdin, stdout, error = stdin(), stdout(), self.file()
                     got = self.call(*words, streams=(stdin, stdout, error)).wait(SECONDS)
                     self.assertEqual((got, written(error)), (status, before + says))
@@ -783,7 +805,7 @@ cat "$OUTLINE/output" 2> /dev/null
 
     def test_a_limit_of_a_file(self):
         """The signal that ends the program shows in the status, as a shell gives it."""
-        self.program.symlink_to(PROGRAM)
+        self.build(PROGRAM)
         out, error = self.file(), self.file()
         call = self.call("wrap", streams=(self.file(BUNDLES), out, error), limits=[(resource.RLIMIT_FSIZE, 1000)])
         self.assertEqual((call.wait(SECONDS), written(out)), (128 + signal.SIGXFSZ, IMAGE[:1000]))
@@ -795,7 +817,7 @@ cat "$OUTLINE/output" 2> /dev/null
                     ([], 2), (["run"], 2), (["watch", "0"], 2), (["run", "10000001"], 2), (["check", "x"], 2), (["Check"], 2), (["--help"], 0),
                     (["groups", "5"], 2), (["groups", "10000001", "0"], 2), (["groups", "5", "00"], 2), (["groups", "5", "18446744073709551616"], 2),
                     (["trial", "1", "4097"], 2), (["trial", "18446744073709551616", "1"], 2), (["trial", "18446744073709551615", "1"], 0)):
-                with self.subTest(words, built=not before):
+                with self.subTest(words, before=before):
                     stream, out = self.file(TEXT), self.file()
                     self.assertEqual((self.call(*words, streams=(stream, out, out)).wait(SECONDS), offset(stream)), (status, 0))
 
@@ -807,7 +829,7 @@ cat "$OUTLINE/output" 2> /dev/null
     def test_other_statuses(self):
         """A status of the program comes through, with what it wrote, and so does one that no document knows."""
         stand_in = self.standing_in("stand_in", "#!/bin/sh\ncat\nexit $STATUS\n")
-        self.program.symlink_to(stand_in)
+        self.build(stand_in)
         for status, says in ((0, b""), (1, b""), (7, b"ia64: out of memory; nothing was written\n"), (8, b""), (9, b""), (99, b"")):
             with self.subTest(status):
                 self.environment["STATUS"] = str(status)
@@ -815,7 +837,7 @@ cat "$OUTLINE/output" 2> /dev/null
 
     def test_a_terminal(self):
         for before in self.built_or_not():
-            with self.subTest(built=not before):
+            with self.subTest(before=before):
                 user, program = self.terminal()
                 out, error = self.file(), self.file()
                 os.write(user, HAZARD + b"\x04")
@@ -825,11 +847,11 @@ cat "$OUTLINE/output" 2> /dev/null
 
     def test_ctrl_c(self):
         """While the input is read and, without a program, while `rt` is at work: nothing goes on, and no file is left."""
-        self.standing_in("rt", '#!/bin/sh\n: > "$OUTLINE/working"\nexec sleep 60\n')
+        self.standing_in("rt", '#!/bin/sh\nif [ "$1" = version ]; then exit; fi\n: > "$OUTLINE/working"\nexec sleep 60\n')
         working = self.outline / "working"
         for before in self.built_or_not():
-            for typed, at_work in ((b"{\n", lambda: waiting(program) == 0), *([(b"\x04", working.exists)] if before else [])):
-                with self.subTest(typed, built=not before):
+            for typed, at_work in ((b"{\n", lambda: waiting(program) == 0), *([(b"\x04", working.exists)] if b"anew" in before else [])):
+                with self.subTest(typed, before=before):
                     user, program = self.terminal()
                     out = self.file()
                     os.write(user, typed)

@@ -1,5 +1,5 @@
 #!/bin/bash
-# Tries ./ia64 on the program that `rt ci` has built; and, in an outline of the repository with a stand-in for `rt`, what
+# Tries ./ia64 on the program that `rt ci` has built; and, in an outline of the repository with a stand-in for the kit, what
 # ./ia64 does without a program, and ./build. It prints a line for each try that fails, and a count.
 here=$(cd "$(dirname "$0")/.." && pwd)
 cd "$here" || exit 1
@@ -8,8 +8,8 @@ dir=$(mktemp -d)
 trap 'rm -rf "$dir"' EXIT
 passed=0 failed=0
 unset IA64_PROVED
-export TMPDIR=$dir/temporary
-mkdir "$TMPDIR"
+export TMPDIR=$dir/temporary XDG_CACHE_HOME=$dir/cache
+mkdir "$TMPDIR" "$XDG_CACHE_HOME"
 
 note() { if [ "$1" = 0 ]; then passed=$((passed + 1)); else failed=$((failed + 1)); echo "try_wrapper: $2"; fi; }
 
@@ -113,39 +113,139 @@ note $? 'a full output'
 mkdir "$dir/links" && ln -s "$here/ia64" "$dir/links/first" && ln -s first "$dir/links/ia64"
 try 'a symbolic link' 0 "$dir/accepted" '' examples/count.s "$dir/links/ia64" check
 
-# The outline: the crates' folders, with a source in each, and a stand-in for `rt` that notes when each call begins and ends.
-outline=$dir/outline
-export CALLS=$dir/calls BUILT=$program FAILS='' ANSWERS=ended NAP=0
-mkdir "$outline" "$dir/bin"
+# The outline: the crates' folders, with a source in each, and a stand-in for the kit, whose `rt` notes when each call begins
+# and ends. Its `try` compiles as the kit's does: it calls a compiler and a linker of the kit that it lies in, without its
+# environment, and the linker makes a file `program`.
+outline="$dir/it's an outline" kit=$dir/kit
+export CALLS=$dir/calls BUILT=$program FAILS='' ANSWERS=ended NAP=0 REFUSED=''
+mkdir -p "$outline/tools" "$outline/docs" "$dir/bin" "$kit/bin" "$kit/toolchain/bin"
 cp -r ia64 build crates.txt examples "$outline"
+cp tools/sources_sum tools/compile_unproved "$outline/tools"
+cp docs/ARCHITECTURE.md "$outline/docs"
 for crate in crates/*/; do mkdir -p "$outline/${crate}src" && : > "$outline/${crate}src/lib.rt"; done
-cat > "$dir/bin/rt" <<'END'
+cat > "$kit/bin/rt" <<'END'
 #!/bin/bash
+if [ "$1" = version ]; then cat "$(dirname "$(readlink -f "$0")")/../KIT-ID"; exit; fi
 crate=$(basename "$PWD")
 echo "begin $crate $*" >> "$CALLS"
 if [ "$crate" = "$FAILS" ]; then echo "rt: $crate is not proved"; exit 1; fi
 sleep "$NAP"
 case $1 in
+  lib)
+    for below in $(sed -n "s/^$crate: *//p" ../../crates.txt); do
+      if [ -d "../$below" ] && [ ! -e "../$below/out/rlib/stamp" ]; then echo "no library $below"; exit 1; fi
+    done
+    if [ -e out/rlib/stamp ]; then echo "kept $crate" >> "$CALLS"; else mkdir -p out/rlib out/incremental && : > out/rlib/stamp; fi ;;
   run) mkdir -p out && cp "$BUILT" out/ ;;
-  try) shift 2; "$BUILT" "$@"; echo "run=$ANSWERS status=$? runners=1 proved=no" >&2 ;;
+  try)
+    shift 2
+    if [ -n "$REFUSED" ]; then echo "$REFUSED" >&2; exit 1; fi
+    tools=$(dirname "$(readlink -f "$0")")/../toolchain/bin folder=$(mktemp -d)
+    trap 'rm -rf "$folder"' EXIT
+    cd "$folder" || exit 2
+    env -i CALLS="$CALLS" "$tools/clang" -O0 -fsanitize=address
+    env -i BUILT="$BUILT" "$tools/ld.lld" || exit 2
+    ./program "$@"
+    status=$?
+    echo "run=$ANSWERS status=$status runners=1 proved=no" >&2
+    exit "$status" ;;
 esac
 echo "end $crate" >> "$CALLS"
 END
-chmod +x "$dir/bin/rt"
+: > "$kit/bin/rtlib.py"
+echo one > "$kit/KIT-ID"
+printf '#!/bin/bash\necho "compile $*" >> "$CALLS"\n' > "$kit/toolchain/bin/clang"
+printf '#!/bin/bash\ncp "$BUILT" program\n' > "$kit/toolchain/bin/ld.lld"
+cp "$kit/toolchain/bin/clang" "$kit/bin/rattle"
+chmod +x "$kit"/bin/r* "$kit"/toolchain/bin/*
+ln -s "$kit/bin/rt" "$dir/bin/rt"
 export PATH=$dir/bin:$PATH
+unproved='not built from .*: nothing is proved of this answer. ./build'
 
-# Without a program.
-try 'a first answer' 1 "$dir/raw" 'not built from .*: nothing is proved of this answer. ./build' examples/read_after_write.s "$outline/ia64" check
-try 'a first answer with a number' 0 "$dir/count" 'not built from' examples/count.s "$outline/ia64" run 100
-try 'a first answer that is watched' 0 "$dir/watched" 'not built from' examples/count.s "$outline/ia64" watch 100
-try 'a first answer all at once' 0 "$dir/count" 'not built from' examples/count.s "$outline/ia64" groups 100 18446744073709551615
+# COUNT WHAT: so many times something was compiled so since the calls were last cleared, and nothing lies about.
+compiled() {
+  [ "$(grep -c '^compile -O1$' "$CALLS")" = "$1" ] && ! grep -q 'sanitize' "$CALLS" && [ -z "$(ls "$TMPDIR")" ] && ! ls "$outline"/out/unproved/*.[0-9]* > /dev/null 2>&1
+  note $? "$2: compiled otherwise, or a file is left behind"
+  : > "$CALLS"
+}
+
+# Without a program: it is compiled once, and answers from then on.
+: > "$CALLS"
+try 'a first answer' 1 "$dir/raw" 'compiling the program without a proof, once' examples/read_after_write.s "$outline/ia64" check
+compiled 1 'a first answer'
+try 'a second answer' 1 "$dir/raw" "$unproved" examples/read_after_write.s "$outline/ia64" check
+cd "$dir" || exit 1
+try 'an unproved answer from elsewhere' 1 "$dir/raw" "$unproved" "$here/examples/read_after_write.s" env CDPATH="$dir" "it's an outline/ia64" check
+cd "$here" || exit 1
+try 'an unproved answer with a number' 0 "$dir/count" "$unproved" examples/count.s "$outline/ia64" run 100
+try 'an unproved answer that is watched' 0 "$dir/watched" "$unproved" examples/count.s "$outline/ia64" watch 100
+try 'an unproved answer all at once' 0 "$dir/count" "$unproved" examples/count.s "$outline/ia64" groups 100 18446744073709551615
+try 'a long input without a proof' 4 "$dir/nothing" 'longer than 16,777,216 bytes' "$dir/too_long" "$outline/ia64" check
 try 'no unproved answer' 125 "$dir/nothing" 'wants a proved one: call ./build' examples/count.s env IA64_PROVED=1 "$outline/ia64" check
-try 'no answer in time' 125 "$dir/accepted" 'gave no answer.*: call ./build' examples/count.s env ANSWERS=no-answer "$outline/ia64" check
-try 'no words and no program' 2 "$dir/nothing" 'a command is missing' /dev/null "$outline/ia64"
-
 for value in 1 yes; do try "IA64_PROVED=$value" 125 "$dir/nothing" 'wants a proved one' examples/count.s env IA64_PROVED=$value "$outline/ia64" check; done
-[ -z "$(ls "$TMPDIR")" ]
-note $? 'a first answer leaves a file behind'
+try 'no words and no program' 2 "$dir/nothing" 'a command is missing' /dev/null "$outline/ia64"
+compiled 0 'later answers'
+
+# It is seen what the sources are, not when they were written; and what the kit is.
+source=$outline/crates/rotation/src/lib.rt
+again() { try "$1" 0 "$dir/accepted" "$unproved" examples/count.s "${@:3}" "$outline/ia64" check; compiled "$2" "$1"; }
+echo '// more' > "$source" && touch -d '1 day ago' "$source"
+again 'an older source' 1
+again 'the same source' 0
+: > "$source"
+again 'the source as it was' 0
+rm "$source"
+again 'a source that is gone' 1
+: > "$source"
+echo two > "$kit/KIT-ID"
+again 'another kit' 1
+echo one > "$kit/KIT-ID"
+again 'the first kit' 0
+
+# What can't be compiled, and what can't be kept.
+echo '// wrong' > "$source"
+try 'sources that are wrong' 125 "$dir/nothing" 'rt: no such word' examples/count.s env REFUSED='no such word' "$outline/ia64" check
+compiled 0 'sources that are wrong'
+mv "$kit/toolchain/bin" "$kit/toolchain/tools"
+cp -r "$kit/toolchain/tools" "$kit/toolchain/bin" && rm "$kit/toolchain/bin/clang" && echo '// kit' > "$source"
+try 'a kit laid out otherwise' 0 "$dir/accepted" "kit .*laid out" examples/count.s "$outline/ia64" check
+try 'no answer in time' 125 "$dir/accepted" 'gave no answer.*: call ./build' examples/count.s env ANSWERS=no-answer "$outline/ia64" check
+rm -r "$kit/toolchain/bin" && mv "$kit/toolchain/tools" "$kit/toolchain/bin"
+: > "$CALLS"
+printf '#!/bin/bash\nif [ "$*" = check ] && [ "$(head -c 4)" = IA64 ]; then echo accepted; else exit 134; fi\n' > "$dir/broken"
+chmod +x "$dir/broken" && echo '// broken' > "$source"
+try 'a program that fails' 125 "$dir/nothing" 'unproved program ended with status 134' examples/count.s env BUILT="$dir/broken" "$outline/ia64" check
+echo '// two' > "$source"
+: > "$CALLS"
+(NAP=1 "$outline/ia64" check < examples/count.s > "$dir/first" 2> /dev/null) &
+sleep 0.5
+try 'a second call at once' 0 "$dir/accepted" 'waiting for it' examples/count.s env NAP=1 "$outline/ia64" check
+wait $!
+cmp -s "$dir/first" "$dir/accepted"
+note $? 'the first of two calls at once'
+compiled 1 'two calls at once'
+echo '// stopped' > "$source"
+for signal in TERM HUP; do
+  NAP=30 "$outline/ia64" check < examples/count.s > /dev/null 2>&1 &
+  for _ in {1..200}; do grep -q '^begin' "$CALLS" && break; sleep 0.1; done
+  kill -s "$signal" $!
+  wait $!
+  [ $? -gt 128 ] && ! pgrep -f "$dir/bin/rt try" > /dev/null
+  note $? "a first call, stopped by $signal"
+  compiled 0 "a first call, stopped by $signal"
+done
+
+# A checkout in which nothing can be written: the program is kept in the user's cache.
+rm -r "$outline/out"
+if [ "$(id -u)" = 0 ]; then other=(setpriv --reuid=65534 --clear-groups --); else other=(); chmod -R a-w "$outline"; fi
+chmod -R a+rX "$dir" && chmod a+rwx "$TMPDIR" "$XDG_CACHE_HOME" && chmod a+w "$CALLS"
+again 'a checkout to be read only' 1 "${other[@]}"
+again 'a checkout to be read only, again' 0 "${other[@]}"
+[ ! -e "$outline/out/unproved" ]
+note $? 'a checkout to be read only has a new file'
+chmod a-w "$XDG_CACHE_HOME" "$XDG_CACHE_HOME/ia64" && echo '// none' > "$source"
+try 'nowhere to keep it' 0 "$dir/accepted" "can't be kept: nothing can be written in .*/out/unproved .*/cache/ia64" examples/count.s "${other[@]}" "$outline/ia64" check
+if [ "$(id -u)" != 0 ]; then chmod -R u+w "$outline"; fi
 
 # A crate that isn't proved: build names it, nothing that stands on it begins, and no program is made.
 : > "$CALLS"
@@ -155,15 +255,27 @@ note $? 'the log of a crate that fails'
 ! grep -Eq 'begin (group_checker|ia64_top|ia64_cli) ' "$CALLS" && [ ! -e "$outline/crates/ia64_cli/out/ia64_cli" ]
 note $? 'a crate began that stands on one that failed'
 
-# All crates: each begins in a copy when those that it stands on have ended, and then in the repository; those that the
-# program doesn't need never begin.
+# All crates: each begins once, in a copy that has the libraries of those that it stands on, as the stand-in asks; those that
+# the program doesn't need never begin, and what was proved before is not proved again.
+kept=$(grep -c '^end' "$CALLS")
 : > "$CALLS"
 try 'build' 0 "$dir/nothing" 'the program is proved and built' /dev/null "$outline/build"
 awk 'FILENAME == ARGV[1] { if (/^[a-z]/) { split($0, parts, ":"); below[parts[1]] = parts[2] } next }
   $1 == "end" { ended[$2] = 1 }
   $1 == "begin" { began[$2]++; n = split(below[$2], low, " "); for (i = 1; i <= n; i++) if (low[i] in below && !(low[i] in ended)) { print $2 " before " low[i]; bad = 1 } }
-  END { exit bad || began["ia64_cli"] != 1 || began["first_fault"] != 2 || began["vectors"] }' crates.txt "$CALLS"
+  END { exit bad || began["ia64_cli"] != 1 || began["first_fault"] != 1 || began["vectors"] }' crates.txt "$CALLS"
 note $? 'the order in which build proves'
+[ "$(grep -c '^kept' "$CALLS")" = "$kept" ]
+note $? 'a crate that was proved is proved again'
+try 'a built program' 0 "$dir/accepted" '' examples/count.s "$outline/ia64" check
+
+# Of two calls at once the second waits.
+NAP=0.01 "$outline/build" 2> /dev/null &
+sleep 0.5
+try 'a second build at once' 0 "$dir/nothing" 'another call is at work' /dev/null "$outline/build"
+wait $!
+note $? 'the first of two builds at once'
+
 # A call that is stopped leaves neither a copy nor a proof that goes on.
 for signal in TERM HUP; do
   : > "$CALLS"
@@ -175,14 +287,31 @@ for signal in TERM HUP; do
   [ $? = 1 ] && ! pgrep -f "$dir/bin/rt" > /dev/null && [ -z "$(ls "$TMPDIR")" ]
   note $? "build, stopped by $signal"
 done
-try 'a built program' 0 "$dir/accepted" '' examples/count.s "$outline/ia64" check
-mkdir "$outline/crates/rotation/specs" "$outline/crates/rotation/proofs"
-for source in src/lib.rt specs/Lib.antt proofs/Lib.antt ../../crates.txt; do
-  touch -d '1 minute' "$outline/crates/rotation/$source"
-  try "a newer $source" 0 "$dir/accepted" 'not built from the sources as they are' examples/count.s "$outline/ia64" check
-  touch -d '1 hour ago' "$outline/crates/rotation/$source"
+
+# The built program is fresh as long as the sources, the kit and its own bytes are what they were, whatever their dates.
+built() { try "$1" "${@:2}" examples/count.s "$outline/ia64" check; }
+built 'a built program, after a call that was stopped' 0 "$dir/accepted" ''
+mkdir -p "$outline/crates/rotation/specs" "$outline/crates/rotation/proofs"
+for name in specs/Lib.antt proofs/Lib.antt ../../crates.txt src/lib.rt; do
+  cp "$outline/crates/rotation/$name" "$dir/as_it_was" 2> /dev/null || rm -f "$dir/as_it_was"
+  echo '# more' >> "$outline/crates/rotation/$name" && touch -d '1 day ago' "$outline/crates/rotation/$name"
+  export IA64_PROVED=1
+  built "another $name" 125 "$dir/nothing" 'not built from the sources as they are'
+  if [ -e "$dir/as_it_was" ]; then cp "$dir/as_it_was" "$outline/crates/rotation/$name"; else rm "$outline/crates/rotation/$name"; fi
+  built "$name as it was" 0 "$dir/accepted" ''
 done
-try 'no newer source' 0 "$dir/accepted" '' examples/count.s "$outline/ia64" check
+echo two > "$kit/KIT-ID"
+built 'a program of another kit' 125 "$dir/nothing" 'not built from the sources as they are'
+echo one > "$kit/KIT-ID"
+mkdir "$dir/script" && printf '#!/bin/bash\nexec %s "$@"\n' "$kit/bin/rt" > "$dir/script/rt" && chmod +x "$dir/script/rt"
+PATH=$dir/script:$PATH built 'a kit behind a script' 0 "$dir/accepted" ''
+echo two > "$kit/KIT-ID"
+PATH=$dir/script:$PATH built 'another kit behind a script' 125 "$dir/nothing" 'not built from the sources as they are'
+echo one > "$kit/KIT-ID"
+mkdir "$dir/no_rt" && for tool in bash cat cmp cut dirname find mkdir mv readlink rm sha256sum sort xargs; do ln -s "$(type -P "$tool")" "$dir/no_rt"; done
+PATH=$dir/no_rt built 'a built program without the kit' 0 "$dir/accepted" ''
+truncate -s -1 "$outline/crates/ia64_cli/out/ia64_cli"
+built 'half a program' 125 "$dir/nothing" 'not built from the sources as they are'
 
 echo "try_wrapper: $passed passed, $failed failed"
 [ "$failed" = 0 ]

@@ -12,14 +12,14 @@ use Rattle.ia_insn.specs.declared.bundle.Slots.TheVariants.{Three, Long}
 use Rattle.ia_insn.specs.Bundles.{Bundle, FitUnits, IsBundle}
 use Rattle.ia_insn.specs.Fits.{Fits, FitsUnit, IsBranchSlot}
 use Rattle.ia_insn.specs.Templates.{units_of}
-use Rattle.asm_reading.proofs.Decided.{alike, opposite, either, both, three, four}
+use Rattle.asm_instructions.proofs.Decided.{alike, opposite, either, both, three, four}
 use Rattle.ia_insn.specs.FormatsA as a
 use Rattle.ia_insn.specs.FormatsI as i
 use Rattle.ia_insn.specs.FormatsM as m
 use Rattle.ia_insn.specs.FormatsB as b
 use Rattle.ia_insn.specs.FormatsF as f
 use Rattle.ia_insn.specs.FormatsX as x
-use Rattle.asm_reading.proofs.DecidedFormats.{listed_in}
+use Rattle.asm_instructions.proofs.DecidedFormats.{listed_in}
 
 branch_slot : (x : Op) (slot : ℕ) → Dec (IsBranchSlot x slot)
 branch_slot (Br Cond wh many clr disp) slot = yes tt

@@ -3,11 +3,11 @@ use Rattle.std.proofs.Common.{◌≡◌, ◌⊎◌, inl, inr, refl, ◌+◌, len
 use Rattle.std.proofs.Math.Decide.{dec_le, dec_lt}
 use Rattle.first_fault.proofs.Laws.{AreDecided}
 use Rattle.ia_insn.specs.declared.limits.TheConstants.{BUNDLE_LIMIT, DATA_LIMIT}
+use Rattle.asm_instructions.proofs.Decided.{alike, both, is_none, some, some_and, if_some}
 use Rattle.asm_reading.specs.declared.line.Line.{Line}
 use Rattle.asm_reading.specs.declared.line.Line.TheVariants as line
 use Rattle.asm_reading.specs.declared.line.TemplateName.{TemplateName}
 use Rattle.asm_reading.specs.declared.line.TemplateName.TheVariants as template_name
-use Rattle.asm_reading.proofs.Decided.{alike, both, is_none, some, some_and, if_some}
 use Rattle.asm_build.specs.declared.draft.SlotLines.{SlotLines}
 use Rattle.asm_build.specs.declared.draft.SlotLines.TheVariants as slots
 use Rattle.asm_build.specs.declared.text_parts.Section.{Section}

@@ -14,7 +14,7 @@ use Rattle.ia_insn.specs.Runs.{IsLeaving, EndsRun, IsWithinRun}
 use Rattle.ia_insn.specs.Templates.{stops_of}
 use Rattle.ia_insn.proofs.InOrder.{slot_small, bundle_small, lies_in, next_slot, next_bundle, no_next}
 use Rattle.ia_insn.proofs.Reaching.{HasReached, HasRun, Follows, first_reached, first_run, first_bad, goes_on, fewer_left, slots_left, within_run, past_run, run_ends, run_goes_on}
-use Rattle.asm_reading.proofs.Decided.{either, both, some_and, contains}
+use Rattle.asm_instructions.proofs.Decided.{either, both, some_and, contains}
 
 leaving : (x : Op) → Dec (IsLeaving x)
 leaving (Br Cond wh many clr disp) = yes tt

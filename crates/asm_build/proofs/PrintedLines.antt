@@ -10,7 +10,7 @@ use Rattle.asm_words.proofs.Lexed.{lexed}
 use Rattle.asm_words.proofs.Lexing.{name_lexed}
 use Rattle.asm_words.proofs.Readings.{label_is_short, label_reads, decimal_is_name_bytes, decimal_is_plain, both_plain}
 use Rattle.asm_forms.specs.declared.form.Form.TheVariants as form
-use Rattle.asm_forms.specs.Matching.{read_form}
+use Rattle.asm_matching.specs.Matching.{read_form}
 use Rattle.asm_words.specs.Tokens.{token_of}
 use Rattle.asm_reading.specs.declared.line.Line.{Line}
 use Rattle.asm_reading.specs.declared.line.Line.TheVariants as line

@@ -13,7 +13,7 @@ use Rattle.ia_insn.specs.declared.bundle.Slots.{Slots}
 use Rattle.ia_insn.specs.declared.bundle.Slots.TheVariants as slots
 use Rattle.ia_insn.specs.Bundles.{Bundle}
 use Rattle.ia_insn.specs.Programs.{IsCall, HasCall, IsAfterCall, IsEntryOf}
-use Rattle.asm_reading.proofs.Decided.{alike, both, either, some_and, contains}
+use Rattle.asm_instructions.proofs.Decided.{alike, both, either, some_and, contains}
 use Rattle.asm_build.specs.declared.text_parts.RelationLine.{RelationLine}
 use Rattle.asm_build.specs.declared.reason.TextError.{TextError}
 use Rattle.asm_build.specs.declared.reason.TextError.TheVariants as error

@@ -11,7 +11,7 @@ use Rattle.std.proofs.lemmas.List.Elements.{Contains-append_left, Contains-appen
 use Rattle.ia_insn.specs.declared.relations.Relation.{Relation}
 use Rattle.ia_insn.specs.Bundles.{Bundle}
 use Rattle.ia_insn.specs.Programs.{IsEntryOf, IsRelationBefore, AreRelations, no_relation, relation_at, relation_before}
-use Rattle.asm_reading.specs.Related.{IsRelated}
+use Rattle.asm_matching.specs.Related.{IsRelated}
 use Rattle.ia_insn.specs.declared.limits.TheConstants.{RELATION_LIMIT}
 use Rattle.ia_insn.proofs.DeclaredRelations.{same_relation}
 use Rattle.asm_build.specs.declared.reason.TextError.{TextError}

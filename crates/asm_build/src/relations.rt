@@ -4,7 +4,7 @@ ghost use Rattle.std.specs.Prelude.{◌≡◌, ◌≤◌, ◌⊎◌, ◌∷◌, 
 ghost use Rattle.first_fault.specs.Stages.{ArePassed, IsFirstFault};
 ghost use Rattle.ia_insn.specs.declared.limits.TheConstants.{RELATION_LIMIT};
 ghost use Rattle.ia_insn.specs.Programs.{IsEntryOf};
-ghost use Rattle.asm_reading.specs.Related.{ArePredicates};
+ghost use Rattle.asm_matching.specs.Related.{ArePredicates};
 ghost use Rattle.asm_build.specs.declared.reason.Reason.TheVariants as reason;
 ghost use Rattle.asm_build.specs.declared.reason.TextError.TheVariants as error;
 ghost use Rattle.asm_build.specs.Relations.{relations_above, relations_among, with_relations, related, all_related, relation_stages, AreRelationsOf};

@@ -4,7 +4,6 @@ pub mod Clear
 pub mod Fits
 mod Letters
 mod NameEnds
-mod PastTheEnd
 mod Places
 mod Pushed
 pub mod ReadChoice

@@ -30,7 +30,7 @@ use Rattle.asm_forms.specs.declared.items.Mark.TheVariants as m
 use Rattle.asm_forms.specs.declared.items.Kind.{Kind}
 use Rattle.asm_forms.specs.Completers.{text_of, members}
 use Rattle.asm_forms.specs.Items.{mark_token, is_mark, accepts, filled, prints, fits}
-use Rattle.asm_forms.specs.Matching.{is_spelled}
+use Rattle.asm_forms.specs.Spelled.{is_spelled}
 use Rattle.asm_forms.specs.Naming.{begins, ends_part, and_more, completers_in, has_completers_if, is_named, named_forms}
 use Rattle.asm_forms.specs.Rows.{FormRow, rows, first_row, row_of, place}
 use Rattle.asm_forms.proofs.ListTests.{all_take, all_both, all_found, all_flat, all_map}

@@ -1,5 +1,5 @@
 -- Facts over all rows, each a computation, and what they say of the row of a form.
-use Rattle.std.proofs.Common.{◌≡◌, refl, length, true, ◌<◌, ◌≤◌, Bool, lit<}
+use Rattle.std.proofs.Common.{◌≡◌, refl, length, true, ◌<◌, Bool, lit<}
 use Rattle.std.specs.List.{list_all}
 use Rattle.asm_forms.specs.declared.form.Form.{Form}
 use Rattle.asm_forms.specs.declared.form.Form.TheVariants as form

@@ -8,7 +8,7 @@ use Rattle.asm_words.specs.declared.tokens.Token.{Token}
 use Rattle.asm_forms.specs.declared.form.Form.{Form}
 use Rattle.asm_forms.specs.declared.form.Form.TheVariants as form
 use Rattle.asm_forms.specs.Items.{accepts}
-use Rattle.asm_forms.specs.Matching.{is_spelled}
+use Rattle.asm_forms.specs.Spelled.{is_spelled}
 use Rattle.asm_forms.specs.Naming.{is_named}
 use Rattle.asm_forms.specs.Rows.{FormRow, Seen, seen, row_of}
 

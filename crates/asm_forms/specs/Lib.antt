@@ -2,4 +2,4 @@ pub mod Completers
 pub mod Items
 pub mod Rows
 pub mod Naming
-pub mod Matching
+pub mod Spelled

@@ -1,6 +1,7 @@
 //! What a form wants at one place of its operands.
 
 ghost use Rattle.std.specs.Prelude.{◌≡◌};
+ghost use Rattle.std.specs.Cmp.Lexicographic.{pointwise};
 ghost use Rattle.asm_forms.specs.Items.{mark_token, is_mark, takes, accepts, has_room, within, is_label, is_register, is_number, is_label_item, begins_with_letter, is_long_name, is_stop};
 
 use asm_words::Token;
@@ -259,8 +260,23 @@ pub fn accepts(item: FormItem, token: Token) -> bool
     }
 }
 
+/// Whether the operands are the items, one by one.
+pub fn are_accepted(items: &[FormItem], operands: &[Token]) -> bool
+    ensures { result ≡ pointwise accepts items.now operands.now }
+{
+    if items.len() != operands.len() {
+        return false;
+    }
+    for at in 0..items.len() {
+        if !accepts(items[at], operands[at]) {
+            return false;
+        }
+    }
+    true
+}
+
 /// Whether the item is a register.
-pub(crate) fn is_register(item: FormItem) -> bool
+pub fn is_register(item: FormItem) -> bool
     ensures { result ≡ is_register item }
 {
     matches!(
@@ -278,7 +294,7 @@ pub(crate) fn is_register(item: FormItem) -> bool
 }
 
 /// Whether the item is a number.
-pub(crate) fn is_number(item: FormItem) -> bool
+pub fn is_number(item: FormItem) -> bool
     ensures { result ≡ is_number item }
 {
     matches!(
@@ -288,14 +304,14 @@ pub(crate) fn is_number(item: FormItem) -> bool
 }
 
 /// Whether the item is a label.
-pub(crate) fn is_label_item(item: FormItem) -> bool
+pub fn is_label_item(item: FormItem) -> bool
     ensures { result ≡ is_label_item item }
 {
     matches!(item, FormItem::Takes(Kind::Label))
 }
 
 /// Whether the token is a name that begins with a letter.
-pub(crate) fn begins_with_letter(token: &Token) -> bool
+pub fn begins_with_letter(token: &Token) -> bool
     ensures { result ≡ begins_with_letter token.now }
 {
     matches!(
@@ -313,14 +329,14 @@ pub(crate) fn begins_with_letter(token: &Token) -> bool
 }
 
 /// Whether the token is a name of 64 bytes or more.
-pub(crate) fn is_long_name(token: &Token) -> bool
+pub fn is_long_name(token: &Token) -> bool
     ensures { result ≡ is_long_name token.now }
 {
     matches!(token, Token::LongName | Token::LongSymbol)
 }
 
 /// Whether the token is a stop.
-pub(crate) fn is_stop(token: &Token) -> bool
+pub fn is_stop(token: &Token) -> bool
     ensures { result ≡ is_stop token.now }
 {
     matches!(token, Token::Stop)

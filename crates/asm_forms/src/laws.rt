@@ -7,7 +7,7 @@ ghost use Rattle.asm_forms.specs.declared.completer.Completer.{Completer};
 ghost use Rattle.asm_forms.specs.declared.form.Form.{Form};
 ghost use Rattle.asm_forms.specs.Completers.{text_of};
 ghost use Rattle.asm_forms.specs.Items.{taken, filled, fits};
-ghost use Rattle.asm_forms.specs.Matching.{is_spelled};
+ghost use Rattle.asm_forms.specs.Spelled.{is_spelled};
 ghost use Rattle.asm_forms.specs.Naming.{completers, named_forms, is_choice};
 ghost use Rattle.asm_forms.specs.Rows.{row_of};
 

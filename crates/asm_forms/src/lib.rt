@@ -1,12 +1,11 @@
-//! The forms of assembly lines: which words lead a line, which completers and operands each form has,
-//! and where a line's first fault is.
+//! The forms of assembly lines: which words lead a line, and which completers and operands each form has.
 //!
 //! A line is a leading word, its completers and its operands (volume 3, chapter 2, the assembly syntax
 //! of each instruction). What there is is data: `rows` has a row a form, with the word that leads a line of
 //! the form, the sets of its completers and what stands after it, and `completer` has the completers of each
-//! set. Everything else goes by the rows: `naming` reads a word with its completers, `matching` says which
-//! form a line's operands have, and where none has them which fault that is, `spelling` finds the form of a
-//! word and operands at once, and `operands` takes the operands from between a form's marks.
+//! set. Everything else goes by the rows: `naming` reads a word with its completers, `items` says from which
+//! tokens an item is read, `spelling` finds the form of a word and operands at once, and `operands` takes the
+//! operands from between a form's marks. Where a line's first fault is, is said one crate above (`asm_matching`).
 #![tactic(auto)]
 
 mod choices;
@@ -14,7 +13,6 @@ mod completer;
 mod form;
 mod items;
 mod laws;
-mod matching;
 mod naming;
 mod operands;
 mod rows;
@@ -23,9 +21,11 @@ mod spelling;
 pub use choices::{AccessSize, CacheHint, CompareRelation, Whether};
 pub use completer::{Completer, CompleterSet, members, text};
 pub use form::Form;
-pub use items::{FormItem, Kind, Mark, NumberField, accepts, has_room, mark_token};
+pub use items::{
+    FormItem, Kind, Mark, NumberField, accepts, are_accepted, begins_with_letter, has_room,
+    is_label_item, is_long_name, is_number, is_register, is_stop, mark_token,
+};
 pub use laws::forms_are_read_back;
-pub use matching::{fault_at, read_form};
 pub use naming::{Completers, Named, completers, named};
 pub use operands::{Operands, taken};
 pub use spelling::{Spelled, find_spelled};

@@ -4,19 +4,21 @@ ghost use Rattle.std.specs.Prelude.{◌≡◌, ◌&&◌, true, false, None, Some
 ghost use Rattle.std.specs.Cmp.Lexicographic.{pointwise};
 ghost use Rattle.std.specs.List.{find};
 ghost use Rattle.asm_forms.specs.Items.{accepts};
-ghost use Rattle.asm_forms.specs.Matching.{is_spelled};
 ghost use Rattle.asm_forms.specs.Naming.{is_named, named_forms, completers};
 ghost use Rattle.asm_forms.specs.Rows.{row_of, seen};
+ghost use Rattle.asm_forms.specs.Spelled.{is_spelled};
 
 use crate::form::Form;
-use crate::matching::are_accepted;
+use crate::items::are_accepted;
 use crate::naming::{Completers, begins, completers_of, rows_by_letter};
 use crate::rows::FormRow;
 use asm_words::Token;
 
 /// A form, and the completers that a mnemonic of it has.
 pub struct Spelled {
+    /// The form.
     pub form: Form,
+    /// Its completers, place by place.
     pub completers: Completers,
 }
 

@@ -22,7 +22,7 @@ use Rattle.ia_insn.specs.declared.registers.Ar.{Ar}
 use Rattle.ia_insn.specs.declared.registers.Ar.TheVariants as ar
 use Rattle.ia_insn.specs.Targets.{displacement}
 use Rattle.ia_insn.specs.Texts.{gr_text, pr_text, br_text}
-use Rattle.asm_printing.specs.Canonical.{syntax_of}
+use Rattle.asm_canonical.specs.Canonical.{syntax_of}
 
 -- the fields whose numbers are printed in hexadecimal: masks, and the numbers of movl, break, nop and hint
 abbrev is_hex_field : NumberField → Bool

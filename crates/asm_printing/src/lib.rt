@@ -1,10 +1,9 @@
 //! The canonical text of an instruction in a slot.
 //!
-//! `canonical` has how each instruction is printed: its form, its completers and its operands. Everything else
+//! Which form, completers and operands an instruction is printed with is said in `asm_canonical`. Everything else
 //! goes by the rows of the forms.
 #![tactic(auto)]
 
-mod canonical;
 pub mod limits;
 mod numerals;
 mod printing;

@@ -4,11 +4,11 @@ ghost use Rattle.std.specs.Prelude.{◌≡◌, ◌++◌, ◌∷◌, ◌<◌, OnO
 ghost use Rattle.std.specs.Io.{StartsWith};
 ghost use Rattle.asm_forms.specs.Completers.{text_of};
 ghost use Rattle.ia_insn.specs.Listed.{IsListed};
-ghost use Rattle.asm_printing.specs.Canonical.{syntax_of};
+ghost use Rattle.asm_canonical.specs.Canonical.{syntax_of};
 ghost use Rattle.asm_printing.specs.SlotTexts.{is_hex, ar_text, number_text, token_text, operands_text, spaced, mnemonic_text, predicate_text, stop_text, target_of, or_zero, HasTarget, line_text, slot_text};
 
-use crate::canonical::{Syntax, syntax_of};
 use crate::numerals::{push_bytes, push_decimal, push_hex};
+use asm_canonical::{Syntax, syntax_of};
 use asm_forms::{Completer, Form, FormItem, Kind, NumberField, mark_token, text};
 use asm_words::Token;
 use ia_insn::{Ar, Insn, Op, Place, Pr};
@@ -218,8 +218,8 @@ fn push_syntax(
 {
     push_bytes(out, b"  ")?;
     push_predicate(out, qp)?;
-    push_mnemonic(out, syntax.form, syntax.completers.as_slice())?;
-    push_operands(out, target, syntax.form.items(), syntax.operands.as_slice())?;
+    push_mnemonic(out, syntax.form(), syntax.completers())?;
+    push_operands(out, target, syntax.form().items(), syntax.operands())?;
     push_stop(out, stop)
 }
 

@@ -5,8 +5,8 @@ use Rattle.std.proofs.lemmas.List.{append_assoc, drop-drop, drop_more}
 use Rattle.asm_words.specs.declared.limits.TheConstants.{NUMBER_TOKEN_LIMIT}
 use Rattle.asm_words.specs.declared.tokens.Token.{Token}
 use Rattle.asm_forms.specs.declared.items.NumberField.{NumberField}
+use Rattle.asm_instructions.specs.Operands.{wrapped, is_negative, magnitude}
 use Rattle.asm_reading.specs.Lines.{agreed_data, numbers_of}
-use Rattle.asm_reading.specs.Operands.{wrapped, is_negative, magnitude}
 
 -- after the last number that there may be nothing is wanted
 pub agreed_past : (f : NumberField) (at : ℕ) (xs : List Token) → NUMBER_TOKEN_LIMIT ≤ at → agreed_data f at xs ≡ 0

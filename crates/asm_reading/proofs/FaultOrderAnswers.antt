@@ -19,15 +19,16 @@ use Rattle.asm_forms.specs.declared.choices.AccessSize.TheVariants as size
 use Rattle.asm_forms.specs.declared.form.Form.{Form}
 use Rattle.asm_forms.specs.declared.form.Form.TheVariants as form
 use Rattle.asm_forms.specs.Items.{taken}
-use Rattle.asm_forms.specs.Matching.{is_spelled, agreed, reach, fault_of, read_form}
 use Rattle.asm_forms.specs.Naming.{named_forms}
 use Rattle.asm_forms.specs.Rows.{row_of}
+use Rattle.asm_forms.specs.Spelled.{is_spelled}
+use Rattle.asm_matching.specs.Matching.{agreed, reach, fault_of, read_form}
+use Rattle.asm_matching.specs.Relations.{named_predicates, agreed_relation}
+use Rattle.asm_instructions.specs.Instructions.{op_of}
 use Rattle.asm_reading.specs.declared.line.Line.{Line}
 use Rattle.asm_reading.specs.declared.line.Line.TheVariants as line
 use Rattle.asm_reading.specs.declared.line.TemplateName.{TemplateName}
-use Rattle.asm_reading.specs.Instructions.{op_of}
-use Rattle.asm_reading.specs.Relations.{named_predicates, agreed_relation, relation_of}
-use Rattle.asm_reading.specs.Lines.{◌>>=◌, or_fault, KindAndText, tokens, label_name, name_of, lead_at, without_stop, predicate_of, completers_or_none, slot_under, slot_of, data_field, agreed_data, data_of, named, directive_value, directive_of, alone, formed, among, marked, template_name_of, opened_as, mark_led, led_by, led_at, led, is_name_word, is_colon, label_of, value_of}
+use Rattle.asm_reading.specs.Lines.{◌>>=◌, or_fault, KindAndText, tokens, label_name, name_of, lead_at, without_stop, predicate_of, completers_or_none, slot_under, slot_of, data_field, agreed_data, data_of, relation_of, named, directive_value, directive_of, alone, formed, among, marked, template_name_of, opened_as, mark_led, led_by, led_at, led, is_name_word, is_colon, label_of, value_of}
 use Rattle.asm_reading.specs.FaultOrder.{Beside, beside, beside_name, beside_mark, beside_word, beside_at, beside_lead, beside_of, name_instruction, fault_in, predicate_fault, fault_before, Operands, Numbers, Predicates, OfForms, operands_of, right_count, fault_among, before_stage, after_stage}
 use Rattle.asm_reading.proofs.FaultOrderFronts.{right_within, fault_front, first_wrong, spelled_all, spelled_with_stop, found_all}
 

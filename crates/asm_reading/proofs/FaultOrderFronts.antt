@@ -14,10 +14,11 @@ use Rattle.asm_forms.specs.declared.form.Form.{Form}
 use Rattle.asm_forms.specs.declared.items.FormItem.{FormItem}
 use Rattle.asm_forms.specs.declared.items.NumberField.{NumberField}
 use Rattle.asm_forms.specs.Items.{accepts, is_stop}
-use Rattle.asm_forms.specs.Matching.{is_spelled, agreed_items, is_stop_next, agreed, reach, fault_at, fault_of}
 use Rattle.asm_forms.specs.Rows.{row_of}
+use Rattle.asm_forms.specs.Spelled.{is_spelled}
+use Rattle.asm_matching.specs.Matching.{agreed_items, is_stop_next, agreed, reach, fault_at, fault_of}
+use Rattle.asm_matching.specs.Relations.{may_follow, agreed_relation, relation_fault}
 use Rattle.asm_reading.specs.Lines.{is_some_stop, ends_in_stop, without_stop, data_field, data_item, agreed_data, data_fault}
-use Rattle.asm_reading.specs.Relations.{may_follow, agreed_relation, relation_fault}
 use Rattle.asm_reading.specs.FaultOrder.{Operands, Numbers, Predicates, OfForms, operands_of, right_count, fault_among, IsFirstWrong}
 
 -- on how many tokens items agree, token by token

@@ -11,9 +11,9 @@ use Rattle.asm_words.specs.declared.fault.LineFault.TheVariants as fault
 use Rattle.asm_words.specs.Bytes.{has_only_plain}
 use Rattle.asm_forms.specs.declared.form.Form.{Form}
 use Rattle.asm_forms.specs.Items.{is_long_name, begins_with_letter}
-use Rattle.asm_forms.specs.Matching.{reach, number_fault, fault_at}
-use Rattle.asm_reading.specs.Related.{is_related}
-use Rattle.asm_reading.specs.Relations.{wants_predicate, agreed_relation, unrelated_fault, relation_fault_at}
+use Rattle.asm_matching.specs.Matching.{reach, number_fault, fault_at}
+use Rattle.asm_matching.specs.Related.{is_related}
+use Rattle.asm_matching.specs.Relations.{wants_predicate, agreed_relation, unrelated_fault, relation_fault_at}
 use Rattle.asm_reading.specs.Lines.{predicate_of, data_field, agreed_data, FaultOf}
 use Rattle.asm_reading.specs.FaultOrder.{words_of, Beside, nothing, beside_of, name_instruction, fault_in, predicate_fault, fault_before, Operands, Numbers, Predicates, OfForms, operands_of, AreRight, fault_among, before_stage, after_stage, HasValue, HasBeside}
 use Rattle.asm_reading.proofs.FaultOrder.{stages, fault_found, found_fault, no_value}

@@ -6,7 +6,5 @@ mod FaultOrderLaws
 pub mod NoMarks
 pub mod SlotForms
 mod WordLists
-pub mod Decided
-pub mod DecidedFormats
 mod SomeAnswer
-pub mod NamedPredicates
+pub mod TwoPredicates

@@ -13,12 +13,13 @@ use Rattle.asm_forms.specs.declared.completer.CompleterSet.{CompleterSet}
 use Rattle.asm_forms.specs.declared.form.Form.{Form}
 use Rattle.asm_forms.specs.declared.form.Form.TheVariants as form
 use Rattle.asm_forms.specs.Items.{taken}
-use Rattle.asm_forms.specs.Matching.{is_spelled, read_form}
 use Rattle.asm_forms.specs.Naming.{is_named, begins, has_completers_if, named_forms, completers}
 use Rattle.asm_forms.specs.Rows.{FormRow, rows, row_of}
+use Rattle.asm_forms.specs.Spelled.{is_spelled}
+use Rattle.asm_matching.specs.Matching.{read_form}
+use Rattle.asm_instructions.specs.Instructions.{op_of}
 use Rattle.asm_reading.specs.declared.line.Line.{Line}
 use Rattle.asm_reading.specs.declared.line.Line.TheVariants as line
-use Rattle.asm_reading.specs.Instructions.{op_of}
 use Rattle.asm_reading.specs.FaultOrder.{is_instruction}
 use Rattle.asm_reading.specs.Lines.{◌>>=◌, or_fault, KindAndText, draft_of, ends_in_stop, completers_or_none, formed, among, worded, slot_of, slot_under, predicate_of, tokens, without_stop}
 use Rattle.asm_reading.specs.SlotReading.{slot_line, is_directive_name}

@@ -2,11 +2,11 @@
 use Rattle.std.proofs.Common.{◌≡◌, inl, inr, refl, ℕ, List, Result, Ok, Err}
 use Rattle.asm_words.specs.declared.fault.LineFault.{LineFault}
 use Rattle.asm_words.specs.declared.fault.LineFault.TheVariants as fault
+use Rattle.asm_instructions.proofs.DecidedFormats.{listed}
 use Rattle.asm_reading.specs.declared.line.Line.{Line}
 use Rattle.asm_reading.specs.declared.line.Line.TheVariants as line
 use Rattle.asm_reading.specs.Lines.{reading_of, IsListedLine}
 use Rattle.asm_reading.specs.SomeAnswer.{LineOrFault}
-use Rattle.asm_reading.proofs.DecidedFormats.{listed}
 
 listed_line : (value : Line) → Dec (IsListedLine value)
 listed_line (line.Slot draft stop) = listed draft.insn

@@ -15,10 +15,10 @@ use Rattle.asm_forms.specs.declared.choices.AccessSize.{AccessSize}
 use Rattle.asm_forms.specs.declared.choices.AccessSize.TheVariants as size
 use Rattle.asm_forms.specs.declared.form.Form.{Form}
 use Rattle.asm_forms.specs.declared.form.Form.TheVariants as form
-use Rattle.asm_forms.specs.Matching.{reach, fault_of}
 use Rattle.asm_forms.specs.Naming.{named_forms}
+use Rattle.asm_matching.specs.Matching.{reach, fault_of}
+use Rattle.asm_matching.specs.Relations.{agreed_relation, relation_fault}
 use Rattle.asm_reading.specs.declared.line.Line.{Line}
-use Rattle.asm_reading.specs.Relations.{agreed_relation, relation_fault}
 use Rattle.asm_reading.specs.Lines.{KindAndText, texts, tokens, lead_at, predicate_of, data_field, agreed_data, data_fault, template_name_of, is_name_word, is_colon, LineOf}
 
 abbrev pub words_of : List ℕ → List KindAndText

@@ -1,7 +1,3 @@
-pub mod Operands
-pub mod Instructions
-pub mod Related
-pub mod Relations
 pub mod Lines
 pub mod SlotReading
 pub mod FaultOrder

@@ -29,19 +29,19 @@ use Rattle.asm_forms.specs.declared.items.Kind.TheVariants as takes
 use Rattle.asm_forms.specs.declared.items.NumberField.{NumberField}
 use Rattle.asm_forms.specs.declared.items.NumberField.TheVariants as field
 use Rattle.asm_forms.specs.Items.{accepts, taken, is_label_item, is_stop}
-use Rattle.asm_forms.specs.Matching.{fault_at, read_form}
 use Rattle.asm_forms.specs.Naming.{completers, named_forms}
 use Rattle.asm_forms.specs.Rows.{row_of}
+use Rattle.asm_matching.specs.Matching.{fault_at, read_form}
+use Rattle.asm_matching.specs.Relations.{named_predicates, agreed_relation, relation_fault}
 use Rattle.ia_insn.specs.declared.insn.Op.{Op}
 use Rattle.ia_insn.specs.Listed.{IsListed}
+use Rattle.asm_instructions.specs.Instructions.{op_of}
+use Rattle.asm_instructions.specs.Operands.{u32_at, magnitude, is_negative, wrapped, bytes, completer_at, is_present}
 use Rattle.asm_reading.specs.declared.line.Line.{Line}
 use Rattle.asm_reading.specs.declared.line.Line.TheVariants as line
 use Rattle.asm_reading.specs.declared.line.Draft.{Draft}
 use Rattle.asm_reading.specs.declared.line.TemplateName.{TemplateName}
 use Rattle.asm_reading.specs.declared.line.TemplateName.TheVariants as template
-use Rattle.asm_reading.specs.Instructions.{op_of}
-use Rattle.asm_reading.specs.Relations.{relation_of}
-use Rattle.asm_reading.specs.Operands.{u32_at, magnitude, is_negative, wrapped, bytes, completer_at, is_present}
 
 infixl 10 ◌>>=◌
 abbrev pub ◌>>=◌ : {A B : Type 0} → Result A LineFault → (A → Result B LineFault) → Result B LineFault
@@ -176,6 +176,13 @@ data_of z xs =
     if (agreed_data (data_field z) 0 xs == length xs) && (length xs % 2 == 1)
     then Ok (line.Numbers (bytes z) (numbers_of (2 ^ (8 * bytes z)) xs))
     else Err (data_fault (agreed_data (data_field z) 0 xs) xs)
+
+-- A relation line: each token is right, no comma is the last, and two predicates or more are named.
+abbrev pub relation_of : List Token → Result Line LineFault
+relation_of xs =
+    if (agreed_relation [] xs == length xs) && ((length xs % 2 == 1) && nat_le 2 (length (named_predicates xs)))
+    then Ok (line.Relation (named_predicates xs))
+    else Err (relation_fault (agreed_relation [] xs) xs)
 
 abbrev pub named : Option (List ℕ) → (List ℕ → Line) → Result Line LineFault
 named None value = Err fault.Form

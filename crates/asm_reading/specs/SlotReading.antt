@@ -6,9 +6,9 @@ use Rattle.asm_forms.specs.declared.completer.Completer.{Completer}
 use Rattle.asm_forms.specs.declared.form.Form.{Form}
 use Rattle.asm_forms.specs.Items.{taken}
 use Rattle.asm_forms.specs.Rows.{row_of}
+use Rattle.asm_instructions.specs.Instructions.{op_of}
 use Rattle.asm_reading.specs.declared.line.Line.{Line}
 use Rattle.asm_reading.specs.declared.line.Line.TheVariants as line
-use Rattle.asm_reading.specs.Instructions.{op_of}
 use Rattle.asm_reading.specs.Lines.{KindAndText, draft_of, ends_in_stop, without_stop}
 
 -- A name that only a directive can have: it begins with a dot or with `da`.

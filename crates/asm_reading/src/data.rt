@@ -2,13 +2,14 @@
 
 ghost use Rattle.std.specs.Prelude.{◌≡◌, ◌≤◌, ◌<◌, ◌+◌, ◌*◌, ◌^◌, ◌%◌, length};
 ghost use Rattle.asm_words.specs.declared.limits.TheConstants.{NUMBER_TOKEN_LIMIT};
+ghost use Rattle.asm_instructions.specs.Operands.{wrapped, bytes, is_negative, magnitude};
 ghost use Rattle.asm_reading.specs.Lines.{data_field, data_item, agreed_data, numbers_of, wants_number, data_fault, data_of};
-ghost use Rattle.asm_reading.specs.Operands.{wrapped, bytes, is_negative, magnitude};
 
 use crate::line::{Line, Values};
-use crate::operands::{bytes, wrapped_below};
 use arrayvec::ArrayVec;
-use asm_forms::{AccessSize, FormItem, Kind, Mark, NumberField, accepts, fault_at};
+use asm_forms::{AccessSize, FormItem, Kind, Mark, NumberField, accepts};
+use asm_instructions::{bytes, wrapped_below};
+use asm_matching::fault_at;
 use asm_words::limits::{NUMBER_LIMIT, NUMBER_TOKEN_LIMIT};
 use asm_words::{LineFault, Token};
 

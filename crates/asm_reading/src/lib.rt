@@ -1,17 +1,15 @@
 //! What a line of assembly text says, or its first fault.
 //!
 //! A line is cut into words, and the leading name names one or more forms. `reading` finds the form that the
-//! operands have and the line's value, or the first fault. `instruction` has what each form means. The marks and
-//! operands of a line go by the rows of the forms; numbers in a line of data, the predicates of a relation and the
-//! names of templates don't.
+//! operands have and the line's value, or the first fault. Which marks and operands may follow a name, and the
+//! predicates of a relation, is said below (`asm_matching`), and so is what each form means (`asm_instructions`); `data`
+//! has the numbers in a line of data and `template_name` the names of templates, which go by no row of the forms.
 #![tactic(auto)]
 
 mod buffers;
 mod data;
-mod instruction;
 mod laws;
 mod line;
-mod operands;
 mod reading;
 mod relation;
 mod template_name;

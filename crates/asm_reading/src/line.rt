@@ -2,7 +2,7 @@
 
 ghost use Rattle.std.specs.Prelude.{◌≡◌, ℕ, ◌≤◌, List, length};
 ghost use Rattle.asm_words.specs.declared.limits.TheConstants.{NUMBER_LIMIT};
-ghost use Rattle.asm_reading.specs.Related.{ArePredicates};
+ghost use Rattle.asm_matching.specs.Related.{ArePredicates};
 
 use arrayvec::ArrayVec;
 use asm_words::Name;
@@ -11,7 +11,7 @@ use ia_insn::Insn;
 use std::marker::Model;
 
 /// What a line says.
-#[derive(Debug, Drop)]
+#[derive(Drop)]
 pub enum Line {
     /// Nothing: a blank line.
     Empty,
@@ -161,7 +161,7 @@ impl Predicates {
 }
 
 /// An instruction as a line has it.
-#[derive(Debug, Drop)]
+#[derive(Drop)]
 pub struct Draft {
     /// The instruction. Where the line names a target, its displacement, or the number of a `movl`, is
     /// 0 until the name is put in.

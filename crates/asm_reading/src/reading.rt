@@ -4,21 +4,20 @@ ghost use Rattle.std.specs.Prelude.{◌≡◌, ◌≤◌, ◌<◌, ◌+◌, ◌-
 ghost use Rattle.asm_words.specs.declared.limits.TheConstants.{LINE_LIMIT};
 ghost use Rattle.asm_words.specs.Tokens.{token_of};
 ghost use Rattle.asm_words.specs.Words.{pick};
-ghost use Rattle.asm_reading.specs.Lines.{AreParts, texts, tokens, name_of, label_name, lead_at, past_parenthesis, ends_in_stop, without_stop, predicate_of, is_bare, completers_or_none, slot_under, slot_of, directive_value, directive_of, alone, data_of, among, worded, marked, template_name_of, opened, led_by, led, is_colon, is_open, is_close, label_of, value_of, reading_of, IsListedLine, LineOf, FaultOf};
-ghost use Rattle.asm_reading.specs.Relations.{relation_of};
+ghost use Rattle.asm_reading.specs.Lines.{AreParts, texts, tokens, name_of, label_name, lead_at, past_parenthesis, ends_in_stop, without_stop, predicate_of, is_bare, completers_or_none, slot_under, slot_of, directive_value, directive_of, alone, data_of, relation_of, among, worded, marked, template_name_of, opened, led_by, led, is_colon, is_open, is_close, label_of, value_of, reading_of, IsListedLine, LineOf, FaultOf};
 ghost use Rattle.asm_reading.specs.SlotReading.{slot_line, is_directive_name};
 
 use crate::buffers::{LineBuffers, Tokens};
 use crate::data::data_of;
-use crate::instruction::op_of;
 use crate::line::{Draft, Line};
-use crate::operands::{is_present_at, u32_at};
 use crate::relation::relation_of;
 use crate::template_name::template_name_of;
 use asm_forms::{
     AccessSize, Completer, Completers, Form, FormItem, Kind, Spelled, completers, find_spelled,
-    named, read_form, taken,
+    named, taken,
 };
+use asm_instructions::{is_present_at, op_of, u32_at};
+use asm_matching::read_form;
 use asm_words::limits::LINE_LIMIT;
 use asm_words::{LineFault, Name, Token, Word, WordKind, numbered_register, token, words_into};
 use ia_insn::{Insn, Pr, is_listed};

@@ -12,8 +12,8 @@ use Rattle.ia_insn.specs.declared.choices.LoadKind.{LoadKind}
 use Rattle.ia_insn.specs.declared.choices.LoadKind.TheVariants as load
 use Rattle.ia_insn.specs.declared.choices.StoreKind.{StoreKind}
 use Rattle.ia_insn.specs.declared.choices.StoreKind.TheVariants as store
-use Rattle.asm_reading.specs.Operands.{hint_of, is_many, is_present, is_release, whether}
-use Rattle.asm_printing.specs.Canonical.{when, prefetch_hint, cache_hint, semaphore_type, branch_hints, whether as whether_numbered}
+use Rattle.asm_instructions.specs.Operands.{hint_of, is_many, is_present, is_release, whether}
+use Rattle.asm_canonical.specs.Canonical.{when, prefetch_hint, cache_hint, semaphore_type, branch_hints, whether as whether_numbered}
 
 whether_in : (a b d : Bool) → list_any (is_same (c.Whether (cond a wh.Sptk (cond b wh.Spnt (cond d wh.Dptk wh.Dpnt))))) (members set.Whether) ≡ true
 whether_in true b d = refl

@@ -17,7 +17,7 @@ use Rattle.asm_forms.specs.declared.items.Mark.TheVariants as m
 use Rattle.asm_forms.specs.Items.{mark_token, filled, prints, fits, is_label_item}
 use Rattle.asm_forms.specs.Rows.{rows, row_of}
 use Rattle.asm_forms.proofs.RowFacts.{of_row}
-use Rattle.asm_printing.proofs.Written.{IsPrinted}
+use Rattle.asm_canonical.proofs.Written.{IsPrinted}
 use Rattle.asm_text.proofs.OperandTexts.{is_wordlike, are_apart, label_token}
 
 -- a token for each item

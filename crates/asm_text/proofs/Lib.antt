@@ -3,6 +3,7 @@ mod FirstForm
 mod ItemFacts
 mod CompletersBack
 mod LinesBack
+mod Mnemonic
 pub mod OperandTexts
 mod ReadsBack
 mod ReadsBackA
@@ -10,6 +11,8 @@ mod ReadsBackB
 mod ReadsBackI
 mod ReadsBackM
 mod ReadsBackX
+pub mod Short
 pub mod SlotLines
+mod Targets
 pub mod Untargeted
 pub mod RelationLines

@@ -6,10 +6,10 @@ use Rattle.ia_insn.proofs.OperandRanges.{ranges_of_listed}
 use Rattle.asm_reading.specs.Lines.{LineOf}
 use Rattle.asm_printing.specs.declared.limits.TheConstants.{SLOT_LINE_LIMIT}
 use Rattle.asm_printing.specs.SlotTexts.{slot_text}
-use Rattle.asm_printing.proofs.Printed.{printed}
-use Rattle.asm_printing.proofs.Short.{slot_line_is_short}
-use Rattle.asm_printing.proofs.Targets.{target_is_near}
-use Rattle.asm_printing.proofs.Written.{items_of, operands_of}
+use Rattle.asm_canonical.proofs.Printed.{printed}
+use Rattle.asm_text.proofs.Short.{slot_line_is_short}
+use Rattle.asm_text.proofs.Targets.{target_is_near}
+use Rattle.asm_canonical.proofs.Written.{items_of, operands_of}
 use Rattle.asm_text.specs.ReadBack.{printed_line}
 use Rattle.asm_text.proofs.ItemFacts.{all_printed}
 use Rattle.asm_text.proofs.ReadsBack.{reads_back}

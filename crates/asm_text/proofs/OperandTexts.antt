@@ -23,7 +23,7 @@ use Rattle.asm_forms.specs.declared.items.FormItem.{FormItem}
 use Rattle.asm_forms.specs.declared.items.FormItem.TheVariants.{Is, Takes}
 use Rattle.asm_forms.specs.Items.{mark_token, filled, is_label_item}
 use Rattle.asm_reading.specs.Lines.{KindAndText, tokens, name_of, label_name}
-use Rattle.asm_printing.proofs.Written.{IsPrinted}
+use Rattle.asm_canonical.proofs.Written.{IsPrinted}
 use Rattle.asm_printing.specs.SlotTexts.{is_hex, label_text, token_text, operands_text}
 
 -- marks and operands in turn, as they are printed

@@ -13,7 +13,7 @@ use Rattle.ia_insn.specs.declared.choices.LaneFn.TheVariants as lane_fn
 use Rattle.ia_insn.specs.Ranges.{IsPartSize}
 use Rattle.ia_insn.specs.Signed.{FitsSigned}
 use Rattle.ia_insn.specs.FormatsA.{imm8_codes, compare, parallel_op, zero_codes}
-use Rattle.asm_printing.proofs.FieldRanges.{is_below, is_short, has_imm8, has_imm14, has_imm22}
+use Rattle.asm_canonical.proofs.FieldRanges.{is_below, is_short, has_imm8, has_imm14, has_imm22}
 use Rattle.asm_text.proofs.WayBack.{ReadsBack, signed_back}
 
 -- A1

@@ -8,7 +8,7 @@ use Rattle.ia_insn.specs.declared.insn.Op.{Op}
 use Rattle.ia_insn.specs.declared.insn.Op.TheVariants as op
 use Rattle.ia_insn.specs.declared.choices.BranchKind.{BranchKind}
 use Rattle.ia_insn.specs.declared.choices.BranchKind.TheVariants as branch
-use Rattle.asm_printing.specs.Canonical.{branch_hints}
+use Rattle.asm_canonical.specs.Canonical.{branch_hints}
 use Rattle.asm_text.proofs.CompletersBack.{hints_in, many_back, clr_back, whether_back}
 use Rattle.asm_text.proofs.WayBack.{ReadsBack}
 

@@ -10,7 +10,7 @@ use Rattle.ia_insn.specs.declared.choices.Unit.{Unit as ExecutionUnit}
 use Rattle.ia_insn.specs.declared.choices.Unit.TheVariants as unit
 use Rattle.ia_insn.specs.Signed.{twos, FitsSigned}
 use Rattle.ia_insn.specs.Ranges.{IsBitField, IsPartSize, IsCheckOf}
-use Rattle.asm_printing.proofs.FieldRanges.{is_below, is_short, has_imm8, has_tag, has_rotating_mask}
+use Rattle.asm_canonical.proofs.FieldRanges.{is_below, is_short, has_imm8, has_tag, has_rotating_mask}
 use Rattle.asm_text.proofs.WayBack.{ReadsBack, signed_back, mask_back}
 
 -- I5 and I7

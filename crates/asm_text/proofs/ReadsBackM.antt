@@ -16,9 +16,9 @@ use Rattle.ia_insn.specs.declared.choices.Update.TheVariants as update
 use Rattle.ia_insn.specs.Signed.{FitsSigned}
 use Rattle.ia_insn.specs.Ranges.{IsLoadUpdate, IsStoreUpdate}
 use Rattle.ia_insn.specs.Ranges.{IsAccessSize, IsIncrement, IsLoadSize, IsStoreSize}
-use Rattle.asm_reading.specs.Operands.{signed, is_negative, magnitude}
-use Rattle.asm_printing.specs.Canonical.{number}
-use Rattle.asm_printing.proofs.FieldRanges.{is_below, is_short, has_imm9, has_increment, increment_within}
+use Rattle.asm_instructions.specs.Operands.{signed, is_negative, magnitude}
+use Rattle.asm_canonical.specs.Canonical.{number}
+use Rattle.asm_canonical.proofs.FieldRanges.{is_below, is_short, has_imm9, has_increment, increment_within}
 use Rattle.asm_text.proofs.WayBack.{ReadsBack, signed_back}
 use Rattle.asm_text.proofs.CompletersBack.{hint_back, is_fill, is_spill, load_choice, fill_choice, store_choice, spill_choice, store_hint_back, exchange_choice, fetch_add_choice, release_back}
 

@@ -10,9 +10,8 @@ use Rattle.asm_words.proofs.Lexed.{lexed}
 use Rattle.asm_words.proofs.Lexing.{name_lexed}
 use Rattle.asm_words.proofs.Readings.{pr_reads, decimal_is_name_bytes, decimal_is_plain, both_plain}
 use Rattle.asm_reading.specs.declared.line.Line.TheVariants as line
-use Rattle.asm_reading.specs.Lines.{KindAndText, value_of, reading_of}
-use Rattle.asm_reading.specs.Relations.{relation_of}
-use Rattle.asm_reading.proofs.NamedPredicates.{two_read}
+use Rattle.asm_reading.specs.Lines.{KindAndText, value_of, reading_of, relation_of}
+use Rattle.asm_reading.proofs.TwoPredicates.{two_read}
 use Rattle.asm_text.proofs.SlotLines.{read_plain}
 
 -- the text of the line

@@ -23,7 +23,6 @@ use Rattle.asm_forms.specs.declared.items.FormItem.{FormItem}
 use Rattle.asm_forms.specs.Items.{is_stop, taken}
 use Rattle.asm_forms.specs.declared.completer.Completer.{Completer}
 use Rattle.asm_forms.specs.Completers.{text_of}
-use Rattle.asm_forms.specs.Matching.{is_spelled, read_form}
 use Rattle.asm_forms.specs.Naming.{completers_in, named_forms}
 use Rattle.asm_forms.specs.Rows.{row_of}
 use Rattle.asm_forms.proofs.Fits.{taken_back}
@@ -31,17 +30,19 @@ use Rattle.ia_insn.specs.declared.insn.Insn.{Insn}
 use Rattle.ia_insn.specs.declared.insn.Op.{Op}
 use Rattle.ia_insn.specs.Targets.{displacement}
 use Rattle.asm_forms.proofs.RowBack.{row_back}
+use Rattle.asm_forms.specs.Spelled.{is_spelled}
+use Rattle.asm_matching.specs.Matching.{read_form}
+use Rattle.asm_instructions.specs.Instructions.{op_of}
 use Rattle.asm_reading.specs.declared.line.Draft.{Draft}
 use Rattle.asm_reading.specs.declared.line.Line.{Line}
 use Rattle.asm_reading.specs.declared.line.Line.TheVariants as line
-use Rattle.asm_reading.specs.Instructions.{op_of}
 use Rattle.asm_reading.specs.Lines.{◌>>=◌, or_fault, KindAndText, tokens, label_name, is_open, is_close, lead_at, led_at, is_some_stop, ends_in_stop, without_stop, predicate_of, is_bare, draft_of, completers_or_none, slot_of, worded, led, is_name_word, is_colon, value_of, reading_of}
 use Rattle.asm_printing.specs.SlotTexts.{label_text, spaced, mnemonic_text, predicate_text, stop_text, target_of, or_zero, slot_text}
 use Rattle.asm_reading.proofs.NoMarks.{name_is_not_open}
 use Rattle.asm_reading.proofs.SlotForms.{slot_first, found_read}
-use Rattle.asm_printing.proofs.Mnemonic.{mnemonic_bytes, mnemonic_lexed}
-use Rattle.asm_printing.proofs.Written.{form_of, completers_of, operands_of, items_of, tokens_of, name_of_op, IsPrinted}
-use Rattle.asm_printing.proofs.Short.{small_target}
+use Rattle.asm_text.proofs.Mnemonic.{name_of_op, mnemonic_bytes, mnemonic_lexed}
+use Rattle.asm_canonical.proofs.Written.{form_of, completers_of, operands_of, items_of, tokens_of, IsPrinted}
+use Rattle.asm_text.proofs.Short.{small_target}
 use Rattle.asm_text.specs.ReadBack.{untargeted}
 use Rattle.asm_text.proofs.FirstForm.{named_slots}
 use Rattle.asm_text.proofs.ItemFacts.{as_many, row_apart, label_token_of}

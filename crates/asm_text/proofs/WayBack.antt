@@ -8,11 +8,11 @@ use Rattle.asm_forms.specs.Naming.{completers_in}
 use Rattle.asm_forms.specs.Rows.{row_of}
 use Rattle.ia_insn.specs.declared.insn.Op.{Op}
 use Rattle.ia_insn.specs.Targets.{displacement}
-use Rattle.asm_reading.specs.Instructions.{op_of}
+use Rattle.asm_instructions.specs.Instructions.{op_of}
+use Rattle.asm_instructions.specs.Operands.{signed}
 use Rattle.asm_reading.specs.Lines.{is_bare}
-use Rattle.asm_reading.specs.Operands.{signed}
 use Rattle.asm_reading.specs.FaultOrder.{is_instruction}
-use Rattle.asm_printing.specs.Canonical.{negative, syntax_of}
+use Rattle.asm_canonical.specs.Canonical.{negative, syntax_of}
 use Rattle.asm_text.specs.ReadBack.{untargeted}
 
 -- The completers and the operands of an instruction are those of its row, and mean the instruction.

@@ -16,7 +16,7 @@ use Rattle.predicate_rel.specs.Pairs.{Pairs, no_pairs, with_pair}
 use Rattle.flow_facts.specs.Graphs.{IsRowEntry, with_relations, known_at_entry}
 use Rattle.slot_layouts.specs.Filled.{filled}
 use Rattle.row_laws.specs.Spreads.{IsFiller, IsHead}
-use Rattle.loose_text.specs.declared.item.Item.{Item}
+use Rattle.loose_items.specs.declared.item.Item.{Item}
 use Rattle.loose_text.specs.LooseTexts.{Loose, IsLoose, BreaksAt}
 use Rattle.bundling.specs.Chunk.{Chunk}
 use Rattle.bundling.specs.Chunks.{AreChunks}

@@ -19,7 +19,7 @@ use Rattle.slot_layouts.specs.declared.layout.Wanted.{Wanted}
 use Rattle.slot_layouts.specs.Classes.{class_of}
 use Rattle.slot_layouts.specs.Filled.{nop_of, slot_content, contents, filled, AreOf}
 use Rattle.slot_layouts.specs.Laws.{PlaceIsFit, FilledIsBundle}
-use Rattle.loose_text.specs.declared.item.Item.{Item}
+use Rattle.loose_items.specs.declared.item.Item.{Item}
 use Rattle.loose_text.specs.LooseTexts.{Loose, IsLoose}
 use Rattle.bundling.specs.Chunk.{Chunk}
 use Rattle.bundling.specs.Chunks.{Holds, AreChunksOf}

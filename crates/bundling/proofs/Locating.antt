@@ -14,7 +14,7 @@ use Rattle.slot_layouts.specs.Classes.{class_of}
 use Rattle.slot_layouts.specs.Layouts.{laid_out, is_layout}
 use Rattle.slot_layouts.specs.Filled.{filled}
 use Rattle.slot_layouts.specs.Laws.{LaidOutIsLayout, LaidOutHoldsInOrder}
-use Rattle.loose_text.specs.declared.item.Item.{Item}
+use Rattle.loose_items.specs.declared.item.Item.{Item}
 use Rattle.loose_text.specs.LooseTexts.{BreaksAt}
 use Rattle.row_laws.specs.Spreads.{IsHead}
 use Rattle.bundling.specs.Chunk.{Chunk}

@@ -13,7 +13,7 @@ use Rattle.slot_layouts.specs.declared.layout.Wanted.{Wanted}
 use Rattle.slot_layouts.specs.Filled.{filled}
 use Rattle.slot_layouts.proofs.Fillings.{within_last}
 use Rattle.slot_layouts.specs.Laws.{LaidOutHasStopsAsWanted, HasStopsAsWanted, HasStopWhere, has_stop}
-use Rattle.loose_text.specs.declared.item.Item.{Item}
+use Rattle.loose_items.specs.declared.item.Item.{Item}
 use Rattle.bundling.specs.Chunk.{Chunk}
 use Rattle.bundling.specs.Chunks.{AreChunks}
 use Rattle.bundling.specs.Bundled.{layout_of, place_of, bundles_from}

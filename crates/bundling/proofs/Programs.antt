@@ -10,7 +10,7 @@ use Rattle.ia_insn.specs.declared.relations.Relation.{Relation}
 use Rattle.ia_insn.specs.Places.{EachPlace}
 use Rattle.ia_insn.specs.Runs.{IsWithinRun}
 use Rattle.ia_insn.specs.Programs.{IsProgram, AreInRange, floor, IsEntryAt, AreEntries, IsCall, IsEntryOf, IsRelationBefore, IsDeclarable, no_relation, relation_at, relation_before, AreRelations}
-use Rattle.loose_text.specs.declared.item.Item.{Item}
+use Rattle.loose_items.specs.declared.item.Item.{Item}
 use Rattle.loose_text.specs.LooseTexts.{Loose, IsLoose, BreaksAt, IsItemEntry}
 use Rattle.asm_build.specs.Relations.{IsFit}
 use Rattle.flow_facts.specs.Graphs.{IsRowEntry}

@@ -19,7 +19,7 @@ use Rattle.asm_build.specs.declared.address.Address.{Address}
 use Rattle.asm_build.specs.declared.address.Address.TheVariants.{Bundle, Byte}
 use Rattle.asm_build.specs.Addresses.{IsInside, IsReachable, addressed, reach}
 use Rattle.asm_build.proofs.AddressedTargets.{IfSome-weaken, fit_stays, target_inside}
-use Rattle.loose_text.specs.declared.item.Item.{Item}
+use Rattle.loose_items.specs.declared.item.Item.{Item}
 use Rattle.loose_text.specs.LooseTexts.{IsTargetOf}
 use Rattle.bundling.specs.Bundled.{put_in}
 use Rattle.bundling.proofs.Locating.{breaks_inside}

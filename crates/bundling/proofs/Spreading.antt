@@ -14,7 +14,7 @@ use Rattle.ia_insn.specs.Places.{insn_at, IsBefore}
 use Rattle.ia_insn.proofs.InOrder.{lies_in}
 use Rattle.slot_layouts.specs.Filled.{nop_of, filled}
 use Rattle.row_laws.specs.Spreads.{DoesLike, IsFiller}
-use Rattle.loose_text.specs.declared.item.Item.{Item}
+use Rattle.loose_items.specs.declared.item.Item.{Item}
 use Rattle.loose_text.specs.LooseTexts.{Loose, IsLoose}
 use Rattle.bundling.specs.Chunk.{Chunk}
 use Rattle.bundling.specs.Chunks.{AreChunks}

@@ -14,7 +14,7 @@ use Rattle.slot_layouts.specs.declared.layout.Wanted.{Wanted}
 use Rattle.slot_layouts.specs.Laws.{HasStopWhere}
 use Rattle.group_checker.proofs.Falling.{none_before_first}
 use Rattle.row_laws.specs.Spreads.{IsBetween, AreStops}
-use Rattle.loose_text.specs.declared.item.Item.{Item}
+use Rattle.loose_items.specs.declared.item.Item.{Item}
 use Rattle.loose_text.specs.LooseTexts.{Loose, IsLoose}
 use Rattle.bundling.specs.Chunk.{Chunk}
 use Rattle.bundling.specs.Chunks.{AreChunks, AreChunksOf, gaps_of}

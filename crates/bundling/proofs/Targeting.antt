@@ -20,7 +20,7 @@ use Rattle.slot_layouts.specs.Filled.{filled}
 use Rattle.asm_build.specs.declared.address.Address.{Address}
 use Rattle.asm_build.specs.declared.address.Address.TheVariants.{Bundle, Byte}
 use Rattle.asm_build.specs.Addresses.{addressed}
-use Rattle.loose_text.specs.declared.item.Item.{Item}
+use Rattle.loose_items.specs.declared.item.Item.{Item}
 use Rattle.loose_text.specs.LooseTexts.{Loose, IsLoose, IsTargetOf, BreaksAt}
 use Rattle.bundling.specs.Chunk.{Chunk}
 use Rattle.bundling.specs.Chunks.{AreChunks}

@@ -13,7 +13,7 @@ use std::marker::Model;
 pub const QUIET_LIMIT: usize = RUN_LIMIT as usize / 3 - 1;
 
 /// What a bundle is to hold, and whether a stop is wanted after it.
-#[derive(Debug, Drop)]
+#[derive(Drop)]
 pub struct Chunk {
     /// The instructions, one to three.
     pub wanted: ArrayVec<Wanted, 3>,

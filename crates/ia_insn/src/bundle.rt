@@ -13,7 +13,7 @@ use std::marker::Model;
 
 /// The instructions of a bundle: three, or one and a long one, which takes slots 1 and 2 (volume 1,
 /// chapter 3, instruction encoding).
-#[derive(Clone, Copy, Debug, PartialEq, Eq)]
+#[derive(Clone, Copy)]
 pub enum Slots {
     /// An instruction in each slot.
     Three {
@@ -61,7 +61,7 @@ impl Slots {
 
 /// A bundle: a template and the instructions that fit it. Contracts see the template's code and the
 /// instructions.
-#[derive(Clone, Copy, Debug, PartialEq, Eq)]
+#[derive(Clone, Copy)]
 pub struct BundleOf {
     template: Template,
     slots: Slots,

@@ -9,7 +9,7 @@ use crate::registers::{Ar, Br, Gr, Pr};
 
 /// An instruction with its qualifying predicate (volume 1, chapter 3, instruction encoding). A
 /// value need not be an instruction of the machine: `is_listed` says which are, and `fits` in which slots.
-#[derive(Clone, Copy, Debug, PartialEq, Eq)]
+#[derive(Clone, Copy)]
 pub struct Insn {
     /// The qualifying predicate: where it is 0, only tests of type `unc` and loop branches do anything.
     pub qp: Pr,
@@ -19,7 +19,7 @@ pub struct Insn {
 
 /// What an instruction does and with which operands (volume 3, chapter 2). Each variant names its
 /// formats (volume 3, chapter 4), and a field's ranges are those of a listed instruction.
-#[derive(Clone, Copy, Debug, PartialEq, Eq)]
+#[derive(Clone, Copy)]
 pub enum Op {
     /// `f` of `r2` and `r3` into `r1` (A1).
     Alu {

@@ -48,7 +48,7 @@ pub enum ProgramFault {
 
 /// A program: bundles, the numbers of those that are declared entries, data bytes, and declared
 /// relations. Contracts see the four lists.
-#[derive(Debug, Drop)]
+#[derive(Drop)]
 pub struct Program {
     bundles: Vec<BundleOf>,
     entries: Vec<u32>,

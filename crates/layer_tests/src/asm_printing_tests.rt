@@ -1,6 +1,6 @@
 //! Slot lines as the manual's assembly syntax has them.
 
-ghost use Rattle.std.specs.Prelude.{◌↔◌, ◌<◌, IsTrue};
+ghost use Rattle.std.specs.Prelude.{◌↔◌, IsTrue};
 ghost use Rattle.asm_printing.specs.SlotTexts.{HasTarget};
 
 use asm_printing::print_slot;
@@ -11,16 +11,12 @@ use ia_insn::{
 use std::alloc::{AllocError, Global};
 use std::test::Fail;
 
-fn r(n: u64) -> Gr
-    requires { n < 128 }
-{
-    Gr::of_field(n)
+fn r(n: u64) -> Gr {
+    Gr::of_field(n % 128)
 }
 
-fn p(n: u64) -> Pr
-    requires { n < 64 }
-{
-    Pr::of_field(n)
+fn p(n: u64) -> Pr {
+    Pr::of_field(n % 64)
 }
 
 /// Whether the target, where there is one, is no bundle before the first.

@@ -64,11 +64,15 @@ fn looping(alloc: Global, within: Insn, entries: &[u32]) -> Result<Program, Fail
     let (m, i) = (nop(Unit::M), nop(Unit::I));
     let first = compare(CmpKind::Normal, Pr::of_field(6), Pr::of_field(7));
     let mut bundles = Vec::new(alloc);
-    bundles.push(bundle(MII, first, i)?)?;
-    bundles.push(bundle(MII, m, i)?)?;
-    bundles.push(bundle(MIB, within, branch(Pr::of_field(8), -1))?)?;
-    bundles.push(bundle(MIB, m, branch(Pr::default(), 0))?)?;
-    bundles.push(bundle(MII, m, i)?)?;
+    for (template, first, last) in [
+        (MII, first, i),
+        (MII, m, i),
+        (MIB, within, branch(Pr::of_field(8), -1)),
+        (MIB, m, branch(Pr::default(), 0)),
+        (MII, m, i),
+    ] {
+        bundles.push(bundle(template, first, last)?)?;
+    }
     let program = Program::new(bundles, entries.to_vec(alloc)?, Vec::new(alloc))?;
     Ok(program)
 }

@@ -1,7 +1,8 @@
 //! What reads and writes images answers them where there is memory.
 
-use ia_insn::{Program, Relation};
+use ia_insn::Relation;
 use image_form::{is_image, read_image, wrap_raw, write_image, write_image_2};
+use std::alloc::Global;
 use std::test::Fail;
 
 /// The image of a bundle: `nop.m 0`, `nop.i 0`, `nop.i 0` and a stop.
@@ -20,22 +21,6 @@ const TWO: [u8; 68] = [
     0x20, 0x6f, 0x66, 0x20,
 ];
 
-#[test]
-fn images_come_back(rt: HostRuntime) -> Result<(), Fail> {
-    let alloc = rt.alloc();
-    let read = write_image(alloc, &read_image(alloc, &TWO)?)?;
-    assert!(rt; read.as_slice() == TWO.as_slice());
-    let wrapped = write_image(alloc, &wrap_raw(alloc, &ONE[24..])?)?;
-    assert!(rt; wrapped.as_slice() == ONE.as_slice());
-    assert!(rt; is_image(&wrapped));
-    let second = write_image_2(alloc, &read_image(alloc, &ONE)?)?;
-    assert!(rt; is_image(&second));
-    assert_eq!(rt; second.len(), 40);
-    let again = write_image(alloc, &read_image(alloc, &second)?)?;
-    assert!(rt; again.as_slice() == ONE.as_slice());
-    Ok(())
-}
-
 /// The image of two bundles, `cmp.eq p6,p7=r0,r0` and two moves, one under p6 and one under p7, of which the
 /// second is a declared entry with a relation.
 const RELATED: [u8; 68] = [
@@ -46,10 +31,44 @@ const RELATED: [u8; 68] = [
     0x21, 0x00, 0x00, 0x90,
 ];
 
+/// The image of the program that an image has.
+fn again(alloc: Global, image: &[u8]) -> Result<Vec<u8>, Fail> {
+    let program = read_image(alloc, image)?;
+    Ok(write_image(alloc, &program)?)
+}
+
 #[test]
-fn relations_come_back(rt: HostRuntime) -> Result<(), Fail> {
+fn images_come_back(rt: HostRuntime) -> Result<(), Fail> {
+    for image in [TWO, RELATED] {
+        let written = again(rt.alloc(), &image)?;
+        assert!(rt; written.as_slice() == image.as_slice());
+    }
+    Ok(())
+}
+
+#[test]
+fn bare_bundles_are_wrapped(rt: HostRuntime) -> Result<(), Fail> {
     let alloc = rt.alloc();
-    let program = read_image(alloc, &RELATED)?;
+    let wrapped = write_image(alloc, &wrap_raw(alloc, &ONE[24..])?)?;
+    assert!(rt; wrapped.as_slice() == ONE.as_slice());
+    assert!(rt; is_image(&wrapped));
+    Ok(())
+}
+
+#[test]
+fn images_of_version_2_are_read(rt: HostRuntime) -> Result<(), Fail> {
+    let alloc = rt.alloc();
+    let second = write_image_2(alloc, &read_image(alloc, &ONE)?)?;
+    assert!(rt; is_image(&second));
+    assert_eq!(rt; second.len(), 40);
+    let written = again(alloc, &second)?;
+    assert!(rt; written.as_slice() == ONE.as_slice());
+    Ok(())
+}
+
+#[test]
+fn relations_are_read(rt: HostRuntime) -> Result<(), Fail> {
+    let program = read_image(rt.alloc(), &RELATED)?;
     let relation = Relation {
         bundle: 1,
         p: 6,
@@ -58,7 +77,5 @@ fn relations_come_back(rt: HostRuntime) -> Result<(), Fail> {
     assert!(rt; program.relations() == [relation].as_slice());
     assert!(rt; program.relations_at(1) == [relation].as_slice());
     assert!(rt; program.relations_at(0).is_empty());
-    let written = write_image(alloc, &program)?;
-    assert!(rt; written.as_slice() == RELATED.as_slice());
     Ok(())
 }

@@ -12,18 +12,20 @@ use std::test::Fail;
 
 const TEXT: &[u8] = b"hello world";
 
-// The answer of a whole read from a source in memory, of which the bytes are only counted.
+// How many bytes a whole read answers from a source in memory whose calls move one byte, or up to `more` of them more.
 fn length_read(
     alloc: Global,
     bytes: &[u8],
-    step: usize,
+    more: u16,
     failing: &[u64],
     limit: usize,
-) -> Result<Result<usize, ReadError>, AllocError>
-    requires { 1 ≤ step }
-{
+) -> Result<Result<usize, ReadError>, AllocError> {
+    let step = 1 + usize::from(more);
     let mut source = MemSource::new(bytes.to_vec(alloc)?, step, failing.to_vec(alloc)?);
-    Ok(read_all(alloc, &mut source, limit).map(|bytes| bytes.len()))
+    match read_all(alloc, &mut source, limit) {
+        Ok(bytes) => Ok(Ok(bytes.len())),
+        Err(error) => Ok(Err(error)),
+    }
 }
 
 #[test]
@@ -31,58 +33,52 @@ fn reads_whole(rt: HostRuntime) -> Result<(), Fail> {
     let alloc = rt.alloc();
     let mut source = MemSource::new(TEXT.to_vec(alloc)?, 1, Vec::new(alloc));
     let bytes = read_all(alloc, &mut source, 11)?;
-    assert_eq!(rt; bytes.as_slice(), TEXT);
-    assert_eq!(rt; source.take(&mut [0; 4]), Ok(0), "nothing is left");
-    assert_eq!(rt; length_read(alloc, TEXT, 100, &[], usize::MAX)?, Ok(11));
+    assert!(rt; bytes.as_slice() == TEXT);
+    assert!(rt; source.take(&mut [0; 4]) == Ok(0), "nothing is left");
     Ok(())
 }
 
+// Up to the limit and beyond it. The end comes before a call that would fail, and a call that fails comes before
+// the limit.
 #[test]
 fn reads_up_to_the_limit(rt: HostRuntime) -> Result<(), Fail> {
-    let alloc = rt.alloc();
-    assert_eq!(rt;
-        length_read(alloc, TEXT, 1, &[], 10)?,
-        Err(ReadError::TooLong)
-    );
-    assert_eq!(rt;
-        length_read(alloc, TEXT, 100, &[], 10)?,
-        Err(ReadError::TooLong)
-    );
-    assert_eq!(rt;
-        length_read(alloc, TEXT, 1, &[], 0)?,
-        Err(ReadError::TooLong)
-    );
-    assert_eq!(rt; length_read(alloc, b"", 1, &[], 0)?, Ok(0));
-
-    // More than one piece of the buffer.
-    let many = vec![in alloc; 7; 20_000]?;
-    assert_eq!(rt; length_read(alloc, &many, 20_000, &[], 20_000)?, Ok(20_000));
-    assert_eq!(rt;
-        length_read(alloc, &many, 20_000, &[], 19_999)?,
-        Err(ReadError::TooLong)
-    );
+    let none: &[u64] = &[];
+    for (bytes, more, failing, limit, want) in [
+        (TEXT, 99, none, usize::MAX, Ok(11)),
+        (TEXT, 0, none, 10, Err(ReadError::TooLong)),
+        (TEXT, 99, none, 10, Err(ReadError::TooLong)),
+        (TEXT, 0, none, 0, Err(ReadError::TooLong)),
+        (b"", 0, none, 0, Ok(0)),
+        (b"abc", 0, &[4], 3, Ok(3)),
+        (b"abc", 0, &[3], 3, Err(ReadError::ReadFault)),
+    ] {
+        let length = length_read(rt.alloc(), bytes, more, failing, limit)?;
+        assert!(rt; length == want, "{length:?} in place of {want:?}");
+    }
     Ok(())
 }
 
+// More than one piece of the buffer.
+#[test]
+fn reads_piece_by_piece(rt: HostRuntime) -> Result<(), Fail> {
+    let alloc = rt.alloc();
+    let many = vec![in alloc; 7; 20_000]?;
+    for (limit, want) in [(20_000, Ok(20_000)), (19_999, Err(ReadError::TooLong))] {
+        let length = length_read(alloc, &many, 19_999, &[], limit)?;
+        assert!(rt; length == want, "{length:?} in place of {want:?}");
+    }
+    Ok(())
+}
+
+// The first three bytes are gone then, and the calls that follow don't fail.
 #[test]
 fn a_failing_call_ends_the_read(rt: HostRuntime) -> Result<(), Fail> {
     let alloc = rt.alloc();
     let mut source = MemSource::new(TEXT.to_vec(alloc)?, 3, [1].to_vec(alloc)?);
-    assert_eq!(rt;
-        read_all(alloc, &mut source, 99).err(),
-        Some(ReadError::ReadFault)
-    );
-
-    // The first three bytes are gone, and the calls that follow don't fail.
+    let failed = read_all(alloc, &mut source, 99);
+    assert!(rt; matches!(failed, Err(ReadError::ReadFault)));
     let rest = read_all(alloc, &mut source, 99)?;
-    assert_eq!(rt; rest.as_slice(), b"lo world".as_slice());
-
-    // The end comes before a call that would fail, and a call that fails comes before the limit.
-    assert_eq!(rt; length_read(alloc, b"abc", 1, &[4], 3)?, Ok(3));
-    assert_eq!(rt;
-        length_read(alloc, b"abc", 1, &[3], 3)?,
-        Err(ReadError::ReadFault)
-    );
+    assert!(rt; rest.as_slice() == b"lo world".as_slice());
     Ok(())
 }
 
@@ -92,22 +88,21 @@ fn writes_whole(rt: HostRuntime) -> Result<(), Fail> {
     let mut sink = MemSink::new(alloc, 11, 5, Vec::new(alloc))?;
     write_all(&mut sink, TEXT)?;
     write_all(&mut sink, b"")?;
-    assert_eq!(rt; sink.bytes(), TEXT);
-    assert_eq!(rt; sink.give(b"!"), Err(Failed), "no room is left");
-    assert_eq!(rt; sink.give(b""), Ok(0));
+    assert!(rt; sink.bytes() == TEXT);
+    assert!(rt; sink.give(b"!") == Err(Failed), "no room is left");
+    assert!(rt; sink.give(b"") == Ok(0));
     Ok(())
 }
 
 #[test]
 fn a_failed_write_leaves_a_front(rt: HostRuntime) -> Result<(), Fail> {
     let alloc = rt.alloc();
-    let mut sink = MemSink::new(alloc, 10, 5, [1].to_vec(alloc)?)?;
-    assert_eq!(rt; write_all(&mut sink, TEXT), Err(WriteError::WriteFault));
-    assert_eq!(rt; sink.bytes(), b"hello".as_slice());
-
-    let mut sink = MemSink::new(alloc, 10, 5, Vec::new(alloc))?;
-    assert_eq!(rt; write_all(&mut sink, TEXT), Err(WriteError::WriteFault));
-    assert_eq!(rt; sink.bytes(), b"hello worl".as_slice());
+    let (failing, none): (&[u64], &[u64]) = (&[1], &[]);
+    for (failing, left) in [(failing, b"hello".as_slice()), (none, b"hello worl")] {
+        let mut sink = MemSink::new(alloc, 10, 5, failing.to_vec(alloc)?)?;
+        assert!(rt; write_all(&mut sink, TEXT) == Err(WriteError::WriteFault));
+        assert!(rt; sink.bytes() == left);
+    }
     Ok(())
 }
 
@@ -154,17 +149,21 @@ impl Write for Troubled {
 fn standard_readers(rt: HostRuntime) -> Result<(), Fail> {
     let alloc = rt.alloc();
     let bytes = read_all(alloc, &mut StdSource::new(TEXT), 11)?;
-    assert_eq!(rt; bytes.as_slice(), TEXT);
+    assert!(rt; bytes.as_slice() == TEXT);
     let short = read_all(alloc, &mut StdSource::new(TEXT), 10);
-    assert_eq!(rt; short.err(), Some(ReadError::TooLong));
+    assert!(rt; matches!(short, Err(ReadError::TooLong)));
+    Ok(())
+}
 
-    // The signal is no fault, 0 bytes are the end, and the next whole read fails after a byte.
+// The signal is no fault, 0 bytes are the end, and the next whole read fails after a byte.
+#[test]
+fn a_troubled_reader(rt: HostRuntime) -> Result<(), Fail> {
+    let alloc = rt.alloc();
     let mut source = StdSource::new(Troubled { calls: 0 });
-    assert_eq!(rt; read_all(alloc, &mut source, 9)?.len(), 1);
-    assert_eq!(rt;
-        read_all(alloc, &mut source, 9).err(),
-        Some(ReadError::ReadFault)
-    );
+    let bytes = read_all(alloc, &mut source, 9)?;
+    assert_eq!(rt; bytes.len(), 1);
+    let failed = read_all(alloc, &mut source, 9);
+    assert!(rt; matches!(failed, Err(ReadError::ReadFault)));
     Ok(())
 }
 
@@ -172,13 +171,21 @@ fn standard_readers(rt: HostRuntime) -> Result<(), Fail> {
 fn standard_writers(rt: HostRuntime) -> Result<(), Fail> {
     let mut written = Vec::new(rt.alloc());
     write_all(&mut StdSink::new(&mut written), TEXT)?;
-    assert_eq!(rt; written.as_slice(), TEXT);
-
-    // The signal is no fault. A write that takes nothing is one, and isn't tried again in that call.
-    let mut sink = StdSink::new(Troubled { calls: 0 });
-    assert_eq!(rt; sink.give(b"ab"), Ok(1));
-    assert_eq!(rt; sink.give(b"b"), Err(Failed));
-    assert_eq!(rt; sink.give(b"b"), Ok(1));
-    assert_eq!(rt; sink.give(b""), Err(Failed));
+    assert!(rt; written.as_slice() == TEXT);
     Ok(())
+}
+
+// The signal is no fault. A write that takes nothing is one, and isn't tried again in that call.
+#[test]
+fn a_troubled_writer(rt: HostRuntime) {
+    let mut sink = StdSink::new(Troubled { calls: 0 });
+    let pieces: [(&[u8], Result<usize, Failed>); 4] = [
+        (b"ab", Ok(1)),
+        (b"b", Err(Failed)),
+        (b"b", Ok(1)),
+        (b"", Err(Failed)),
+    ];
+    for (piece, want) in pieces {
+        assert!(rt; sink.give(piece) == want);
+    }
 }

@@ -1,5 +1,5 @@
 //! Tests of the crates below the top call, a file each: values from outside, and what no clause says. Those of the two
-//! engines stand with those of whole calls, and those of the register stack in its own crate.
+//! engines stand with those of whole calls.
 #![tactic(auto)]
 
 #[cfg(test)]
@@ -20,6 +20,8 @@ mod lane_ops_tests;
 mod nat_alat_tests;
 #[cfg(test)]
 mod predicate_rel_tests;
+#[cfg(test)]
+mod reg_stack_tests;
 #[cfg(test)]
 mod resource_sets_tests;
 #[cfg(test)]

@@ -53,9 +53,15 @@ fn pairs_are_there(rt: HostRuntime) {
         (p7, p0, false, false),
         (p7, p7, false, false),
     ] {
-        assert!(rt; all.has(x, y));
-        assert_eq!(rt; pair.has(x, y), in_pair, "{x} {y}");
-        assert_eq!(rt; both.has(x, y), in_pair, "{x} {y}");
-        assert_eq!(rt; alone.has(x, y), in_alone, "{x} {y}");
+        let had = [
+            all.has(x, y),
+            pair.has(x, y),
+            both.has(x, y),
+            alone.has(x, y),
+        ];
+        assert!(rt;
+            had == [true, in_pair, in_pair, in_alone],
+            "{x} {y}: {had:?}"
+        );
     }
 }

@@ -34,16 +34,66 @@ fn fetch_add(size: u8, release: bool, inc: i16) -> Insn {
     }
 }
 
+/// Whether it is that exchange.
+fn is_exchange(insn: &Insn, bytes: u8) -> bool {
+    let Op::Xchg {
+        size,
+        hint,
+        r1,
+        r3,
+        r2,
+    } = insn.op
+    else {
+        return false;
+    };
+    let registers = r1.number() == 8 && r3.number() == 9 && r2.number() == 10;
+    insn.qp.is_zero() && size == bytes && hint == 0 && registers
+}
+
+/// Whether it is that fetch-and-add.
+fn is_fetch_add(insn: &Insn, bytes: u8, is_release: bool, number: i16) -> bool {
+    let Op::FetchAdd {
+        size,
+        release,
+        hint,
+        r1,
+        r3,
+        inc,
+    } = insn.op
+    else {
+        return false;
+    };
+    let registers = r1.number() == 8 && r3.number() == 9;
+    insn.qp.is_zero()
+        && size == bytes
+        && release == is_release
+        && hint == 0
+        && registers
+        && inc == number
+}
+
 #[test]
-fn words_are_the_manuals(rt: HostRuntime) {
-    for (insn, word) in [
-        (exchange(1), 0x82_0891_4200),
-        (exchange(8), 0x82_c891_4200),
-        (fetch_add(8, false, -4), 0x84_c890_c200),
-        (fetch_add(4, true, 16), 0x85_8890_0200),
+fn words_of_exchanges_are_the_manuals(rt: HostRuntime) {
+    for (size, word) in [(1, 0x82_0891_4200), (8, 0x82_c891_4200)] {
+        assert_eq!(rt; encode_sem(&exchange(size)), Some(word));
+        match decode_sem(word) {
+            Some(insn) => assert!(rt; is_exchange(&insn, size)),
+            None => assert!(rt; false),
+        }
+    }
+}
+
+#[test]
+fn words_of_fetch_and_adds_are_the_manuals(rt: HostRuntime) {
+    for (size, release, inc, word) in [
+        (8, false, -4, 0x84_c890_c200),
+        (4, true, 16, 0x85_8890_0200),
     ] {
-        assert_eq!(rt; encode_sem(&insn), Some(word));
-        assert_eq!(rt; decode_sem(word), Some(insn));
+        assert_eq!(rt; encode_sem(&fetch_add(size, release, inc)), Some(word));
+        match decode_sem(word) {
+            Some(insn) => assert!(rt; is_fetch_add(&insn, size, release, inc)),
+            None => assert!(rt; false),
+        }
     }
 }
 
@@ -60,7 +110,7 @@ fn others_have_no_word(rt: HostRuntime) {
     }
     // `ld8 r8=[r9]`, and the first exchange with a bit set that its format leaves blank
     for word in [0x80_c090_0200, 0x82_0891_4200 | 1 << 36] {
-        assert_eq!(rt; decode_sem(word), None);
+        assert!(rt; decode_sem(word).is_none());
     }
 }
 

@@ -3,7 +3,7 @@
 ghost use Rattle.std.specs.Prelude.{IsTrue, IsOk};
 ghost use Rattle.hex.specs.Hex.{decode_sized};
 
-use crate::wanted::{Wanted, in_unit, wanted_in};
+use crate::wanted::{Wanted, in_unit};
 use asm_reading::{Draft, Line, read_line};
 use asm_words::Name;
 use asm_words::limits::LINE_LIMIT;
@@ -30,35 +30,40 @@ fn is_read_in(bytes: &[u8; 16], rest: &str) -> bool {
         Some((slot, label)) => (slot, Some(label)),
         None => (place, None),
     };
-    let (Ok(bundle), Ok(slot)) = (decode_bundle(bytes), slot.parse::<u8>()) else {
-        return false;
-    };
-    match wanted_in(&bundle, slot) {
-        Some(wanted) => is_read_as(text, &wanted, label),
-        None => false,
-    }
-}
-
-/// Whether the text is read as this instruction with its stop, and names the label.
-fn is_read_as(text: &str, wanted: &Wanted, label: Option<&str>) -> bool {
-    if text.len() > LINE_LIMIT {
-        return false;
-    }
-    match read_line(text.as_bytes()) {
-        Ok(Line::Slot { draft, stop }) => stop == wanted.stop && is_draft(&draft, wanted, label),
+    match (decode_bundle(bytes), slot.parse::<u8>()) {
+        (Ok(bundle), Ok(slot)) => {
+            let wanted = Wanted {
+                bytes,
+                bundle,
+                slot,
+            };
+            is_read_as(text, &wanted, label)
+        }
         _ => false,
     }
 }
 
-/// Whether the draft is that of this instruction, with this label for a target. A draft that lacks its
-/// unit letter gets the unit of the slot.
-fn is_draft(draft: &Draft, wanted: &Wanted, label: Option<&str>) -> bool {
-    let insn = if draft.bare {
-        in_unit(&draft.insn, wanted.unit)
-    } else {
-        draft.insn
+/// Whether the text is read as the instruction of this slot with its stop, and names the label.
+fn is_read_as(text: &str, wanted: &Wanted<'_>, label: Option<&str>) -> bool {
+    if text.len() > LINE_LIMIT {
+        return false;
+    }
+    match read_line(text.as_bytes()) {
+        Ok(Line::Slot { draft, stop }) => {
+            stop == wanted.has_stop() && is_draft(&draft, wanted, label)
+        }
+        _ => false,
+    }
+}
+
+/// Whether the draft is that of the instruction of this slot, with this label for a target. A draft that
+/// lacks its unit letter gets the unit of the slot.
+fn is_draft(draft: &Draft, wanted: &Wanted<'_>, label: Option<&str>) -> bool {
+    let insn = match wanted.unit() {
+        Some(unit) if draft.bare => in_unit(&draft.insn, unit),
+        _ => draft.insn,
     };
-    insn == wanted.insn && is_target(&draft.target, label)
+    wanted.is(insn) && is_target(&draft.target, label)
 }
 
 /// Whether the target is the label, and there is none where there is no label.

@@ -22,12 +22,12 @@ use Rattle.asm_build.proofs.LabelValues.{label_within}
 use Rattle.asm_build.proofs.Membership.{first_or_later, none_there}
 use Rattle.asm_build.proofs.RelationFaults.{few_related, related_landed}
 use Rattle.asm_build.proofs.SaidEntries.{entry_named}
-use Rattle.loose_text.specs.declared.item.Item.{Item}
+use Rattle.loose_items.specs.declared.item.Item.{Item}
 use Rattle.loose_text.specs.declared.item.ItemLine.{ItemLine}
 use Rattle.loose_text.specs.LooseParts.{LooseParts, items_of}
 use Rattle.loose_text.specs.LooseReading.{unnamed_item, name_fault, loose_of, end_stages}
 use Rattle.loose_text.specs.LooseTexts.{IsItemEntry, Loose, IsLoose}
-use Rattle.loose_text.specs.Packings.{plain_of}
+use Rattle.loose_items.specs.Packings.{plain_of}
 use Rattle.loose_text.specs.SoundParts.{IsMarked, MayBeNamed, IsSound}
 use Rattle.loose_text.proofs.NamedTargets.{breaks_at, each_target}
 

@@ -1,4 +1,4 @@
-mod PlainPackings
+mod StoppedItems
 mod Listing
 mod SoundLines
 mod NamedTargets

@@ -9,10 +9,11 @@ use Rattle.ia_insn.specs.declared.insn.Op.TheVariants as op
 use Rattle.ia_insn.specs.Ranges.{IsHintOf}
 use Rattle.ia_insn.specs.Listed.{IsListed}
 use Rattle.ia_insn.proofs.OperandRanges.{ranges_of_listed}
-use Rattle.asm_printing.proofs.Printed.{printed}
+use Rattle.asm_canonical.proofs.Printed.{printed}
 use Rattle.asm_reading.specs.declared.line.Draft.{Draft}
 use Rattle.asm_build.specs.Drafts.{lettered}
-use Rattle.loose_text.specs.LooseParts.{bare_unit, insn_of, IsNarrow}
+use Rattle.loose_items.specs.Units.{bare_unit}
+use Rattle.loose_text.specs.LooseParts.{insn_of, IsNarrow}
 
 -- an instruction of this operation, under a predicate, is listed
 abbrev IsListedOp : ℕ → Op → Type 0

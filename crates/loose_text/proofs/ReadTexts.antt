@@ -9,9 +9,9 @@ use Rattle.first_fault.specs.Stages.{ArePassed}
 use Rattle.ia_insn.specs.declared.limits.TheConstants.{BUNDLE_LIMIT}
 use Rattle.ia_insn.specs.declared.relations.Relation.{Relation}
 use Rattle.ia_insn.specs.Programs.{AreBytes}
+use Rattle.asm_matching.specs.Related.{IsRelated}
 use Rattle.asm_reading.specs.declared.line.Line.{Line}
 use Rattle.asm_reading.specs.declared.line.Line.TheVariants as line
-use Rattle.asm_reading.specs.Related.{IsRelated}
 use Rattle.asm_build.specs.declared.reason.TextError.{TextError}
 use Rattle.asm_build.specs.declared.text_parts.RelationLine.{RelationLine}
 use Rattle.asm_build.specs.Names.{padded}
@@ -21,17 +21,17 @@ use Rattle.asm_build.specs.TextReading.{text_lines, ComesToBy, AllSayBy}
 use Rattle.asm_build.proofs.Membership.{all_both}
 use Rattle.asm_build.proofs.RelationSets.{related_stay}
 use Rattle.slot_layouts.specs.declared.layout.Wanted.{Wanted}
-use Rattle.loose_text.specs.declared.item.Item.{Item}
+use Rattle.loose_items.specs.declared.item.Item.{Item}
+use Rattle.loose_items.specs.Packings.{plain_of}
+use Rattle.loose_items.proofs.PlainPackings.{other_line, items_few}
 use Rattle.loose_text.specs.declared.item.ItemLine.{ItemLine}
 use Rattle.loose_text.specs.LooseParts.{LooseParts, start, items_of, item_of, after, last_written, value_stages}
 use Rattle.loose_text.specs.LooseReading.{loose_of, loose_reading, ReadsLoose}
 use Rattle.loose_text.specs.LooseTexts.{IsItemEntry, Loose, IsLoose}
-use Rattle.loose_text.specs.Packings.{wanted_as, joins, plain_of}
-use Rattle.loose_text.specs.PlainPackings.{IsPacked}
 use Rattle.loose_text.proofs.EndOfText.{loose_is}
-use Rattle.loose_text.proofs.PlainPackings.{full_joins_none, one_packed, joined_packed, begun_packed, packed_count, packed_few, stopped_of, other_line, items_with}
 use Rattle.loose_text.proofs.RelationLines.{NamesRelated, line_relates}
 use Rattle.loose_text.proofs.SoundLines.{all_sound}
+use Rattle.loose_text.proofs.StoppedItems.{stopped_of, items_with}
 
 -- Data are bytes.
 abbrev IsByte : ℕ → Type 0
@@ -125,42 +125,6 @@ comes_fit s n (line ∷ lines) r t h is (inr (value, (says, passed), rest)) =
 
 all_fit : (text : List ℕ) (s : LooseParts) → AllSayBy loose_reading text s → IsFit s
 all_fit text s says = comes_fit start 1 (text_lines text) (Ok s) s (record { room = omega arith; related = tt; bytes = tt }) refl says
-
--- Items have a packing, of which each bundle holds three at most.
-record HasPacked (items : List Item) : Type 0 where
-  current : List Wanted
-  before : Item
-  bundles : ℕ
-  few : length current ≤ 3
-  is : IsPacked items current before bundles
-
-packed_on : (done : List Item) (items : List Item) → HasPacked done → HasPacked (done ++ items)
-packed_on done [] h = subst HasPacked (sym (append-nil done)) h
-packed_on done (item ∷ items) h = subst HasPacked (append_assoc done (item ∷ []) items) (packed_on (done ++ item ∷ []) items (of (joins h.current h.before item false) refl (cases_lt (length h.current) 3)))
-  where
-    of : (b : Bool) → joins h.current h.before item false ≡ b → (length h.current < 3) ⊎ (3 ≤ length h.current) → HasPacked (done ++ item ∷ [])
-    of true e (inl less) = record {
-      current = h.current ++ wanted_as item false ∷ [];
-      before = item;
-      bundles = h.bundles;
-      few = omega (arith, length_push h.current (wanted_as item false));
-      is = joined_packed done h.current h.before item h.bundles h.is e;
-    }
-    of true e (inr full) = let none = full_joins_none h.current h.before item false full in absurd cc
-    of false e _ = record {
-      current = wanted_as item false ∷ [];
-      before = item;
-      bundles = h.bundles + 1;
-      few = omega arith;
-      is = begun_packed done h.current h.before item h.bundles h.few h.is e;
-    }
-
-items_few : (items : List Item) → length items ≤ 3 * length (plain_of items)
-items_few [] = omega arith
-items_few (item ∷ items) =
-    let packed = packed_on (item ∷ []) items (record { current = wanted_as item false ∷ []; before = item; bundles = 1; few = omega arith; is = one_packed item }) in
-    let count = packed_count (item ∷ items) packed.current packed.before packed.bundles packed.is in
-    omega (arith, packed_few (item ∷ items) packed.current packed.before packed.bundles packed.is packed.few, count)
 
 -- the relations that lines declare are relations
 all_stay : (IsEntry : ℕ → Type 0) (before : List Relation) (lines : List RelationLine) → ArePassed (relation_stages IsEntry before lines) → AllByRecursion (λ (l : RelationLine). All IsRelated l.predicates) lines

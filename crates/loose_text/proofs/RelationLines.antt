@@ -16,20 +16,20 @@ use Rattle.asm_forms.specs.declared.choices.AccessSize.{AccessSize}
 use Rattle.asm_forms.specs.declared.choices.AccessSize.TheVariants as size
 use Rattle.asm_forms.specs.declared.form.Form.{Form}
 use Rattle.asm_forms.specs.declared.form.Form.TheVariants as form
-use Rattle.asm_forms.specs.Matching.{read_form}
 use Rattle.asm_forms.specs.Naming.{named_forms}
 use Rattle.asm_forms.specs.Rows.{row_of}
+use Rattle.asm_matching.specs.Matching.{read_form}
+use Rattle.asm_matching.specs.Related.{IsRelated}
+use Rattle.asm_matching.specs.Relations.{named_predicates, agreed_relation, relation_fault}
+use Rattle.asm_matching.proofs.NamedPredicates.{are_predicates}
+use Rattle.asm_instructions.specs.Instructions.{op_of}
+use Rattle.asm_instructions.specs.Operands.{bytes}
 use Rattle.asm_reading.specs.declared.line.Line.{Line}
 use Rattle.asm_reading.specs.declared.line.Line.TheVariants as line
 use Rattle.asm_reading.specs.declared.line.TemplateName.{TemplateName}
 use Rattle.ia_insn.specs.declared.insn.Op.{Op}
 use Rattle.asm_forms.specs.Items.{taken}
-use Rattle.asm_reading.specs.Instructions.{op_of}
-use Rattle.asm_reading.specs.Operands.{bytes}
-use Rattle.asm_reading.specs.Lines.{KindAndText, ◌>>=◌, or_fault, tokens, texts, name_of, label_name, lead_at, ends_in_stop, without_stop, predicate_of, draft_of, completers_or_none, slot_under, slot_of, data_field, agreed_data, numbers_of, data_fault, data_of, named, directive_value, directive_of, alone, formed, among, marked, template_name_of, opened_as, opened, mark_led, led_by, led_at, led, is_name_word, is_colon, label_of, value_of, reading_of}
-use Rattle.asm_reading.specs.Related.{IsRelated}
-use Rattle.asm_reading.specs.Relations.{named_predicates, agreed_relation, relation_fault, relation_of}
-use Rattle.asm_reading.proofs.NamedPredicates.{are_predicates}
+use Rattle.asm_reading.specs.Lines.{KindAndText, ◌>>=◌, or_fault, tokens, texts, name_of, label_name, lead_at, ends_in_stop, without_stop, predicate_of, draft_of, completers_or_none, slot_under, slot_of, data_field, agreed_data, numbers_of, data_fault, data_of, named, directive_value, directive_of, alone, formed, among, marked, template_name_of, opened_as, opened, mark_led, led_by, led_at, led, is_name_word, is_colon, label_of, value_of, reading_of, relation_of}
 
 -- the predicates of a relation line
 abbrev pub NamesRelated : Line → Type 0

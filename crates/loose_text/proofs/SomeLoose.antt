@@ -7,9 +7,9 @@ use Rattle.first_fault.proofs.Laws.{AreDecided}
 use Rattle.ia_insn.specs.declared.limits.TheConstants.{BUNDLE_LIMIT}
 use Rattle.ia_insn.specs.declared.insn.Op.{Op}
 use Rattle.ia_insn.specs.declared.insn.Op.TheVariants as op
+use Rattle.asm_instructions.proofs.Decided.{alike, both, either, some_and, contains}
 use Rattle.asm_reading.specs.declared.line.Line.{Line}
 use Rattle.asm_reading.specs.declared.line.Line.TheVariants as line
-use Rattle.asm_reading.proofs.Decided.{alike, both, either, some_and, contains}
 use Rattle.asm_build.specs.declared.reason.Reason.TheVariants as reason
 use Rattle.asm_build.specs.declared.reason.TextError.{TextError}
 use Rattle.asm_build.specs.declared.text_parts.Section.TheVariants as section
@@ -19,12 +19,12 @@ use Rattle.asm_build.proofs.DecidedLines.{decided, is_in}
 use Rattle.asm_build.proofs.EndFaults.{IsOfLine, of_entries, of_names, of_relations}
 use Rattle.asm_build.proofs.RelationFaults.{is_call, relations_decided}
 use Rattle.asm_build.proofs.SomeReading.{HaveAnswers, read_or_fault, labels_below, found_decided, first_decided}
-use Rattle.loose_text.specs.declared.item.Item.{Item}
+use Rattle.loose_items.specs.declared.item.Item.{Item}
 use Rattle.loose_text.specs.Laws.{LooseTextOrFault}
 use Rattle.loose_text.specs.LooseParts.{LooseParts, IsNarrow, HasNarrowNumber, MayStand, HasRoom, value_stages}
 use Rattle.loose_text.specs.LooseReading.{unnamed_item, name_fault, loose_of, end_stages, loose_reading}
 use Rattle.loose_text.specs.LooseTexts.{IsAfterCall, IsItemEntry}
-use Rattle.loose_text.specs.Packings.{plain_of}
+use Rattle.loose_items.specs.Packings.{plain_of}
 
 -- what a line says
 is_narrow : (x : Op) → Dec (IsNarrow x)

@@ -1,5 +1,3 @@
-pub mod Packings
-pub mod PlainPackings
 pub mod LooseParts
 pub mod SoundParts
 pub mod LooseTexts

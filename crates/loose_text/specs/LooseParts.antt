@@ -2,8 +2,6 @@
 use Rattle.std.specs.Prelude.{◌≡◌, ℕ, ◌<◌, ◌≤◌, Bool, true, false, IsTrue, ◌||◌, if◌then◌else◌, List, [], ◌∷◌, ◌++◌, map, length, ⊤, ◌⊎◌}
 use Rattle.first_fault.specs.Stages.{Stage, unless, IsFirstFault}
 use Rattle.ia_insn.specs.declared.limits.TheConstants.{BUNDLE_LIMIT}
-use Rattle.ia_insn.specs.declared.choices.Unit.{Unit as ExecutionUnit}
-use Rattle.ia_insn.specs.declared.choices.Unit.TheVariants as unit
 use Rattle.ia_insn.specs.declared.insn.Insn.{Insn}
 use Rattle.ia_insn.specs.declared.insn.Op.{Op}
 use Rattle.ia_insn.specs.declared.insn.Op.TheVariants as op
@@ -19,10 +17,11 @@ use Rattle.asm_build.specs.declared.text_parts.Section.TheVariants as section
 use Rattle.asm_build.specs.Drafts.{lettered}
 use Rattle.asm_build.specs.TextParts as outside
 use Rattle.asm_build.specs.TextParts.{TextParts, IsIn, IsNew, after_outside}
+use Rattle.loose_items.specs.declared.item.Item.{Item}
+use Rattle.loose_items.specs.Packings.{plain_of}
+use Rattle.loose_items.specs.Units.{bare_unit}
 use Rattle.loose_text.specs.declared.parts.TheConstants.{NARROW_LIMIT}
-use Rattle.loose_text.specs.declared.item.Item.{Item}
 use Rattle.loose_text.specs.declared.item.ItemLine.{ItemLine}
-use Rattle.loose_text.specs.Packings.{plain_of}
 
 -- What the lines so far say: the labels, entries, relations and data, the instructions, and whether a label of text or
 -- a relation line came after the last of them.
@@ -37,11 +36,6 @@ start = record { declared = outside.start; items = []; fresh = false }
 
 abbrev pub items_of : List ItemLine → List Item
 items_of lines = map (λ l. l.item) lines
-
--- the unit of an instruction without its unit letter
-abbrev pub bare_unit : Op → ExecutionUnit
-bare_unit (op.ChkS u r2 disp) = unit.M
-bare_unit x = unit.I
 
 -- the instruction of a draft
 abbrev pub insn_of : Draft → Insn

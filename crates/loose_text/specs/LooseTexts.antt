@@ -10,8 +10,8 @@ use Rattle.asm_build.specs.declared.address.Address.{Address}
 use Rattle.asm_build.specs.declared.address.Address.TheVariants.{Bundle, Byte}
 use Rattle.asm_build.specs.Addresses.{addressed}
 use Rattle.asm_build.specs.Relations.{AreRelationsOf}
-use Rattle.loose_text.specs.declared.item.Item.{Item}
-use Rattle.loose_text.specs.Packings.{plain_of}
+use Rattle.loose_items.specs.declared.item.Item.{Item}
+use Rattle.loose_items.specs.Packings.{plain_of}
 
 -- What a loose text is: its instructions, of each what the name of its target names, the numbers of the declared
 -- entries, the relations, and the data bytes. Labels of text, entries and relations count instructions.

@@ -6,7 +6,7 @@
 //! label of text and a relation belong to the next instruction, and so does an entry that names such a label.
 //!
 //! [`read_loose`] takes the lines one by one: `parts` keeps what they say so far, with the bundles that they would fill
-//! if no stop were wanted (`packing`), and after the last line `targets` finds what names mean and `relations` gathers
+//! if no stop were wanted (`loose_items`), and after the last line `targets` finds what names mean and `relations` gathers
 //! the declared relations. It answers the [`LooseText`], or the first fault:
 //!
 //! | Fault | Where it comes |
@@ -29,17 +29,15 @@
 mod item;
 mod laws;
 mod loose;
-mod packing;
 mod parts;
 mod reading;
 mod relations;
 mod targets;
 
-pub use item::Item;
 pub use laws::{
     loose_text_or_fault, loose_texts_are_loose, no_loose_fault_where_read, one_loose_fault,
     one_loose_text,
 };
 pub use loose::LooseText;
-pub use packing::{joins, wanted_as};
+pub use loose_items::{Item, joins, wanted_as};
 pub use reading::read_loose;

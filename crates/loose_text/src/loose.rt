@@ -4,9 +4,9 @@ ghost use Rattle.std.specs.Prelude.{◌≡◌};
 ghost use Rattle.ia_insn.specs.Programs.{AreBytes};
 ghost use Rattle.loose_text.specs.LooseTexts.{Loose, IsLoose};
 
-use crate::item::Item;
 use asm_build::Address;
 use ia_insn::Relation;
+use loose_items::Item;
 use std::marker::Model;
 
 /// A loose text: instructions in order, what the names in them mean, entries, relations and data. Contracts see its

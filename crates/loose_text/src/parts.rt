@@ -6,14 +6,14 @@ ghost use Rattle.ia_insn.specs.declared.limits.TheConstants.{BUNDLE_LIMIT};
 ghost use Rattle.asm_reading.specs.declared.line.Line.TheVariants as line;
 ghost use Rattle.asm_build.specs.TextParts.{AreLabelsBelow};
 ghost use Rattle.loose_text.specs.LooseParts.{LooseParts as PartsOf, start, items_of, after, value_stages, IsValueError, IsNarrow};
-ghost use Rattle.loose_text.specs.PlainPackings.{ArePacked};
+ghost use Rattle.loose_items.specs.PlainPackings.{ArePacked};
 
-use crate::item::{Item, ItemLine, insn_of};
-use crate::packing::{PlainPacking, packed_with};
+use crate::item::{ItemLine, insn_of};
 use asm_build::{Address, Reason, RelationLine, Section, TextError, TextParts, fault};
 use asm_text::{Draft, Line, Predicates};
 use asm_words::Name;
 use ia_insn::Op;
+use loose_items::{Item, PlainPacking, packed_with};
 use std::alloc::Global;
 use std::marker::Model;
 

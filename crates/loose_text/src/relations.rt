@@ -6,10 +6,9 @@ ghost use Rattle.asm_build.specs.declared.reason.TextError.TheVariants as error;
 ghost use Rattle.asm_build.specs.Relations.{related, all_related, relation_stages, AreRelationsOf};
 ghost use Rattle.loose_text.specs.LooseTexts.{IsAfterCall, IsItemEntry};
 
-use crate::item::Item;
-use crate::packing::is_call;
 use asm_build::{Reason, RelationLine, TextError, fault, relate_line};
 use ia_insn::Relation;
+use loose_items::{Item, is_call};
 use std::alloc::Global;
 use std::collections::BTreeSet;
 

@@ -9,10 +9,11 @@ ghost use Rattle.asm_build.specs.Names.{named};
 ghost use Rattle.loose_text.specs.LooseParts.{items_of};
 ghost use Rattle.loose_text.specs.LooseReading.{unnamed_item, name_fault, target_of, loose_of};
 
-use crate::item::{Item, ItemLine};
+use crate::item::ItemLine;
 use crate::parts::LooseParts;
 use asm_build::{Address, Reason, TextError, TextParts, earlier, fault};
 use asm_words::Name;
+use loose_items::Item;
 use std::alloc::{AllocError, Global};
 use std::collections::BTreeSet;
 

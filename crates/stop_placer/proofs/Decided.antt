@@ -9,7 +9,7 @@ use Rattle.ia_insn.specs.declared.place.Place.{Place}
 use Rattle.ia_insn.specs.Places.{IsBefore}
 use Rattle.ia_meaning.specs.Sequence.{first_of}
 use Rattle.group_checker.specs.WindowLaws.{AgreeBefore}
-use Rattle.loose_text.specs.declared.item.Item.{Item}
+use Rattle.loose_items.specs.declared.item.Item.{Item}
 use Rattle.loose_text.specs.LooseTexts.{Loose}
 use Rattle.bundling.specs.Laws.{row_stop}
 use Rattle.bundling.proofs.Lists.{slice_get-append_left}

@@ -3,9 +3,9 @@ use Rattle.std.proofs.Common.{◌≡◌, ◌+◌, Bool, List, [], ◌∷◌, ◌
 use Rattle.std.specs.Prelude.{Option, is_some}
 use Rattle.std.proofs.lemmas.List.{map_push, length_push, reverse-append}
 use Rattle.slot_layouts.specs.declared.layout.Wanted.{Wanted}
-use Rattle.loose_text.specs.declared.item.Item.{Item}
+use Rattle.loose_items.specs.declared.item.Item.{Item}
 use Rattle.loose_text.specs.LooseTexts.{Loose}
-use Rattle.loose_text.specs.Packings.{wanted_as}
+use Rattle.loose_items.specs.Packings.{wanted_as}
 use Rattle.bundling.specs.Chunk.{Chunk}
 use Rattle.bundling.specs.Chunks.{gaps_in, gaps_of}
 use Rattle.stop_placer.specs.declared.packing.Cause.{Cause}

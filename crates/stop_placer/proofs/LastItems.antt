@@ -1,6 +1,6 @@
 -- The last instruction of a text.
 use Rattle.std.proofs.Common.{◌≡◌, ◌+◌, ℕ, zero, suc, List, [], ◌∷◌, length, get_or, ap, arith}
-use Rattle.loose_text.specs.declared.item.Item.{Item}
+use Rattle.loose_items.specs.declared.item.Item.{Item}
 use Rattle.stop_placer.specs.Packs.{ends_written}
 
 -- a `;;` stands behind the text where one stands behind its last instruction

@@ -5,9 +5,9 @@ use Rattle.std.specs.Bool.{one_answer}
 use Rattle.std.proofs.lemmas.Bool.{cases_order}
 use Rattle.std.proofs.lemmas.List.{length_push, length-append, length-drop, length-take, length-reverse, take_at, take-take, take-append-drop}
 use Rattle.ia_insn.specs.declared.limits.TheConstants.{BUNDLE_LIMIT}
-use Rattle.loose_text.specs.declared.item.Item.{Item}
+use Rattle.loose_items.specs.declared.item.Item.{Item}
 use Rattle.loose_text.specs.LooseTexts.{Loose}
-use Rattle.loose_text.specs.Packings.{wanted_as, joins}
+use Rattle.loose_items.specs.Packings.{wanted_as, joins}
 use Rattle.stop_placer.specs.declared.packing.Cause.{Cause}
 use Rattle.stop_placer.specs.Packings.{Packing, chunk, begun_with, first_cause, by_joining, packed_next}
 use Rattle.stop_placer.specs.Packs.{GoesOnTo, IsPackOf, IsPack, IsFirstPast, ends_written, all_chunks}

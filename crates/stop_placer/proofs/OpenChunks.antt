@@ -9,9 +9,9 @@ use Rattle.ia_insn.specs.Programs.{IsCall}
 use Rattle.slot_layouts.specs.declared.layout.Wanted.{Wanted}
 use Rattle.slot_layouts.specs.Layouts.{laid_out}
 use Rattle.slot_layouts.proofs.Facts.{one_is_laid_out, end_takes_next_code}
-use Rattle.loose_text.specs.declared.item.Item.{Item}
+use Rattle.loose_items.specs.declared.item.Item.{Item}
 use Rattle.ia_meaning.specs.Landings.{is_call}
-use Rattle.loose_text.specs.Packings.{wanted_as, joins}
+use Rattle.loose_items.specs.Packings.{wanted_as, joins}
 use Rattle.bundling.specs.Chunk.{Chunk}
 use Rattle.bundling.specs.Chunks.{Holds, KeepTogether, IsChunk, AreChunks}
 use Rattle.stop_placer.specs.Packings.{chunk}

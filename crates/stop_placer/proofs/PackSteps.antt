@@ -4,9 +4,9 @@ use Rattle.std.specs.Prelude.{Option, is_some}
 use Rattle.std.proofs.Math.Seq.{get_or-append_seam}
 use Rattle.std.proofs.lemmas.List.{get_or_append_left}
 use Rattle.ia_insn.specs.declared.limits.TheConstants.{BUNDLE_LIMIT}
-use Rattle.loose_text.specs.declared.item.Item.{Item}
+use Rattle.loose_items.specs.declared.item.Item.{Item}
 use Rattle.loose_text.specs.LooseTexts.{Loose}
-use Rattle.loose_text.specs.Packings.{joins}
+use Rattle.loose_items.specs.Packings.{joins}
 use Rattle.bundling.specs.declared.chunk.TheConstants.{QUIET_LIMIT}
 use Rattle.stop_placer.specs.declared.packing.Cause.{Cause}
 use Rattle.stop_placer.specs.Packings.{Packing, begun_with, first_cause, or_long, are_quiet, chunk, by_joining, packed_next}

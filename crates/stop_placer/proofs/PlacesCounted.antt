@@ -1,6 +1,6 @@
 -- The text has as many instructions as there are places.
 use Rattle.std.proofs.Common.{◌≡◌, List, length}
-use Rattle.loose_text.specs.declared.item.Item.{Item}
+use Rattle.loose_items.specs.declared.item.Item.{Item}
 use Rattle.bundling.specs.Bundled.{places_of}
 use Rattle.bundling.specs.Chunk.{Chunk}
 use Rattle.bundling.specs.Chunks.{AreChunks}

@@ -5,9 +5,9 @@ use Rattle.std.specs.Option.{option_map}
 use Rattle.std.proofs.lemmas.List.{length-map}
 use Rattle.std.proofs.lemmas.Option.{slice_get-map}
 use Rattle.slot_layouts.specs.declared.layout.Wanted.{Wanted}
-use Rattle.loose_text.specs.declared.item.Item.{Item}
+use Rattle.loose_items.specs.declared.item.Item.{Item}
 use Rattle.loose_text.specs.LooseTexts.{Loose, IsLoose}
-use Rattle.loose_text.specs.Packings.{wanted_as, joins, plain_on, plain_of}
+use Rattle.loose_items.specs.Packings.{wanted_as, joins, plain_on, plain_of}
 use Rattle.bundling.specs.Chunk.{Chunk}
 use Rattle.bundling.specs.Chunks.{AreChunks, AreChunksOf, HasNoLongQuiet, is_quiet}
 use Rattle.bundling.proofs.Lists.{element}

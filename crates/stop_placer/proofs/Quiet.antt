@@ -3,7 +3,7 @@ use Rattle.std.proofs.Common.{◌≡◌, ◌≤◌, ◌<◌, ◌+◌, ◌-◌, �
 use Rattle.std.specs.Prelude.{Option, Some, None, is_some, IsSomeAnd, slice_get}
 use Rattle.std.proofs.lemmas.List.{length-drop, length-reverse, get_or-reverse}
 use Rattle.std.proofs.lemmas.Option.{slice_get-get_or, get_or_from_slice_get, slice_get_within}
-use Rattle.loose_text.specs.declared.item.Item.{Item}
+use Rattle.loose_items.specs.declared.item.Item.{Item}
 use Rattle.loose_text.specs.LooseTexts.{Loose}
 use Rattle.bundling.specs.declared.chunk.TheConstants.{QUIET_LIMIT}
 use Rattle.bundling.specs.Chunk.{Chunk}

@@ -2,9 +2,9 @@
 use Rattle.std.proofs.Common.{◌≡◌, ◌+◌, Bool, true, false, List, [], ◌∷◌, ◌++◌, length, refl, sym, subst, append_assoc, append-nil}
 use Rattle.std.specs.Prelude.{Option, Some, None, is_some}
 use Rattle.std.specs.Bool.{Decides}
-use Rattle.loose_text.specs.declared.item.Item.{Item}
+use Rattle.loose_items.specs.declared.item.Item.{Item}
 use Rattle.loose_text.specs.LooseTexts.{Loose}
-use Rattle.loose_text.specs.Packings.{joins}
+use Rattle.loose_items.specs.Packings.{joins}
 use Rattle.bundling.specs.declared.chunk.TheConstants.{QUIET_LIMIT}
 use Rattle.stop_placer.specs.declared.packing.Cause.{Cause}
 use Rattle.stop_placer.specs.Packings.{Packing, chunk, begun_with, first_cause, are_quiet, or_long, joined, begun, by_joining, packed_next}

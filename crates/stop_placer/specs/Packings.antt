@@ -2,8 +2,8 @@
 -- chapter 3, instruction encoding and instruction groups).
 use Rattle.std.specs.Prelude.{ℕ, zero, suc, ◌&&◌, Bool, true, false, List, [], ◌∷◌, ◌++◌, reverse, Option, Some, None, is_some}
 use Rattle.slot_layouts.specs.declared.layout.Wanted.{Wanted}
-use Rattle.loose_text.specs.declared.item.Item.{Item}
-use Rattle.loose_text.specs.Packings.{wanted_as, joins}
+use Rattle.loose_items.specs.declared.item.Item.{Item}
+use Rattle.loose_items.specs.Packings.{wanted_as, joins}
 use Rattle.bundling.specs.Chunk.{Chunk}
 use Rattle.bundling.specs.Chunks.{is_quiet}
 use Rattle.bundling.specs.declared.chunk.TheConstants.{QUIET_LIMIT}

@@ -7,7 +7,7 @@ use Rattle.ia_insn.specs.declared.place.Place.{Place}
 use Rattle.ia_meaning.specs.Sequence.{first_of}
 use Rattle.flow_facts.specs.Graphs.{over_row}
 use Rattle.group_checker.specs.Firsts.{IsViolatedAt}
-use Rattle.loose_text.specs.declared.item.Item.{Item}
+use Rattle.loose_items.specs.declared.item.Item.{Item}
 use Rattle.loose_text.specs.LooseTexts.{Loose}
 use Rattle.bundling.specs.Bundled.{row_of}
 use Rattle.bundling.specs.Chunk.{Chunk}

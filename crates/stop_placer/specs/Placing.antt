@@ -11,7 +11,7 @@ use Rattle.group_checker.specs.Firsts.{IsFirst}
 use Rattle.asm_build.specs.declared.reason.Reason.TheVariants.{Limit}
 use Rattle.asm_build.specs.declared.reason.TextError.{TextError}
 use Rattle.asm_build.specs.declared.reason.TextError.TheVariants.{Fault}
-use Rattle.loose_text.specs.declared.item.Item.{Item}
+use Rattle.loose_items.specs.declared.item.Item.{Item}
 use Rattle.loose_text.specs.LooseTexts.{Loose}
 use Rattle.loose_text.specs.LooseReading.{ReadsLoose, HasLooseFault}
 use Rattle.bundling.specs.Bundled.{place_of, places_of, program_of}

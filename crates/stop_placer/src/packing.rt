@@ -3,7 +3,7 @@
 ghost use Rattle.std.specs.Prelude.{◌≡◌, ◌∷◌, ◌++◌, ◌<◌, [], false, OnOk, IfOk, is_some, length};
 ghost use Rattle.ia_insn.specs.declared.limits.TheConstants.{BUNDLE_LIMIT};
 ghost use Rattle.ia_meaning.specs.Sequence.{first_of};
-ghost use Rattle.loose_text.specs.Packings.{wanted_as};
+ghost use Rattle.loose_items.specs.Packings.{wanted_as};
 ghost use Rattle.bundling.specs.Chunks.{has_no_gap};
 ghost use Rattle.bundling.specs.declared.chunk.TheConstants.{QUIET_LIMIT};
 ghost use Rattle.stop_placer.specs.Packings.{begun_with, first_cause, are_quiet, or_long, chunk, joined, begun, packed_next, chunks_of};

@@ -1,7 +1,7 @@
 //! The bundles of a text as if no stop were wanted, with a stop behind each.
 
 ghost use Rattle.std.specs.Prelude.{◌≡◌, ◌++◌, ◌∷◌, [], OnOk, IfOk, true, false, map};
-ghost use Rattle.loose_text.specs.Packings.{wanted_as, plain_of};
+ghost use Rattle.loose_items.specs.Packings.{wanted_as, plain_of};
 ghost use Rattle.stop_placer.specs.Packings.{chunk};
 
 use crate::packing::alone;

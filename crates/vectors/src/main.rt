@@ -1,13 +1,15 @@
 //! Compares the decoder and the encoder of bundles with the GNU assembler.
 //!
 //! Standard input has a line a bundle: its sixteen bytes, as the GNU assembler for IA-64 makes them or
-//! with a word that is no instruction of the profile in a slot, and what they have to decode to. The
-//! last five lines are wrong on purpose, so that it shows that a difference is seen. The file is
-//! written by `tools/make_vectors.py`. The program names the first ten lines that differ, and then says
-//! how many were read and how many of them differ.
+//! with a word that is no instruction of the profile in a slot, and what they have to decode to: a
+//! template and the canonical lines of its slots, which are the texts that the assembler was given, or
+//! a fault. The last five lines are wrong on purpose, so that it shows that a difference is seen. The
+//! file is written by `tools/make_vectors.py`. The program names the first ten lines that differ, and
+//! then says how many were read and how many of them differ.
 #![tactic(auto)]
 
 mod lines;
+mod texts;
 
 use lines::is_right;
 use std::io::{self, BufRead, BufReader};

@@ -1,6 +1,6 @@
 //! A run slot by slot, and what its readers answer.
 
-use asm_build::assemble;
+use crate::program::program_of;
 use emulator::Machine;
 use ia_insn::{Ar, Br, End, Gr, GroupEvent, How, Place};
 use nat_alat::{AlatEntry, AlatKey};
@@ -57,117 +57,82 @@ fn steps(rt: &impl Abort, machine: &mut Machine, count: u8) -> Option<End> {
     None
 }
 
-/// What a machine shows: the frame by its base, size and locals, and b1, b6, the loop count and PFS among the registers.
-#[derive(Clone, Copy, Debug, PartialEq)]
-struct Seen {
-    place: Place,
-    groups: u64,
-    frame: (u32, u8, u8),
-    predicates: u64,
-    branches: (u64, u64),
-    loop_count: u64,
-    pfs: u64,
+/// The bundle and the slot of the place, the groups, the base, the size and the locals of the frame, the predicates, b1, b6,
+/// the loop count and PFS.
+fn seen(machine: &Machine) -> [u64; 11] {
+    let (place, frame) = (machine.place(), machine.stack().shape());
+    [
+        u64::from(place.bundle),
+        u64::from(place.slot),
+        machine.groups(),
+        u64::from(frame.base),
+        u64::from(frame.sof),
+        u64::from(frame.sol),
+        machine.pr_word(),
+        machine.br(Br::of_field(1)),
+        machine.br(Br::of_field(6)),
+        machine.ar(Ar::Lc),
+        machine.ar(Ar::Pfs),
+    ]
 }
 
-impl Seen {
-    fn of(machine: &Machine) -> Seen {
-        let frame = machine.stack().shape();
-        Seen {
-            place: machine.place(),
-            groups: machine.groups(),
-            frame: (frame.base, frame.sof, frame.sol),
-            predicates: machine.pr_word(),
-            branches: (machine.br(Br::of_field(1)), machine.br(Br::of_field(6))),
-            loop_count: machine.ar(Ar::Lc),
-            pfs: machine.ar(Ar::Pfs),
-        }
-    }
+/// What it shows after the `alloc`, after the first group, and after the bundle of the callee's frame, each with the steps
+/// since the one before. There PFS has the privilege level 3 and the caller's frame of 3 registers, 2 of them local.
+const SEEN: [(u8, [u64; 11]); 3] = [
+    (1, [0, 1, 1, 0, 3, 2, 1, 0, 0, 0, 0]),
+    (2, [1, 0, 1, 0, 3, 2, 0x41, 0, 0, 0, 0]),
+    (8, [4, 0, 4, 2, 3, 3, 0x41, 0x1_0030, 7, 6, 3 << 62 | 0x103]),
+];
+
+/// After so many steps without an end the ALAT has these entries, and the data begin with this byte, all others being 0.
+fn remembers(rt: &impl Abort, machine: &mut Machine, count: u8, entries: &[AlatEntry], byte: u8) {
+    assert_eq!(rt; steps(rt, machine, count), None);
+    assert_eq!(rt; machine.alat().entries(), entries);
+    assert_eq!(rt;
+        machine.data().bytes(),
+        [byte, 0, 0, 0, 0, 0, 0, 0].as_slice()
+    );
 }
 
-/// After the `alloc`, after the first group, and after the bundle of the callee's frame. There PFS has the privilege
-/// level 3 and the caller's frame of 3 registers, 2 of them local.
+/// So many steps come to this end, in the sixth group.
+fn ends(rt: &impl Abort, machine: &mut Machine, count: u8, end: End) {
+    assert_eq!(rt; steps(rt, machine, count), Some(end));
+    assert_eq!(rt; machine.place(), Place { bundle: 5, slot: 2 });
+    assert_eq!(rt; machine.groups(), 6);
+}
+
+/// The entry of the advanced load is there until the store, and nothing changes after the end.
 #[test]
 fn slots_run_one_by_one(rt: HostRuntime) -> Result<(), Fail> {
     let alloc = rt.alloc();
-    let program = assemble(alloc, TEXT.as_bytes())?;
+    let program = program_of(&rt, alloc, TEXT)?;
     let mut machine = Machine::open(alloc, &program)?;
-    let allocated = Seen {
-        place: Place { bundle: 0, slot: 1 },
-        groups: 1,
-        frame: (0, 3, 2),
-        predicates: 1,
-        branches: (0, 0),
-        loop_count: 0,
-        pfs: 0,
-    };
-    let compared = Seen {
-        place: Place { bundle: 1, slot: 0 },
-        predicates: 0x41,
-        ..allocated
-    };
-    let called = Seen {
-        place: Place { bundle: 4, slot: 0 },
-        groups: 4,
-        frame: (2, 3, 3),
-        predicates: 0x41,
-        branches: (0x1_0030, 7),
-        loop_count: 6,
-        pfs: 3 << 62 | 0x103,
-    };
-    for (count, want) in [(1, allocated), (2, compared), (8, called)] {
+    for (count, want) in SEEN {
         assert_eq!(rt; steps(&rt, &mut machine, count), None);
-        assert_eq!(rt; Seen::of(&machine), want);
+        assert_eq!(rt; seen(&machine), want);
     }
     assert_eq!(rt; machine.gr(Gr::of_field(35)), Err(StackFault::OutOfFrame));
-    Ok(())
-}
 
-/// The entry of the advanced load is there until the store.
-#[test]
-fn a_store_reaches_an_advanced_load(rt: HostRuntime) -> Result<(), Fail> {
-    let alloc = rt.alloc();
-    let program = assemble(alloc, TEXT.as_bytes())?;
-    let mut machine = Machine::open(alloc, &program)?;
     let entry = AlatEntry {
         key: AlatKey::Stacked(4),
         address: 0x10_0000,
         size: 8,
     };
-    let none: &[AlatEntry] = &[];
-    for (count, entries, word) in [(11, none, 42), (1, &[entry], 42), (3, none, 5)] {
-        assert_eq!(rt; steps(&rt, &mut machine, count), None);
-        assert_eq!(rt; machine.alat().entries(), entries);
-        assert_eq!(rt;
-            machine.data().bytes(),
-            [word, 0, 0, 0, 0, 0, 0, 0].as_slice()
-        );
-    }
-    Ok(())
-}
+    remembers(&rt, &mut machine, 0, &[], 42);
+    remembers(&rt, &mut machine, 1, &[entry], 42);
+    remembers(&rt, &mut machine, 3, &[], 5);
 
-#[test]
-fn nothing_changes_after_an_end(rt: HostRuntime) -> Result<(), Fail> {
-    let alloc = rt.alloc();
-    let program = assemble(alloc, TEXT.as_bytes())?;
-    let mut machine = Machine::open(alloc, &program)?;
     let place = Place { bundle: 5, slot: 2 };
-    let end = Some(End::Break { imm: 9, place });
     for count in [100, 1] {
-        assert_eq!(rt; steps(&rt, &mut machine, count), end);
-        assert_eq!(rt; machine.place(), place);
-        assert_eq!(rt; machine.groups(), 6);
+        ends(&rt, &mut machine, count, End::Break { imm: 9, place });
     }
     Ok(())
 }
 
 /// What is left of the group under way is the first group of a call.
-#[test]
-fn groups_go_on_within(rt: HostRuntime) -> Result<(), Fail> {
-    let alloc = rt.alloc();
-    let program = assemble(alloc, TEXT.as_bytes())?;
-    let mut machine = Machine::open(alloc, &program)?;
-    assert_eq!(rt; steps(&rt, &mut machine, 4), None);
+fn goes_on_within(rt: &impl Abort, machine: &mut Machine) {
     assert!(rt; machine.end().is_none());
+    assert!(rt; machine.groups() < 100);
     let event = GroupEvent {
         number: 2,
         first: Place { bundle: 1, slot: 0 },
@@ -175,12 +140,25 @@ fn groups_go_on_within(rt: HostRuntime) -> Result<(), Fail> {
         slots: 2,
         how: How::Falls,
     };
-    assert!(rt; machine.groups() < 100);
     assert_eq!(rt; machine.step_group(), event);
-    assert_eq!(rt; steps(&rt, &mut machine, 1), None);
+}
+
+/// A run of two groups comes to the limit.
+fn comes_to_the_limit(rt: &impl Abort, machine: &mut Machine) {
     assert!(rt; machine.groups() < 100);
     let place = Place { bundle: 4, slot: 0 };
     assert_eq!(rt; machine.run(2), End::Limit { place });
     assert_eq!(rt; machine.groups(), 4);
+}
+
+#[test]
+fn groups_go_on_within(rt: HostRuntime) -> Result<(), Fail> {
+    let alloc = rt.alloc();
+    let program = program_of(&rt, alloc, TEXT)?;
+    let mut machine = Machine::open(alloc, &program)?;
+    assert_eq!(rt; steps(&rt, &mut machine, 4), None);
+    goes_on_within(&rt, &mut machine);
+    assert_eq!(rt; steps(&rt, &mut machine, 1), None);
+    comes_to_the_limit(&rt, &mut machine);
     Ok(())
 }

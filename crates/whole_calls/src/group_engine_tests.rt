@@ -1,8 +1,11 @@
 //! Runs of groups all at once, in several calls. What one call leaves is tested with the whole program.
 
-use asm_build::assemble;
+ghost use Rattle.std.specs.Prelude.{◌≡◌};
+ghost use Rattle.group_engine.specs.Engine.{end_of};
+
+use crate::program::program_of;
 use group_engine::{GroupMachine, group_text};
-use ia_insn::{End, Place, Program};
+use ia_insn::{End, Place};
 use std::alloc::Global;
 use std::process::Abort;
 use std::test::Fail;
@@ -53,43 +56,60 @@ r15 0000000000000004
 pr 0000000000000001
 ";
 
-/// The program that the text says.
-fn program(rt: &impl Abort, alloc: Global) -> Result<Program, Fail> {
-    assert!(rt; TEXT.len() < 1000);
-    let program = assemble(alloc, TEXT.as_bytes())?;
-    Ok(program)
+/// The state of an engine at this end.
+fn has_state(
+    rt: &impl Abort,
+    alloc: Global,
+    machine: &GroupMachine,
+    end: &End,
+    state: &str,
+) -> Result<(), Fail>
+    requires { end.now ≡ end_of machine.now }
+{
+    let text = group_text(alloc, machine, end)?;
+    assert!(rt; text.as_slice() == state.as_bytes());
+    Ok(())
+}
+
+/// Three groups come to the limit, and no end.
+fn comes_to_the_limit(rt: &impl Abort, machine: &mut GroupMachine) {
+    assert_eq!(rt; machine.groups(), 0);
+    let limit = machine.run(3, 1);
+    assert_eq!(rt; machine.groups(), 3);
+    assert!(rt; machine.end().is_none());
+    let place = machine.place();
+    assert!(rt; limit == End::Limit { place });
 }
 
 /// Two calls, of which the first comes to no end, leave what one leaves. The order matters in the second alone.
 #[test]
 fn two_calls_come_to_what_one_comes_to(rt: HostRuntime) -> Result<(), Fail> {
     let alloc = rt.alloc();
-    let program = program(&rt, alloc)?;
+    let program = program_of(&rt, alloc, TEXT)?;
     let mut machine = GroupMachine::open(alloc, &program)?;
-    let limit = machine.run(3, 1);
+    comes_to_the_limit(&rt, &mut machine);
     assert_eq!(rt; machine.groups(), 3);
-    assert!(rt; machine.end().is_none());
-    let place = machine.place();
-    assert!(rt; limit == End::Limit { place });
     let end = machine.run(97, 1);
-    let state = group_text(alloc, &machine, &end)?;
-    assert!(rt; state.as_slice() == FIRST_LAST.as_bytes());
-    Ok(())
+    has_state(&rt, alloc, &machine, &end, FIRST_LAST)
+}
+
+/// The engine is at this end, in the sixth group.
+fn is_at(rt: &impl Abort, machine: &GroupMachine, end: End) {
+    assert_eq!(rt; machine.end(), Some(end));
+    assert_eq!(rt; machine.place(), Place { bundle: 3, slot: 2 });
+    assert_eq!(rt; machine.groups(), 6);
 }
 
 #[test]
 fn nothing_changes_after_an_end(rt: HostRuntime) -> Result<(), Fail> {
     let alloc = rt.alloc();
-    let program = program(&rt, alloc)?;
+    let program = program_of(&rt, alloc, TEXT)?;
     let mut machine = GroupMachine::open(alloc, &program)?;
     let end = machine.run(100, 0);
-    assert_eq!(rt; machine.end(), Some(end));
-    assert_eq!(rt; machine.groups(), 6);
-    assert_eq!(rt; machine.run(3, 1), end);
-    assert_eq!(rt; machine.end(), Some(end));
-    assert_eq!(rt; machine.place(), Place { bundle: 3, slot: 2 });
-    assert_eq!(rt; machine.groups(), 6);
-    let state = group_text(alloc, &machine, &end)?;
-    assert!(rt; state.as_slice() == SECOND_LAST.as_bytes());
-    Ok(())
+    is_at(&rt, &machine, end);
+    assert!(rt; machine.groups() < 100);
+    let again = machine.run(3, 1);
+    assert_eq!(rt; again, end);
+    is_at(&rt, &machine, end);
+    has_state(&rt, alloc, &machine, &again, SECOND_LAST)
 }

@@ -1,5 +1,5 @@
-//! Tests of whole calls of `ia64`, over sources and sinks in memory, and of the two engines in calls that no command
-//! makes.
+//! Tests of whole calls with watchers, of the two engines in calls that no command makes, and of the names of registers.
+//! All other whole calls are rows of `call_rows`.
 #![tactic(auto)]
 
 #[cfg(test)]
@@ -7,4 +7,8 @@ mod emulator_tests;
 #[cfg(test)]
 mod group_engine_tests;
 #[cfg(test)]
-mod tests;
+mod program;
+#[cfg(test)]
+mod register_names;
+#[cfg(test)]
+mod watchers;

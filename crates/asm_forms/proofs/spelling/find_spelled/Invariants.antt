@@ -3,7 +3,7 @@ use Rattle.asm_forms.specs.Naming.{named_forms}
 use Rattle.asm_forms.specs.Rows.{seen, row_of}
 use Rattle.asm_forms.proofs.RowSpelled.{spelled}
 use Rattle.std.specs.List.{find}
-use Rattle.asm_forms.specs.Matching.{is_spelled}
+use Rattle.asm_forms.specs.Spelled.{is_spelled}
 use Rattle.asm_forms.proofs.spelling.find_spelled.Given as goal
 
 abbrev pub invariant-loop-row : goal.invariant-loop-row

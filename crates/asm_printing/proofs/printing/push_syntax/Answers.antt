@@ -36,6 +36,6 @@ returns-clause-ok c =
     (appended c.args.out.now.items (codes "  ") (predicate_text c.args.qp) (mnemonic_text form completers) (spaced (operands_text c.args.target (row_of form).items operands)) (stop_text c.args.stop)
     c.push_bytes.new.out.items c.push_predicate.new.out.items c.push_mnemonic.new.out.items c.push_operands.new.out.items c.push_stop.new.out.items
     c.in_ok-push_bytes.ensures.ok c.in_ok-push_predicate.ensures.ok
-    (of_mnemonic c.push_predicate.new.out.items c.push_mnemonic.new.out.items c.syntax.inside.form form c.as_slice.result.now completers (ap (λ s. s.form) c.syntax.view_is) (c.as_slice.ensures.value ∙ ap (λ s. s.completers) c.syntax.view_is) c.in_ok-push_mnemonic.ensures.ok)
-    (of_operands c.args.target c.push_mnemonic.new.out.items c.push_operands.new.out.items c.items.result.now (row_of form).items c.as_slice-2.result.now operands (c.items.ensures.value ∙ ap (λ s. (row_of s.form).items) c.syntax.view_is) (c.as_slice-2.ensures.value ∙ ap (λ s. s.operands) c.syntax.view_is) c.in_ok-push_operands.ensures.ok))
+    (of_mnemonic c.push_predicate.new.out.items c.push_mnemonic.new.out.items c.form.result form c.completers.result.now completers c.form.ensures c.completers.ensures c.in_ok-push_mnemonic.ensures.ok)
+    (of_operands c.args.target c.push_mnemonic.new.out.items c.push_operands.new.out.items c.items.result.now (row_of form).items c.operands.result.now operands (c.items.ensures.value ∙ ap (λ f. (row_of f).items) c.form-2.ensures) c.operands.ensures c.in_ok-push_operands.ensures.ok))
     c.push_stop.ensures.ok

@@ -1,6 +1,6 @@
 use Rattle.std.proofs.Common.{◌∙◌, ◌*◌, ◌^◌, arith}
+use Rattle.asm_instructions.specs.Operands.{bytes}
 use Rattle.asm_reading.proofs.DataLines.{one_more}
-use Rattle.asm_reading.specs.Operands.{bytes}
 use Rattle.asm_reading.proofs.data.numbers_of.Goals as goal
 
 pub loop-at-preserved : goal.loop-at-preserved

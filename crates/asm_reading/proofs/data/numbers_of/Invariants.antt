@@ -1,7 +1,7 @@
 use Rattle.std.proofs.Common.{◌≡◌, ◌-◌, ◌*◌, ◌^◌, ◌++◌, drop, length}
 use Rattle.arrayvec.specs.ArrayVec.{array_vec_len}
+use Rattle.asm_instructions.specs.Operands.{bytes}
 use Rattle.asm_reading.specs.Lines.{numbers_of}
-use Rattle.asm_reading.specs.Operands.{bytes}
 use Rattle.asm_reading.proofs.data.numbers_of.Given as goal
 
 abbrev pub invariant-loop-at : goal.invariant-loop-at

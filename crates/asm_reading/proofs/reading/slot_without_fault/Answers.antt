@@ -1,7 +1,7 @@
 use Rattle.std.proofs.Common.{◌≡◌, ◌∙◌, sym, ap, rules}
 use Rattle.std.specs.List.{find}
-use Rattle.asm_forms.specs.Matching.{is_spelled}
 use Rattle.asm_forms.specs.Naming.{named_forms}
+use Rattle.asm_forms.specs.Spelled.{is_spelled}
 use Rattle.asm_reading.specs.Lines.{texts, tokens, without_stop}
 use Rattle.asm_reading.specs.SlotReading.{slot_line}
 use Rattle.asm_reading.proofs.SlotForms.{slot_if_read}

@@ -1,6 +1,6 @@
 use Rattle.std.proofs.Common.{◌≤◌, length, ap, arith}
-use Rattle.asm_reading.specs.Relations.{named_predicates}
-use Rattle.asm_reading.proofs.NamedPredicates.{are_predicates}
+use Rattle.asm_matching.specs.Relations.{named_predicates}
+use Rattle.asm_matching.proofs.NamedPredicates.{are_predicates}
 use Rattle.asm_reading.proofs.relation.relation_of.Goals as goal
 
 pub of_numbers-predicates-requires : goal.of_numbers-predicates-requires

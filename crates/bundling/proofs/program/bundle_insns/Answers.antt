@@ -2,7 +2,7 @@ use Rattle.std.proofs.Common.{arith, ◌≡◌, ◌<◌, ◌∙◌, sym, ap, sub
 use Rattle.std.specs.Prelude.{IfSome, slice_index_or, option_map}
 use Rattle.asm_build.specs.declared.address.Address.{Address}
 use Rattle.asm_build.specs.Addresses.{IsReachable}
-use Rattle.loose_text.specs.declared.item.Item.{Item}
+use Rattle.loose_items.specs.declared.item.Item.{Item}
 use Rattle.bundling.specs.Bundled.{relocated, bundle_in}
 use Rattle.bundling.proofs.Making.{target_within, moved_within}
 use Rattle.bundling.proofs.program.bundle_insns.Goals as goal

@@ -2,7 +2,7 @@ use Rattle.std.proofs.Common.{arith, ◌≡◌, ◌<◌, sym, subst, length, Lis
 use Rattle.std.specs.Prelude.{IfSome, slice_index_or}
 use Rattle.asm_build.specs.declared.address.Address.{Address}
 use Rattle.asm_build.specs.Addresses.{IsReachable}
-use Rattle.loose_text.specs.declared.item.Item.{Item}
+use Rattle.loose_items.specs.declared.item.Item.{Item}
 use Rattle.bundling.proofs.Making.{target_within}
 use Rattle.bundling.proofs.program.row_insns.Goals as goal
 

@@ -7,9 +7,9 @@ use Rattle.asm_build.specs.TextParts.{AreLabelsBelow}
 use Rattle.loose_text.specs.LooseParts.{items_of}
 use Rattle.loose_text.specs.LooseReading.{end_stages, loose_of}
 use Rattle.loose_text.specs.LooseTexts.{IsItemEntry}
-use Rattle.loose_text.specs.Packings.{plain_of}
+use Rattle.loose_items.specs.Packings.{plain_of}
 use Rattle.loose_text.proofs.EndOfText.{AreRelated, parts_are_loose, related_of, relation_reported}
-use Rattle.loose_text.proofs.PlainPackings.{are_few, are_within}
+use Rattle.loose_items.proofs.PlainPackings.{are_few, are_within}
 use Rattle.loose_text.proofs.reading.finish.Goals as goal
 
 pub returns-in_err-related-clause-err : goal.returns-in_err-related-clause-err

@@ -8,7 +8,7 @@ use Rattle.group_checker.specs.declared.window.EarlierSlot.{EarlierSlot}
 use Rattle.group_checker.specs.Windows.{IsWindow}
 use Rattle.group_checker.proofs.Windowing.{first_window}
 use Rattle.row_laws.proofs.Rows.{row_next_is}
-use Rattle.loose_text.specs.declared.item.Item.{Item}
+use Rattle.loose_items.specs.declared.item.Item.{Item}
 use Rattle.bundling.specs.Bundled.{row_of}
 use Rattle.stop_placer.specs.declared.packing.Cause.{Cause}
 use Rattle.stop_placer.specs.Packings.{Packing}

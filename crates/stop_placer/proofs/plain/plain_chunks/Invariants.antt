@@ -1,5 +1,5 @@
 use Rattle.std.proofs.Common.{◌≡◌, ◌++◌, true, map, drop}
-use Rattle.loose_text.specs.Packings.{plain_of, plain_on}
+use Rattle.loose_items.specs.Packings.{plain_of, plain_on}
 use Rattle.stop_placer.specs.Packings.{chunk}
 use Rattle.stop_placer.proofs.plain.plain_chunks.Given as goal
 

@@ -4,11 +4,12 @@ use Rattle.ia_insn.specs.declared.limits.TheConstants.{BUNDLE_LIMIT}
 use Rattle.asm_build.specs.declared.reason.Reason.TheVariants.{Limit}
 use Rattle.asm_build.specs.declared.text_parts.Section.TheVariants as section
 use Rattle.asm_build.specs.TextParts.{IsIn}
-use Rattle.loose_text.specs.declared.item.Item.{Item}
+use Rattle.loose_items.specs.declared.item.Item.{Item}
 use Rattle.loose_text.specs.declared.item.ItemLine.{ItemLine}
 use Rattle.loose_text.specs.LooseParts.{items_of, item_of, IsNarrow}
-use Rattle.loose_text.specs.Packings.{plain_of}
-use Rattle.loose_text.proofs.PlainPackings.{other_line, items_with}
+use Rattle.loose_items.specs.Packings.{plain_of}
+use Rattle.loose_items.proofs.PlainPackings.{other_line}
+use Rattle.loose_text.proofs.StoppedItems.{items_with}
 use Rattle.loose_text.proofs.parts.LooseParts.slot.Goals as goal
 
 pub returns-in_default-clause-err : goal.returns-in_default-clause-err

@@ -3,8 +3,8 @@ use Rattle.asm_build.specs.TextParts.{IsIn}
 use Rattle.asm_build.specs.declared.text_parts.Section.TheVariants as section
 use Rattle.loose_text.specs.declared.item.ItemLine.{ItemLine}
 use Rattle.loose_text.specs.LooseParts.{items_of, last_written}
-use Rattle.loose_text.specs.PlainPackings.{ArePacked}
-use Rattle.loose_text.proofs.PlainPackings.{stopped_line, stopped_is, stopped_packed}
+use Rattle.loose_items.specs.PlainPackings.{ArePacked}
+use Rattle.loose_text.proofs.StoppedItems.{stopped_line, stopped_is, stopped_packed}
 use Rattle.loose_text.proofs.parts.LooseParts.stop.Goals as goal
 
 some : (c : goal.After-self-1) → 1 ≤ length c.self.inside.items.items

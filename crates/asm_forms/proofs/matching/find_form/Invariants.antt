@@ -1,7 +1,0 @@
-use Rattle.std.proofs.Common.{◌≡◌, drop}
-use Rattle.std.specs.List.{find}
-use Rattle.asm_forms.specs.Matching.{is_spelled}
-use Rattle.asm_forms.proofs.matching.find_form.Given as goal
-
-abbrev pub invariant-loop-form : goal.invariant-loop-form
-invariant-loop-form l = find (is_spelled l.operands) (drop l.form-index l.forms) ≡ find (is_spelled l.operands) l.forms

@@ -1,0 +1,2 @@
+mod PastTheEnd
+pub mod NamedPredicates

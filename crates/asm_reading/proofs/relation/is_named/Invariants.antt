@@ -1,6 +1,0 @@
-use Rattle.std.proofs.Common.{◌≡◌, drop}
-use Rattle.asm_reading.specs.Relations.{is_named}
-use Rattle.asm_reading.proofs.relation.is_named.Given as goal
-
-abbrev pub invariant-loop-token : goal.invariant-loop-token
-invariant-loop-token l = is_named (drop l.token-index l.tokens) l.p ≡ is_named l.tokens l.p

@@ -1,0 +1,94 @@
+-- The text of a mnemonic is one name.
+use Rattle.std.proofs.Common.{◌≡◌, refl, ℕ, Bool, true, false, ◌&&◌, not, List, [], ◌∷◌, ◌++◌}
+use Rattle.std.specs.Prelude.{flat_map}
+use Rattle.std.specs.List.{list_all}
+use Rattle.std.proofs.lemmas.Bool.{not-true}
+use Rattle.ia_insn.specs.declared.insn.Op.{Op}
+use Rattle.ia_insn.specs.declared.choices.BranchKind.TheVariants as branch
+use Rattle.ia_insn.specs.declared.choices.CmpKind.TheVariants as cmp
+use Rattle.ia_insn.specs.declared.choices.LoadKind.TheVariants as load
+use Rattle.ia_insn.specs.declared.choices.StoreKind.TheVariants as store
+use Rattle.ia_insn.specs.declared.choices.Unit.TheVariants as unit
+use Rattle.ia_insn.proofs.Tests.{left, right}
+use Rattle.asm_words.specs.declared.word.WordKind.TheVariants as kind
+use Rattle.asm_words.specs.Bytes.{is_name_byte, is_digit_byte}
+use Rattle.asm_words.proofs.Lexed.{lexed, is_end}
+use Rattle.asm_words.proofs.Lexing.{name_lexed}
+use Rattle.asm_forms.specs.declared.choices.CompareRelation.TheVariants as rel
+use Rattle.asm_forms.specs.declared.choices.Whether.TheVariants as wh
+use Rattle.asm_forms.specs.declared.choices.CacheHint.TheVariants as hint
+use Rattle.asm_forms.specs.declared.completer.Completer.{Completer}
+use Rattle.asm_forms.specs.declared.completer.Completer.TheVariants as c
+use Rattle.asm_forms.specs.declared.form.Form.{Form}
+use Rattle.asm_forms.specs.Completers.{text_of}
+use Rattle.asm_forms.specs.Rows.{rows, row_of}
+use Rattle.asm_forms.proofs.RowFacts.{of_row}
+use Rattle.asm_canonical.proofs.Written.{form_of, completers_of}
+use Rattle.asm_printing.specs.SlotTexts.{mnemonic_text}
+
+abbrev pub name_of_op : Op → List ℕ
+name_of_op x = mnemonic_text (form_of x) (completers_of x)
+
+-- the first byte is one of names and no digit
+abbrev pub begins_name : List ℕ → Bool
+begins_name [] = false
+begins_name (c ∷ cs) = is_name_byte c && not (is_digit_byte c)
+
+-- the bytes of each word are those of a name
+words_plain : list_all (λ r. begins_name r.word && list_all is_name_byte r.word) rows ≡ true
+words_plain = refl
+
+word_begins : (f : Form) → begins_name (row_of f).word ≡ true
+word_begins f = left _ _ (of_row (λ r. begins_name r.word && list_all is_name_byte r.word) f words_plain)
+
+word_bytes : (f : Form) → list_all is_name_byte (row_of f).word ≡ true
+word_bytes f = right (begins_name (row_of f).word) _ (of_row (λ r. begins_name r.word && list_all is_name_byte r.word) f words_plain)
+
+-- and so are those of each completer
+completer_bytes : (completer : Completer) → list_all is_name_byte (text_of completer) ≡ true
+completer_bytes c.Absent = refl
+completer_bytes (c.CompareRelation rel.Eq) = refl
+completer_bytes (c.CompareRelation r) = refl
+completer_bytes (c.Compare cmp.Normal) = refl
+completer_bytes (c.Compare k) = refl
+completer_bytes (c.Whether wh.Sptk) = refl
+completer_bytes (c.Whether w) = refl
+completer_bytes (c.Load load.Plain) = refl
+completer_bytes (c.Load k) = refl
+completer_bytes (c.Store store.Plain) = refl
+completer_bytes (c.Store k) = refl
+completer_bytes (c.Hint hint.None) = refl
+completer_bytes (c.Hint g) = refl
+completer_bytes (c.Loop branch.Cond) = refl
+completer_bytes (c.Loop b) = refl
+completer_bytes (c.Unit unit.L) = refl
+completer_bytes (c.Unit u) = refl
+completer_bytes x = refl
+
+names_both : (xs ys : List ℕ) → list_all is_name_byte xs ≡ true → list_all is_name_byte ys ≡ true → list_all is_name_byte (xs ++ ys) ≡ true
+names_both [] ys h k = k
+names_both (x ∷ xs) ys h k = rw (left (is_name_byte x) _ h) (names_both xs ys (right (is_name_byte x) _ h) k)
+
+begins_both : (xs ys : List ℕ) → begins_name xs ≡ true → begins_name (xs ++ ys) ≡ true
+begins_both [] ys h = cc
+begins_both (x ∷ xs) ys h = h
+
+completers_bytes : (cs : List Completer) → list_all is_name_byte (flat_map text_of cs) ≡ true
+completers_bytes [] = refl
+completers_bytes (c ∷ cs) = names_both (text_of c) (flat_map text_of cs) (completer_bytes c) (completers_bytes cs)
+
+-- the bytes of a mnemonic are those of a name
+pub mnemonic_bytes : (f : Form) (cs : List Completer) → list_all is_name_byte (mnemonic_text f cs) ≡ true
+mnemonic_bytes f cs = names_both (row_of f).word (flat_map text_of cs) (word_bytes f) (completers_bytes cs)
+
+pub mnemonic_begins : (f : Form) (cs : List Completer) → begins_name (mnemonic_text f cs) ≡ true
+mnemonic_begins f cs = begins_both (row_of f).word (flat_map text_of cs) (word_begins f)
+
+-- a name before an end is one word
+pub name_cut : (n cs : List ℕ) → begins_name n ≡ true → list_all is_name_byte n ≡ true → is_end cs ≡ true → lexed 0 (n ++ cs) ≡ (kind.Name, n) ∷ lexed 0 cs
+name_cut [] cs b h e = cc
+name_cut (c ∷ n) cs b h e = name_lexed c n cs (left _ _ b) (not-true _ (right (is_name_byte c) _ b)) (right (is_name_byte c) _ h) e
+
+-- and so is a mnemonic
+pub mnemonic_lexed : (f : Form) (completers : List Completer) (cs : List ℕ) → is_end cs ≡ true → lexed 0 (mnemonic_text f completers ++ cs) ≡ (kind.Name, mnemonic_text f completers) ∷ lexed 0 cs
+mnemonic_lexed f completers cs e = name_cut (mnemonic_text f completers) cs (mnemonic_begins f completers) (mnemonic_bytes f completers) e

@@ -1,0 +1,3 @@
+pub mod Packings
+pub mod PlainPackings
+pub mod Units
