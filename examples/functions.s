@@ -2,8 +2,8 @@
 //
 //   ia64-linux-gnu-as -g --debug-prefix-map "$PWD=." -o examples/functions.o examples/functions.s
 //
-// and `tools/check_object examples/functions.o` says: in `swap` the move into r9 and the store of r9 want a stop between
-// them; `twice` is accepted; `sum` has an instruction outside the integer profile.
+// and `./ia64 check examples/functions.o` says: in `swap` the move into r9 and the store of r9 want a stop between
+// them; `twice` is accepted, and `sum`, in which one stands in for an instruction outside the integer profile.
 	.explicit
 	.text
 	.global swap#

@@ -6,7 +6,7 @@ Case n of a seed is the same on every machine, as far as the program builds the 
 of tries/ and examples/. The cases are of ten sorts by turns: random programs as texts, which have to be
 right; such texts and those of the repository, damaged; images of both, damaged; such images with relations,
 of which one may be changed; bare bundles; bytes that are nothing; words near the commands; texts with one
-fault, whose reason and line are known; loose texts, made of such texts by tools/loosen, some of them damaged;
+fault, whose reason and line are known; loose texts, made of such texts as `ia64 loosen` does, some of them damaged;
 and loose texts with one fault.
 
 Of each call it looks at the status, the form of what is printed, that nothing is on standard error, that
@@ -36,8 +36,6 @@ many cases of each sort ran, how long, and the slowest. The status is 1 where so
 import argparse
 import collections
 import functools
-import importlib.machinery
-import importlib.util
 import multiprocessing
 import random as randoms
 import shutil
@@ -57,9 +55,8 @@ from random_texts import FAULT_KINDS, LOOSE_FAULT_KINDS, Shape, random_lines
 ROOT = Path(__file__).resolve().parent.parent
 PROGRAM = ROOT / "crates" / "ia64_cli" / "out" / "ia64_cli"
 
-loader = importlib.machinery.SourceFileLoader("loosen", str(ROOT / "tools" / "loosen"))
-loosen = importlib.util.module_from_spec(importlib.util.spec_from_loader("loosen", loader))
-loader.exec_module(loosen)
+sys.path.append(str(ROOT))
+from front import loosen  # noqa: E402
 
 Result = collections.namedtuple("Result", "number sort findings calls seconds slowest")
 
@@ -201,14 +198,14 @@ def single_faults(calls, random):
 
 
 def loosened(random, data):
-    return loosen.loosened(data.decode("latin-1").replace("\r\n", "\n"), random.randrange(2))
+    return loosen.loosened(data, random.randrange(2))
 
 
 def loose_texts(calls, random):
     """Loose texts, or damaged ones. One of a text that `build` takes is right, but that it may have too many bundles, or a
     relation of a bundle behind a call that isn't its bundle's last instruction: packed anew, the call ends its bundle."""
     text = some_text(random)
-    data = loosened(random, text).encode("latin-1")
+    data = loosened(random, text)
     if random.randrange(3) == 0:
         calls.loose(damaged(random, data, TEXT_EDITS))
     elif not calls.loose(data) and calls.call("build", data=text).status == DONE:
@@ -220,7 +217,7 @@ def loose_texts(calls, random):
 def loose_faults(calls, random):
     """Loose texts with one fault, which have to be refused with its reason and line; not those that have a relation behind a
     call besides, as in `loose_texts`."""
-    text = loosened(random, random_text(random, bundles=random.randrange(1, 12)))
+    text = loosened(random, random_text(random, bundles=random.randrange(1, 12))).decode("latin-1")
     if calls.call("stops", data=text.encode("latin-1")).output.endswith(b": relation\n"):
         return
     lines, number, reason = random.choice(LOOSE_FAULT_KINDS)(random, text.split("\n")[:-1])

@@ -221,7 +221,7 @@ def drawn_bundle(random, names, data, last):
              for unit in units(code)]
     lines = []
     for line in bundle(code, texts):
-        text = line.removesuffix(" ;;")
+        text = line[:-3] if line.endswith(" ;;") else line
         lines += [text, ";;"] if text != line and random.random() < 0.3 else [line]
         if line != "}":
             maybe_blank(random, lines)

@@ -1,6 +1,6 @@
 #!/usr/bin/env python3
 """try_loose.py [--program FILE] [--seed S] [--texts N] [--real]: takes bundles and stops out of programs with
-`tools/loosen`, and looks at what `stops` makes of what is left. It is no part of the gate.
+`ia64 loosen`, and looks at what `stops` makes of what is left. It is no part of the gate.
 
 - Each program of `examples/` and `tries/` that is accepted, and with --real each of `../shared/real` beside the
   repository, where that is there: `stops` packs it, `build` takes what that prints, `check` accepts it, and it runs to
@@ -13,8 +13,6 @@ It prints what differs, and a count; the status is 1 where something does.
 """
 
 import argparse
-import importlib.machinery
-import importlib.util
 import json
 import lzma
 import random as randoms
@@ -38,9 +36,8 @@ REAL = ROOT.parent / "shared" / "real"
 CODE_START = 0x10000
 GROUPS = "10000000"
 
-loader = importlib.machinery.SourceFileLoader("loosen", str(ROOT / "tools" / "loosen"))
-loosen = importlib.util.module_from_spec(importlib.util.spec_from_loader("loosen", loader))
-loader.exec_module(loosen)
+sys.path.append(str(ROOT))
+from front import loosen  # noqa: E402
 
 
 class Wrong(Exception):
@@ -103,7 +100,7 @@ def results(state, bundles):
 def packed_image(options, image):
     """The image of the program into which the instructions of another one are packed."""
     text = with_labels(wanted(options, "show", image).decode(), image)
-    packed = wanted(options, "stops", loosen.loosened(text).encode())
+    packed = wanted(options, "stops", loosen.loosened(text.encode()))
     built = wanted(options, "build", packed)
     if len(entries_of(built)) != len(entries_of(image)):
         raise Wrong("other entries")
@@ -164,7 +161,8 @@ def try_images(options, images):
 def random_text(random):
     """A random loose text."""
     shape = Shape(random, bundles=random.randrange(1, 7))
-    return loosen.loosened("\n".join(random_lines(random, shape)) + "\n", random.randrange(3) == 0)
+    text = "\n".join(random_lines(random, shape)) + "\n"
+    return loosen.loosened(text.encode("latin-1"), random.randrange(3) == 0).decode("latin-1")
 
 
 def try_text(options, number):

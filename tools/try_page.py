@@ -4,8 +4,8 @@ headings, and compares what they print with what the pages say.
 
 Commands are blocks ```sh of a page; what they print is the block without a language that stands directly behind one. The
 blocks of a page run in its order, in a folder that stands for the root of the repository: it has the examples and the
-tries, `./ia64` there is the built program by itself (by default that of this repository, which has to be built),
-`tools/compare_orders` asks it, and `tools/loosen` is there. A page says what comes on standard output; nothing may come on standard error.
+tries, and `./ia64` there is the built program by itself (by default that of this repository, which has to be built), or, where
+files are arguments, the front, which asks it. A page says what comes on standard output; nothing may come on standard error.
 
 It prints each block that prints something else, and a count; the status is 1 where there is one, and where there is no
 block at all.
@@ -30,20 +30,22 @@ FENCED = re.compile(r"^```.*?^```$", re.S | re.M)
 HEADING = re.compile(r"^(?P<marks>#+) (?P<words>.*)$", re.M)
 
 
-def script(path, *words):
-    """A program that calls another one with these words before its own."""
-    path.write_text(f'#!/bin/sh\nexec {shlex.join(map(str, words))} "$@"\n')
-    path.chmod(0o755)
+# `./ia64` of a page: the program, or the front.
+CALL = """#!/bin/sh
+case $#:$1 in
+  1:* | 2:run | 2:watch | 3:groups | 3:trial) exec {program} "$@" ;;
+  *) IA64_PROGRAM={program} exec {python} -E {front} "$@" ;;
+esac
+"""
 
 
 def outline(folder, program):
     """What commands of a page find at the root of the repository."""
     for name in ("examples", "tries"):
         (folder / name).symlink_to(ROOT / name)
-    (folder / "tools").mkdir()
-    script(folder / "ia64", program)
-    (folder / "tools" / "loosen").symlink_to(ROOT / "tools" / "loosen")
-    script(folder / "tools" / "compare_orders", ROOT / "tools" / "compare_orders", "--program", program)
+    words = {"program": program, "python": sys.executable, "front": ROOT / "front"}
+    (folder / "ia64").write_text(CALL.format(**{name: shlex.quote(str(word)) for name, word in words.items()}))
+    (folder / "ia64").chmod(0o755)
 
 
 def section(text, words):

@@ -715,7 +715,7 @@ cat "$OUTLINE/output" 2> /dev/null
 """
     READ_FAULT = b"ia64: reading standard input failed; nothing was written\n"
     WRITE_FAULT = b"ia64: writing standard output failed; only a front of the output was written\n"
-    TERMINAL = b"ia64: standard input is a terminal: type the input and end it with Ctrl-D, or call ia64 check < FILE\n"
+    TERMINAL = b"ia64: standard input is a terminal: type the input and end it with Ctrl-D, or call ia64 check FILE\n"
     NOT_BUILT = (b"ia64: the program is not built from the sources as they are: nothing is proved of this answer. "
                  b"./build proves and builds it\n")
     NOT_KEPT = (b"ia64: compiling the program without a proof, once for these sources and this kit: one or two minutes\n"
@@ -734,6 +734,7 @@ cat "$OUTLINE/output" 2> /dev/null
             folder.mkdir(parents=True)
         for name in "tools/sources_sum", "tools/compile_unproved", "crates.txt":
             shutil.copy(HERE / name, self.outline / name)
+        shutil.copytree(HERE / "front", self.outline / "front", ignore=shutil.ignore_patterns("tests", "__pycache__"))
         self.standing_in("rt", self.RT)
         self.environment = {**os.environ, "PATH": f"{self.outline}:{os.environ['PATH']}", "TMPDIR": str(self.temporary),
                             "PROGRAM": PROGRAM, "OUTLINE": str(self.outline), "XDG_CACHE_HOME": str(self.folder / "cache")}
@@ -824,7 +825,7 @@ cat "$OUTLINE/output" 2> /dev/null
     def test_help(self):
         """It fails where it isn't taken."""
         for stream in CLOSED, self.opened("/dev/full", os.O_WRONLY):
-            self.assertEqual(self.call("--help", streams=(CLOSED, stream, CLOSED)).wait(SECONDS), 6)
+            self.assertEqual(self.call("--help", streams=(CLOSED, stream, CLOSED)).wait(SECONDS), 2)
 
     def test_other_statuses(self):
         """A status of the program comes through, with what it wrote, and so does one that no document knows."""

@@ -7,7 +7,7 @@ program=$here/crates/ia64_cli/out/ia64_cli
 dir=$(mktemp -d)
 trap 'rm -rf "$dir"' EXIT
 passed=0 failed=0
-unset IA64_PROVED
+unset IA64_PROVED IA64_PROGRAM
 export TMPDIR=$dir/temporary XDG_CACHE_HOME=$dir/cache
 mkdir "$TMPDIR" "$XDG_CACHE_HOME"
 
@@ -64,45 +64,48 @@ note $? 'a trial'
 ./ia64 build < examples/call.s | ./ia64 show | grep -q 'br.call.sptk.few b0=L3 ;;'
 note $? 'a text as its canonical text'
 
+# Files as arguments: the answers of the proved program on them, in its own words or in those of compilers.
+for words in 'run 100' 'watch 100' 'groups 100 1' build; do
+  ./ia64 $words < examples/count.s > "$dir/answer"
+  try "a file: $words" $? "$dir/answer" '' /dev/null ./ia64 $words examples/count.s
+done
+try 'a file before its number' 0 "$dir/count" '' /dev/null ./ia64 run examples/count.s 100
+printf '%s\n' 'examples/read_after_write.s:12:3: error: RAW r8: '"'add r11=r8,r9' reads what 'add r8=r9,r10'"' writes in the same group' \
+  "examples/read_after_write.s:11:3: note: 'add r8=r9,r10' is here" '1 accepted, 1 violated, 0 not judged' > "$dir/files"
+try 'two texts' 1 "$dir/files" '' /dev/null ./ia64 check examples/read_after_write.s examples/count.s
+try 'standard input as a file' 1 "$dir/raw" '' examples/read_after_write.s ./ia64 run 100 -
+try 'no such file' 2 "$dir/nothing" 'ia64: nowhere: No such file or directory' /dev/null ./ia64 run 100 nowhere
+./ia64 stops < examples/loose.s > "$dir/answer"
+try 'stops of a file' $? "$dir/answer" '' /dev/null ./ia64 stops examples/loose.s
+./ia64 loosen examples/count.s | ./ia64 stops > "$dir/answer"
+try 'stops of a text with bundles' $? "$dir/answer" '' /dev/null ./ia64 stops examples/count.s
+
 # The object file of the README and the manual. The lines of the source stand in front where GNU addr2line is installed.
-{
-  echo "examples/functions.o(.text+0x20) swap: RAW r9: written by 'adds r9=0,r8' (+0x10 slot 1) and read by 'st8 [r33]=r9' (+0x20 slot 0)"
-  echo 'examples/functions.o(.text+0x70) sum: not judged: lfetch.nta at +0x70 slot 0'
-  echo '1 accepted, 1 violated, 1 not judged'
-} > "$dir/functions"
-tools/check_object examples/functions.o > "$dir/out" 2> "$dir/err"
-[ $? = 1 ] && [ ! -s "$dir/err" ] && sed 's/^.*functions.s:[0-9]*: //; s/word 0x[0-9a-f]* at/lfetch.nta at/' "$dir/out" | cmp -s - "$dir/functions"
+./ia64 check examples/functions.o > "$dir/out" 2> "$dir/err"
+[ $? = 1 ] && [ ! -s "$dir/err" ] && grep -q "error: .*swap: RAW r9: written by 'adds r9=0,r8' (+0x10 slot 1) and read by 'st8 \[r33\]=r9' (+0x20 slot 0)" "$dir/out" && tail -n 1 "$dir/out" | grep -q '^2 accepted, 1 violated, 0 not judged'
 note $? 'an object file'
 
 # Words that are no command, refusals, and statuses that print nothing.
 try 'no words' 2 "$dir/nothing" 'a command is missing' /dev/null ./ia64
-try 'an object file as a word' 2 "$dir/nothing" 'tools/check_object examples/functions.o' /dev/null ./ia64 check examples/functions.o
-try 'a file as a word' 2 "$dir/nothing" 'standard input: ia64 check < examples/count.s' /dev/null ./ia64 check examples/count.s
-try 'run without a number' 2 "$dir/nothing" 'ia64 run 100 < INPUT' /dev/null ./ia64 run
-try 'run of a file' 2 "$dir/nothing" 'ia64 run 7 < examples/count.s' /dev/null ./ia64 run 7 examples/count.s
-try 'run of too many groups' 2 "$dir/nothing" 'ia64 run 10000000 < INPUT' /dev/null ./ia64 run 99999999999999999999
-try 'watch without a number' 2 "$dir/nothing" "'watch' takes one number.*: ia64 watch 100 < INPUT" /dev/null ./ia64 watch
-try 'watch of a file' 2 "$dir/nothing" 'ia64 watch 7 < examples/count.s' /dev/null ./ia64 watch 7 examples/count.s
-try 'watch of too many groups' 2 "$dir/nothing" 'ia64 watch 10000000 < INPUT' /dev/null ./ia64 watch 10000001
-try 'watch of an object file' 2 "$dir/nothing" 'tools/check_object examples/functions.o' /dev/null ./ia64 watch 100 examples/functions.o
+try 'run without a number' 2 "$dir/nothing" 'ia64 run 100 FILE' /dev/null ./ia64 run
+try 'run of too many groups' 2 "$dir/nothing" 'ia64 run 10000000 FILE' /dev/null ./ia64 run 99999999999999999999
+try 'watch without a number' 2 "$dir/nothing" "'watch' takes one number.*: ia64 watch 100 FILE" /dev/null ./ia64 watch
+try 'watch of too many groups' 2 "$dir/nothing" 'ia64 watch 10000000 FILE' /dev/null ./ia64 watch 10000001
 try 'a trial without bundles' 2 "$dir/nothing" 'ia64 trial 1 100' /dev/null ./ia64 trial 7 0
-try 'groups without an order' 2 "$dir/nothing" "'groups' takes two numbers.*: ia64 groups 7 0 < INPUT" /dev/null ./ia64 groups 7
-try 'groups of a file' 2 "$dir/nothing" 'ia64 groups 7 0 < examples/count.s' /dev/null ./ia64 groups 7 examples/count.s
-try 'groups of a file, with an order' 2 "$dir/nothing" 'standard input: ia64 groups 100 7 < examples/swap.s' /dev/null ./ia64 groups 100 7 examples/swap.s
-try 'groups with too large an order' 2 "$dir/nothing" 'standard input: ia64 groups 100 0 < INPUT' /dev/null ./ia64 groups 100 18446744073709551616
-try 'too many groups, with the last order' 2 "$dir/nothing" 'ia64 groups 10000000 18446744073709551615 < INPUT' /dev/null ./ia64 groups 10000001 18446744073709551615
-try 'no groups, with an order' 2 "$dir/nothing" 'ia64 groups 100 7 < INPUT' /dev/null ./ia64 groups 0 7
-try 'a third number' 2 "$dir/nothing" 'ia64 groups 5 6 < INPUT' /dev/null ./ia64 groups 5 6 7
-try 'upper case' 2 "$dir/nothing" 'perhaps: ia64 check < examples/count.s' /dev/null ./ia64 Check examples/count.s
-try 'stops of a file' 2 "$dir/nothing" "'stops' takes no further word.*: ia64 stops < examples/loose.s" /dev/null ./ia64 stops examples/loose.s
-try 'stops in upper case' 2 "$dir/nothing" 'perhaps: ia64 stops < INPUT' /dev/null ./ia64 Stops
-try 'upper case before a number' 2 "$dir/nothing" 'perhaps: ia64 watch 7 < examples/count.s' /dev/null ./ia64 --Watch 7 examples/count.s
-try 'upper case before two numbers' 2 "$dir/nothing" 'perhaps: ia64 groups 100 3 < examples/swap.s' /dev/null ./ia64 Groups 100 3 examples/swap.s
+try 'groups without an order' 2 "$dir/nothing" "'groups' takes two numbers.*: ia64 groups 7 0 FILE" /dev/null ./ia64 groups 7
+try 'groups with too large an order' 2 "$dir/nothing" ': ia64 groups 100 0 FILE' /dev/null ./ia64 groups 100 18446744073709551616
+try 'too many groups, with the last order' 2 "$dir/nothing" 'ia64 groups 10000000 18446744073709551615 FILE' /dev/null ./ia64 groups 10000001 18446744073709551615
+try 'no groups, with an order' 2 "$dir/nothing" 'ia64 groups 100 7 FILE' /dev/null ./ia64 groups 0 7
+try 'a third number' 2 "$dir/nothing" 'ia64 groups 5 6 FILE' /dev/null ./ia64 groups 5 6 7
+try 'upper case' 2 "$dir/nothing" 'perhaps: ia64 check examples/count.s' /dev/null ./ia64 Check examples/count.s
+try 'stops in upper case' 2 "$dir/nothing" 'perhaps: ia64 stops FILE' /dev/null ./ia64 Stops
+try 'upper case before a number' 2 "$dir/nothing" 'perhaps: ia64 watch 7 examples/count.s' /dev/null ./ia64 --Watch 7 examples/count.s
+try 'upper case before two numbers' 2 "$dir/nothing" 'perhaps: ia64 groups 100 3 examples/swap.s' /dev/null ./ia64 Groups 100 3 examples/swap.s
 try 'upper case before a seed' 2 "$dir/nothing" 'perhaps: ia64 trial 1 100$' /dev/null ./ia64 Trial 7 100
 try 'an unknown word' 2 "$dir/nothing" "no command 'assemble'" /dev/null ./ia64 assemble
 ./ia64 --help > "$dir/help"
 try 'help' 0 "$dir/help" '' /dev/null ./ia64 --help
-for command in check 'run N' 'watch N' 'groups N' build stops show list wrap lift 'trial SEED'; do grep -q "^  $command " "$dir/help"; note $? "--help has no $command"; done
+for command in 'check FILE..' 'list FILE' 'show FILE' 'stops FILE' 'loosen FILE' 'compare FILE' check 'run N' 'watch N' 'groups N' build stops show list wrap lift 'trial SEED'; do grep -q "^  $command " "$dir/help"; note $? "--help has no $command"; done
 try 'a refusal' 3 "$dir/magic" "'list' refused its input; the reason went to standard output" examples/call.s ./ia64 list
 head -c 16777217 /dev/zero > "$dir/too_long"
 try 'a long input' 4 "$dir/nothing" 'longer than 16,777,216 bytes' "$dir/too_long" ./ia64 check
@@ -119,7 +122,7 @@ try 'a symbolic link' 0 "$dir/accepted" '' examples/count.s "$dir/links/ia64" ch
 outline="$dir/it's an outline" kit=$dir/kit
 export CALLS=$dir/calls BUILT=$program FAILS='' ANSWERS=ended NAP=0 REFUSED=''
 mkdir -p "$outline/tools" "$outline/docs" "$dir/bin" "$kit/bin" "$kit/toolchain/bin"
-cp -r ia64 build crates.txt examples "$outline"
+cp -r ia64 build crates.txt examples front "$outline"
 cp tools/sources_sum tools/compile_unproved "$outline/tools"
 cp docs/ARCHITECTURE.md "$outline/docs"
 for crate in crates/*/; do mkdir -p "$outline/${crate}src" && : > "$outline/${crate}src/lib.rt"; done
@@ -184,6 +187,8 @@ try 'a long input without a proof' 4 "$dir/nothing" 'longer than 16,777,216 byte
 try 'no unproved answer' 125 "$dir/nothing" 'wants a proved one: call ./build' examples/count.s env IA64_PROVED=1 "$outline/ia64" check
 for value in 1 yes; do try "IA64_PROVED=$value" 125 "$dir/nothing" 'wants a proved one' examples/count.s env IA64_PROVED=$value "$outline/ia64" check; done
 try 'no words and no program' 2 "$dir/nothing" 'a command is missing' /dev/null "$outline/ia64"
+try 'an unproved answer on a file' 0 "$dir/count" "$unproved" /dev/null "$outline/ia64" run 100 examples/count.s
+try 'no unproved answer on a file' 125 "$dir/nothing" 'wants a proved one: call ./build' /dev/null env IA64_PROVED=1 "$outline/ia64" run 100 examples/count.s
 compiled 0 'later answers'
 
 # It is seen what the sources are, not when they were written; and what the kit is.

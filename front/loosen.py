@@ -1,12 +1,10 @@
-#!/usr/bin/env python3
-"""loosen [FILE]: takes the bundles and the stops out of a text, so that `ia64 stops` can pack its instructions anew.
+"""Loose texts: the bundles and the stops of a text taken out, so that `ia64 stops` can pack its instructions anew.
 
-FILE is a text as `ia64 build` takes it and `ia64 show` prints it; without FILE standard input is read. What is left
-goes to standard output: the instructions in their order, one on a line, with the labels, directives, relations, data
-and comments that stand between them. Taken out are
+What is left are the instructions in their order, one on a line, with the labels, directives, relations, data and comments that
+stand between them. Taken out are
 
 - braces and templates. A `nop`, `break`, `hint` or `chk.s` without its unit letter gets that of its slot;
-- each `;;`, but with --keep-stops: then one behind a `nop` that is taken out stands on a line of its own;
+- each `;;`, unless stops are kept: then one behind a `nop` that is taken out stands on a line of its own;
 - each `nop` with the number 0 and without a qualifying predicate, whatever its unit. One stays, the first, where
   nothing else would be left between a label, a relation line, a call or the start and the next label, relation line or
   the end: so each label keeps an instruction of its own, each relation its entry, and each call what it comes back to.
@@ -16,45 +14,18 @@ the places of its slots are others. So an address that is spelled as a number is
 it is one of a bundle: `movl r8=0x10010`, or a word of a jump table. A label in its place follows its instruction;
 `show` prints numbers, so of an image these lines have to be looked at. Data stay where they are.
 
-A line that is none of a text is left as it is, and `ia64 stops` says what is wrong with it. This tool is no part of
-the proved program, and nothing is proved of it.
-
-Status: 0; 2 where the words are wrong, or FILE can't be read or the lines can't be written.
+A line that is none of a text is left as it is, and `ia64 stops` says what is wrong with it.
 """
 
-import argparse
-import os
 import re
-import sys
-from pathlib import Path
 
-CODE = re.compile(r'(?:[^"/]|"[^"]*"|/(?!/)|")*')
-OPENING = re.compile(r"\{\s*\.(m(?:ii|lx|mi|fi|mf|ib|bb|mb|fb)|bbb)#?$")
+from front.texts import DATA, LABEL, OPENING, OUTSIDE, TEXT, lines_of_text, parts_of, without_stop
+
 SLOT = re.compile(r"(?P<guard>\([^)]*\)\s*)?(?P<word>[\w.$]+)#?(?P<rest>.*)$")
-LABEL = re.compile(r"[A-Za-z_.$][\w.$]*#?\s*:$")
 BARE = ("nop", "break", "hint", "chk.s")
 NO_GUARD = re.compile(r"(?:\(\s*p0\s*\)\s*)?$")
 ZERO = re.compile(r"\s*(?:-?0+|0x0+)?$")
 NOP = re.compile(r"nop(?:\.[mifbx])?$")
-
-TEXT, DATA = re.compile(r"\.text#?$"), re.compile(r"\.data#?$")
-
-# Directives and lines of data begin so; an instruction is any other line that is no label.
-OUTSIDE = re.compile(r"\.|data[1248]\b")
-
-
-def parts_of(line):
-    """What a line says, without blanks at its ends, the blanks in front, and the comment with those before it."""
-    code = CODE.match(line)[0]
-    said = code.strip()
-    comment = line[len(code):]
-    front = code[:len(code) - len(code.lstrip())]
-    return said, front, comment
-
-
-def without_stop(said):
-    """What a line says without a stop at its end, and whether it has one."""
-    return (said[:-2].rstrip(), True) if said.endswith(";;") else (said, False)
 
 
 def lines_of(comment):
@@ -159,32 +130,14 @@ class Loosened:
         return [line for lines in self.left for line in lines]
 
 
-def loosened(text, keeps_stops=False):
-    """What is left of a text."""
+def has_bundles(data):
+    """Whether a text has bundles, and not loose instructions alone."""
+    return any(OPENING.match(parts_of(line)[0]) for line in lines_of_text(data))
+
+
+def loosened(data, keeps_stops=False):
+    """What is left of the bytes of a text."""
     left = Loosened(keeps_stops)
-    for line in text.removesuffix("\n").split("\n") if text else ():
+    for line in lines_of_text(data):
         left.add(line)
-    return "".join(f"{line}\n" for line in left.lines())
-
-
-def main(words=None):
-    parser = argparse.ArgumentParser(prog="loosen", description=__doc__, formatter_class=argparse.RawDescriptionHelpFormatter)
-    parser.add_argument("file", nargs="?", metavar="FILE", help="a text; standard input where it is left out")
-    parser.add_argument("--keep-stops", action="store_true", help="leave each ;; where it stands")
-    options = parser.parse_args(words)
-    try:
-        data = Path(options.file).read_bytes() if options.file else sys.stdin.buffer.read()
-        left = loosened(data.decode("latin-1").replace("\r\n", "\n"), options.keep_stops)
-        sys.stdout.buffer.write(left.encode("latin-1"))
-        sys.stdout.buffer.flush()
-    except BrokenPipeError:
-        os.dup2(os.open(os.devnull, os.O_WRONLY), sys.stdout.fileno())
-        return 2
-    except OSError as fault:
-        print(f"loosen: {options.file or 'standard input or output'}: {fault.strerror}", file=sys.stderr)
-        return 2
-    return 0
-
-
-if __name__ == "__main__":
-    sys.exit(main())
+    return "".join(f"{line}\n" for line in left.lines()).encode("latin-1")

@@ -1,31 +1,20 @@
-#!/usr/bin/env python3
-"""test_compare_orders.py [PROGRAM]: tries tools/compare_orders on the examples that have a wrong group, with the built
-program (by default that of this repository, which has to be built), and on states that a stand-in prints."""
+"""The states that several orders of a group's writes leave: on the examples that have a wrong group, and on states that a
+stand-in prints."""
 
-import contextlib
-import importlib.machinery
-import importlib.util
-import io
 import os
 import re
 import subprocess
 import sys
-import tempfile
 import unittest
 from itertools import permutations
 from pathlib import Path
 
-sys.dont_write_bytecode = True
-ROOT = Path(__file__).resolve().parent.parent
-TOOL = ROOT / "tools" / "compare_orders"
-PROGRAM = str(ROOT / "crates" / "ia64_cli" / "out" / "ia64_cli")
+from front import command, orders
+from front.tests.case import FRONT, PROGRAM, ROOT, Case, asked
+
 PAGE = ROOT / "docs" / "WRONG_GROUPS.md"
 
-loader = importlib.machinery.SourceFileLoader("compare_orders", str(TOOL))
-compare_orders = importlib.util.module_from_spec(importlib.util.spec_from_loader("compare_orders", loader))
-loader.exec_module(compare_orders)
-
-REVERSE = compare_orders.REVERSE
+REVERSE = orders.REVERSE
 UNCOMPARED = "Slot by slot isn't compared"
 ALONE = f"{UNCOMPARED}: run prints the verdict alone"
 NEXT = f"{UNCOMPARED}: put a stop between the slots that check names, and compare with what run prints then"
@@ -55,16 +44,13 @@ def state(*lines, end="break 0x0 at 2.2"):
     return "".join(f"{line}\n" for line in (f"end {end}", "groups 3", *lines))
 
 
-class Case(unittest.TestCase):
-    """A folder for files, and calls of the tool there."""
+class Compared(Case):
+    """Calls of `ia64 compare`."""
 
     def setUp(self):
-        folder = tempfile.TemporaryDirectory()
-        self.addCleanup(folder.cleanup)
-        self.folder = Path(folder.name)
+        super().setUp()
         self.input = self.folder / "input"
         self.input.write_bytes(b"")
-        self.program = PROGRAM
 
     def stand_in(self, **printed):
         """The calls that follow ask a stand-in, which prints these states and ends with these statuses."""
@@ -76,13 +62,7 @@ class Case(unittest.TestCase):
 
     def call(self, *words):
         """Its status, the lines of standard output, and standard error."""
-        out, error = io.StringIO(), io.StringIO()
-        with contextlib.redirect_stdout(out), contextlib.redirect_stderr(error):
-            try:
-                status = compare_orders.main(["--program", self.program, *map(str, words)])
-            except SystemExit as end:
-                status = end.code
-        return status, out.getvalue().splitlines(), error.getvalue()
+        return self.lines("compare", *words)
 
     def gives(self, status, lines, *words):
         self.assertEqual(self.call(*words), (status, lines, ""))
@@ -98,7 +78,7 @@ def example(name):
     return ROOT / "examples" / f"{name}.s"
 
 
-class Examples(Case):
+class Examples(Compared):
     """The examples, with the built program."""
 
     def test_accepted(self):
@@ -131,7 +111,7 @@ class Examples(Case):
         self.refuses("nowhere: No such file", self.folder / "nowhere")
 
 
-class Printing(Case):
+class Printing(Compared):
     """What is printed of states."""
 
     def test_lines(self):
@@ -198,13 +178,13 @@ class Printing(Case):
         self.assertEqual(len(re.findall(r"\d+(?=,|$)", " ".join(of_two))), 46)
 
 
-class Calls(Case):
+class Calls(Compared):
     """Words, and a program that gives no answer."""
 
     def test_words(self):
         for words in ([], ["-n", "0", "x"], ["-n", "10000001", "x"], ["--orders", "", "x"], ["--orders", "1,,2", "x"],
                       ["--orders", "18446744073709551616", "x"], ["--orders", "-1", "x"], ["--orders", "07", "x"], ["-n", "007", "x"], ["--random", "x", "x"], ["x", "y"]):
-            self.refuses("usage: compare_orders", *words)
+            self.refuses("usage: ia64 compare", *words)
 
     def test_no_answer(self):
         for status, text in ((2, "has no command run"), (4, "longer than 16,777,216 bytes"), (5, "run ends with status 5"),
@@ -214,24 +194,26 @@ class Calls(Case):
         self.stand_in(run=(0, state()), groups=(2, ""))
         self.refuses("has no command groups", self.input)
         self.program = str(self.folder / "nowhere")
-        self.refuses("nowhere is not there: call ./build", self.input)
+        self.refuses("nowhere: No such file or directory", self.input)
 
     def test_numbers_of_orders(self):
         """Which orders are run: the first seven, and random ones by their seed."""
-        def orders(*words):
-            return compare_orders.orders_of(compare_orders.parser().parse_args([*words, "x"]))
-        self.assertEqual(orders("--random", "0"), [0, 1, 2, 3, 4, 5, REVERSE])
-        self.assertEqual(orders("--orders", "7,9,7", "--random", "0"), [7, 9])
-        self.assertEqual(len(set(orders())), 15)
-        self.assertEqual(orders(), orders("--seed", "1"))
-        self.assertNotEqual(orders(), orders("--seed", "2"))
-        self.assertLess(max(orders("--random", "1000")), 2**64)
+        def numbers(*words):
+            options = command.parser("compare").parse_args([*words, "x"])
+            return command.orders.orders_of(options.orders, options.random, options.seed)
+        self.assertEqual(numbers("--random", "0"), [0, 1, 2, 3, 4, 5, REVERSE])
+        self.assertEqual(numbers("--orders", "7,9,7", "--random", "0"), [7, 9])
+        self.assertEqual(len(set(numbers())), 15)
+        self.assertEqual(numbers(), numbers("--seed", "1"))
+        self.assertNotEqual(numbers(), numbers("--seed", "2"))
+        self.assertLess(max(numbers("--random", "1000")), 2**64)
 
     def test_a_reader_that_goes_away(self):
         self.stand_in(run=(0, state()), groups=(0, state("r8 1")))
         reader, writer = os.pipe()
         os.close(reader)
-        done = subprocess.run([TOOL, "--program", self.program, self.input], stdout=writer, stderr=subprocess.PIPE, check=False)
+        with asked(self.program):
+            done = subprocess.run([sys.executable, FRONT, "compare", self.input], stdout=writer, stderr=subprocess.PIPE, check=False)
         os.close(writer)
         self.assertEqual((done.returncode, done.stderr), (2, b""))
 
@@ -254,17 +236,5 @@ class Page(unittest.TestCase):
         self.assertEqual(sorted(tuple(arranged(number, 4)) for number in range(24)), sorted(permutations(range(4))))
 
 
-def main():
-    if len(sys.argv) > 1:
-        globals()["PROGRAM"] = os.path.abspath(sys.argv[1])
-    if not os.access(PROGRAM, os.X_OK):
-        sys.exit(f"test_compare_orders: {PROGRAM} is not built")
-    suite = unittest.defaultTestLoader.loadTestsFromModule(sys.modules[__name__])
-    result = unittest.TextTestRunner(verbosity=0).run(suite)
-    wrong = len(result.failures) + len(result.errors)
-    print(f"test_compare_orders: {result.testsRun - wrong} passed, {wrong} failed")
-    return 1 if wrong else 0
-
-
 if __name__ == "__main__":
-    sys.exit(main())
+    unittest.main()

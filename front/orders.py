@@ -1,14 +1,13 @@
-#!/usr/bin/env python3
-"""compare_orders FILE: in what the states differ that several orders of a group's writes leave.
+"""In what the states differ that several orders of a group's writes leave.
 
-FILE is a program, a text or an image, whatever `ia64 check` says of it. It is run by `ia64 groups N K`, each group
-all at once and its writes in the order with the number K, for several K: 0, which is program order, to 5, among
-which are all orders of up to three writes; the number whose order is the reverse of program order in each group of
-up to twenty writes; and a few random ones. `ia64 run N`, slot by slot, stands beside them where FILE is accepted.
-Else it prints the verdict alone, and slot by slot isn't compared. This tool is no part of the proved program.
+A program, a text or an image, whatever `ia64 check` says of it, is run by `ia64 groups N K`, each group all at once and its
+writes in the order with the number K, for several K: 0, which is program order, to 5, among which are all orders of up to three
+writes; the number whose order is the reverse of program order in each group of up to twenty writes; and a few random ones.
+`ia64 run N`, slot by slot, stands beside them where the program is accepted. Else it prints the verdict alone, and slot by slot
+isn't compared.
 
 The first line has the verdict, and how many orders leave how many states. Where that is one state, it is the only
-line, and says how the run ends, and of a FILE that isn't accepted what to do next. Else a line for each state has the
+line, and says how the run ends, and of a program that isn't accepted what to do next. Else a line for each state has the
 numbers of its orders, and a table has the lines of the printed states that aren't the same in all of them, with `-`
 where a state doesn't have the line:
 
@@ -22,32 +21,22 @@ where a state doesn't have the line:
 A register that is 0 has no line. `alat 1` is the oldest entry of the ALAT.
 
 That all are the same says nothing of other orders and of other start states: `ia64 check` does.
-
-Status: 0 FILE is accepted, and slot by slot and these orders leave one state; 1 there are several states; 2 the
-words are wrong, FILE can't be read or is no program, or the built program gives no answer; 3 FILE isn't accepted, and
-these orders leave one state, with which slot by slot isn't compared.
 """
 
-import argparse
 import math
-import os
 import random
 import re
-import shutil
 import subprocess
-import sys
 import textwrap
-from pathlib import Path
 from typing import Dict, List, NamedTuple, Optional
 
-ROOT = Path(__file__).resolve().parent.parent
-PROGRAM = ROOT / "crates" / "ia64_cli" / "out" / "ia64_cli"
+from front.faults import Fault
 
 DONE, VIOLATED, WORDS, REFUSED, TOO_LONG, LIMIT, FAULTED = 0, 1, 2, 3, 4, 8, 9
 GROUP_LIMIT, ORDER_LIMIT = 10**7, 2**64 - 1
 
-# The statuses of this tool.
-SAME, SEVERAL, NO_ANSWER, NOT_COMPARED = 0, 1, 2, 3
+# The statuses of a comparison.
+SAME, SEVERAL, NOT_COMPARED = 0, 1, 3
 
 # The order with this number is the reverse of program order in each group of up to twenty writes.
 REVERSE = math.factorial(20) - 1
@@ -61,10 +50,6 @@ NEXT_STEP = "put a stop between the slots that check names, and compare with wha
 
 # What the lines of a printed state are of, in their order.
 KINDS = ("end", "groups", "frame", "rse", "r", "pr", "b", "ar.unat", "ar.pfs", "ar.lc", "ar.ec", "m", "alat")
-
-
-class Fault(Exception):
-    """Why there is nothing to compare."""
 
 
 class Runs(NamedTuple):
@@ -187,77 +172,7 @@ def status_of(runs):
 # ---- Words -----------------------------------------------------------------------------------------------
 
 
-def between(lowest, highest):
-    """A reader of a number from one to another, in decimal and without leading zeros."""
-    def number(word):
-        if not re.fullmatch(r"0|[1-9][0-9]{0,19}", word) or not lowest <= int(word) <= highest:
-            raise argparse.ArgumentTypeError(f"{word} is no number from {lowest} to {highest}")
-        return int(word)
-    return number
-
-
-def order_list(text):
-    return list(map(between(0, ORDER_LIMIT), text.split(",")))
-
-
-def parser():
-    words = argparse.ArgumentParser(prog="compare_orders", description=__doc__.split(": ", 1)[1],
-                                    formatter_class=argparse.RawDescriptionHelpFormatter)
-    words.add_argument("file", metavar="FILE", type=Path)
-    words.add_argument("-n", "--groups", type=between(1, GROUP_LIMIT), default=1000, metavar="N",
-                       help="run at most N groups, by default 1000")
-    words.add_argument("--orders", type=order_list, default=ORDERS, metavar="K,K,..",
-                       help="these orders in place of the first seven")
-    words.add_argument("--random", type=between(0, 10**6), default=8, metavar="COUNT",
-                       help="so many random orders more, by default 8")
-    words.add_argument("--seed", type=between(0, ORDER_LIMIT), default=1, metavar="S",
-                       help="of the random orders, by default 1")
-    words.add_argument("--all", action="store_true", help=f"all lines that differ, and not the first {LINES} alone")
-    words.add_argument("--program", default=PROGRAM, metavar="PATH",
-                       help="the built program, by default that of the repository that this tool stands in")
-    return words
-
-
-def orders_of(options):
-    """The orders that are run, each once."""
-    source = random.Random(options.seed)
-    return list(dict.fromkeys([*options.orders, *(source.getrandbits(64) for _ in range(options.random))]))
-
-
-def complain(text):
-    print(f"compare_orders: {text}", file=sys.stderr)
-    return NO_ANSWER
-
-
-def main(words=None):
-    options = parser().parse_args(words)
-    if shutil.which(options.program) is None:
-        return complain(f"{options.program} is not there: call ./build, or name a built program by --program")
-    try:
-        data = options.file.read_bytes()
-    except OSError as fault:
-        return complain(f"{options.file}: {fault.strerror}")
-    try:
-        runs = run_all(options.program, options.groups, orders_of(options), data)
-    except Fault as fault:
-        return complain(f"{options.file}: {fault}")
-    print("\n".join(report(runs, sys.maxsize if options.all else LINES)), flush=True)
-    return status_of(runs)
-
-
-def run():
-    """The status of a call."""
-    try:
-        return main()
-    except BrokenPipeError:
-        os.dup2(os.open(os.devnull, os.O_WRONLY), sys.stdout.fileno())
-    except OSError as fault:
-        complain(f"the lines can't be written: {fault.strerror}")
-        os.dup2(os.open(os.devnull, os.O_WRONLY), sys.stdout.fileno())
-    except KeyboardInterrupt:
-        return 130
-    return NO_ANSWER
-
-
-if __name__ == "__main__":
-    sys.exit(run())
+def orders_of(first, count, seed):
+    """The orders that are run, each once: the first ones, and so many random ones."""
+    source = random.Random(seed)
+    return list(dict.fromkeys([*first, *(source.getrandbits(64) for _ in range(count))]))

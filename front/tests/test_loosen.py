@@ -1,35 +1,22 @@
-#!/usr/bin/env python3
-"""test_loosen.py: tries tools/loosen. It needs no built program."""
+"""Loose texts."""
 
-import contextlib
-import importlib.machinery
-import importlib.util
-import io
-import subprocess
-import sys
-import tempfile
 import unittest
 from pathlib import Path
 
-sys.dont_write_bytecode = True
-ROOT = Path(__file__).resolve().parent.parent
-TOOL = ROOT / "tools" / "loosen"
-
-loader = importlib.machinery.SourceFileLoader("loosen", str(TOOL))
-loosen = importlib.util.module_from_spec(importlib.util.spec_from_loader("loosen", loader))
-loader.exec_module(loosen)
+from front.loosen import loosened
+from front.tests.case import Case
 
 
 def lines(*given):
     return "".join(f"{line}\n" for line in given)
 
 
-class Case(unittest.TestCase):
+class Left(unittest.TestCase):
     def leaves(self, left, *given, keeps_stops=False):
-        self.assertEqual(loosen.loosened(lines(*given), keeps_stops), lines(*left))
+        self.assertEqual(loosened(lines(*given).encode(), keeps_stops).decode(), lines(*left))
 
 
-class Bundles(Case):
+class Bundles(Left):
     """What is taken out, and what stays."""
 
     def test_a_bundle(self):
@@ -60,7 +47,7 @@ class Bundles(Case):
         self.leaves(["} }", "{ .xyz", "what", "nop 0x"], "} }", "{ .xyz", "what", "nop 0x")
 
 
-class Labels(Case):
+class Labels(Left):
     """Where a nop stays."""
 
     def test_a_label_names_what_is_left(self):
@@ -86,7 +73,7 @@ class Labels(Case):
         self.leaves(["nop:", "add :", ".text:", "data8:", "mf"], "nop:", "add :", ".text:", "data8:", "mf")
 
 
-class Others(Case):
+class Others(Left):
     """Directives, data and comments."""
 
     def test_data(self):
@@ -100,13 +87,13 @@ class Others(Case):
         self.leaves(["mf", '"// not one"  // g'], "mf", '"// not one" // g')
 
     def test_a_text_of_no_bytes(self):
-        self.assertEqual(loosen.loosened(""), "")
+        self.assertEqual(loosened(b""), b"")
 
     def test_no_line_feed_at_the_end(self):
-        self.assertEqual(loosen.loosened("mf ;;"), "mf\n")
+        self.assertEqual(loosened(b"mf ;;"), b"mf\n")
 
 
-class KeptStops(Case):
+class KeptStops(Left):
     def test_kept(self):
         self.leaves(["add r8=r9,r10 ;;", "  ;;", "mf", ";;  // a"],
                     "{ .mii", "nop 0 ;;", "add r8=r9,r10;;", "  nop 0 ;;", "}", "{ .mmi", "mf", "nop 0", ";; // a", "}", keeps_stops=True)
@@ -116,32 +103,19 @@ class KeptStops(Case):
         self.leaves(["nop 0 ;;", ";;"], "nop 0 ;;", ";;", keeps_stops=True)
 
 
-class Calls(unittest.TestCase):
-    """The tool as it is called."""
+class Calls(Case):
+    """`ia64 loosen` and `ia64 stops` of a file."""
 
-    def call(self, *words, data=b""):
-        done = subprocess.run([TOOL, *words], input=data, capture_output=True, check=False)
-        return done.returncode, done.stdout, done.stderr
-
-    def test_input(self):
-        self.assertEqual(self.call(data=b"mf ;;\r\n"), (0, b"mf\n", b""))
-        self.assertEqual(self.call("--keep-stops", data=b"mf ;; // d\xe9j\xe0\n"), (0, b"mf ;;  // d\xe9j\xe0\n", b""))
-        with tempfile.NamedTemporaryFile() as file:
-            file.write(b"nop 0 ;;\nmf\n")
-            file.flush()
-            self.assertEqual(self.call(file.name), (0, b"mf\n", b""))
+    def test_files(self):
+        Path("x.s").write_bytes(b"mf ;; // d\xe9j\xe0\r\n")
+        self.assertEqual(self.ia64("loosen", "x.s"), (0, b"mf  // d\xe9j\xe0\n", ""))
+        self.assertEqual(self.ia64("loosen", "--keep-stops", "x.s"), (0, b"mf ;;  // d\xe9j\xe0\n", ""))
+        Path("x.s").write_bytes(b"{ .mmi\nnop 0 ;;\nmf\nnop 0\n}\n")
+        self.assertEqual(self.ia64("stops", "x.s"), (0, b"{ .mii\n  mf\n  nop.i 0x0\n  nop.i 0x0\n}\n", ""))
 
     def test_what_goes_wrong(self):
-        status, out, error = self.call("/no/such/file")
-        self.assertEqual((status, out), (2, b""))
-        self.assertIn(b"No such file", error)
-        self.assertEqual(self.call("--no-such-word")[:2], (2, b""))
-
-    def test_help(self):
-        out = io.StringIO()
-        with contextlib.redirect_stdout(out), self.assertRaises(SystemExit):
-            loosen.main(["--help"])
-        self.assertIn("takes the bundles and the stops out of a text", out.getvalue())
+        self.assertEqual(self.ia64("loosen", "nowhere"), (2, b"", "ia64: nowhere: No such file or directory\n"))
+        self.assertEqual(self.ia64("loosen", "--no-such-word")[:2], (2, b""))
 
 
 if __name__ == "__main__":

@@ -1,0 +1,102 @@
+"""What files of code have in common, whatever their format: sections, symbols, and what points into code.
+
+A place is the number of a section and an offset in it. The readers of the formats (`elf`, `pe`) give their files this form,
+and all that follows, from the functions of a file to the verdicts on them, looks at nothing else.
+"""
+
+from bisect import bisect_right
+from enum import IntEnum
+from typing import List, NamedTuple, Optional, Tuple
+
+Place = Tuple[int, int]
+WORD64 = (1 << 64) - 1
+
+
+class Section(NamedTuple):
+    """A section: its number, its name, its address where the file is linked, and how many bytes it has."""
+    index: int
+    name: str
+    address: int
+    size: int
+    is_code: bool
+    is_stored: bool                    # whether its bytes stand in the file
+
+
+class Rank(IntEnum):
+    """Which of several symbols at one address names it: the lowest."""
+    GLOBAL = 0
+    WEAK = 1
+    LOCAL = 2
+
+
+class Symbol(NamedTuple):
+    """A symbol of a function, or a label, in code."""
+    name: str
+    rank: Rank
+    place: Place                       # which a damaged file may have outside of the section
+    size: int
+    is_function: bool
+
+
+class Relocation(NamedTuple):
+    """Something that the linker has still to put in, or that the loader may move."""
+    at: Place                          # of a branch, the offset of its bundle with the slot in the low bits
+    is_branch: bool
+    to: Optional[Place]
+    name: str                          # of what it points to, or nothing
+
+
+class Stretch(NamedTuple):
+    """Code that a table for unwinding names as one function."""
+    section: int
+    start: int
+    end: int
+
+
+class Addresses:
+    """The sections of a linked file by their addresses."""
+
+    def __init__(self, sections):
+        self.rows = sorted((section.address, section.index, section.size) for section in sections if section.size > 0)
+
+    def place(self, address):
+        """The section that has this address, and the offset in it, or None."""
+        address &= WORD64
+        at = bisect_right(self.rows, (address, float("inf"))) - 1
+        if at < 0:
+            return None
+        start, index, size = self.rows[at]
+        return (index, address - start) if address - start < size else None
+
+
+class CodeFile:
+    """A file of code. `sections` are in order, each with its number; `linked` says whether they have their addresses, by which
+    `addresses` finds them."""
+
+    sections: List[Section] = []
+    linked = False
+    addresses = Addresses([])
+
+    def content(self, section):
+        """The bytes of a section."""
+        raise NotImplementedError
+
+    def symbols(self):
+        """The symbols in its code, those of functions and labels."""
+        return []
+
+    def stretches(self):
+        """What its tables for unwinding name, where their addresses are known."""
+        return []
+
+    def relocations(self):
+        """The relocations in code and data that say how code is reached."""
+        return []
+
+    def pointed(self):
+        """The places in the code of a linked file of which the addresses stand in its data."""
+        return []
+
+    def entry(self):
+        """The place where a linked file begins, or None."""
+        return None

@@ -1,0 +1,328 @@
+"""The command line with files: `ia64 COMMAND FILE..`."""
+
+import argparse
+import itertools
+import os
+import re
+import signal
+import subprocess
+import sys
+import traceback
+from pathlib import Path
+
+from front import VERSION, checking, files, gnu, listing, loosen, orders, reports, usage
+from front.checking import DONE, WRONG, complain
+from front.faults import Fault, ProgramFault
+from front.files import Kind
+from front.judging import Judge
+from front.parts import read_file
+from front.program import Program
+
+# ---- Words -----------------------------------------------------------------------------------------------
+
+def between(lowest, highest):
+    """A reader of a number from one to another, in decimal and without leading zeros."""
+    def number(word):
+        if not re.fullmatch(r"0|[1-9][0-9]{0,19}", word) or not lowest <= int(word) <= highest:
+            raise argparse.ArgumentTypeError(f"{word} is no number from {lowest} to {highest}")
+        return int(word)
+    return number
+
+
+def order_list(text):
+    return list(map(between(0, orders.ORDER_LIMIT), text.split(",")))
+
+
+def add_code_words(words):
+    """Those of all commands that take files of code."""
+    words.add_argument("--syscalls", action="store_true",
+                       help="each `break` is a system call, which comes back to the slot after it")
+    words.add_argument("--as-flags", default=[], type=str.split, metavar="FLAGS",
+                       help="more words for the GNU assembler, as in --as-flags=-xauto, by which it sets the stops of a "
+                            "source without .explicit itself, as it does where it is called by hand")
+
+
+def check_words(words):
+    words.add_argument("files", nargs="+", metavar="FILE",
+                       help="a text, an image, an object file, a linked program, a shared library or driver (ELF of 32 or "
+                            "64 bits and either byte order, PE), an archive of them, or a source for the GNU assembler")
+    words.add_argument("-v", "--verbose", action="store_true",
+                       help="a line for every function, every instruction outside the profile, every bundle on no "
+                            "walk, and the declared entries")
+    words.add_argument("--format", choices=tuple(reports.FORMS), default="lines",
+                       help="lines as compilers print them, one JSON document, or a SARIF log")
+    words.add_argument("--baseline", metavar="PATH",
+                       help="errors that are among the lines of this earlier answer are left out, and don't count for the status")
+    words.add_argument("-j", "--jobs", type=between(1, 256), default=1, metavar="N", help="so many processes, by default 1")
+    words.add_argument("--exact", action="store_true", help="nothing stands in for instructions outside the profile")
+    words.add_argument("--strict", action="store_true", help="status 3 where a function isn't judged and none is violated")
+    add_code_words(words)
+    words.set_defaults(run=checking.check)
+
+
+def listing_words(words):
+    words.add_argument("file", metavar="FILE", help="as of check, no archive")
+    words.add_argument("functions", nargs="*", metavar="FUNCTION", help="these functions of it alone")
+    add_code_words(words)
+    words.set_defaults(run=show)
+
+
+def stops_words(words):
+    words.add_argument("file", metavar="FILE", help="a text, with bundles or without")
+    words.add_argument("--keep-stops", action="store_true", help="leave each ;; of a text with bundles where it stands")
+    words.set_defaults(run=pack)
+
+
+def loosen_words(words):
+    words.add_argument("file", metavar="FILE", help="a text, with bundles or without")
+    words.add_argument("--keep-stops", action="store_true", help="leave each ;; where it stands")
+    words.set_defaults(run=loosened)
+
+
+def compare_words(words):
+    words.add_argument("file", metavar="FILE", help="a text or an image")
+    words.add_argument("-n", "--groups", type=between(1, orders.GROUP_LIMIT), default=1000, metavar="N",
+                       help="run at most N groups, by default 1000")
+    words.add_argument("--orders", type=order_list, default=orders.ORDERS, metavar="K,K,..",
+                       help="these orders in place of the first seven")
+    words.add_argument("--random", type=between(0, 10**6), default=8, metavar="COUNT",
+                       help="so many random orders more, by default 8")
+    words.add_argument("--seed", type=between(0, orders.ORDER_LIMIT), default=1, metavar="S",
+                       help="of the random orders, by default 1")
+    words.add_argument("--all", action="store_true", help=f"all lines that differ, and not the first {orders.LINES} alone")
+    words.set_defaults(run=compare)
+
+
+def plain_words(words):
+    command = words.prog.split()[1]
+    numbers = " ".join(name for name, _ in zip(("N", "K"), usage.NUMBERS[command]))
+    words.usage = f"{words.prog} [-h] [-o PATH] {numbers} FILE".replace("  ", " ")
+    words.add_argument("words", nargs="*", metavar=f"{numbers} FILE".strip(),
+                       help=f"{usage.TAKES[command]}, in any order" if numbers else "what the command takes on standard input")
+    words.add_argument("-o", "--output", metavar="PATH", help="where the answer goes, in place of standard output")
+    words.set_defaults(run=plainly, misused=words.error)
+
+
+# ---- Commands --------------------------------------------------------------------------------------------
+
+def show(options, program):
+    """The functions of a file of code, or the listing or the text of a program."""
+    file = one_file(options.file, options.syscalls)
+    if file.kind is Kind.TEXT:
+        file = built(file, options, program)
+    if file.kind is Kind.CODE:
+        return show_functions(file, options, program)
+    if options.functions:
+        raise Fault("a program, which has no functions with names")
+    return plain_answer(program, [options.command], file.data)
+
+
+def built(file, options, program):
+    """A text as an image, or the code that the GNU assembler makes of a source."""
+    status, printed = program.raw(["build"], file.data)
+    if status == 0:
+        return files.File(file.label, file.path, Kind.IMAGE, printed)
+    if not files.is_source(options.file) or not gnu.installed("as"):
+        raise Fault(f"refused, {printed.decode('latin-1').strip()}")
+    def say(said):
+        print(said, file=sys.stderr)
+
+    try:
+        return files.assemble(file, options.file, options, complain, say)
+    except gnu.NotAssembled as none:
+        say("\n".join(none.lines))
+        raise
+
+
+def show_functions(file, options, program):
+    wanted, judge = options.functions, Judge(program)
+    chosen = [function for function in file.functions if not wanted or set(wanted) & {function.name, *function.names}]
+    missing = [name for name in wanted if not any(name in (function.name, *function.names) for function in chosen)]
+    for number, function in enumerate(chosen):
+        print(*[""] * bool(number), *listing.lines_of_function(function, judge, options.command == "list"), sep="\n")
+    for name in missing:
+        complain(f"{options.file}: no function {name}")
+    return WRONG if missing else DONE
+
+
+def one_file(path, syscalls=False):
+    found = list(itertools.islice(files.items(path), 2))
+    if len(found) != 1:
+        raise Fault("an archive, and one file is wanted")
+    file = found[0].read(syscalls)
+    if file.fault is not None:
+        raise Fault(file.fault)
+    return file
+
+
+def read_text(path):
+    data = read_file(path)
+    if data and files.kind_of(data) is not Kind.TEXT:
+        raise Fault("no text")
+    return data
+
+
+def pack(options, program):
+    """A text packed anew. Of one without bundles the stops count as written, as on standard input."""
+    data = read_text(options.file)
+    return plain_answer(program, ["stops"], loosen.loosened(data, options.keep_stops) if loosen.has_bundles(data) else data)
+
+
+def loosened(options, program):
+    del program
+    sys.stdout.flush()
+    sys.stdout.buffer.write(loosen.loosened(read_text(options.file), options.keep_stops))
+    return DONE
+
+
+def compare(options, program):
+    data = read_file(options.file)
+    runs = orders.run_all(program.path, options.groups, orders.orders_of(options.orders, options.random, options.seed), data)
+    print("\n".join(orders.report(runs, sys.maxsize if options.all else orders.LINES)))
+    return orders.status_of(runs)
+
+
+def plainly(options, program):
+    """A command as on standard input, of a file. The numbers and the file come in any order."""
+    numbers, paths = usage.parted(options.command, options.words)
+    if len(paths) != 1 or not usage.are_numbers(options.command, numbers):
+        takes = f"'{options.command}' takes {usage.TAKES[options.command]}"
+        options.misused(f"{takes}: {usage.right_call(options.command, options.words)}")
+    options.file = paths[0]
+    return plain_answer(program, [options.command, *numbers], read_file(paths[0]), options.output)
+
+
+def plain_answer(program, words, data, output=None):
+    """The program's own status on an input, with what it prints handed on."""
+    status, printed = program.raw(words, data)
+    if output is not None and status == 0:
+        write_file(output, printed)
+    else:
+        sys.stdout.flush()
+        sys.stdout.buffer.write(printed)
+    if status in SAID:
+        complain(SAID[status].format(words[0]))
+    return status
+
+
+def write_file(path, data):
+    try:
+        Path(path).write_bytes(data)
+    except OSError as fault:
+        raise Fault(f"{path} can't be written: {fault.strerror}") from None
+
+
+# What a status of the program means that prints nothing, or not all.
+SAID = {3: "'{}' refused its input; the reason went to standard output",
+        4: "the input is longer than 16,777,216 bytes; nothing was written",
+        7: "out of memory; nothing was written"}
+
+
+# ---- The commands by their words -------------------------------------------------------------------------
+
+COMMANDS = {
+    "check": (check_words, "the verdict on every function and program of files"),
+    "list": (listing_words, "the bundles of a file's functions, with their bytes"),
+    "show": (listing_words, "the text of a file's functions"),
+    "stops": (stops_words, "the instructions of a text packed anew into bundles, with the stops that they need"),
+    "loosen": (loosen_words, "the instructions of a text, without bundles and stops"),
+    "compare": (compare_words, "in what the states differ that several orders of a group's writes leave"),
+    "run": (plain_words, "the state after at most N groups of an accepted program"),
+    "watch": (plain_words, "as run, behind its first eight groups"),
+    "groups": (plain_words, "the state after at most N groups, each all at once, in the order with the number K"),
+    "build": (plain_words, "the image of a text"),
+    "wrap": (plain_words, "the image of bare bundles"),
+    "lift": (plain_words, "the image of version 2 of an image"),
+}
+
+
+def parser(name):
+    """That of the words of a command."""
+    add, said = COMMANDS[name]
+    words = argparse.ArgumentParser(prog=f"ia64 {name}", description=f"{said[0].upper()}{said[1:]}.")
+    words.set_defaults(command=name)
+    add(words)
+    return words
+
+
+# ---- Calls -----------------------------------------------------------------------------------------------
+
+WRAPPER = Path(__file__).resolve().parent.parent / "ia64"
+
+
+def find_program():
+    """The path of the program that is asked: that which the environment names, of which nothing is known to be proved, or that
+    which `./ia64` answers with."""
+    path = os.environ.get("IA64_PROGRAM")
+    if path and os.environ.get("IA64_PROVED", "0") in ("", "0"):
+        return path
+    if path:
+        complain("IA64_PROGRAM names a program of which nothing is known to be proved, and IA64_PROVED wants a proved one")
+        raise NoProgram(125)
+    done = subprocess.run([WRAPPER, "--program"], stdin=subprocess.DEVNULL, stdout=subprocess.PIPE, check=False)
+    if done.returncode != 0:
+        raise NoProgram(done.returncode)
+    return os.fsdecode(done.stdout.rstrip(b"\n"))
+
+
+class NoProgram(Exception):
+    """There is no program to ask; why was said, and with what status."""
+
+
+def said_version():
+    """The version, and whether the program that is asked is proved."""
+    if os.environ.get("IA64_PROGRAM"):
+        return f"ia64 {VERSION}: answers come from {os.environ['IA64_PROGRAM']}, of which nothing is known to be proved\n"
+    done = subprocess.run([WRAPPER, "--program"], stdin=subprocess.DEVNULL, stdout=subprocess.DEVNULL, stderr=subprocess.DEVNULL,
+                          env={**os.environ, "IA64_PROVED": "1"}, check=False)
+    proved = "the program is proved and built" if done.returncode == 0 else "the program isn't built, and nothing is proved of its answers"
+    return f"ia64 {VERSION}: {proved}\n"
+
+
+def main(words=None):
+    words, options = sys.argv[1:] if words is None else words, None
+    if words[:1] and words[0] in ("-h", "--help", "help"):
+        sys.stdout.write(usage.USAGE)
+        return DONE
+    if words == ["--version"]:
+        sys.stdout.write(said_version())
+        return DONE
+    if not words or words[0] not in COMMANDS:
+        for line in [*usage.explained(words, COMMANDS), "ia64 --help lists the commands"]:
+            complain(line)
+        return WRONG
+    try:
+        options = parser(words[0]).parse_args(words[1:])
+        return options.run(options, Program(find_program))
+    except Fault as fault:
+        complain(f"{getattr(options, 'file', words[0])}: {fault}")
+    except ProgramFault as fault:
+        complain(str(fault))
+    except NoProgram as none:
+        return none.args[0]
+    except MemoryError:
+        complain("out of memory")
+    return WRONG
+
+
+def run():
+    """The status of a call. Where the lines can't be written it is 2, as where a file can't be read."""
+    signal.signal(signal.SIGTERM, lambda *_: sys.exit(143))
+    for stream in (sys.stdout, sys.stderr):
+        if stream is None:
+            return WRONG
+        stream.reconfigure(errors="backslashreplace")
+    try:
+        ended = main()
+        sys.stdout.flush()
+        return ended
+    except BrokenPipeError:
+        os.dup2(os.open(os.devnull, os.O_WRONLY), sys.stdout.fileno())
+    except OSError as fault:
+        complain(f"the lines can't be written: {fault.strerror}")
+        os.dup2(os.open(os.devnull, os.O_WRONLY), sys.stdout.fileno())
+    except KeyboardInterrupt:
+        return 130
+    except Exception:  # a fault of the front: it must not end as if a function were violated
+        traceback.print_exc()
+    return WRONG

@@ -1,0 +1,106 @@
+"""Files of every kind in which code for Itanium stands, told by what stands in them."""
+
+import os
+from dataclasses import dataclass, field
+from enum import Enum
+from typing import List, NamedTuple, Optional
+
+from front import archive, elf, gnu, pe
+from front.code import CodeFile
+from front.faults import Fault, printable
+from front.functions import Function, functions_of
+from front.parts import read_file
+from front.ties import cut_ties
+
+IMAGES = (b"IA64IMG1", b"IA64IMG2")
+# How many bytes the proved program takes.
+LONGEST_INPUT = 16_777_216
+
+
+class Kind(Enum):
+    CODE = "code"                      # an object file, a linked program or a shared library
+    IMAGE = "image"                    # of the proved program
+    TEXT = "text"                      # of the proved program, or a source for the GNU assembler
+
+
+@dataclass
+class File:
+    """A file, or a member of an archive."""
+    label: str                                       # what messages call it
+    path: str                                        # of the file
+    kind: Optional[Kind] = None
+    data: bytes = b""
+    fault: Optional[str] = None                      # why it can't be read
+    code: Optional[CodeFile] = None
+    functions: List[Function] = field(default_factory=list)
+
+
+def kind_of(data):
+    """What stands in a file, or None."""
+    if data.startswith(elf.MAGIC) or pe.is_pe(data):
+        return Kind.CODE
+    if data.startswith(IMAGES):
+        return Kind.IMAGE
+    return None if b"\0" in data[:4096] or not data else Kind.TEXT
+
+
+def read_code(label, path, data, syscalls):
+    """A file of code with its functions, their ties cut."""
+    try:
+        code = elf.Elf(data) if data.startswith(elf.MAGIC) else pe.Pe(data)
+        functions = functions_of(code)
+        cut_ties(code, functions, syscalls)
+    except Fault as fault:
+        return File(label, path, Kind.CODE, fault=str(fault))
+    return File(label, path, Kind.CODE, data, None, code, functions)
+
+
+def read_member(label, path, data, syscalls):
+    """What stands in a file or a member of an archive."""
+    kind = kind_of(data)
+    if kind is Kind.CODE:
+        return read_code(label, path, data, syscalls)
+    if kind is None:
+        said = "neither code for Itanium, nor an archive of it, nor an image, nor a text" if data else "empty"
+        return File(label, path, fault=said)
+    if len(data) > LONGEST_INPUT:
+        return File(label, path, kind, fault=f"longer than {LONGEST_INPUT:,} bytes")
+    return File(label, path, kind, data)
+
+
+class Item(NamedTuple):
+    """The bytes of a file or of a member of an archive, or why they can't be read."""
+    path: str                          # of the file
+    label: str
+    data: bytes
+    fault: Optional[str] = None
+
+    def read(self, syscalls=False):
+        if self.fault:
+            return File(self.label, self.path, fault=self.fault)
+        return read_member(self.label, self.path, self.data, syscalls)
+
+
+def items(path):
+    """What a path has: one file, or the members of an archive, one after the other."""
+    label = printable(path)
+    try:
+        data = read_file(path)
+        if not data.startswith((archive.ARCHIVE, archive.THIN_ARCHIVE)):
+            yield Item(path, label, data)
+            return
+        for name, body in archive.members(path, data):
+            name = printable(f"{path}:{name}")
+            yield Item(path, name, b"", str(body)) if isinstance(body, Fault) else Item(path, name, body)
+    except Fault as fault:
+        yield Item(path, label, b"", str(fault))
+
+
+def assemble(file, path, options, complain, say):
+    """The code that the GNU assembler makes of a source. What that says is said, and what there is to complain of is
+    complained of."""
+    return read_code(file.label, path, gnu.assembled(path, file.data, options.as_flags, complain, say), options.syscalls)
+
+
+def is_source(path):
+    return os.path.splitext(path)[1] in (".s", ".S", ".asm")

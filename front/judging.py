@@ -1,0 +1,319 @@
+"""The verdict on each function, asked of the proved program."""
+
+from dataclasses import dataclass, field
+from typing import Dict, List, NamedTuple, Optional, Tuple
+
+from front import flow, riding, stand_ins, ways
+from front.bundle import NOPS, Bundle, split
+from front.faults import Why
+from front.functions import MOST_BUNDLES, Function
+from front.program import Broken, Refusal, batches, image
+
+ACCEPTED, VIOLATED, NOT_JUDGED = "accepted", "violated", "not judged"
+
+# What riding looks at, and plain stand-ins don't, in words.
+CARRIED = tuple(stand_ins.UNSEEN[name] for name in ("f1", *riding.CARRIED))
+
+
+# Why nothing stands in for a word.
+UNKNOWN = "no instruction that is known here"
+# How many such slots of a function are found at most: the larger it is, the fewer.
+MOST_UNKNOWN, WORK = 1000, 200_000
+
+
+class Violation(NamedTuple):
+    """Two slots of a function, as bundle and slot. The second may be in the end bundle behind it."""
+    rule: str
+    resource: str
+    first: Tuple[int, int]
+    second: Tuple[int, int]
+
+
+class Unlisted(NamedTuple):
+    """A slot, as bundle and slot, whose instruction the program doesn't take, and why nothing stands in for it. A reserved
+    template has the slot None."""
+    bundle: int
+    slot: Optional[int]
+    why: str
+
+
+@dataclass
+class Piece:
+    """What is asked of a function: its bundles, or others in their place. `places` says of the slots of these which of the
+    function's own they stand for; where it is None they stand for themselves."""
+    function: Function
+    code: bytes
+    entries: List[int]
+    places: Optional[Dict[Tuple[int, int], Tuple[int, int]]] = None
+    ridden: Optional[riding.Ridden] = None
+
+    def count(self):
+        return len(self.code) // 16
+
+    def place(self, bundle, slot):
+        """The place in the function of a slot of the piece: of its end bundle that behind the function's last."""
+        if bundle >= self.count():
+            return self.function.count, slot
+        return (bundle, slot) if self.places is None else self.places[bundle, slot]
+
+    def told(self, broken):
+        """What a line of a verdict on the piece tells of the function. Several may tell the same."""
+        resource = self.ridden.resource(broken.resource) if self.ridden else broken.resource
+        return Violation(broken.rule, resource, self.place(*broken.first), self.place(*broken.second))
+
+
+@dataclass
+class Verdict:
+    """What is known of a function."""
+    function: Function
+    violations: List[Violation] = field(default_factory=list)
+    broken: List[Broken] = field(default_factory=list)           # the same as the program tells them, of what it was asked
+    total: int = 0                                               # how many there are
+    unlisted: List[Unlisted] = field(default_factory=list)
+    faults: List[Why] = field(default_factory=list)              # why it isn't judged, beside these
+    stood_in: Dict[Tuple[int, int], stand_ins.Row] = field(default_factory=dict)
+    unlooked: List[str] = field(default_factory=list)            # what its verdict doesn't look at
+    ways: Dict[Violation, List[Tuple[Tuple[int, int], int]]] = field(default_factory=dict)   # see `ways`
+    excused: List[Violation] = field(default_factory=list)       # pairs that predicates excuse, where they are wanted
+    texts: Optional[List[List[str]]] = None                      # of its slots, where they are wanted
+    unread: List[Tuple[int, int]] = field(default_factory=list)  # then the slots whose texts the program doesn't give
+    off_walks: List[int] = field(default_factory=list)           # its bundles that are on no walk
+    falls_out: bool = False                                      # whether a walk falls out of its end
+    indirect: List[Tuple[int, int]] = field(default_factory=list)   # its indirect branches
+
+    @property
+    def word(self):
+        if self.faults or self.unlisted:
+            return NOT_JUDGED
+        return VIOLATED if self.total else ACCEPTED
+
+
+class Judge:
+    """Judges functions by a program. `exact` has nothing stand in for what the program doesn't take, and `verbose` looks for
+    what predicates excuse too."""
+
+    def __init__(self, program, exact=False, verbose=False):
+        self.program, self.exact, self.verbose = program, exact, verbose
+
+    def judge(self, functions):
+        """The verdicts on functions, in their order."""
+        verdicts = [Verdict(function, faults=list(function.faults)) for function in functions]
+        pieces = [(verdict, self.whole_piece(verdict)) for verdict in verdicts if not verdict.faults]
+        asked = [(verdict, piece) for verdict, piece in pieces if piece is not None]
+        for batch in batches(asked, lambda row: (row[1].count(), len(row[1].entries))):
+            self.check(batch)
+        for verdict, piece in asked:
+            if verdict.word == VIOLATED or self.verbose and verdict.word == ACCEPTED:
+                self.explain(verdict, piece)
+        for verdict in verdicts:
+            if verdict.word != NOT_JUDGED:
+                self.follow(verdict)
+        return verdicts
+
+    # ---- What is asked
+
+    def whole_piece(self, verdict):
+        """What is asked of a function, or None where it can't be judged."""
+        try:
+            return self.piece(verdict)
+        except stand_ins.NoStandIn as none:
+            verdict.faults.append(Why(none.why, f"{none.row.mnemonic} at slot {none.slot}: {none.why}"))
+            return None
+
+    def piece(self, verdict):
+        """The same, but that a stand-in may not reach its target."""
+        function = verdict.function
+        bundles = function.bundles
+        self.look(verdict, bundles)
+        entries = sorted(function.entries)
+        if verdict.unlisted:
+            known = {*verdict.stood_in, *((slot.bundle, slot.slot) for slot in verdict.unlisted)}
+            self.add_unknown(verdict, self.unknown_slots(bytes(function.code), entries, known)[0])
+            return None
+        if not verdict.stood_in:
+            return Piece(function, bytes(function.code), entries)
+        verdict.unlooked = list(dict.fromkeys(what for row in verdict.stood_in.values() for what in row.unseen))
+        if any(what in CARRIED for what in verdict.unlooked):
+            try:
+                ridden = self.ridden(function, bundles, entries)
+                verdict.unlooked = [what for what in verdict.unlooked if what not in CARRIED]
+                return ridden
+            except riding.NoRoom as reason:
+                guards = riding.floating_guards(bundles)
+                if guards:
+                    said = "a branch is under a predicate that a floating-point instruction writes, and it can't be looked at"
+                    verdict.faults.append(Why(said, f"{said}: {', '.join(guards)}, as {reason}"))
+                    return None
+                verdict.unlooked = [f"{what} ({reason})" if what in CARRIED else what for what in verdict.unlooked]
+        return self.plain(function, bundles, entries)
+
+    def look(self, verdict, bundles):
+        """Finds what of a function the program doesn't take, and what stands in for it."""
+        for index, bundle in enumerate(bundles):
+            if not bundle.units:
+                verdict.unlisted.append(Unlisted(index, None, f"reserved template {bundle.template:#04x}"))
+            for slot, row in stand_ins.rows_of(bundle).items():
+                if row.none or self.exact:
+                    verdict.unlisted.append(Unlisted(index, slot, row.none or "no stand-in is wanted"))
+                else:
+                    verdict.stood_in[index, slot] = row
+
+    @staticmethod
+    def ridden(function, bundles, entries):
+        ridden = riding.ride(bundles)
+        if len(ridden.bundles) >= MOST_BUNDLES:
+            raise riding.NoRoom("it would have too many bundles")
+        code = b"".join(bundle.packed() for bundle in ridden.bundles)
+        return Piece(function, code, [ridden.starts[entry] for entry in entries], ridden.places, ridden)
+
+    @staticmethod
+    def plain(function, bundles, entries):
+        """Each bundle with what stands in for its instructions."""
+        code, places = [], {}
+        for index, bundle in enumerate(bundles):
+            stood = stand_ins.stood_in(bundle)
+            code.append(stood.bundle.packed())
+            for slot in range(3):
+                places[index, slot] = index, stood.places.get(slot, slot)
+        return Piece(function, b"".join(code), entries, places)
+
+    # ---- What is answered
+
+    def check(self, batch):
+        """Takes the violations of the pieces of one image. Where the program refuses a piece, those before it are asked about
+        first, as they may be refused for another reason; it is looked at alone; and of those behind it so many are asked about
+        at once as are likely not to be refused."""
+        at, size = 0, len(batch)
+        while at < len(batch):
+            asked = batch[at:at + size]
+            answer = self.ask(asked)
+            if not isinstance(answer, Refusal):
+                self.take(asked, *answer)
+                at, size = at + size, 4 * size
+                continue
+            number, bundle = owner(asked, answer.bundle)
+            if number is None:
+                raise self.program.unknown("check", f"{answer}")
+            if number:
+                size = number
+            else:
+                self.refused(*asked[0], answer._replace(bundle=bundle))
+                at, size = at + 1, max(1, size // 2)
+
+    def ask(self, batch):
+        return self.program.check(image([(piece.code, piece.entries) for _, piece in batch]))
+
+    def take(self, batch, total, broken):
+        """Takes what the program answers on pieces. It prints the first hundred violations: where there are more, each half is
+        asked about by itself."""
+        if total > len(broken) and len(batch) > 1:
+            for half in (batch[:len(batch) // 2], batch[len(batch) // 2:]):
+                self.take(half, *self.ask(half))
+            return
+        for row in broken:
+            (number, first), (other, second) = (owner(batch, place[0]) for place in (row.first, row.second))
+            if number is None or number != other:
+                raise self.program.unknown("check", f"{row}")
+            verdict, piece = batch[number]
+            own = row._replace(first=(first, row.first[1]), second=(second, row.second[1]))
+            verdict.broken.append(own)
+            violation = piece.told(own)
+            if violation not in verdict.violations:
+                verdict.violations.append(violation)
+                verdict.total += 1
+        batch[0][0].total += total - len(broken)
+
+    def explain(self, verdict, piece):
+        """Finds the ways that lead to the violations of a function, and what predicates excuse in it."""
+        if verdict.total > len(verdict.violations):
+            return
+
+        def ask(code):
+            return self.program.check(image([(code, piece.entries)]))
+
+        verdict.ways = {piece.told(row): [(piece.place(*place), piece.place(target, 0)[0]) for place, target in found]
+                        for row, found in ways.ways(ask, piece.code, verdict.broken).items()}
+        if self.verbose:
+            verdict.excused = list(dict.fromkeys(map(piece.told, ways.excused(ask, piece.code, verdict.broken))))
+
+    def refused(self, verdict, piece, refusal):
+        """Says why the program refuses a piece."""
+        unknown, refusal = self.unknown_slots(piece.code, piece.entries, set(), refusal)
+        if unknown:
+            self.add_unknown(verdict, (piece.place(*place) for place in unknown))
+            return
+        place = piece.place(refusal.bundle, refusal.slot or 0)
+        offset = verdict.function.offset(place[0])
+        slot = "" if refusal.slot is None else f" slot {place[1]}"
+        if refusal.why == "long run":
+            said = "more than 192 slots without a stop"
+            verdict.faults.append(Why(said, f"{said}, up to {offset:+#x}{slot}"))
+        else:
+            said = f"the program refuses it, {refusal.why}"
+            verdict.faults.append(Why(said, f"{said}, at {offset:+#x}{slot}"))
+
+    def unknown_slots(self, code, entries, left_out, refusal=None):
+        """The slots of bundles that the program doesn't take, beside those that are left out, as far as they are looked for,
+        and what it says of the others: each is found by asking once more with nops in the place of those before it."""
+        unknown, count = set(), len(code) // 16
+        while True:
+            if refusal is None:
+                read = without_slots(code, left_out | unknown)
+                refusal = self.program.check(image([(read, entries)]))
+            if not isinstance(refusal, Refusal) or refusal.why != "unlisted" or len(unknown) >= max(1, min(MOST_UNKNOWN, WORK // count)):
+                return unknown, refusal
+            if refusal.bundle >= count or (refusal.bundle, refusal.slot) in unknown:
+                raise self.program.unknown("check", f"{refusal}")
+            unknown.add((refusal.bundle, refusal.slot))
+            refusal = None
+
+    @staticmethod
+    def add_unknown(verdict, places):
+        verdict.unlisted = sorted(verdict.unlisted + [Unlisted(*place, UNKNOWN) for place in places],
+                                  key=lambda slot: (slot.bundle, slot.slot or 0))
+
+    @staticmethod
+    def follow(verdict):
+        """Finds which bundles of a function the verdict says nothing of."""
+        walks = flow.walks(verdict.function)
+        verdict.off_walks = flow.off_walks(verdict.function, walks.walked)
+        verdict.falls_out, verdict.indirect = walks.falls_out, walks.indirect
+
+    def list_texts(self, verdict):
+        """Fills in the texts of a function's slots, as the program lists them. Those of instructions that it doesn't take are
+        None, and `unread` has their places."""
+        code = bytes(verdict.function.code)
+        unread = {*verdict.stood_in, *((slot.bundle, slot.slot) for slot in verdict.unlisted)}
+        rows = self.program.listing(image([(without_slots(code, unread), [])]))
+        if isinstance(rows, Refusal):
+            unread |= self.unknown_slots(code, [], unread)[0]
+            rows = self.program.listing(image([(without_slots(code, unread), [])]))
+        if isinstance(rows, Refusal):
+            return
+        verdict.unread = sorted((index, slot) for index, slot in unread if slot is not None)
+        verdict.texts = [[None if (index, slot) in unread else text for slot, text in enumerate(texts)]
+                         for index, texts in enumerate(rows[:-1])]
+
+
+def without_slots(code, places):
+    """Bundles with nops in these places; of a reserved template, which is the slot None, one of nops."""
+    read = bytearray(code)
+    for index, slot in places:
+        bundle = split(read[16 * index:16 * index + 16])
+        if slot is None:
+            bundle = Bundle(0x00, (NOPS["m"], NOPS["i"], NOPS["i"]))
+        else:
+            bundle = bundle.with_word(slot, NOPS[bundle.units[slot]])
+            if bundle.units[slot] == "l":
+                bundle = bundle.with_word(2, NOPS["x"])
+        read[16 * index:16 * index + 16] = bundle.packed()
+    return bytes(read)
+
+
+def owner(batch, bundle):
+    """The number of the piece that a bundle of the batch's image belongs to, and the bundle's number in it."""
+    for number, (_, piece) in enumerate(batch):
+        if bundle <= piece.count():
+            return number, bundle
+        bundle -= piece.count() + 1
+    return None, 0

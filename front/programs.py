@@ -1,0 +1,156 @@
+"""Programs of the proved program's own form, texts and images: its answers on them, with the lines and columns of slots."""
+
+import re
+import struct
+
+from front import ways
+from front.faults import ProgramFault
+from front.files import Kind
+from front.gnu import Source
+from front.judging import ACCEPTED, VIOLATED
+from front.program import END, Refusal
+from front.reports import Answer, Finding
+from front.texts import lines_of_text, slots_of_text
+from front.words import Severity
+
+# What the reasons of a refused text mean, in few words; docs/FORMATS.md, "Faults of a text", has them whole.
+REASONS = {
+    "char": "a byte that isn't a tab or one of 0x20 to 0x7e",
+    "name": "the leading word begins no line",
+    "register": "a register is wanted",
+    "number": "a number is wanted",
+    "range": "a number outside its field",
+    "form": "an operand or a mark is missing or left over, or no instruction has these operands",
+    "misplaced": "the line may not stand there",
+    "twice": "an earlier line has the label",
+    "template": "no template has these slots and stops",
+    "slot kind": "the instruction doesn't fit its slot",
+    "limit": "a limit is passed",
+    "empty": "there is no instruction",
+    "no label": "no label has the name",
+    "relation": "no entry follows the relation",
+    "long run": "192 slots stand before it without an end of their run",
+}
+SAID = {"RAW": "reads what '{}' writes in the same group", "WAW": "writes what '{}' writes in the same group",
+        "WAR63": "writes what '{}' reads in the same group", "ALLOC": "has to be the first of its group, and '{}' stands before it"}
+
+
+class Refused(Exception):
+    """A text or an image that the program refuses: the answer to it, and whether it is a directive that is refused, as those
+    for the GNU assembler are."""
+
+    def __init__(self, answer, is_at_directive):
+        super().__init__(answer.file.fault)
+        self.answer, self.is_at_directive = answer, is_at_directive
+
+
+def checked(file, program, verbose=False):
+    """The answer on a text or an image; a refused one comes as `Refused`."""
+    status, text = program.call(["check"], file.data)
+    if status == 3:
+        raise refused(file, text.rstrip("\n"))
+    total, broken = program.verdict(text)
+    built = Image(file, program) if broken and total == len(broken) or verbose else None
+    found = ways.ways(built.ask, built.code, broken) if built and broken else {}
+    excused = ways.excused(built.ask, built.code, broken) if verbose and total == len(broken) else []
+    if file.kind is Kind.TEXT:
+        findings = list(text_findings(file, broken, found, excused))
+    else:
+        findings = list(image_findings(file, broken, found, excused, program))
+    if verbose and not total:
+        findings.append(Finding(Severity.NOTE, None, file.label, "", ACCEPTED))
+    if total > len(broken):
+        findings.append(Finding(Severity.NOTE, None, file.label, "", f"{total - len(broken)} more violations"))
+    return Answer(file, [], findings, {}, {}, VIOLATED if total else ACCEPTED, total - len(broken))
+
+
+def refused(file, said):
+    """The refusal of a text or an image, in the program's words and in more."""
+    found = re.fullmatch(r"line (\d+): (.*)", said)
+    is_at_directive = False
+    if found:
+        lines = lines_of_text(file.data)
+        is_at_directive = int(found[1]) <= len(lines) and lines[int(found[1]) - 1].lstrip().startswith(".")
+        meaning = f": {REASONS[found[2]]}" if found[2] in REASONS else ""
+        finding = Finding(Severity.ERROR, Source(file.label, int(found[1])), "", "", f"refused, {found[2]}{meaning}", "refused")
+    else:
+        finding = Finding(Severity.ERROR, None, file.label, "", f"refused, {said}", "refused")
+    file.fault = said
+    return Refused(Answer(file, [], [finding], {}, {}), is_at_directive)
+
+
+def not_assembled(file, lines):
+    """The answer on a source that the GNU assembler refuses: what it says of each line."""
+    found = [re.fullmatch(r".*?:(\d+): (Error|Warning): (.*)", line) for line in lines]
+    severities = {"Error": Severity.ERROR, "Warning": Severity.WARNING}
+    findings = [Finding(severities[row[2]], Source(file.label, int(row[1])), "", "", f"the GNU assembler: {row[3]}", "refused")
+                for row in found if row]
+    file.fault = "the GNU assembler refuses it"
+    return Answer(file, [], findings, {}, {})
+
+
+class Image:
+    """The image of a program, whose bundles can be changed."""
+
+    def __init__(self, file, program):
+        self.program = program
+        data = file.data if file.kind is Kind.IMAGE else program.raw(["build"], file.data)[1]
+        count, entries = struct.unpack_from("<2I", data, 8)
+        relations = struct.unpack_from("<I", data, 20)[0] if data.startswith(b"IA64IMG2") else 0
+        first = 24 + 4 * entries + 8 * relations
+        self.head, self.code, self.rest = data[:first], data[first:first + 16 * count], data[first + 16 * count:]
+
+    def ask(self, code):
+        """What a check answers of the program with these bundles, and an end bundle behind them, where those branches lead that
+        `ways` turns away. The image is of version 2, which has room for one more."""
+        count = struct.pack("<I", len(code) // 16 + 1)
+        return self.program.check(b"IA64IMG2" + count + self.head[12:] + code + END.packed() + self.rest)
+
+
+def text_findings(file, broken, found, excused):
+    """A message at the later slot of each pair, and a note at the earlier one. Where a pair shares its slots with a loop's
+    edge, the later one in the group may stand before it in the text."""
+    slots = slots_of_text(file.data)
+
+    def slot(place):
+        try:
+            return slots[place[0]][place[1]]
+        except IndexError:
+            raise ProgramFault(f"the slots of {file.label} aren't where they were looked for") from None
+
+    def finding(severity, at, text, rule="", is_further=False):
+        return Finding(severity, Source(file.label, at.line, at.column), "", "", text, rule, is_further)
+
+    for row in broken:
+        first, second = slot(row.first), slot(row.second)
+        only = ways.said(found.get(row, ()), lambda place: f"line {slot(place).line}")
+        yield finding(Severity.ERROR, second, f"{row.rule} {row.resource}: {said_pair(row, first.text, second.text)}{only}", row.rule)
+        yield finding(Severity.NOTE, first, f"'{first.text}' is here", is_further=True)
+    for row in excused:
+        first, second = slot(row.first), slot(row.second)
+        yield finding(Severity.NOTE, second, f"excused by predicates: {row.rule} {row.resource}: "
+                                             f"{said_pair(row, first.text, second.text)}, in line {first.line}")
+
+
+def said_pair(row, first, second):
+    """What a pair of slots does, by their texts."""
+    if row.rule == "CLEAR":
+        return f"'{first}' has to be the last of its group, and '{second}' stands behind it"
+    return f"'{second}' {SAID[row.rule].format(first)}"
+
+
+def image_findings(file, broken, found, excused, program):
+    """A message for each pair, with the texts of its slots and their places."""
+    rows = program.listing(file.data) if broken or excused else []
+    if isinstance(rows, Refusal):
+        raise ProgramFault(f"{file.label} is checked and not listed")
+
+    def pair(row):
+        first, second = (f"'{rows[bundle][slot]}' ({bundle}.{slot})" for bundle, slot in (row.first, row.second))
+        return f"{row.rule} {row.resource}: {first} and {second} are in one group"
+
+    for row in broken:
+        only = ways.said(found.get(row, ()), "{0[0]}.{0[1]}".format)
+        yield Finding(Severity.ERROR, None, file.label, "", pair(row) + only, row.rule)
+    for row in excused:
+        yield Finding(Severity.NOTE, None, file.label, "", f"excused by predicates: {pair(row)}")

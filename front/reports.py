@@ -1,0 +1,255 @@
+"""Answers on files: as lines, as a JSON document, and as a SARIF log. Each is made of rows, which can be written as soon as they
+are known, between a head and a tail."""
+
+import json
+import re
+from collections import Counter
+from urllib.parse import quote
+from typing import Dict, List, NamedTuple, Optional, Tuple
+
+from front import VERSION, gnu, words
+from front.files import File, Kind
+from front.gnu import Source
+from front.judging import ACCEPTED, CARRIED, NOT_JUDGED, UNKNOWN, VIOLATED, Verdict
+from front.words import Severity
+
+
+class Finding(NamedTuple):
+    """One message on a file, with where it is: a place in a source, or None; the object and its section and offset, or nothing;
+    and the function's name, or nothing. `rule` is that which is broken, if one is."""
+    severity: Severity
+    source: Optional[Source]
+    place: str
+    function: str
+    text: str
+    rule: str = ""
+    is_further: bool = False           # a note that belongs to the error before it
+
+    def line(self):
+        """The line as compilers print it."""
+        function = f"{self.function}: " if self.function else ""
+        if self.source and self.place:
+            return f"{self.source}: {self.severity.value}: {self.place} {function}{self.text}"
+        return f"{self.source or self.place}: {self.severity.value}: {function}{self.text}"
+
+
+OFFSETS = re.compile(r" ?\(?[+-]0x[0-9a-f]+ slot \d\)?|\+0x[0-9a-f]+(?=\))|:\d+:\d+$")
+
+
+def known_by(line):
+    """What an error is known by in a baseline, by its line: the file, the section, the function and the text, but not the line
+    of the source and the offsets, which change with each edit."""
+    left, error, right = line.partition(f": {Severity.ERROR.value}: ")
+    if not error:
+        return None
+    placed = re.match(r"(\S*\([^()]*\+0x[0-9a-f]+\)) (.*)", right)
+    place, text = placed.groups() if placed else (left, right)
+    return OFFSETS.sub("", place), OFFSETS.sub("", text)
+
+
+class Answer(NamedTuple):
+    """What is known of a file: its verdicts, or what is found in a program of the proved program's own form."""
+    file: File
+    verdicts: List[Verdict]
+    findings: List[Finding]
+    further: Dict[tuple, str]          # texts of slots that the proved program doesn't list
+    lines: Dict[Tuple[int, int, int], Source]
+    word: str = ""                     # the verdict on a text or an image
+    more: int = 0                      # how many violations of it there are beside those that are listed
+
+
+def code_answer(file, verdicts, options):
+    """The answer on a file of code, with the lines of its source where they are known."""
+    further = gnu.slot_texts(slot for verdict in verdicts for slot in words.wanted_texts(verdict, options.verbose))
+    rows = [(verdict, message) for verdict in verdicts
+            for message in words.messages(verdict, words.Texts(verdict, further), options.verbose)]
+    places = [(verdict.function.section.index, *message.place) for verdict, message in rows]
+    places += [(verdict.function.section.index, verdict.function.offset(place[0]), place[1]) for verdict in verdicts
+               for violation in verdict.violations for place in violation[2:]] if options.format != "lines" else []
+    lines = gnu.source_lines(file.data, file.code, list(dict.fromkeys(places)))
+    findings = [Finding(message.severity, lines.get((verdict.function.section.index, *message.place)),
+                        f"{file.label}({verdict.function.section.name}{message.offset:+#x})", verdict.function.name,
+                        message.text, message.rule) for verdict, message in rows]
+    return Answer(file, verdicts, findings, further, lines)
+
+
+class Counts:
+    """How many functions and programs there are of each verdict, why some aren't judged, and how many errors a baseline
+    knows."""
+
+    def __init__(self):
+        self.verdicts, self.reasons = Counter(), Counter()
+        self.stood_in, self.unlooked, self.errors, self.known = 0, 0, 0, 0
+        self.faults: List[str] = []
+
+    def add(self, answer):
+        self.faults += [f"{answer.file.label}: {answer.file.fault}"] if answer.file.fault is not None else []
+        self.errors += sum(finding.severity is Severity.ERROR for finding in answer.findings) + answer.more
+        self.errors += sum(verdict.total - len(verdict.violations) for verdict in answer.verdicts if not verdict.faults)
+        if answer.word:
+            self.verdicts[answer.word] += 1
+        for verdict in answer.verdicts:
+            self.verdicts[verdict.word] += 1
+            self.stood_in += verdict.word != NOT_JUDGED and bool(verdict.stood_in)
+            self.unlooked += verdict.word != NOT_JUDGED and any(what.startswith(CARRIED) for what in verdict.unlooked)
+            if verdict.word == NOT_JUDGED:
+                self.reasons[self.reason(verdict, answer)] += 1
+
+    def add_all(self, others):
+        self.verdicts += others.verdicts
+        self.reasons += others.reasons
+        self.stood_in += others.stood_in
+        self.unlooked += others.unlooked
+        self.faults += others.faults
+        self.errors += others.errors
+        self.known += others.known
+
+    @staticmethod
+    def reason(verdict, answer):
+        """Why a function isn't judged, in the words that others share with it."""
+        if verdict.faults:
+            return verdict.faults[0].reason
+        first = verdict.unlisted[0]
+        said = words.said_unlisted(first, words.Texts(verdict, answer.further))
+        if said.startswith("word "):
+            said = "a word of no instruction"
+        return said if first.slot is None or first.why == UNKNOWN else f"{said}: {first.why}"
+
+    def lines(self):
+        """The last lines of an answer."""
+        if self.reasons:
+            yield "not judged, by the first reason:"
+            for reason, count in sorted(self.reasons.items(), key=lambda row: (-row[1], row[0])):
+                yield f"{count:7} {reason}"
+        unlooked = f", in {self.unlooked} of which not all registers are looked at" if self.unlooked else ""
+        stood_in = f" ({self.stood_in} of these functions with stand-ins{unlooked})" if self.stood_in else ""
+        if self.known:
+            yield f"{words.counted(self.known, 'error')} of the baseline left out"
+        yield ", ".join(f"{self.verdicts[word]} {word}" for word in (ACCEPTED, VIOLATED, NOT_JUDGED)) + stood_in
+
+
+# ---- Lines -----------------------------------------------------------------------------------------------
+
+class Lines:
+    """The answers as lines, a finding each, and the counts at the end."""
+
+    head = first = between = ""
+
+    @staticmethod
+    def rows(answer):
+        return [f"{finding.line()}\n" for finding in answer.findings]
+
+    @staticmethod
+    def tail(counts):
+        return "".join(f"{line}\n" for line in counts.lines())
+
+
+# ---- JSON ------------------------------------------------------------------------------------------------
+
+class Json:
+    """The answers as one JSON document: `files` in their order, and the counts."""
+
+    head, first, between = '{"files": [', "\n", ",\n"
+
+    @staticmethod
+    def rows(answer):
+        return [json.dumps(file_row(answer))]
+
+    @staticmethod
+    def tail(counts):
+        numbers = {"accepted": counts.verdicts[ACCEPTED], "violated": counts.verdicts[VIOLATED],
+                   "not_judged": counts.verdicts[NOT_JUDGED], "known": counts.known, "reasons": counts.reasons}
+        return f"\n],\n{json.dumps(numbers)[1:]}\n"
+
+
+def file_row(answer):
+    row = {"file": answer.file.label, "error": answer.file.fault}
+    if answer.file.kind in (Kind.TEXT, Kind.IMAGE):
+        return {**row, "verdict": answer.word or "refused", "findings": [
+            {"severity": finding.severity.value, "place": str(finding.source or finding.place), "text": finding.text}
+            for finding in answer.findings]}
+    return {**row, "functions": [function_row(answer, verdict) for verdict in answer.verdicts]}
+
+
+def said_source(source):
+    return str(source) if source else None
+
+
+def function_row(answer, verdict):
+    function, texts = verdict.function, words.Texts(verdict, answer.further)
+
+    def slot(place):
+        offset = function.offset(place[0])
+        return {"offset": offset, "slot": place[1], "text": None if place[0] == function.count else texts.text(place),
+                "source": said_source(answer.lines.get((function.section.index, offset, place[1])))}
+
+    def pair(violation):
+        return {"rule": violation.rule, "resource": violation.resource, "first": slot(violation.first),
+                "second": slot(violation.second), "only_by": [slot(place) for place, _ in verdict.ways.get(violation, ())]}
+
+    return {
+        "section": function.section.name, "offset": function.start, "size": function.size, "name": function.name,
+        "names": function.names, "verdict": verdict.word, "violation_count": verdict.total,
+        "violations": [pair(violation) for violation in verdict.violations], "excused": [pair(row) for row in verdict.excused],
+        "reasons": [why.said for why in verdict.faults],
+        "unlisted": [{**slot((unlisted.bundle, unlisted.slot or 0)), "why": unlisted.why} if unlisted.slot is not None else
+                     {"offset": function.offset(unlisted.bundle), "slot": None, "text": None, "source": None,
+                      "why": unlisted.why} for unlisted in verdict.unlisted],
+        "stood_in": [{"offset": function.offset(index), "slot": at, "mnemonic": row.mnemonic}
+                     for (index, at), row in sorted(verdict.stood_in.items())],
+        "not_looked_at": list(dict.fromkeys(verdict.unlooked)),
+        "bundles": function.count, "on_no_walk": [function.offset(index) for index in verdict.off_walks],
+        "falls_out": verdict.falls_out,
+        "entries": [{"offset": function.offset(index), "why": why} for index, why in sorted(function.entries.items())]}
+
+
+# ---- SARIF -----------------------------------------------------------------------------------------------
+
+RULES = {
+    "RAW": "an instruction reads what an earlier one of its group writes",
+    "WAW": "two instructions of a group write the same resource",
+    "WAR63": "a loop branch writes p63, which an earlier instruction of its group reads",
+    "ALLOC": "an alloc isn't the first instruction of its group",
+    "CLEAR": "a clrrrb isn't the last instruction of its group",
+    words.UNJUDGED: "a function can't be judged",
+    "refused": "a text, an image or a source is none",
+}
+LEVELS = {Severity.ERROR: "error", Severity.WARNING: "warning", Severity.NOTE: "note"}
+
+
+DRIVER = {"name": "ia64", "version": VERSION,
+          "rules": [{"id": name, "shortDescription": {"text": text}} for name, text in RULES.items()]}
+
+
+class Sarif:
+    """The answers as a SARIF log, version 2.1.0, of one run."""
+
+    head = ('{"$schema": "https://json.schemastore.org/sarif-2.1.0.json", "version": "2.1.0", "runs": [{"tool": '
+            f'{json.dumps({"driver": DRIVER})}, "results": [')
+    first, between = "\n", ",\n"
+
+    @staticmethod
+    def rows(answer):
+        return [json.dumps(result(answer.file, finding)) for finding in answer.findings]
+
+    @staticmethod
+    def tail(counts):
+        unread = [{"level": "error", "message": {"text": text}} for text in counts.faults]
+        call = {"executionSuccessful": not unread, "toolExecutionNotifications": unread}
+        return f'\n], "invocations": [{json.dumps(call)}]}}]}}\n'
+
+
+FORMS = {"lines": Lines, "json": Json, "sarif": Sarif}
+
+
+def result(file, finding):
+    """A finding as a result, with the place in its source, or the file and the place in it."""
+    source = finding.source
+    location = {"physicalLocation": {"artifactLocation": {"uri": quote(source.path if source else file.path)}}}
+    if source:
+        location["physicalLocation"]["region"] = {"startLine": source.line, **({"startColumn": source.column} if source.column else {})}
+    name = " ".join(part for part in (finding.place, finding.function) if part)
+    if name:
+        location["logicalLocations"] = [{"fullyQualifiedName": name}]
+    row = {"level": LEVELS[finding.severity], "message": {"text": finding.text}, "locations": [location]}
+    return {"ruleId": finding.rule, **row} if finding.rule else row

@@ -1,0 +1,1 @@
+"""Tries of the front, on files that they make themselves."""

@@ -1,0 +1,192 @@
+"""What is said of a function's verdict, as compilers say it: an error for each violation, a warning where a function isn't
+judged, and notes."""
+
+from enum import Enum
+from typing import NamedTuple, Tuple
+
+from front import ways
+from front.bundle import branches
+from front.judging import NOT_JUDGED, UNKNOWN
+from front.ties import TABLES
+
+
+class Severity(Enum):
+    ERROR = "error"
+    WARNING = "warning"
+    NOTE = "note"
+
+
+# By which rule a function isn't judged, beside those of groups.
+UNJUDGED = "not-judged"
+
+
+class Message(NamedTuple):
+    """What is said: the offset that is shown, the offset and the slot whose source line is shown, and by which rule."""
+    severity: Severity
+    offset: int
+    place: Tuple[int, int]
+    text: str
+    rule: str = ""
+
+
+class Texts:
+    """The texts of a function's slots: those that the proved program lists, and else GNU's, or the word."""
+
+    def __init__(self, verdict, further):
+        self.verdict, self.further = verdict, further
+
+    def bundle(self, index):
+        return self.verdict.function.bundles[index]
+
+    def text(self, place):
+        """A slot's text, with its target as an offset or as the name of what is there."""
+        index, slot = place
+        texts = self.verdict.texts
+        own = texts[index][slot] if texts and slot < len(texts[index]) else None
+        bundle = self.bundle(index)
+        text = own or self.further.get((bundle, slot)) or f"word {bundle.words[2 if bundle.units[slot] == 'l' else slot]:#013x}"
+        return self.with_target(text, index, slot, bundle, own is not None)
+
+    def with_target(self, text, index, slot, bundle, is_own):
+        target = dict(branches(bundle)).get(slot)
+        if target is None or text.startswith("word "):
+            return text
+        function = self.verdict.function
+        inside = 0 <= index + target < function.count
+        name = f"{function.offset(index + target):+#x}" if inside else function.outside.get((index, slot), "outside")
+        if is_own:
+            return text[:text.rindex("L")] + name
+        mark = f"{16 * target:+#x}"
+        return text.replace(mark, name, 1) if text.endswith(mark) or f"{mark}," in text else text
+
+
+def wanted_texts(verdict, verbose):
+    """The slots of a function whose texts the proved program doesn't give: each as its bundle and slot."""
+    places = {place for violation in verdict.violations + verdict.excused for place in (violation.first, violation.second)}
+    wanted = [place for place in verdict.stood_in if place in places or verbose]
+    wanted += [(slot.bundle, slot.slot) for slot in verdict.unlisted if slot.slot is not None]
+    return [(verdict.function.bundles[index], slot) for index, slot in wanted]
+
+
+def said_place(function, place):
+    return f"({function.offset(place[0]):+#x} slot {place[1]})"
+
+
+def said_slot(texts, place):
+    """A slot's text and place. The one in the end bundle stands for what is behind the function."""
+    function = texts.verdict.function
+    if place[0] == function.count:
+        return f"what is behind the function, at {function.end:+#x},"
+    return f"'{texts.text(place)}' {said_place(function, place)}"
+
+
+def said_violation(violation, texts):
+    first, second = (said_slot(texts, place) for place in (violation.first, violation.second))
+    forms = {"RAW": f"written by {first} and read by {second}",
+             "WAW": f"written by {first} and by {second}",
+             "WAR63": f"read by {first} and written by {second}",
+             "ALLOC": f"{second} has to be the first of its group, and {first} stands before it",
+             "CLEAR": f"{first} has to be the last of its group, and {second} stands behind it"}
+    return f"{violation.rule} {violation.resource}: {forms.get(violation.rule, f'{first} and {second}')}"
+
+
+def said_ways(verdict, violation):
+    return ways.said(verdict.ways.get(violation, ()), lambda place: f"{verdict.function.offset(place[0]):+#x} slot {place[1]}")
+
+
+def mnemonic(text):
+    """That of an instruction's text."""
+    words = text.split(" ")
+    return words[1] if words[0].startswith("(") and len(words) > 1 else words[0]
+
+
+def said_unlisted(unlisted, texts):
+    """What isn't taken, by its mnemonic, or its word, or its template."""
+    if unlisted.slot is None:
+        return unlisted.why
+    text = texts.text((unlisted.bundle, unlisted.slot))
+    return text if text.startswith("word ") else mnemonic(text)
+
+
+def said_slot_outside(unlisted, texts):
+    """A slot outside the profile by its text and place, and why nothing stands in for it."""
+    if unlisted.slot is None:
+        return f"{unlisted.why} {said_place(texts.verdict.function, (unlisted.bundle, 0))}"
+    place = unlisted.bundle, unlisted.slot
+    why = f": {unlisted.why}" if unlisted.why != UNKNOWN else ""
+    return f"'{texts.text(place)}' {said_place(texts.verdict.function, place)}{why}"
+
+
+def counted(count, what):
+    return f"{count} {what}{'s' * (count != 1)}"
+
+
+def qualified(verdict):
+    """What a verdict isn't on, or rests on beside the proved program: nothing, or words behind a semicolon."""
+    parts = [f"{counted(len(verdict.stood_in), 'instruction')} stood in for"] * bool(verdict.stood_in)
+    return "".join(f"; {part}" for part in parts + [f"not looked at: {what}" for what in verdict.unlooked])
+
+
+def verdict_messages(verdict, texts, verbose):
+    """What is said of a function's verdict."""
+    function = verdict.function
+    start = function.start
+    if verdict.faults:
+        yield Message(Severity.WARNING, start, (start, 0), f"{NOT_JUDGED}: {'; '.join(why.said for why in verdict.faults)}", UNJUDGED)
+    elif verdict.unlisted:
+        places = [(function.offset(slot.bundle), slot.slot or 0) for slot in verdict.unlisted]
+        first, more = verdict.unlisted[0], len(verdict.unlisted) - 1
+        slot = "" if first.slot is None else f" slot {first.slot}"
+        text = f"{said_unlisted(first, texts)} at {places[0][0]:+#x}{slot}" + (f", and {more} more" if more else "")
+        yield Message(Severity.WARNING, start, places[0], f"{NOT_JUDGED}: {text}", UNJUDGED)
+        for slot, place in zip(verdict.unlisted, places) if verbose else []:
+            yield Message(Severity.NOTE, place[0], place, f"outside the profile: {said_slot_outside(slot, texts)}")
+    elif verbose:
+        said = counted(verdict.total, "violation") if verdict.total else "accepted"
+        yield Message(Severity.NOTE, start, (start, 0), said + qualified(verdict))
+        for place, row in sorted(verdict.stood_in.items()):
+            yield Message(Severity.NOTE, function.offset(place[0]), (function.offset(place[0]), place[1]),
+                          f"stood in for: '{texts.text(place)}' {said_place(function, place)}")
+    for violation in verdict.violations:
+        offset = function.offset(violation.second[0])
+        yield Message(Severity.ERROR, offset, (offset, violation.second[1]),
+                      said_violation(violation, texts) + said_ways(verdict, violation), violation.rule)
+    for pair in verdict.excused:
+        offset = function.offset(pair.second[0])
+        yield Message(Severity.NOTE, offset, (offset, pair.second[1]), f"excused by predicates: {said_violation(pair, texts)}")
+    more = verdict.total - len(verdict.violations)
+    if more and not verdict.faults:
+        yield Message(Severity.NOTE, start, (start, 0), f"{counted(more, 'more violation')}")
+
+
+def notes(verdict, verbose):
+    """What else there is to know of a function."""
+    function = verdict.function
+    start, entries = function.start, sorted(function.entries.items())
+    if not function.names:
+        yield start, (start, 0), f"no function symbol covers these {function.size:#x} bytes"
+    if verdict.off_walks:
+        offsets = [function.offset(index) for index in verdict.off_walks]
+        yield start, (offsets[0], 0), (f"{function.count - len(offsets)} of {function.count} bundles are on a walk; "
+                                       f"the first that isn't is {offsets[0]:+#x}")
+        if verbose:
+            yield start, (offsets[0], 0), f"on no walk: {', '.join(f'{offset:+#x}' for offset in offsets)}"
+    has_table = any(why in TABLES for why in function.entries.values())
+    if len(verdict.indirect) > has_table:
+        first = verdict.indirect[0]
+        said = "no table of its targets was found" if not has_table else \
+            f"{len(verdict.indirect) - 1} more, and perhaps not all tables of their targets were found"
+        yield start, (function.offset(first[0]), first[1]), f"an indirect branch {said_place(function, first)}, and {said}"
+    if verdict.falls_out:
+        yield start, (function.end - 16, 2), f"it falls out of its end, {function.end:+#x}"
+    if function.has_odd_relocation:
+        yield start, (start, 0), ("a relocation points into a bundle of it: a table of differences, perhaps, whose targets "
+                                  "aren't all found")
+    if entries and verbose:
+        said = ", ".join(f"{function.offset(index):+#x} ({why})" for index, why in entries)
+        yield start, (start, 0), f"declared entries: {said}"
+
+
+def messages(verdict, texts, verbose):
+    return [*verdict_messages(verdict, texts, verbose),
+            *(Message(Severity.NOTE, *note) for note in notes(verdict, verbose))]

@@ -1,0 +1,57 @@
+#!/bin/bash
+# Tries ./install and ./release, with the program that is built from the sources as they are: in folders of their own, on a path
+# of commands without the Rattle kit. It prints a line for each try that fails, and a count.
+here=$(cd "$(dirname "$0")/.." && pwd)
+cd "$here" || exit 1
+folder=$(mktemp -d)
+trap 'rm -rf "$folder"' EXIT
+passed=0 failed=0
+note() { if [ "$1" = 0 ]; then passed=$((passed + 1)); else failed=$((failed + 1)); echo "try_install: $2"; fi; }
+
+# The commands that an installed one may need. Neither rt nor what it brings is among them.
+mkdir "$folder/bin"
+python=$(python3 -c 'import sys; print(sys.executable)')
+ln -s "$python" "$folder/bin/python3"
+for tool in bash cat dirname grep head readlink sh; do ln -s "$(type -P $tool)" "$folder/bin/$tool"; done
+
+# WHERE: what an installed command answers, from an empty folder.
+tries() {
+  local ia64=$1/bin/ia64 examples=$1/share/doc/ia64/examples
+  mkdir -p "$folder/empty" && cd "$folder/empty" || exit 1
+  got=$(PATH=$folder/bin "$ia64" check < "$examples/read_after_write.s" 2>&1)
+  [ "$got" = $'violations 1\nRAW r8 0.1 0.2' ]
+  note $? "$2: standard input"
+  got=$(PATH=$folder/bin "$ia64" check "$examples/count.s" "$examples/functions.o" 2>&1 | tail -n 1)
+  [ "$got" = '3 accepted, 1 violated, 0 not judged (1 of these functions with stand-ins)' ]
+  note $? "$2: files"
+  got=$(PATH=$folder/bin "$ia64" run 100 "$examples/count.s" 2>&1 | head -n 1)
+  [ "$got" = 'end break 0x0 at 3.2' ]
+  note $? "$2: a run"
+  PATH=$folder/bin "$ia64" --version 2>&1 | grep -q 'the program is proved and built'
+  note $? "$2: the version"
+  PATH=$folder/bin "$ia64" --help 2>&1 | grep -q '^  check FILE'
+  note $? "$2: help"
+  [ "$(head -c 4 "$1/share/man/man1/ia64.1")" = '.TH ' ] && bash -n "$1/share/bash-completion/completions/ia64"
+  note $? "$2: the manual page, or the completions"
+  cd "$here" || exit 1
+}
+
+./install > /dev/null 2>&1
+[ $? = 2 ]
+note $? 'install without a folder'
+./install "$folder/installed/it's here" && tries "$folder/installed/it's here" 'installed'
+ln -s "$folder/installed/it's here/bin/ia64" "$folder/link"
+got=$(PATH=$folder/bin "$folder/link" check "$here/examples/count.s" 2>&1)
+[ "$got" = '1 accepted, 0 violated, 0 not judged' ]
+note $? 'installed, by a link'
+mv "$folder/installed/it's here" "$folder/moved" && tries "$folder/moved" 'moved'
+tarball=$(./release)
+(cd out && sha256sum --quiet -c "${tarball#out/}.sha256")
+note $? "the release's sum"
+mkdir "$folder/released" && tar -C "$folder/released" -xzf "$tarball"
+released=$folder/released/$(basename "$tarball" .tar.gz)
+tries "$released" 'released'
+(cd "$released" && sha256sum --quiet -c SHA256SUMS) && grep -q '^rattle-kit' "$released/LOGIC"
+note $? "the release's files"
+echo "try_install: $passed passed, $failed failed"
+[ "$failed" = 0 ]
