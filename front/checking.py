@@ -2,9 +2,10 @@
 
 import sys
 from collections import Counter, deque
+from dataclasses import replace
 from typing import List, NamedTuple
 
-from front import files, gnu, programs, reports
+from front import files, gnu, programs, reports, sources
 from front.faults import Fault, ProgramFault
 from front.files import Kind
 from front.judging import NOT_JUDGED, VIOLATED, Judge
@@ -181,8 +182,10 @@ def first_answer(item, options, program, complain_of, say):
     try:
         return programs.checked(file, program, options.verbose)
     except programs.Refused as refusal:
-        if file.kind is not Kind.TEXT or not files.is_source(item.path) or not gnu.installed("as"):
+        if file.kind is not Kind.TEXT or not files.is_source(item.path):
             return refusal.answer
+        if not gnu.installed("as"):
+            return read_answer(file, refusal, options, program)
         try:
             return files.assemble(file, item.path, options, complain_of, say)
         except gnu.NotAssembled as none:
@@ -190,3 +193,14 @@ def first_answer(item, options, program, complain_of, say):
         except Fault as fault:
             complain_of(f"{file.label}: {fault}")
             return refusal.answer
+
+
+def read_answer(file, refusal, options, program):
+    """The answer on a source as it is read without the GNU assembler, or the refusal of the text that it isn't."""
+    source = replace(file, fault=None)
+    try:
+        return programs.checked(source, program, options.verbose, sources.read(file.data))
+    except sources.Unread as none:
+        return programs.unread(source, none) if refusal.is_at_directive else refusal.answer
+    except programs.Refused:
+        return refusal.answer

@@ -10,7 +10,7 @@ import sys
 import traceback
 from pathlib import Path
 
-from front import VERSION, checking, files, gnu, listing, loosen, orders, reports, usage
+from front import VERSION, checking, files, gnu, listing, loosen, orders, reports, sources, usage
 from front.checking import DONE, WRONG, complain
 from front.faults import Fault, ProgramFault
 from front.files import Kind
@@ -122,8 +122,10 @@ def built(file, options, program):
     status, printed = program.raw(["build"], file.data)
     if status == 0:
         return files.File(file.label, file.path, Kind.IMAGE, printed)
-    if not files.is_source(options.file) or not gnu.installed("as"):
+    if not files.is_source(options.file):
         raise Fault(f"refused, {printed.decode('latin-1').strip()}")
+    if not gnu.installed("as"):
+        return read_image(file, program)
     def say(said):
         print(said, file=sys.stderr)
 
@@ -132,6 +134,17 @@ def built(file, options, program):
     except gnu.NotAssembled as none:
         say("\n".join(none.lines))
         raise
+
+
+def read_image(file, program):
+    """The image of a source as it is read without the GNU assembler."""
+    try:
+        status, printed = program.raw(["build"], sources.read(file.data).text)
+    except sources.Unread as none:
+        raise Fault(f"not read without the GNU assembler: {none}") from None
+    if status != 0:
+        raise Fault(f"refused, {printed.decode('latin-1').strip()}")
+    return files.File(file.label, file.path, Kind.IMAGE, printed)
 
 
 def show_functions(file, options, program):

@@ -2,6 +2,7 @@
 
 import re
 import struct
+from dataclasses import replace
 
 from front import ways
 from front.faults import ProgramFault
@@ -44,17 +45,20 @@ class Refused(Exception):
         self.answer, self.is_at_directive = answer, is_at_directive
 
 
-def checked(file, program, verbose=False):
-    """The answer on a text or an image; a refused one comes as `Refused`."""
-    status, text = program.call(["check"], file.data)
+def checked(file, program, verbose=False, read=None):
+    """The answer on a text or an image; a refused one comes as `Refused`. `read` is what was read of a source: it is asked about
+    in place of the file, and its lines are told as those of the source."""
+    asked = replace(file, data=read.text) if read else file
+    status, text = program.call(["check"], asked.data)
     if status == 3:
         raise refused(file, text.rstrip("\n"))
     total, broken = program.verdict(text)
-    built = Image(file, program) if broken and total == len(broken) or verbose else None
+    built = Image(asked, program) if broken and total == len(broken) or verbose else None
     found = ways.ways(built.ask, built.code, broken) if built and broken else {}
     excused = ways.excused(built.ask, built.code, broken) if verbose and total == len(broken) else []
     if file.kind is Kind.TEXT:
-        findings = list(text_findings(file, broken, found, excused))
+        slots = slots_of_source(read) if read else slots_of_text(file.data)
+        findings = list(text_findings(file, slots, broken, found, excused))
     else:
         findings = list(image_findings(file, broken, found, excused, program))
     if verbose and not total:
@@ -89,6 +93,13 @@ def not_assembled(file, lines):
     return Answer(file, [], findings, {}, {})
 
 
+def unread(file, none):
+    """The answer on a source that isn't read, with the line and the reason."""
+    file.fault = f"line {none.line}: {none.why}"
+    return Answer(file, [], [Finding(Severity.ERROR, Source(file.label, none.line), "", "",
+                                     f"not read without the GNU assembler: {none.why}", "refused")], {}, {})
+
+
 class Image:
     """The image of a program, whose bundles can be changed."""
 
@@ -107,11 +118,18 @@ class Image:
         return self.program.check(b"IA64IMG2" + count + self.head[12:] + code + END.packed() + self.rest)
 
 
-def text_findings(file, broken, found, excused):
+def slots_of_source(read):
+    """The slots of what was read of a source, with its lines. A `nop` that was added has the line before it."""
+    lines, last = [], 1
+    for line in read.lines:
+        last = line or last
+        lines.append(last)
+    return [[slot._replace(line=lines[slot.line - 1], column=0) for slot in bundle] for bundle in slots_of_text(read.text)]
+
+
+def text_findings(file, slots, broken, found, excused):
     """A message at the later slot of each pair, and a note at the earlier one. Where a pair shares its slots with a loop's
     edge, the later one in the group may stand before it in the text."""
-    slots = slots_of_text(file.data)
-
     def slot(place):
         try:
             return slots[place[0]][place[1]]

@@ -4,6 +4,7 @@ import json
 import subprocess
 import sys
 import unittest
+import unittest.mock
 
 from front import texts
 from front.tests.case import FRONT, PROGRAM, ROOT, Case, asked
@@ -114,6 +115,20 @@ class Programs(Case):
         status, lines, _ = self.lines("check", "-v", self.put(text))
         self.assertEqual((status, [line for line in lines if "excused" in line]), (1, []))
         self.assertIn("x.s: note: 9 more violations", lines)
+
+    def test_a_source_without_the_assembler(self):
+        """It is read as far as it can be, and its lines are told."""
+        source = example("functions.s").read_text()
+        with unittest.mock.patch("front.gnu.installed", lambda tool: None):
+            got = self.lines("check", self.put(source.replace("lfetch.nta [r33]", "nop.m 0").encode()))
+            self.assertEqual(got, (1, ["x.s:23: error: RAW r9: 'st8 [r33] = r9' reads what 'mov r9 = r8' writes in the same group",
+                                       "x.s:19: note: 'mov r9 = r8' is here", "0 accepted, 1 violated, 0 not judged"], ""))
+            self.assertEqual(self.ia64("show", "x.s")[0], 0)
+            status, lines, _ = self.lines("check", self.put(source.encode()))
+            self.assertEqual((status, lines[0]), (
+                2, "x.s:56: error: not read without the GNU assembler: 'lfetch.nta' is outside the profile, or unknown"))
+            text = self.put(WRONG.replace(b"x: // label", b"x: y"))
+            self.assertEqual(self.lines("check", text)[1][0].split(": ")[:3], ["x.s:8", "error", "refused, form"])
 
     def test_a_mixture(self):
         got = self.lines("check", example("functions.o"), example("count.s"), example("three_nops.image"))

@@ -1,0 +1,471 @@
+"""What a source says, statement by statement: names, sections, directives, instructions."""
+
+import re
+
+from front.sources.forms import rewritten
+from front.sources.instructions import Alignment, Instruction, TARGETED, TEMPLATES, kind_of
+from front.sources.operands import (LINKED, MOST_IN_FRAME, NAME, OTHER_REGISTERS, REGISTERS, SPELLED,
+                                    is_branch_register, is_name, names_of, parted, tokens_of, value_of)
+from front.sources.unread import Unread, shown
+
+# What may stand in front of a statement: a label, a tag, a bundle's selector.
+FRONT = re.compile(rf"\s*(?:\.(?P<select>{'|'.join(TEMPLATES)})(?![\w.$:#])|(?P<label>{NAME})#?\s*:|(?P<local>\d{{1,9}})\s*:"
+                   rf"|\[\s*(?P<tag>{NAME}#?|\d{{1,9}})\s*:\s*\])\s*", re.A)
+ASSIGNED = re.compile(rf"({NAME})#?\s*=\s*([^=].*)", re.A | re.S)
+GUARD = re.compile(r"\(\s*(p\d{1,2})\s*\)\s*", re.A)
+WORD = re.compile(r"([A-Za-z.][\w.]*)#?\s*", re.A)
+LOCAL = re.compile(r"(\d{1,9})([bf])", re.A)
+
+QUOTED = re.compile(r'"[^"]*"\s*,?')
+NAMES, NAMED = re.compile(NAME, re.A), re.compile(rf"({NAME})#?", re.A)
+SECTION = re.compile(r'\s*("[^"]*"|[^\s,]+)\s*(?:,\s*"([^"]*)")?')
+FUNCTION = re.compile(rf'\s*({NAME})#?\s*,\s*(?:[@%"](?:gnu_indirect_)?function|STT_FUNC)', re.A)
+MUTEX = re.compile(r'(?:\s*(?:"mutex"|@mutex)\s*,?)')
+PREDICATE = re.compile(r"p(\d{1,2})(?:\s*-\s*p(\d{1,2}))?", re.A)
+
+# Sections of code, by their names where nothing else says it, and those that say nothing of what is reached.
+OF_CODE = re.compile(r"\.(?:text|init|fini|gnu\.linkonce\.t)(?:\.|$)")
+NOT_LOADED = re.compile(r"\.(?:debug|zdebug|stab|comment|note|line|gnu\.linkonce\.wi)")
+OF_TABLES = (".IA_64.unwind", ".gnu.linkonce.ia64unw", ".gcc_except_table", ".eh_frame")
+OTHER_SECTIONS = ("data", "bss", "sdata", "sbss", "rodata", "init_array", "fini_array", "tdata", "tbss")
+
+# Directives that say nothing of code.
+DROPPED = frozenset("""
+    .file .loc .loc_mark_labels .ln .size .version .hidden .internal .protected .local .extern .comm .common .lcomm
+    .symver .prologue .body .save .save.f .save.g .save.b .save.gf .savesp .savepsp .vframe .vframesp .vframepsp .fframe
+    .altrp .unwabi .unwentry .restore .restorereg .restorereg.p .spill .spillreg .spillreg.p .spillsp .spillsp.p
+    .spillpsp .spillpsp.p .copy_state .label_state .personality .pred.safe_across_calls .pred.rel.clear .pred.rel.imply
+    .mem.offset .reg.val .serialize.data .serialize.instruction .explicit .default .lsb .msb .psr .alias .secalias
+    .gnu_attribute .vtable_entry .vtable_inherit .stabs .stabn .stabd
+    """.split())
+# Data. Names in those of the first table are addresses.
+ADDRESSES = frozenset("""
+    data1 data2 data4 data8 data16 data2.ua data4.ua data8.ua data16.ua .byte .short .hword .word .int .long .quad .octa
+    .value .2byte .4byte .8byte .dc.a .xdata1 .xdata2 .xdata4 .xdata8 .xdata16 .xdata2.ua .xdata4.ua .xdata8.ua .xdata16.ua
+    """.split())
+OTHER_DATA = frozenset("""
+    string stringz real4 real8 real10 real16 real4.ua real8.ua real10.ua real16.ua .string .stringz .ascii .asciz .skip
+    .space .zero .fill .org .uleb128 .sleb128 .float .single .double .xstring .xstringz .incbin
+    """.split())
+
+
+class Code:
+    """A section of code: its instructions and alignments, and what waits for the next instruction."""
+
+    def __init__(self):
+        self.items, self.labels, self.relations = [], [], []
+        self.template, self.opened, self.is_open, self.starts = None, False, False, True
+
+    def last(self):
+        return self.items[-1] if self.items and isinstance(self.items[-1], Instruction) else None
+
+    def stop(self):
+        """A stop behind the last instruction."""
+        last = self.last()
+        if last:
+            last.stops = True
+
+    def flush(self):
+        """What the assembler does before it turns to something else: it ends the bundle and the group."""
+        last = self.last()
+        if last:
+            last.stops = last.ends = True
+
+
+class Reader:
+    """Takes the statements of a source, one after the other."""
+
+    def __init__(self):
+        self.codes = {}                # sections of code by their names, in their order
+        self.kinds = {}                # of each section that was declared its flags
+        self.defined = {}              # names: the line where they are
+        self.numbers = {}              # names that were assigned a number
+        self.same = {}                 # names that were assigned another one
+        self.used = set()              # names in expressions of instructions
+        self.reached = []              # names of which each, where it is one of code, names an entry
+        self.locals = {}               # how often a local label stood so far
+        self.frame = None
+        self.section = self.previous = ".text"
+        self.stack, self.line, self.code = [], 1, None
+        self.settle_section()
+
+    # -- Statements
+
+    def take(self, line, said):
+        """Takes one statement or mark."""
+        self.line = line
+        if said == ";;":
+            if self.code:
+                self.code.stop()
+        elif said == "{":
+            self.open(self.code)
+        elif said == "}":
+            self.close(self.code)
+        else:
+            self.statement(said)
+
+    def fail(self, why):
+        raise Unread(self.line, why)
+
+    def settle_section(self):
+        """Sets the section of code, or None in one of data."""
+        flags = self.kinds.get(self.section)
+        if OF_CODE.match(self.section) if flags is None else "x" in flags:
+            self.code = self.codes.get(self.section) or Code()
+            self.codes[self.section] = self.code
+        else:
+            self.code = None
+
+    def is_loaded(self):
+        """Whether names in the section say that what they name is reached."""
+        flags = self.kinds.get(self.section)
+        is_loaded = not NOT_LOADED.match(self.section) if flags is None else "a" in flags
+        return is_loaded and not self.section.startswith(OF_TABLES)
+
+    def open(self, code):
+        if not code or code.is_open:
+            self.fail("'{' isn't wanted here")
+        code.opened = code.is_open = True
+
+    def close(self, code):
+        if not code or not code.is_open or code.opened or not code.last():
+            self.fail("'}' isn't wanted here")
+        code.last().closed, code.is_open = self.line, False
+
+    def statement(self, said):
+        """Takes a statement: labels, tags and selectors, and one more thing behind them."""
+        found, at = FRONT.match(said), 0
+        while found:
+            getattr(self, found.lastgroup)(found[found.lastgroup])
+            at = found.end()
+            found = FRONT.match(said, at)
+        said = said[at:].strip()
+        if said:
+            self.rest(said)
+
+    def rest(self, said):
+        found = ASSIGNED.fullmatch(said)
+        if found:
+            self.assign(found[1], found[2])
+            return
+        guard = GUARD.match(said)
+        word = WORD.match(said, guard.end() if guard else 0)
+        if not word:
+            self.fail(f"'{shown(said)}' isn't known here")
+        rest, mnemonic = said[word.end():], word[1].lower()
+        if guard or mnemonic[0] != "." and mnemonic not in ADDRESSES and mnemonic not in OTHER_DATA:
+            self.instruction(guard[1] if guard else "", mnemonic, rest)
+        else:
+            self.directive(mnemonic, rest)
+
+    # -- Names
+
+    def define(self, name):
+        if name in self.defined or name in self.numbers or name in self.same:
+            self.fail(f"'{shown(name)}' stands there twice")
+        self.defined[name] = self.line
+
+    def label(self, name):
+        """A label. A relation in front of it says nothing of what is behind it."""
+        self.define(name)
+        if self.code:
+            self.code.labels.append((name, self.line))
+            self.code.relations = []
+
+    def tag(self, name):
+        """A tag, which names the next slot. One of a bundle's first slot names the bundle."""
+        name = name.rstrip("#")
+        if self.code and not name.isdigit():
+            self.define(name)
+            self.code.labels.append((name, 0))
+
+    def local(self, digits):
+        """A local label. Its name has a mark that no other label has."""
+        self.locals[digits] = self.locals.get(digits, 0) + 1
+        self.label(f"{digits}:{self.locals[digits]}")
+
+    def meant(self, token):
+        """The name that a token is, a local label too, or None."""
+        found = LOCAL.fullmatch(token)
+        if found:
+            return f"{found[1]}:{self.locals.get(found[1], 0) + (found[2] == 'f')}"
+        return token.rstrip("#") if is_name(token) else None
+
+    def assign(self, name, said):
+        """A name that gets a number, or is another name for something."""
+        if name in self.defined or name in self.numbers or name in self.same:
+            self.fail(f"'{shown(name)}' gets a value twice")
+        tokens = self.settled(tokens_of(said, self.line))
+        if len(tokens) == 1 and is_name(tokens[0]) and tokens[0] != ".":
+            self.same[name] = tokens[0].rstrip("#")
+            return
+        if name in self.used:
+            self.fail(f"'{shown(name)}' gets a value after it was used")
+        try:
+            self.numbers[name] = value_of(tokens)
+        except ValueError:
+            self.numbers[name] = None
+
+    def settled(self, tokens):
+        """Tokens of an expression, with the numbers that names were assigned in their places."""
+        if not any(token.rstrip("#") in self.numbers for token in tokens):
+            return tokens
+        settled = []
+        for token in tokens:
+            number = self.numbers.get(token.rstrip("#"), token)
+            if number is None:
+                self.fail(f"'{shown(token)}' has a value that isn't known here")
+            settled += [token] if number is token else ["(", "-", str(-number), ")"] if number < 0 else [str(number)]
+        return settled
+
+    # -- Directives
+
+    def directive(self, word, rest):
+        handler = getattr(self, HANDLERS.get(word, ""), None)
+        if handler:
+            handler(rest)
+        elif word in ADDRESSES or word in OTHER_DATA:
+            self.data(word, rest)
+        elif word[1:] in OTHER_SECTIONS:
+            self.turn(word)
+        elif word not in DROPPED:
+            self.fail(f"the directive '{shown(word)}' isn't known here")
+
+    def data(self, word, rest):
+        is_elsewhere = word.startswith(".x")
+        if self.code and not is_elsewhere:
+            self.fail(f"'{shown(word)}' in a section of code")
+        if word in ADDRESSES and (is_elsewhere or self.is_loaded()):
+            quoted = QUOTED.match(rest)
+            self.reached += names_of(tokens_of(rest[quoted.end():] if quoted else rest, self.line))
+
+    def select(self, name):
+        if not self.code:
+            self.fail("a bundle in a section of data")
+        self.code.template = (TEMPLATES[name], self.line)
+
+    def turn(self, name, flags=None):
+        """Turns to another section."""
+        self.flush("")
+        if flags is not None:
+            self.kinds.setdefault(name, flags)
+        self.previous, self.section = self.section, name
+        self.settle_section()
+
+    def text(self, rest):
+        if rest.strip() not in ("", "0"):
+            self.fail("a subsection")
+        self.turn(".text")
+
+    def named_section(self, rest):
+        found = SECTION.match(rest)
+        if not found:
+            self.fail("a section without a name")
+        self.turn(found[1].strip('"'), found[2])
+
+    def push(self, rest):
+        self.stack.append((self.section, self.previous))
+        self.named_section(rest)
+
+    def pop(self, _):
+        if not self.stack:
+            self.fail("no section to come back to")
+        section, previous = self.stack.pop()
+        self.turn(section)
+        self.previous = previous
+
+    def back(self, _):
+        self.turn(self.previous)
+
+    def handler_data(self, _):
+        self.turn(".gcc_except_table")
+
+    def flush(self, _):
+        if self.code:
+            self.code.flush()
+
+    def reach(self, rest):
+        """Names of functions and of what the linker sees."""
+        self.reached += NAMES.findall(rest)
+
+    def begin(self, rest):
+        self.reach(rest)
+        self.aligned(16, 0, False)
+
+    def end(self, rest):
+        self.flush(rest)
+        if self.code:
+            self.code.starts = True
+
+    def type_of(self, rest):
+        found = FUNCTION.match(rest)
+        if found:
+            self.reached.append(found[1])
+
+    def set_to(self, rest):
+        name, _, said = rest.partition(",")
+        found = NAMED.fullmatch(name.strip())
+        if not found or not said.strip():
+            self.fail("a value that isn't known here")
+        self.assign(found[1], said)
+
+    def align(self, rest):
+        self.alignment(rest, False, True)
+
+    def align_to(self, rest):
+        self.alignment(rest, False, False)
+
+    def align_by_power(self, rest):
+        self.alignment(rest, True, False)
+
+    def alignment(self, rest, is_power, is_plain):
+        if not self.code:
+            return
+        parts = [self.settled(part) for part in parted(tokens_of(rest, self.line), ",")]
+        size, most = self.constant(parts[0]), self.constant(parts[2]) if len(parts) > 2 else 0
+        size = 1 << size if is_power and 0 <= size <= 16 else size
+        if not 0 < size <= 1 << 16 or size & (size - 1):
+            self.fail("an alignment that isn't known here")
+        self.aligned(size, most, is_plain)
+
+    def aligned(self, size, most, is_plain):
+        if self.code:
+            self.code.flush()
+            self.code.items.append(Alignment(self.line, size, most, is_plain))
+
+    def registers(self, rest):
+        """The frame whose registers `in0`, `loc0` and `out0` name."""
+        self.set_frame([self.constant(self.settled(part)) for part in parted(tokens_of(rest, self.line), ",")][:3])
+
+    def set_frame(self, sizes):
+        if len(sizes) < 3 or min(sizes) < 0 or sum(sizes) > MOST_IN_FRAME:
+            self.fail("a frame that isn't known here")
+        inputs, local, outputs = sizes
+        self.frame = {"in": (32, inputs), "loc": (32 + inputs, local), "out": (32 + inputs + local, outputs)}
+
+    def relation(self, rest):
+        """A relation, by a quoted word or by its name."""
+        if rest.strip()[:1] in ('"', "@"):
+            found = MUTEX.match(rest)
+            if not found:
+                return
+            rest = rest[found.end():]
+        predicates = []
+        for part in rest.split(",")[:64]:
+            found = PREDICATE.fullmatch(part.strip())
+            if not found:
+                self.fail("a relation that isn't known here")
+            predicates += range(int(found[1]), int(found[2] or found[1]) + 1)
+        if self.code:
+            self.code.relations.append((predicates, self.line))
+
+    # -- Instructions
+
+    def instruction(self, guard, mnemonic, rest):
+        code, kind = self.code, kind_of(mnemonic)
+        if kind is None:
+            self.fail(f"'{shown(mnemonic)}' is outside the profile, or unknown")
+        if not code:
+            self.fail("an instruction in a section of data")
+        if guard and guard not in REGISTERS:
+            self.fail(f"the predicate '{guard}'")
+        made = self.made(kind, mnemonic, rest)
+        made.guard, made.template, made.opens, made.starts = guard, code.template, code.opened, code.starts
+        made.labels, made.relations = code.labels, code.relations
+        if mnemonic == "alloc":
+            code.stop()
+        made.stops = mnemonic.startswith("clrrrb")
+        code.items.append(made)
+        code.labels, code.relations, code.template, code.opened, code.starts = [], [], None, False, False
+
+    def made(self, kind, mnemonic, rest):
+        """An instruction in the program's own form."""
+        sides = parted(tokens_of(rest, self.line), "=") if rest else [[]]
+        if len(sides) > 2:
+            self.fail(f"'{shown(rest)}'")
+        lists = [parted(side, ",") if side else [] for side in sides]
+        left, right = lists if len(lists) == 2 else ([], lists[0])
+        made = Instruction(self.line, kind, mnemonic, "")
+        if mnemonic == "alloc":
+            self.set_frame([self.constant(self.settled(part)) for part in right[-4:]][:3])
+        if mnemonic == "ld8.mov":
+            made.mnemonic, right = "ld8", right[:-1]
+        if TARGETED.match(mnemonic) and right:
+            made.target = self.target(right[-1])
+            right = right[:-1] if made.target else right
+        if kind == "move" and len(right) == 2 and left and is_branch_register(self.operand(left[0])):
+            made.tag, right[1:] = self.tag_of(right[1])
+        rewritten(self, made, [self.operand(part) for part in left], [self.operand(part) for part in right])
+        return made
+
+    def target(self, tokens):
+        """The name of a target, or None where it is a register."""
+        if len(tokens) != 1:
+            self.fail("a target that is no label")
+        if tokens[0] in REGISTERS or OTHER_REGISTERS.fullmatch(tokens[0]):
+            if not is_branch_register(self.operand(tokens)):
+                self.fail(f"'{tokens[0]}' as a target")
+            return None
+        name = self.meant(tokens[0])
+        if name is None or name == "." or name in self.numbers:
+            self.fail("a target that is no label")
+        self.used.add(name)
+        return name
+
+    def tag_of(self, tokens):
+        """The name of the tag of a move to a branch register and no operand, or none and the number of bundles."""
+        name = self.meant(tokens[0]) if len(tokens) == 1 and tokens[0].rstrip("#") not in self.numbers else None
+        if name is not None:
+            self.used.add(name)
+            return name, []
+        return None, [[str(self.constant(self.settled(tokens)) >> 4)]]
+
+    def operand(self, tokens):
+        """An operand as the program reads it: a register, a place in memory, or a number."""
+        if not tokens:
+            self.fail("an operand is missing")
+        if tokens[0] == "[" and tokens[-1] == "]" and len(tokens) == 3:
+            return f"[{self.operand(tokens[1:2])}]"
+        if len(tokens) == 1 and tokens[0] in REGISTERS:
+            return REGISTERS[tokens[0]]
+        if len(tokens) == 1 and OTHER_REGISTERS.fullmatch(tokens[0]):
+            return self.framed(tokens[0])
+        return self.number(tokens)
+
+    def framed(self, token):
+        """A register of the frame by its name."""
+        name, number = token.rstrip("0123456789"), token.lstrip("inlocut")
+        if self.frame and name in self.frame and str(int(number)) == number and int(number) < self.frame[name][1]:
+            return f"r{self.frame[name][0] + int(number)}"
+        return self.fail(f"the register '{token}' is outside the profile, or isn't there")
+
+    def number(self, tokens):
+        """A number as it is printed: 0 where the linker puts it in, and what is named in it is reached."""
+        spelled = "".join(tokens)
+        if len(tokens) == 1 + (tokens[0] == "-") and SPELLED.fullmatch(spelled):
+            return spelled
+        tokens = self.settled(tokens)
+        names = {self.meant(token) for token in tokens} - {None}
+        if not names and not any(token[0] == "@" and token != "@pause" for token in tokens):
+            return str(self.constant(["0" if token == "@pause" else token for token in tokens]))
+        if "." in names or "[" in tokens:
+            self.fail(f"'{shown(spelled)}' in an operand")
+        self.used |= names
+        self.reached += names_of(tokens) + [name for name in names if ":" in name]
+        return LINKED
+
+    def constant(self, tokens):
+        """The number that an expression of numbers is."""
+        try:
+            return value_of(tokens)
+        except ValueError as none:
+            return self.fail(shown(str(none)))
+
+
+HANDLERS = {
+    ".text": "text", ".section": "named_section", ".pushsection": "push", ".popsection": "pop", ".previous": "back",
+    ".handlerdata": "handler_data", ".ident": "flush", ".proc": "begin", ".endp": "end", ".global": "reach",
+    ".globl": "reach", ".weak": "reach", ".entry": "reach", ".type": "type_of", ".set": "set_to", ".equ": "set_to",
+    ".equiv": "set_to", ".weakref": "set_to", ".align": "align", ".balign": "align_to", ".p2align": "align_by_power",
+    ".regstk": "registers", ".pred.rel": "relation", ".pred.rel.mutex": "relation",
+}
