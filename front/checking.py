@@ -98,13 +98,13 @@ def batches(paths):
 
 def parts(options, program, known):
     """The answers on all batches, in order. No more of them are under way than there are processes, and as many wait."""
-    if options.jobs == 1:
+    pool = processes(options.jobs)
+    if pool is None:
         for batch in batches(options.files):
             yield answered(batch, options, program, known)
         return
-    from concurrent.futures import ProcessPoolExecutor  # which takes longer to load than most answers
     program.settle()
-    with ProcessPoolExecutor(options.jobs) as pool:
+    with pool:
         waiting = deque()
         for batch in batches(options.files):
             waiting.append(pool.submit(answered, batch, options, program, known))
@@ -112,6 +112,17 @@ def parts(options, program, known):
                 yield waiting.popleft().result()
         while waiting:
             yield waiting.popleft().result()
+
+
+def processes(count):
+    """So many processes that share the work; None for one, and where the system has no means for several."""
+    if count == 1:
+        return None
+    from concurrent.futures import ProcessPoolExecutor  # which takes longer to load than most answers
+    try:
+        return ProcessPoolExecutor(count)
+    except (ImportError, OSError):
+        return None
 
 
 def answered(batch, options, program, known):

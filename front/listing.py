@@ -1,7 +1,7 @@
 """Functions of files of code, disassembled: the texts of their slots as the proved program lists them, and of what it doesn't
 take as GNU's disassembler does, or as a word."""
 
-from front import gnu, stand_ins, words
+from front import gnu, messages, stand_ins
 from front.bundle import slots_of, stops_behind
 from front.judging import Unlisted, Verdict
 
@@ -15,7 +15,7 @@ def lines_of_function(function, judge, with_bytes):
     verdict.unlisted = [Unlisted(index, None, "") for index, bundle in enumerate(bundles) if not bundle.units]
     judge.list_texts(verdict)
     further = gnu.slot_texts((bundles[index], slot) for index, slot in verdict.unread)
-    texts = words.Texts(verdict, further)
+    texts = messages.Texts(verdict, further)
     yield f"{function.name}:".ljust(40) + f"// {function.section.name}{function.start:+#x}, {function.size:#x} bytes"
     for index, bundle in enumerate(bundles):
         code = f"  {bytes(function.code[16 * index:16 * index + 16]).hex()}" * with_bytes

@@ -12,7 +12,7 @@ from front.judging import ACCEPTED, VIOLATED
 from front.program import END, Refusal
 from front.reports import Answer, Finding
 from front.texts import lines_of_text, slots_of_text
-from front.words import Severity
+from front.messages import Severity
 
 # What the reasons of a refused text mean, in few words; docs/FORMATS.md, "Faults of a text", has them whole.
 REASONS = {

@@ -7,11 +7,11 @@ from collections import Counter
 from urllib.parse import quote
 from typing import Dict, List, NamedTuple, Optional, Tuple
 
-from front import VERSION, gnu, words
+from front import VERSION, gnu, messages
 from front.files import File, Kind
 from front.gnu import Source
 from front.judging import ACCEPTED, CARRIED, NOT_JUDGED, UNKNOWN, VIOLATED, Verdict
-from front.words import Severity
+from front.messages import Severity
 
 
 class Finding(NamedTuple):
@@ -60,9 +60,9 @@ class Answer(NamedTuple):
 
 def code_answer(file, verdicts, options):
     """The answer on a file of code, with the lines of its source where they are known."""
-    further = gnu.slot_texts(slot for verdict in verdicts for slot in words.wanted_texts(verdict, options.verbose))
+    further = gnu.slot_texts(slot for verdict in verdicts for slot in messages.wanted_texts(verdict, options.verbose))
     rows = [(verdict, message) for verdict in verdicts
-            for message in words.messages(verdict, words.Texts(verdict, further), options.verbose)]
+            for message in messages.messages(verdict, messages.Texts(verdict, further), options.verbose)]
     places = [(verdict.function.section.index, *message.place) for verdict, message in rows]
     places += [(verdict.function.section.index, verdict.function.offset(place[0]), place[1]) for verdict in verdicts
                for violation in verdict.violations for place in violation[2:]] if options.format != "lines" else []
@@ -110,7 +110,7 @@ class Counts:
         if verdict.faults:
             return verdict.faults[0].reason
         first = verdict.unlisted[0]
-        said = words.said_unlisted(first, words.Texts(verdict, answer.further))
+        said = messages.said_unlisted(first, messages.Texts(verdict, answer.further))
         if said.startswith("word "):
             said = "a word of no instruction"
         return said if first.slot is None or first.why == UNKNOWN else f"{said}: {first.why}"
@@ -124,7 +124,7 @@ class Counts:
         unlooked = f", in {self.unlooked} of which not all registers are looked at" if self.unlooked else ""
         stood_in = f" ({self.stood_in} of these functions with stand-ins{unlooked})" if self.stood_in else ""
         if self.known:
-            yield f"{words.counted(self.known, 'error')} of the baseline left out"
+            yield f"{messages.counted(self.known, 'error')} of the baseline left out"
         yield ", ".join(f"{self.verdicts[word]} {word}" for word in (ACCEPTED, VIOLATED, NOT_JUDGED)) + stood_in
 
 
@@ -176,7 +176,7 @@ def said_source(source):
 
 
 def function_row(answer, verdict):
-    function, texts = verdict.function, words.Texts(verdict, answer.further)
+    function, texts = verdict.function, messages.Texts(verdict, answer.further)
 
     def slot(place):
         offset = function.offset(place[0])
@@ -211,7 +211,7 @@ RULES = {
     "WAR63": "a loop branch writes p63, which an earlier instruction of its group reads",
     "ALLOC": "an alloc isn't the first instruction of its group",
     "CLEAR": "a clrrrb isn't the last instruction of its group",
-    words.UNJUDGED: "a function can't be judged",
+    messages.UNJUDGED: "a function can't be judged",
     "refused": "a text, an image or a source is none",
 }
 LEVELS = {Severity.ERROR: "error", Severity.WARNING: "warning", Severity.NOTE: "note"}

@@ -45,7 +45,7 @@ LONGEST_RUN = 192
 FIRST_STACKED, LAST_REGISTER = 32, 127
 FIRST_ROTATING_PREDICATE = 16
 
-Place = Tuple[int, int]
+SlotPlace = Tuple[int, int]
 
 
 class NoRoom(Exception):
@@ -56,8 +56,8 @@ class Ridden(NamedTuple):
     """A function with what rides in it."""
     bundles: List[Bundle]
     starts: List[int]                  # the number of the first bundle in the place of each old one, and how many there are
-    places: Dict[Place, Place]         # of each slot, nops too, the bundle and the slot that it stands for
-    rows: Dict[Place, Row]             # of the slots of the function that are outside the profile
+    places: Dict[SlotPlace, SlotPlace]         # of each slot, nops too, the bundle and the slot that it stands for
+    rows: Dict[SlotPlace, Row]             # of the slots of the function that are outside the profile
     riders: Dict[int, str]             # what rides on a general register
     spilled: Tuple[str, ...]           # what rides on a register of the other kind
 
@@ -301,7 +301,7 @@ class Ride:
         self.old = bundles
         self.seats, self.spilled = seats(bundles)
         self.bundles: List[Bundle] = []
-        self.places: Dict[Place, Place] = {}
+        self.places: Dict[SlotPlace, SlotPlace] = {}
         self.starts: List[int] = []
         self.origins: List[int] = []                   # of each new bundle the number of the old one
 
