@@ -32,15 +32,15 @@ class Part(NamedTuple):
 
 def check(options, program):
     """The verdicts on files."""
-    form, counts, is_first = FORMS[options.format], reports.Counts(), True
+    form, counts, number, is_first = FORMS[options.format], reports.Counts(), 0, True
     try:
         known = baseline(options.baseline)
     except Fault as fault:
         complain(f"{options.baseline}: {fault}")
         return WRONG
-    for number, part in enumerate(parts(options, program, known)):
+    for number, part in enumerate(parts(options, program, known), 1):
         clear_progress()
-        if number == 0:
+        if number == 1:
             sys.stdout.write(form.head)
         for line in part.said:
             print(line, file=sys.stderr)
@@ -49,9 +49,9 @@ def check(options, program):
             is_first = False
         sys.stdout.flush()
         counts.add_all(part.counts)
-        show_progress(number + 1, counts)
+        show_progress(number, counts)
     clear_progress()
-    sys.stdout.write(form.tail(counts))
+    sys.stdout.write(("" if number else form.head) + form.tail(counts))
     return status(counts, options)
 
 

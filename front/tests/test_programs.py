@@ -147,6 +147,13 @@ class Documents(Case):
         self.assertEqual([function["verdict"] for function in got["files"][1]["functions"]], ["violated", "accepted", "accepted"])
         self.assertEqual(got["files"][1]["functions"][2]["stood_in"], [{"offset": 0x70, "slot": 0, "mnemonic": "lfetch"}])
 
+    def test_nothing(self):
+        """An archive without members has a whole document too."""
+        (self.folder / "empty.a").write_bytes(b"!<arch>\n")
+        for form in "json", "sarif":
+            status, printed, _ = self.ia64("check", f"--format={form}", "empty.a")
+            self.assertEqual((status, type(json.loads(printed))), (0, dict))
+
     def test_sarif(self):
         """It has what the schema of version 2.1.0 requires, and says where."""
         got = json.loads(self.ia64("check", "--format=sarif", example("read_after_write.s"), example("functions.o"))[1])
