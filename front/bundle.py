@@ -160,10 +160,14 @@ def with_branch(bundle, slot, value):
     return bundle.with_word(slot, with_displacement(displacement_layout(bundle.units[slot], word), word, value))
 
 
+def is_break(unit, word):
+    """Whether it is a `break`, which has the same fields in all units: the major opcode and bits 35:27 are zero."""
+    return unit != "l" and word >> 37 == 0 and word >> 27 & 0x1FF == 0
+
+
 def without_breaks(bundle):
-    """The bundle with the `nop` of the unit, of the same predicate and number, in place of each `break`. `break` has the
-    same fields in all units: the major opcode and bits 35:27 are zero."""
+    """The bundle with the `nop` of the unit, of the same predicate and number, in place of each `break`."""
     for slot, (unit, word) in enumerate(zip(bundle.units, bundle.words)):
-        if unit != "l" and word >> 37 == 0 and word >> 27 & 0x1FF == 0:
+        if is_break(unit, word):
             bundle = bundle.with_word(slot, word | NOPS[unit])
     return bundle

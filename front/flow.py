@@ -5,7 +5,7 @@ says nothing of."""
 
 from typing import List, NamedTuple, Optional
 
-from front.bundle import PADDING, TRAPS, branches, may_turn
+from front.bundle import PADDING, TRAPS, branches, is_break, may_turn
 
 # Major opcodes of branches.
 CONDITIONAL, RELATIVE_CALL, INDIRECT_CALL, LONG, LONG_CALL = 4, 5, 1, 0xC, 0xD
@@ -38,7 +38,7 @@ def turn_of(unit, word, slot, target):
         return Turn(slot, guarded, False, target)
     if unit == "b" and major == 0 and word >> 27 & 63 in (INDIRECT, RETURN):
         return Turn(slot, guarded, False, None)
-    if major == 0 and word >> 27 & 0x1FF == 0 and unit != "l":
+    if is_break(unit, word):
         return Turn(slot, guarded, False, None)
     return Turn(slot, True, False, target) if target is not None else None
 

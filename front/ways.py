@@ -3,13 +3,13 @@ with a few words changed.
 
 - *The way*: a branch is made to lead out of the program, to an end bundle behind it. Then the walks that take it are gone, and all
   others are as they were. A taken branch ends its group, so no pair shares a group for it; but what is known of predicates may
-  be lost on it. So where a pair doesn't clash any more then, but does so still where no slot but branches has a qualifying
-  predicate, the way over this branch is why the pair isn't excused.
-- *What predicates excuse*: all slots but branches and checks get p0 for their qualifying predicate. They are on the same walks
-  then, and what clashes now and didn't before was excused by predicates.
+  be lost on it. So where a pair doesn't clash any more then, but does so still where no other slot has a qualifying predicate,
+  the way over this branch is why the pair isn't excused.
+- *What predicates excuse*: all slots but branches, checks and breaks get p0 for their qualifying predicate. They are on the same
+  walks then, and what clashes now and didn't before was excused by predicates.
 """
 
-from front.bundle import branches, split_all, with_branch
+from front.bundle import branches, is_break, split_all, with_branch
 from front.program import Refusal
 
 # Of a program with so many branches, violations and bundles ways are looked for, and so many bundles are checked for it.
@@ -50,12 +50,13 @@ def violations(answer):
 
 
 def without_guards(code):
-    """Bundles whose slots, but for branches and checks, have p0 for their qualifying predicate."""
+    """Bundles whose slots, but for branches, checks and breaks, which say where walks go, have p0 for their qualifying
+    predicate."""
     made = []
     for bundle in split_all(code):
         kept = {slot for slot, _ in branches(bundle)}
         for slot, unit in enumerate(bundle.units):
-            if unit not in "bl" and slot not in kept:
+            if unit not in "bl" and slot not in kept and not is_break(unit, bundle.words[slot]):
                 bundle = bundle.with_word(slot, bundle.words[slot] & ~63)
         made.append(bundle.packed())
     return b"".join(made)

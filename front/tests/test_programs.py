@@ -96,6 +96,14 @@ class Programs(Case):
                       "same group, in line 21", lines[0])
         self.assertEqual(len(self.lines("check", example("predicated.s"))[1]), 1)
 
+    def test_what_is_excused_behind_a_break(self):
+        """A `break` keeps its predicate, so the walk goes on behind it."""
+        text = (b"{ .mii\nnop.m 0\ncmp.eq p6,p7=r8,r9\nnop.i 0 ;;\n}\n{ .mii\n(p8) break.m 0\n(p6) adds r10=1,r0\n"
+                b"(p7) adds r10=2,r0 ;;\n}\n{ .mii\nnop.m 0\nnop.i 0\nbreak.i 0\n}\n")
+        status, lines, _ = self.lines("check", "-v", self.put(text))
+        self.assertEqual((status, lines[0]), (0, "x.s:9:1: note: excused by predicates: WAW r10: '(p7) adds r10=2,r0' writes what "
+                                                 "'(p6) adds r10=1,r0' writes in the same group, in line 8"))
+
     def test_no_way_where_there_is_none(self):
         """A loop branch that isn't taken acts too; what a branch only leads to clashes by itself; a call comes back."""
         exits = (b"x:\n{ .mib\ncmp.eq p16,p17=r8,r9\nnop.i 0\nnop.b 0 ;;\n}\n{ .mib\nnop.m 0\nnop.i 0\nbr.ctop.sptk.few x ;;\n}\n"
