@@ -12,7 +12,7 @@ from front.judging import ACCEPTED, VIOLATED
 from front.program import END, Refusal
 from front.reports import Answer, Finding
 from front.texts import lines_of_text, slots_of_text
-from front.messages import Severity
+from front.messages import Severity, counted
 
 # What the reasons of a refused text mean, in few words; docs/FORMATS.md, "Faults of a text", has them whole.
 REASONS = {
@@ -64,7 +64,7 @@ def checked(file, program, verbose=False, read=None):
     if verbose and not total:
         findings.append(Finding(Severity.NOTE, None, file.label, "", ACCEPTED))
     if total > len(broken):
-        findings.append(Finding(Severity.NOTE, None, file.label, "", f"{total - len(broken)} more violations"))
+        findings.append(Finding(Severity.NOTE, None, file.label, "", counted(total - len(broken), "more violation")))
     return Answer(file, [], findings, {}, {}, VIOLATED if total else ACCEPTED, total - len(broken))
 
 
