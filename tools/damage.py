@@ -5,7 +5,7 @@ import struct
 
 from fault_rows import SWEEPS
 from gnu_as import join, split, word_index
-from make_vectors import PLACES, swept_word
+from make_bundle_rows import PLACES, swept_word
 from printed_forms import BUNDLE_LIMIT, HEAD, VERSION_1_BUNDLE_LIMIT, MAGICS, RELATION_LIMIT, Layout, entries_of, with_relations
 
 def span(random, data):

@@ -1,14 +1,14 @@
 #!/usr/bin/env python3
-"""Makes the input of the program `call_rows`: whole calls of `ia64`, and what they have to answer.
+"""Makes rows of the program `vectors`: whole calls of `ia64`, and what they have to answer.
 
 It needs nothing but Python 3.8 and the files of this repository. Run
 
     tools/make_call_rows.py
 
-in any folder. It writes `crates/call_rows/stdin` and `crates/call_rows/stdout`, and prints which rows speak of what. With
-`--check` it writes nothing: it ends with status 1 where the two files aren't what it makes.
+in any folder. It writes its part of `crates/vectors/stdin`, and prints how many rows speak of what. With `--check` it writes
+nothing: it ends with status 1 where that isn't what it makes.
 
-The head of `crates/call_rows/src/main.rt` says what a row is; here, a `Row`. An input or an output is pieces: a text, bytes,
+The head of `crates/vectors/src/main.rt` says what a row is; here, a `Row`. An input or an output is pieces: a text, bytes,
 or so many times one.
 
 What is wanted is never the program's own output. The cases that are written here are worked by hand from docs/FORMATS.md,
@@ -18,7 +18,7 @@ tries/check/ has its verdict beside it, both worked by hand; a text of tries/ ha
 too that was written apart, as it gave the sum of a long trial.
 
 In the last rows one thing is changed on purpose: the status, a byte of the output, a line of it, what is left of the
-input, or the call that fails. `stdout` has `call_rows` name them.
+input, or the call that fails.
 """
 
 import re
@@ -27,14 +27,14 @@ import sys
 from pathlib import Path
 from typing import Any, NamedTuple, Optional
 
+sys.dont_write_bytecode = True
+
+import vector_rows
+
 ROOT = Path(__file__).resolve().parent.parent
-FOLDER = ROOT / "crates" / "call_rows"
 
 # The most bytes of an input.
 INPUT_LIMIT = 16_777_216
-
-# How many differing rows the program names.
-NAMED = 10
 
 # Room for every output here, and how many bytes a call of a stream moves where nothing else is said.
 ROOM, STEP = 530_000, 4096
@@ -116,7 +116,7 @@ def left_of(row):
     return length - INPUT_LIMIT - 1 if row.status == 4 else 0
 
 
-def line(row):
+def line_of(row):
     """A row of the file."""
     def call(fault):
         return "-" if fault is None else str(fault)
@@ -124,7 +124,7 @@ def line(row):
     source = f"{step} {call(fault)} {left_of(row) if left is None else left}"
     sink = f"{row.sink.room} {row.sink.step} {call(row.sink.fault)}"
     columns = row.words, str(row.status), source, sink, written(row.input), written(row.output)
-    return "\t".join(columns) + "\n"
+    return "call " + "\t".join(columns)
 
 
 # Bundles, in the order of their bytes: bit 0 is the lowest of the first one.
@@ -187,6 +187,9 @@ def promising(*relations):
 
 # The image of a branch to the next bundle, and of three `nop`.
 BRANCHING = [*head(1, 2), BRANCH, NOPS]
+
+# An image of two bundles, of which the second is a declared entry, and of eight bytes of data.
+WITH_DATA = [*head(1, 2, 1, 8), numbers(1), NOPS, NOPS, "data of "]
 
 # An image whose declared entry is no bundle from 1 on.
 MISPLACED = [*head(1, 1, 1), numbers(1), NOPS]
@@ -375,6 +378,22 @@ SUM = state(
 LOOSE_SUMS = "add r8=r9,r10\nadd r11=r8,r9\nbreak.i 0\n"
 PACKED_SUMS = "{ .mmi\n  add r8=r9,r10 ;;\n  add r11=r8,r9\n  break.i 0x0\n}\n// 0.0 RAW r8 0.0 0.1\n"
 
+# The same sums with a stop that is written behind them, and they in bundles.
+STOPPED_SUMS = "add r8=r9,r10\nadd r11=r8,r9 ;;\nbreak.i 0\n"
+PACKED_STOPPED_SUMS = """{ .mii
+  add r8=r9,r10
+  nop.i 0x0 ;;
+  add r11=r8,r9 ;;
+}
+{ .mii
+  nop.m 0x0
+  break.i 0x0
+  nop.i 0x0
+}
+// 0.1 RAW r8 0.0 0.2
+// 0.2 written
+"""
+
 # Two moves under the two predicates of a compare, of which one alone is 1, and a return. They in bundles: the moves need a
 # stop behind the compare, and none between them.
 LOOSE_MOVES = "cmp.eq p6,p7=r0,r0\n(p6) mov r8=1\n(p7) mov r8=2\nbr.ret b0\n"
@@ -542,6 +561,7 @@ def stops():
     """Loose texts that are packed."""
     yield Row("stops", LOOSE_SUMS, 0, PACKED_SUMS)
     yield Row("stops", LOOSE_MOVES, 0, PACKED_MOVES)
+    yield Row("stops", STOPPED_SUMS, 0, PACKED_STOPPED_SUMS)
     yield Row("stops", "", 3, "line 1: empty\n")
     yield Row("stops", "{ .mii\n", 3, "line 1: misplaced\n")
     yield Row("stops", "br x\nnop 0x200000\n", 3, "line 2: range\n")
@@ -552,8 +572,124 @@ def texts_that_come_back():
     """Canonical texts, built and shown again, and images, shown and built again."""
     for text in (WHOLE_TEXT, CLASH_TEXT, NOPS_TEXT):
         yield Row("build | show", text, 0, text)
-    for whole in (BRANCHING, BROKEN, promising(relation(1, 6, 7)), image(2, 4097, NOPS)):
+    for whole in (BRANCHING, BROKEN, WITH_DATA, promising(relation(1, 6, 7)), image(2, 4097, NOPS)):
         yield Row("show | build", whole, 0, whole)
+    yield Row("show | build", image(2, 1, NOPS), 0, image(1, 1, NOPS))
+    yield Row("lift | check", image(1, 1, NOPS), 0, "accepted\n")
+
+
+def bundle(template, *slots):
+    """The text of a bundle, with a stop at its end."""
+    return "".join(f"{line}\n" for line in (f"{{ .{template}", *slots[:-1], f"{slots[-1]} ;;", "}"))
+
+
+def constant(register, value):
+    """The text of a bundle that puts a number into a register."""
+    return bundle("mlx", "nop.m 0", f"movl r{register}={value:#x}")
+
+
+# The end of a program.
+END = bundle("mib", "nop.m 0", "nop.i 0", "break.b 0")
+
+# Operations on lanes where they carry, wrap, are equal and have signs, and what they give.
+LANES = (
+    ("padd1", 0x1FF, 0x101, 0x200),
+    ("padd2", 0x1FFFF, 0x10001, 0x20000),
+    ("padd4", 2**64 - 1, 1, 0xFFFFFFFF00000000),
+    ("psub1", 0x0100, 0x0001, 0x01FF),
+    ("psub2", 0, 1, 0xFFFF),
+    ("psub4", 0, 1 << 32, 0xFFFFFFFF00000000),
+    ("pcmp1.eq", 0x00737300, 0x73737373, 0xFFFFFFFF00FFFF00),
+    ("pcmp2.eq", 0, 0xFFFF0000FFFF, 0xFFFF0000FFFF0000),
+    ("pcmp4.eq", 0x100000002, 0x100000003, 0xFFFFFFFF00000000),
+    ("pcmp1.gt", 0x017F, 0x0080, 0xFFFF),
+    ("pcmp2.gt", 0x7FFF8000, 0x80007FFF, 0xFFFF0000),
+    ("pcmp4.gt", 1 << 63, 1, 0),
+)
+
+# Exchanges and fetch-and-adds of words of memory: what a word holds before and after.
+IN_MEMORY = (
+    ("xchg1 r17=[r16],r15", 0, 0xFF),
+    ("xchg8 r17=[r16],r14", 0, 2**64 - 1),
+    ("fetchadd8.acq r17=[r16],-4", 3, 2**64 - 1),
+    ("fetchadd4.acq r17=[r16],-1", 0x200, 0x1FF),
+    ("fetchadd4.acq r17=[r16],-1", 0, 0xFFFFFFFF),
+)
+
+
+def computations():
+    """What single operations give."""
+    text, lines = "", []
+    for register, (operation, first, second, result) in enumerate(LANES, 16):
+        text += constant(14, first) + constant(15, second)
+        text += bundle("mii", "nop.m 0", f"{operation} r{register}=r14,r15", "nop.i 0")
+        lines += [f"r{register} {result:016x}"] * bool(result)
+    last = [f"r14 {LANES[-1][1]:016x}", f"r15 {LANES[-1][2]:016x}"]
+    groups = 3 * len(LANES)
+    yield Row("run 100", text + END, 0, state(f"break 0x0 at {groups}.2", groups + 1, *last, *lines))
+    text, words = constant(14, 2**64 - 1) + constant(15, 0x1FF), []
+    for address, (operation, _, after) in enumerate(IN_MEMORY):
+        text += constant(16, 0x100000 + 8 * address) + bundle("mii", operation, "nop.i 0", "nop.i 0")
+        words.append(f"m {0x100000 + 8 * address:016x} {after:016x}")
+    text += END + ".data\n" + "".join(f"data8 {before}\n" for _, before, _ in IN_MEMORY)
+    groups = 2 + 2 * len(IN_MEMORY)
+    yield Row("run 100", text, 0, state(
+        f"break 0x0 at {groups}.2", groups + 1, f"r14 {2**64 - 1:016x}", f"r15 {0x1FF:016x}",
+        f"r16 {0x100000 + 8 * len(IN_MEMORY) - 8:016x}", below=words))
+
+
+# Two slots of one group, and the rule that they break.
+PAIRS = (
+    ("add r8=r9,r9", "add r10=r8,r8", "RAW r8"),
+    ("add r127=r9,r9", "add r127=r9,r9", "WAW r127"),
+    ("add r127=r9,r9", "add r63=r127,r127", "RAW r127"),
+    ("add r8=r9,r9", "add r9=r10,r10", None),
+    ("add r72=r9,r9", "add r8=r9,r9", None),
+    ("cmp.eq.or p6,p0=r9,r9", "cmp.eq.or p6,p0=r9,r9", None),
+    ("cmp.eq.or p6,p0=r9,r9", "cmp.eq.and p6,p0=r9,r9", "WAW p6"),
+    ("cmp.eq p6,p0=r9,r9", "(p6) add r8=r9,r9", "RAW p6"),
+    ("st8.spill [r12]=r13", "ld8.fill r10=[r11]", None),
+    ("st8.spill [r12]=r13", "st8.spill [r12]=r13", None),
+)
+
+# A slot under p63 and a loop branch that rotates, in either order, and what they break.
+BEFORE_ROTATIONS = bundle("mbb", "nop.m 0", "(p63) {}", "br.ctop.sptk.few x")
+BEHIND_ROTATIONS = "{ .mib\nnop.m 0\nnop.i 0\nbr.ctop.sptk.few x\n}\n" + bundle("bbb", "(p63) {}", "nop.b 0", "nop.b 0")
+AT_ROTATIONS = (
+    (BEFORE_ROTATIONS, "br.cond.sptk.few x", ("WAR63 p63 0.1 0.2",)),
+    (BEFORE_ROTATIONS, "nop.b 0", ("WAR63 p63 0.1 0.2",)),
+    (BEHIND_ROTATIONS, "br.cond.sptk.few x", ("RAW cfm 0.2 1.0",)),
+    (BEHIND_ROTATIONS, "nop.b 0", ("RAW p63 0.2 1.0", "RAW cfm 0.2 1.0")),
+)
+
+
+def verdict(*violations):
+    return f"violations {len(violations)}\n" + "".join(f"{line}\n" for line in violations) if violations else "accepted\n"
+
+
+def pairs():
+    """Two slots of one group."""
+    for first, second, rule in PAIRS:
+        found = [f"{rule} 0.0 0.1"] if rule else []
+        yield Row("check", bundle("mmi", first, second, "nop.i 0"), len(found), verdict(*found))
+    for text, slot, found in AT_ROTATIONS:
+        yield Row("check", "x:\n" + text.replace("{}", slot), 1, verdict(*found))
+
+
+def loops():
+    """What is known of p6 and p7, set before a loop, in it and behind it, where a slot of the loop may take it away and an entry
+    may lead into it. Two writes behind all that are on no walk."""
+    for within, entry, violations in (
+            ("nop.m 0", None, ()),
+            ("cmp.eq.or p6,p0=r8,r9", None, ("WAW r10 1.1 1.2", "WAW r10 3.1 3.2")),
+            ("nop.m 0", "loop", ("WAW r10 1.1 1.2", "WAW r10 3.1 3.2")),
+            ("nop.m 0", "behind", ("WAW r10 3.1 3.2",))):
+        moves = bundle("mii", "nop.m 0", "(p6) mov r10=1", "(p7) mov r10=2")
+        text = (f".entry {entry}\n" if entry else "") + bundle("mii", "cmp.eq p6,p7=r8,r9", "nop.i 0", "nop.i 0")
+        text += "loop:\n" + moves + bundle("mib", within, "nop.i 0", "(p8) br.cond.sptk.few loop")
+        text += "behind:\n" + moves + bundle("mib", "nop.m 0", "nop.i 0", "br.cond.sptk.few behind")
+        text += bundle("mii", "nop.m 0", "mov r11=1", "mov r11=2")
+        yield Row("check", text, int(bool(violations)), verdict(*violations))
 
 
 def many_violations():
@@ -722,34 +858,29 @@ def wrong():
     yield Row("check now", CLASH_TEXT, 2, "", Source(left=0))
 
 
-SECTIONS = (commands, refused_images, wraps, runs, groups, relations, lifts, stops, texts_that_come_back, many_violations,
-            other_words, failing_streams, cut_inputs, slow_streams, examples, tries, refused_texts, wrong)
+SECTIONS = (commands, refused_images, wraps, runs, groups, relations, lifts, stops, texts_that_come_back, computations,
+            pairs, loops, many_violations,
+            other_words, failing_streams, cut_inputs, slow_streams, examples, tries, refused_texts)
 
 
-def wanted_files():
-    """The two files by their names, and which rows each section has."""
-    lines, places = [], []
-    for section in SECTIONS:
-        made = [line(row) for row in section()]
-        places.append(f"{len(lines) + 1} to {len(lines) + len(made)}: {section.__name__}")
-        lines += made
-    changed = range(len(lines) - len(list(wrong())) + 1, len(lines) + 1)
-    named = "".join(f"row {number} differs\n" for number in changed[:NAMED])
-    return {"stdin": "".join(lines), "stdout": f"{named}{len(lines)} rows, {len(changed)} differ\n"}, places
+def rows():
+    """The rows, and how many each section has."""
+    made = {section.__name__: [line_of(row) for row in section()] for section in SECTIONS}
+    made["wrong"] = [f"not {line_of(row)}" for row in wrong()]
+    return [row for section in made.values() for row in section], {name: len(section) for name, section in made.items()}
 
 
 def main():
-    files, places = wanted_files()
+    made, counts = rows()
     if sys.argv[1:] == ["--check"]:
-        stale = [name for name, text in files.items() if (FOLDER / name).read_text() != text]
+        stale = vector_rows.stale("call", made)
         for name in stale:
-            print(f"crates/call_rows/{name} isn't what tools/make_call_rows.py makes")
+            print(f"crates/vectors/{name} isn't what tools/make_call_rows.py makes")
         sys.exit(1 if stale else 0)
     if sys.argv[1:]:
         sys.exit("usage: make_call_rows.py [--check]")
-    for name, text in files.items():
-        (FOLDER / name).write_text(text)
-    print("\n".join(places))
+    vector_rows.write("call", made)
+    print("\n".join(f"{name}: {count} rows" for name, count in counts.items()))
 
 
 if __name__ == "__main__":

@@ -12,7 +12,7 @@ from gnu_as import TEMPLATES, nops, units
 from instruction_rows import GR, PR, TARGET, rows_of
 from line_faults import FAULTS
 from line_texts import OTHERWISE, PSEUDO
-from make_line_vectors import blank_and_comment, drawn, name, of_row, past_edges, places_of_text, styled
+from make_line_rows import blank_and_comment, drawn, name, of_row, past_edges, places_of_text, styled
 from printed_forms import BUNDLE_LIMIT, DATA_LIMIT, ENTRY_LIMIT, VERSION_1_BUNDLE_LIMIT, RELATION_LIMIT
 
 RUN_LIMIT = 192

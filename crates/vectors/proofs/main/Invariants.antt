@@ -1,7 +1,7 @@
 use Rattle.std.proofs.Common.{◌+◌, ◌≤◌}
 use Rattle.vectors.proofs.main.Given as goal
 
--- No more lines differ than were read, which end.
+-- No more rows differ than were read, which end.
 abbrev pub invariant-loop-index : goal.invariant-loop-index
 invariant-loop-index l =
     let remaining = (goal.iterator-loop-index).remaining in
