@@ -8,11 +8,14 @@ trap 'rm -rf "$folder"' EXIT
 passed=0 failed=0
 note() { if [ "$1" = 0 ]; then passed=$((passed + 1)); else failed=$((failed + 1)); echo "try_install: $2"; fi; }
 
-# The commands that an installed one may need. Neither rt nor what it brings is among them.
-mkdir "$folder/bin"
+# The commands that an installed one may need, and beside them those of the documents. Neither rt nor what it brings is among them.
+mkdir "$folder/bin" "$folder/more"
 python=$(python3 -c 'import sys; print(sys.executable)')
 ln -s "$python" "$folder/bin/python3"
 for tool in bash cat dirname grep head readlink sh; do ln -s "$(type -P $tool)" "$folder/bin/$tool"; done
+for tool in cmp cp diff mkdir sed seq tail ia64-linux-gnu-{addr2line,as,ld,objcopy,objdump}; do
+  if type -P "$tool" > /dev/null; then ln -s "$(type -P "$tool")" "$folder/more/$tool"; fi
+done
 
 # WHERE: what an installed command answers, from an empty folder.
 tries() {
@@ -53,5 +56,7 @@ released=$folder/released/$(basename "$tarball" .tar.gz)
 tries "$released" 'released'
 (cd "$released" && sha256sum --quiet -c SHA256SUMS) && grep -q '^rattle-kit' "$released/LOGIC"
 note $? "the release's files"
+said=$(PATH=$folder/bin:$folder/more tools/try_pages.sh "$released" 2>&1)
+note $? "what the documents say in an unpacked release: $said"
 echo "try_install: $passed passed, $failed failed"
 [ "$failed" = 0 ]

@@ -1,17 +1,23 @@
 #!/usr/bin/env python3
-"""try_page.py [--section HEADING].. PAGE..: runs the commands of pages of docs/, or of the sections of them that have these
-headings, and compares what they print with what the pages say.
+"""try_page.py [--section HEADING].. [--root FOLDER] PAGE..: runs the commands of pages, or of the sections of them that have
+these headings, and compares what they print with what the pages say.
 
 Commands are blocks ```sh of a page; what they print is the block without a language that stands directly behind one. The
 blocks of a page run in its order, in a folder that stands for the root of the repository: it has the examples and the
 tries, and `./ia64` there is the built program by itself (by default that of this repository, which has to be built), or, where
-files are arguments, the front, which asks it. A page says what comes on standard output; nothing may come on standard error.
+files are arguments, the front, which asks it. With --root they run in that folder as it is, an unpacked release, say. A page
+says what comes on standard output; nothing may come on standard error, but for the line by which the wrapper says what a
+refusal is.
 
-It prints each block that prints something else, and a count; the status is 1 where there is one, and where there is no
+With --answers each line of a block is a command of its own, which has to end with an answer, whatever that is: with the
+status of one, and nothing on standard error.
+
+It prints each block, or line, that does something else, and a count; the status is 1 where there is one, and where there is no
 block at all.
 """
 
 import argparse
+import contextlib
 import difflib
 import os
 import re
@@ -28,6 +34,10 @@ PROGRAM = ROOT / "crates" / "ia64_cli" / "out" / "ia64_cli"
 BLOCK = re.compile(r"^```sh\n(?P<commands>.*?)^```\n(?:\n```\n(?P<printed>.*?)^```\n)?", re.S | re.M)
 FENCED = re.compile(r"^```.*?^```$", re.S | re.M)
 HEADING = re.compile(r"^(?P<marks>#+) (?P<words>.*)$", re.M)
+REFUSAL = re.compile(r"ia64: '\w+' refused its input; the reason went to standard output\n")
+
+# The statuses of answers, as docs/MANUAL.md has them under "Exit statuses", but for those of refusals.
+ANSWERS = (0, 1, 8, 9)
 
 
 # `./ia64` of a page: the program, or the front.
@@ -64,20 +74,36 @@ def parts(page, headings):
     return {f'{page}, "{words}"': section(text, words) for words in headings} or {str(page): text}
 
 
-def differences(text, program):
-    """How many blocks a text has, and of each that prints something else its commands and in what that differs."""
-    blocks = list(BLOCK.finditer(text))
-    found = []
+@contextlib.contextmanager
+def standing_in(root, program):
+    """The folder in which the commands of a page run."""
+    if root:
+        yield root
+        return
     with tempfile.TemporaryDirectory() as folder:
         outline(Path(folder), program)
-        for block in blocks:
-            done = subprocess.run(["bash", "-c", block["commands"]], cwd=folder, stdin=subprocess.DEVNULL,
-                                  stdout=subprocess.PIPE, stderr=subprocess.PIPE, text=True, check=False)
-            said, got = (block["printed"] or "").splitlines(), (done.stdout + done.stderr).splitlines()
-            if said != got:
-                lines = difflib.unified_diff(said, got, "page", "program", lineterm="", n=0)
-                found.append(block["commands"] + "\n".join(lines))
-    return len(blocks), found
+        yield folder
+
+
+def run(commands, folder):
+    return subprocess.run(["bash", "-c", commands], cwd=folder, stdin=subprocess.DEVNULL, stdout=subprocess.PIPE,
+                          stderr=subprocess.PIPE, text=True, errors="backslashreplace", check=False)
+
+
+def differences(block, folder):
+    """The commands of a block and in what they differ from what it says, if they do."""
+    done = run(block["commands"], folder)
+    said, got = (block["printed"] or "").splitlines(), (done.stdout + REFUSAL.sub("", done.stderr)).splitlines()
+    if said != got:
+        yield block["commands"] + "\n".join(difflib.unified_diff(said, got, "page", "program", lineterm="", n=0))
+
+
+def unanswered(block, folder):
+    """The lines of a block that have no answer, each with its status and what it says."""
+    for line in block["commands"].splitlines():
+        done = run(line, folder)
+        if done.returncode not in ANSWERS or done.stderr:
+            yield f"{line}\nstatus {done.returncode}\n{done.stderr}"
 
 
 def main():
@@ -87,18 +113,24 @@ def main():
                        help="the sections with these headings alone")
     words.add_argument("--program", default=PROGRAM, metavar="PATH",
                        help="another program than the built one of this repository")
+    words.add_argument("--root", type=Path, metavar="FOLDER", help="where `./ia64`, the examples and the tries stand")
+    words.add_argument("--answers", action="store_true", help="each line has to end with an answer, whatever that is")
     options = words.parse_args()
-    if shutil.which(options.program) is None:
+    if options.root is None and shutil.which(options.program) is None:
         sys.exit(f"try_page: {options.program} is not there: call ./build, which proves and builds it")
+    if options.root and not os.access(options.root / "ia64", os.X_OK):
+        sys.exit(f"try_page: there is no command ia64 in {options.root}")
     wrong = 0
     for name, text in (part for page in options.pages for part in parts(page, options.section).items()):
         if text is None:
             sys.exit(f"try_page: {name}: no such heading")
-        blocks, found = differences(text, os.path.abspath(options.program))
-        wrong += len(found) + (blocks == 0)
+        blocks, wrongs = list(BLOCK.finditer(text)), unanswered if options.answers else differences
+        with standing_in(options.root, os.path.abspath(options.program)) as folder:
+            found = [each for block in blocks for each in wrongs(block, folder)]
+        wrong += len(found) + (not blocks)
         for each in found:
-            print(f"{name}: other lines than it says:\n{each}")
-        print(f"{name}: {blocks} blocks, {len(found)} of them print something else")
+            print(f"{name}: {'no answer' if options.answers else 'other lines than it says'}:\n{each}")
+        print(f"{name}: {len(blocks)} blocks, {len(found)} times something else")
     sys.exit(1 if wrong else 0)
 
 

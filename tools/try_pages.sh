@@ -1,0 +1,18 @@
+#!/bin/bash
+# try_pages.sh [FOLDER]: holds what the documents quote to the built program, by try_page.py: in an outline of the repository, or,
+# where FOLDER is an unpacked release, there, as its pages say. What needs the GNU tools is tried where they are installed.
+here=$(cd "$(dirname "$0")/.." && pwd)
+root=${1:-$here} standing=() status=0
+if [ $# != 0 ]; then standing=(--root "$1"); fi
+try() { python3 -B "$here/tools/try_page.py" "${standing[@]}" "$@" || status=1; }
+try "$root/docs/WRONG_GROUPS.md"
+try --section 'From a text' --section 'Let the tool set the stops' --section 'Running a program' \
+  --section 'What may a wrong group do?' --section 'Where does a program spend its groups?' --section 'Where a text is refused' \
+  --section 'Where an image is refused' --section 'Exit statuses' "$root/docs/MANUAL.md"
+try --answers --section 'Programs of a stated size' "$root/docs/MANUAL.md"
+try --answers --section 'Run it' "$root/README.md"
+if type -P ia64-linux-gnu-objcopy > /dev/null; then
+  try --section 'You have an object file' "$root/docs/MANUAL.md"
+  try --section 'In the first minute' "$root/README.md"
+fi
+exit $status
