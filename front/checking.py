@@ -207,11 +207,9 @@ def first_answer(item, options, program, complain_of, say):
 
 
 def read_answer(file, refusal, options, program):
-    """The answer on a source as it is read without the GNU assembler, or the refusal of the text that it isn't."""
+    """A source with its functions as it is read without the GNU assembler, or the refusal of the text that it isn't."""
     source = replace(file, fault=None)
     try:
-        return programs.checked(source, program, options.verbose, sources.read(file.data))
+        return files.read_source(source, program, options.syscalls)
     except sources.Unread as none:
         return programs.unread(source, none) if refusal.is_at_directive else refusal.answer
-    except programs.Refused:
-        return refusal.answer

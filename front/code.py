@@ -100,3 +100,7 @@ class CodeFile:
     def entry(self):
         """The place where a linked file begins, or None."""
         return None
+
+    def line(self, place):
+        """The line of the file itself at which a slot stands, where it is a source: a section, an offset, a slot."""
+        return None

@@ -125,7 +125,8 @@ def built(file, options, program):
     if not files.is_source(options.file):
         raise Fault(f"refused, {printed.decode('latin-1').strip()}")
     if not gnu.installed("as"):
-        return read_image(file, program)
+        return read_source(file, options, program)
+
     def say(said):
         print(said, file=sys.stderr)
 
@@ -136,15 +137,12 @@ def built(file, options, program):
         raise
 
 
-def read_image(file, program):
-    """The image of a source as it is read without the GNU assembler."""
+def read_source(file, options, program):
+    """A source with its functions as it is read without the GNU assembler."""
     try:
-        status, printed = program.raw(["build"], sources.read(file.data).text)
+        return files.read_source(file, program, options.syscalls)
     except sources.Unread as none:
         raise Fault(f"not read without the GNU assembler: {none}") from None
-    if status != 0:
-        raise Fault(f"refused, {printed.decode('latin-1').strip()}")
-    return files.File(file.label, file.path, Kind.IMAGE, printed)
 
 
 def show_functions(file, options, program):

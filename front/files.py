@@ -5,7 +5,7 @@ from dataclasses import dataclass, field
 from enum import Enum
 from typing import List, NamedTuple, Optional
 
-from front import archive, elf, gnu, pe
+from front import archive, elf, gnu, pe, sources
 from front.code import CodeFile
 from front.faults import Fault, printable
 from front.functions import Function, functions_of
@@ -45,13 +45,18 @@ def kind_of(data):
 
 
 def read_code(label, path, data, syscalls):
-    """A file of code with its functions, their ties cut."""
+    """A file of code with its functions."""
     try:
         code = elf.Elf(data) if data.startswith(elf.MAGIC) else pe.Pe(data)
-        functions = functions_of(code)
-        cut_ties(code, functions, syscalls)
+        return with_functions(label, path, data, code, syscalls)
     except Fault as fault:
         return File(label, path, Kind.CODE, fault=str(fault))
+
+
+def with_functions(label, path, data, code, syscalls):
+    """A file of code with its functions, their ties cut."""
+    functions = functions_of(code)
+    cut_ties(code, functions, syscalls)
     return File(label, path, Kind.CODE, data, None, code, functions)
 
 
@@ -100,6 +105,19 @@ def assemble(file, path, options, complain, say):
     """The code that the GNU assembler makes of a source. What that says is said, and what there is to complain of is
     complained of."""
     return read_code(file.label, path, gnu.assembled(path, file.data, options.as_flags, complain, say), options.syscalls)
+
+
+def read_source(file, program, syscalls):
+    """The code of a source as it is read without the GNU assembler, or `sources.Unread`."""
+    read = sources.read(file.data)
+    status, printed = program.raw(["build"], read.text)
+    if status != 0:
+        raise read.refusal(printed.decode("latin-1"))
+    code = sources.SourceCode(read, printed)
+    made = with_functions(file.label, file.path, file.data, code, syscalls)
+    for function in made.functions:
+        function.texts = code.texts(function)
+    return made
 
 
 def is_source(path):

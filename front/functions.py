@@ -33,6 +33,7 @@ class Function:
     code: bytearray = field(default_factory=bytearray)           # the same as bytes
     entries: Dict[int, str] = field(default_factory=dict)        # declared ones: the bundle, and why it is one
     outside: Dict[Tuple[int, int], str] = field(default_factory=dict)   # slots that lead out of it, and where to
+    texts: Dict[Tuple[int, int], str] = field(default_factory=dict)     # of slots outside the profile, where a source has them
     has_odd_relocation: bool = False                             # whether one points into a bundle of it
 
     @property

@@ -43,6 +43,7 @@ class Texts:
         index, slot = place
         texts = self.verdict.texts
         own = texts[index][slot] if texts and slot < len(texts[index]) else None
+        own = own or self.verdict.function.texts.get(place)
         bundle = self.bundle(index)
         text = own or self.further.get((bundle, slot)) or f"word {bundle.words[2 if bundle.units[slot] == 'l' else slot]:#013x}"
         return self.with_target(text, index, slot, bundle, own is not None)

@@ -2,7 +2,6 @@
 
 import re
 import struct
-from dataclasses import replace
 
 from front import ways
 from front.faults import ProgramFault
@@ -11,27 +10,9 @@ from front.gnu import Source
 from front.judging import ACCEPTED, VIOLATED
 from front.program import END, Refusal
 from front.reports import Answer, Finding
-from front.texts import lines_of_text, slots_of_text
+from front.texts import REASONS, lines_of_text, slots_of_text
 from front.messages import Severity, counted
 
-# What the reasons of a refused text mean, in few words; docs/FORMATS.md, "Faults of a text", has them whole.
-REASONS = {
-    "char": "a byte that isn't a tab or one of 0x20 to 0x7e",
-    "name": "the leading word begins no line",
-    "register": "a register is wanted",
-    "number": "a number is wanted",
-    "range": "a number outside its field",
-    "form": "an operand or a mark is missing or left over, or no instruction has these operands",
-    "misplaced": "the line may not stand there",
-    "twice": "an earlier line has the label",
-    "template": "no template has these slots and stops",
-    "slot kind": "the instruction doesn't fit its slot",
-    "limit": "a limit is passed",
-    "empty": "there is no instruction",
-    "no label": "no label has the name",
-    "relation": "no entry follows the relation",
-    "long run": "192 slots stand before it without an end of their run",
-}
 SAID = {"RAW": "reads what '{}' writes in the same group", "WAW": "writes what '{}' writes in the same group",
         "WAR63": "writes what '{}' reads in the same group", "ALLOC": "has to be the first of its group, and '{}' stands before it"}
 
@@ -45,20 +26,17 @@ class Refused(Exception):
         self.answer, self.is_at_directive = answer, is_at_directive
 
 
-def checked(file, program, verbose=False, read=None):
-    """The answer on a text or an image; a refused one comes as `Refused`. `read` is what was read of a source: it is asked about
-    in place of the file, and its lines are told as those of the source."""
-    asked = replace(file, data=read.text) if read else file
-    status, text = program.call(["check"], asked.data)
+def checked(file, program, verbose=False):
+    """The answer on a text or an image; a refused one comes as `Refused`."""
+    status, text = program.call(["check"], file.data)
     if status == 3:
         raise refused(file, text.rstrip("\n"))
     total, broken = program.verdict(text)
-    built = Image(asked, program) if broken and total == len(broken) or verbose else None
+    built = Image(file, program) if broken and total == len(broken) or verbose else None
     found = ways.ways(built.ask, built.code, broken) if built and broken else {}
     excused = ways.excused(built.ask, built.code, broken) if verbose and total == len(broken) else []
     if file.kind is Kind.TEXT:
-        slots = slots_of_source(read) if read else slots_of_text(file.data)
-        findings = list(text_findings(file, slots, broken, found, excused))
+        findings = list(text_findings(file, slots_of_text(file.data), broken, found, excused))
     else:
         findings = list(image_findings(file, broken, found, excused, program))
     if verbose and not total:
@@ -116,15 +94,6 @@ class Image:
         `ways` turns away. The image is of version 2, which has room for one more."""
         count = struct.pack("<I", len(code) // 16 + 1)
         return self.program.check(b"IA64IMG2" + count + self.head[12:] + code + END.packed() + self.rest)
-
-
-def slots_of_source(read):
-    """The slots of what was read of a source, with its lines. A `nop` that was added has the line before it."""
-    lines, last = [], 1
-    for line in read.lines:
-        last = line or last
-        lines.append(last)
-    return [[slot._replace(line=lines[slot.line - 1], column=0) for slot in bundle] for bundle in slots_of_text(read.text)]
 
 
 def text_findings(file, slots, broken, found, excused):

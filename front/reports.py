@@ -66,11 +66,17 @@ def code_answer(file, verdicts, options):
     places = [(verdict.function.section.index, *message.place) for verdict, message in rows]
     places += [(verdict.function.section.index, verdict.function.offset(place[0]), place[1]) for verdict in verdicts
                for violation in verdict.violations for place in violation[2:]] if options.format != "lines" else []
-    lines = gnu.source_lines(file.data, file.code, list(dict.fromkeys(places)))
+    lines = source_lines(file, list(dict.fromkeys(places)))
     findings = [Finding(message.severity, lines.get((verdict.function.section.index, *message.place)),
                         f"{file.label}({verdict.function.section.name}{message.offset:+#x})", verdict.function.name,
                         message.text, message.rule) for verdict, message in rows]
     return Answer(file, verdicts, findings, further, lines)
+
+
+def source_lines(file, places):
+    """The lines of its source of places in a file of code, as far as they are known."""
+    known = {place: Source(file.label, line) for place, line in zip(places, map(file.code.line, places)) if line}
+    return known or gnu.source_lines(file.data, file.code, places)
 
 
 class Counts:

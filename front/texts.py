@@ -15,6 +15,25 @@ TEXT, DATA = re.compile(r"\.text#?$"), re.compile(r"\.data#?$")
 # Directives and lines of data begin so; an instruction is any other line that is no label.
 OUTSIDE = re.compile(r"\.|data[1248]\b")
 
+# What the reasons of a refused text mean, in few words; docs/FORMATS.md, "Faults of a text", has them whole.
+REASONS = {
+    "char": "a byte that isn't a tab or one of 0x20 to 0x7e",
+    "name": "the leading word begins no line",
+    "register": "a register is wanted",
+    "number": "a number is wanted",
+    "range": "a number outside its field",
+    "form": "an operand or a mark is missing or left over, or no instruction has these operands",
+    "misplaced": "the line may not stand there",
+    "twice": "an earlier line has the label",
+    "template": "no template has these slots and stops",
+    "slot kind": "the instruction doesn't fit its slot",
+    "limit": "a limit is passed",
+    "empty": "there is no instruction",
+    "no label": "no label has the name",
+    "relation": "no entry follows the relation",
+    "long run": "192 slots stand before it without an end of their run",
+}
+
 
 class Slot(NamedTuple):
     """A slot of a text: its line and its column, both from 1, and what stands there."""

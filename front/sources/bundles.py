@@ -3,7 +3,7 @@
 from dataclasses import dataclass
 
 from front.functions import MOST_BUNDLES
-from front.sources.instructions import Alignment, Instruction, STANDS, UNITS
+from front.sources.instructions import IN_LAST_SLOT, STANDS, UNITS, Alignment, Instruction
 from front.sources.unread import Unread
 
 
@@ -14,13 +14,6 @@ class Bundle:
     line: int                                    # that of its selector or of its first instruction
     slots: dict                                  # the instructions by their slots
     stops: set                                   # the slots behind which a stop stands
-    closed: int = 0
-
-    def first(self):
-        return next(iter(self.slots.values()), None)
-
-    def calls(self):
-        return any(instruction.mnemonic.startswith("br.call") for instruction in self.slots.values())
 
 
 def placed(units, run):
@@ -28,7 +21,7 @@ def placed(units, run):
     stands. What doesn't fit is left out."""
     slots, stops, at, is_stopped = {}, set(), 0, False
     for instruction in run:
-        is_last_slot = instruction.kind == "loop" or instruction.mnemonic.startswith("clrrrb")
+        is_last_slot = instruction.kind == "loop" or IN_LAST_SLOT.fullmatch(instruction.mnemonic)
         at = max(at, 2) if is_last_slot else at
         while at < 3:
             if is_stopped and (at, units) in MIDDLE and not (units == "mii" and instruction.mnemonic == "alloc"):
@@ -66,9 +59,10 @@ def joins(item):
 
 
 def laid_out(items):
-    """The bundles of a section."""
-    bundles, at = [], 0
+    """The bundles of a section, and how many of them stand before each item."""
+    bundles, before, at = [], [], 0
     while at < len(items):
+        before += [len(bundles)] * (at - len(before) + 1)
         item = items[at]
         if isinstance(item, Alignment):
             is_before_alloc = at + 1 < len(items) and getattr(items[at + 1], "mnemonic", "") == "alloc"
@@ -85,7 +79,7 @@ def laid_out(items):
         bundle = bundled(run, items[at:at + 3])
         bundles.append(bundle)
         at += len(bundle.slots)
-    return bundles
+    return bundles, before + [len(bundles)] * (len(items) - len(before) + 1)
 
 
 def fill(alignment, count, is_before_alloc):
@@ -143,11 +137,13 @@ def bundled(run, items):
         raise Unread(last.line, "a bundle that isn't closed, or has more instructions than fit")
     for slot, instruction in slots.items():
         settle(instruction, template[slot])
-    return Bundle(template, line, slots, stops, last.closed)
+    return Bundle(template, line, slots, stops)
 
 
 def settle(instruction, unit):
     """Gives the number of a `nop`, a `break` or a `hint` the form that it has in a slot's unit."""
+    if instruction.word is not None:
+        return
     word, number = instruction.mnemonic.split(".")[0], instruction.number
     if word == "hint" and (unit in "fbl" or unit == "m" and number >= MOST_HINTS):
         raise Unread(instruction.line, f"'hint {number}' in unit {unit.upper()}")

@@ -37,7 +37,10 @@ COMPARE = re.compile(rf"(?P<word>cmp4?)\.(?P<relation>{RELATIONS})\.(?P<kind>and
 NEGATED = {"eq": "ne", "ne": "eq", "lt": "ge", "ge": "lt", "le": "gt", "gt": "le"}
 MIRRORED = {"eq": "eq", "ne": "ne", "lt": "gt", "gt": "lt", "le": "ge", "ge": "le"}
 NEGATED_KINDS = {"andcm": "and", "orcm": "or", "and.orcm": "or.andcm"}
-TARGETED = re.compile(r"(?:br|chk)(?:\.|$)")
+TARGETED, OUTSIDE_TARGETED = re.compile(r"(?:br|chk)(?:\.|$)"), re.compile(r"(?:brl|f?chkf?)(?:\.|$)")
+# What the assembler puts into the last slot, before what it ends a group, and behind what.
+IN_LAST_SLOT = FOLLOWED = re.compile(r"clrrrb(?:\.pr)?|cover|bsw\.[01]|rfi")
+PRECEDED = ("alloc", "flushrs", "loadrs")
 ONE_TARGET = re.compile(r"(?:cmp4?|tbit|tnat)\.")
 BELOW_UNSIGNED = re.compile(r"(cmp4?)\.(leu|gtu)(\.unc)?")
 
@@ -64,9 +67,9 @@ class Instruction:
     opens: bool = False                # `{` stands in front of it
     closed: int = 0                    # the line of the `}` behind it, or 0
     ends: bool = False                 # the next one is in another bundle in any case
-    starts: bool = False               # a section, or what stands behind a function, begins with it
     labels: List[Tuple[str, int]] = field(default_factory=list)          # in front of it: names and lines
-    relations: List[Tuple[List[str], int]] = field(default_factory=list)  # the same: predicates and lines
+    word: Optional[int] = None         # of one outside the profile, in whose place the text has a `nop`
+    text: str = ""                     # how that is printed
 
 
 @dataclass

@@ -2,10 +2,13 @@
 
 import re
 
+from front.code import Rank
 from front.sources.forms import rewritten
-from front.sources.instructions import Alignment, Instruction, TARGETED, TEMPLATES, kind_of
+from front.sources.instructions import (FOLLOWED, OUTSIDE_TARGETED, PRECEDED, Alignment, Instruction, TARGETED, TEMPLATES,
+                                        kind_of)
 from front.sources.operands import (LINKED, MOST_IN_FRAME, NAME, OTHER_REGISTERS, REGISTERS, SPELLED,
                                     is_branch_register, is_name, names_of, parted, tokens_of, value_of)
+from front.sources.outside import NUMBERED, outside, outside_register
 from front.sources.unread import Unread, shown
 
 # What may stand in front of a statement: a label, a tag, a bundle's selector.
@@ -20,8 +23,6 @@ QUOTED = re.compile(r'"[^"]*"\s*,?')
 NAMES, NAMED = re.compile(NAME, re.A), re.compile(rf"({NAME})#?", re.A)
 SECTION = re.compile(r'\s*("[^"]*"|[^\s,]+)\s*(?:,\s*"([^"]*)")?')
 FUNCTION = re.compile(rf'\s*({NAME})#?\s*,\s*(?:[@%"](?:gnu_indirect_)?function|STT_FUNC)', re.A)
-MUTEX = re.compile(r'(?:\s*(?:"mutex"|@mutex)\s*,?)')
-PREDICATE = re.compile(r"p(\d{1,2})(?:\s*-\s*p(\d{1,2}))?", re.A)
 
 # Sections of code, by their names where nothing else says it, and those that say nothing of what is reached.
 OF_CODE = re.compile(r"\.(?:text|init|fini|gnu\.linkonce\.t)(?:\.|$)")
@@ -34,8 +35,8 @@ DROPPED = frozenset("""
     .file .loc .loc_mark_labels .ln .size .version .hidden .internal .protected .local .extern .comm .common .lcomm
     .symver .prologue .body .save .save.f .save.g .save.b .save.gf .savesp .savepsp .vframe .vframesp .vframepsp .fframe
     .altrp .unwabi .unwentry .restore .restorereg .restorereg.p .spill .spillreg .spillreg.p .spillsp .spillsp.p
-    .spillpsp .spillpsp.p .copy_state .label_state .personality .pred.safe_across_calls .pred.rel.clear .pred.rel.imply
-    .mem.offset .reg.val .serialize.data .serialize.instruction .explicit .default .lsb .msb .psr .alias .secalias
+    .spillpsp .spillpsp.p .copy_state .label_state .personality .pred.safe_across_calls .pred.rel .pred.rel.clear
+    .pred.rel.imply .pred.rel.mutex .mem.offset .reg.val .serialize.data .serialize.instruction .explicit .default .lsb .msb .psr .alias .secalias
     .gnu_attribute .vtable_entry .vtable_inherit .stabs .stabn .stabd
     """.split())
 # Data. Names in those of the first table are addresses.
@@ -53,8 +54,8 @@ class Code:
     """A section of code: its instructions and alignments, and what waits for the next instruction."""
 
     def __init__(self):
-        self.items, self.labels, self.relations = [], [], []
-        self.template, self.opened, self.is_open, self.starts = None, False, False, True
+        self.items, self.labels = [], []
+        self.template, self.opened, self.is_open = None, False, False
 
     def last(self):
         return self.items[-1] if self.items and isinstance(self.items[-1], Instruction) else None
@@ -83,6 +84,9 @@ class Reader:
         self.same = {}                 # names that were assigned another one
         self.used = set()              # names in expressions of instructions
         self.reached = []              # names of which each, where it is one of code, names an entry
+        self.functions = {}            # names of functions; where one has an end, its section and how many items end there
+        self.begun = []                # those of the function that isn't ended
+        self.ranks = {}                # names that the linker sees
         self.locals = {}               # how often a local label stood so far
         self.frame = None
         self.section = self.previous = ".text"
@@ -166,11 +170,9 @@ class Reader:
         self.defined[name] = self.line
 
     def label(self, name):
-        """A label. A relation in front of it says nothing of what is behind it."""
         self.define(name)
         if self.code:
             self.code.labels.append((name, self.line))
-            self.code.relations = []
 
     def tag(self, name):
         """A tag, which names the next slot. One of a bundle's first slot names the bundle."""
@@ -285,22 +287,30 @@ class Reader:
             self.code.flush()
 
     def reach(self, rest):
-        """Names of functions and of what the linker sees."""
         self.reached += NAMES.findall(rest)
 
+    def show(self, rest):
+        self.ranks.update((name, Rank.GLOBAL) for name in NAMES.findall(rest) if name not in self.ranks)
+
+    def weaken(self, rest):
+        self.ranks.update((name, Rank.WEAK) for name in NAMES.findall(rest))
+
     def begin(self, rest):
-        self.reach(rest)
+        self.begun = NAMES.findall(rest)
+        self.functions.update((name, None) for name in self.begun if name not in self.functions)
         self.aligned(16, 0, False)
 
-    def end(self, rest):
-        self.flush(rest)
+    def end(self, _):
+        """The end of a function: of all names that its beginning has."""
+        self.flush("")
         if self.code:
-            self.code.starts = True
+            self.functions.update((name, (self.section, len(self.code.items))) for name in self.begun)
+        self.begun = []
 
     def type_of(self, rest):
         found = FUNCTION.match(rest)
         if found:
-            self.reached.append(found[1])
+            self.functions.setdefault(found[1], None)
 
     def set_to(self, rest):
         name, _, said = rest.partition(",")
@@ -343,48 +353,35 @@ class Reader:
         inputs, local, outputs = sizes
         self.frame = {"in": (32, inputs), "loc": (32 + inputs, local), "out": (32 + inputs + local, outputs)}
 
-    def relation(self, rest):
-        """A relation, by a quoted word or by its name."""
-        if rest.strip()[:1] in ('"', "@"):
-            found = MUTEX.match(rest)
-            if not found:
-                return
-            rest = rest[found.end():]
-        predicates = []
-        for part in rest.split(",")[:64]:
-            found = PREDICATE.fullmatch(part.strip())
-            if not found:
-                self.fail("a relation that isn't known here")
-            predicates += range(int(found[1]), int(found[2] or found[1]) + 1)
-        if self.code:
-            self.code.relations.append((predicates, self.line))
-
     # -- Instructions
 
     def instruction(self, guard, mnemonic, rest):
-        code, kind = self.code, kind_of(mnemonic)
-        if kind is None:
-            self.fail(f"'{shown(mnemonic)}' is outside the profile, or unknown")
+        code = self.code
         if not code:
             self.fail("an instruction in a section of data")
         if guard and guard not in REGISTERS:
             self.fail(f"the predicate '{guard}'")
-        made = self.made(kind, mnemonic, rest)
-        made.guard, made.template, made.opens, made.starts = guard, code.template, code.opened, code.starts
-        made.labels, made.relations = code.labels, code.relations
-        if mnemonic == "alloc":
+        made = self.made(guard, mnemonic, rest)
+        made.guard, made.template, made.opens, made.labels = guard, code.template, code.opened, code.labels
+        if mnemonic in PRECEDED:
             code.stop()
-        made.stops = mnemonic.startswith("clrrrb")
+        made.stops = FOLLOWED.fullmatch(mnemonic) is not None
         code.items.append(made)
-        code.labels, code.relations, code.template, code.opened, code.starts = [], [], None, False, False
+        code.labels, code.template, code.opened = [], None, False
 
-    def made(self, kind, mnemonic, rest):
-        """An instruction in the program's own form."""
-        sides = parted(tokens_of(rest, self.line), "=") if rest else [[]]
+    def made(self, guard, mnemonic, rest):
+        """An instruction in the program's own form, or one outside the profile."""
+        kind, sides = kind_of(mnemonic), parted(tokens_of(rest, self.line), "=") if rest else [[]]
         if len(sides) > 2:
             self.fail(f"'{shown(rest)}'")
         lists = [parted(side, ",") if side else [] for side in sides]
         left, right = lists if len(lists) == 2 else ([], lists[0])
+        if kind is None or any(token not in REGISTERS and outside_register(token) for side in sides for token in side):
+            found = self.outside(guard, mnemonic, left, list(right))
+            if found:
+                return found
+            if kind is None:
+                self.fail(f"'{shown(mnemonic)}' is outside the profile, or unknown")
         made = Instruction(self.line, kind, mnemonic, "")
         if mnemonic == "alloc":
             self.set_frame([self.constant(self.settled(part)) for part in right[-4:]][:3])
@@ -397,6 +394,26 @@ class Reader:
             made.tag, right[1:] = self.tag_of(right[1])
         rewritten(self, made, [self.operand(part) for part in left], [self.operand(part) for part in right])
         return made
+
+    def outside(self, guard, mnemonic, left, right):
+        """An instruction of the table of stand-ins, or None."""
+        target = self.target(right.pop()) if OUTSIDE_TARGETED.match(mnemonic) and right else None
+        sides = [[self.outside_operand(part) for part in side] for side in (left, right)]
+        found = outside(mnemonic, guard, *sides, target is not None)
+        if found is None:
+            return None
+        return Instruction(self.line, found.kind, mnemonic, "", target, word=found.word, text=found.text)
+
+    def outside_operand(self, tokens):
+        """An operand of such an instruction: a register or a place in memory by its number, or something else as it stands."""
+        if len(tokens) == 3 and tokens[0] == "[" and tokens[-1] == "]":
+            return f"[{self.outside_operand(tokens[1:2])}]"
+        if len(tokens) == 1 and outside_register(tokens[0]):
+            return outside_register(tokens[0])
+        if tokens and tokens[0][0] == "@" and "(" not in tokens:
+            return "".join(tokens)
+        operand = self.operand(tokens)
+        return NUMBERED.get(operand, operand)
 
     def target(self, tokens):
         """The name of a target, or None where it is a register."""
@@ -464,8 +481,8 @@ class Reader:
 
 HANDLERS = {
     ".text": "text", ".section": "named_section", ".pushsection": "push", ".popsection": "pop", ".previous": "back",
-    ".handlerdata": "handler_data", ".ident": "flush", ".proc": "begin", ".endp": "end", ".global": "reach",
-    ".globl": "reach", ".weak": "reach", ".entry": "reach", ".type": "type_of", ".set": "set_to", ".equ": "set_to",
+    ".handlerdata": "handler_data", ".ident": "flush", ".proc": "begin", ".endp": "end", ".global": "show",
+    ".globl": "show", ".weak": "weaken", ".entry": "reach", ".type": "type_of", ".set": "set_to", ".equ": "set_to",
     ".equiv": "set_to", ".weakref": "set_to", ".align": "align", ".balign": "align_to", ".p2align": "align_by_power",
-    ".regstk": "registers", ".pred.rel": "relation", ".pred.rel.mutex": "relation",
+    ".regstk": "registers",
 }

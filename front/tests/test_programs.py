@@ -128,13 +128,16 @@ class Programs(Case):
         """It is read as far as it can be, and its lines are told."""
         source = example("functions.s").read_text()
         with unittest.mock.patch("front.gnu.installed", lambda tool: None):
-            got = self.lines("check", self.put(source.replace("lfetch.nta [r33]", "nop.m 0").encode()))
-            self.assertEqual(got, (1, ["x.s:23: error: RAW r9: 'st8 [r33] = r9' reads what 'mov r9 = r8' writes in the same group",
-                                       "x.s:19: note: 'mov r9 = r8' is here", "0 accepted, 1 violated, 0 not judged"], ""))
-            self.assertEqual(self.ia64("show", "x.s")[0], 0)
+            status, lines, said = self.lines("show", self.put(source.encode()), "sum")
+            self.assertEqual((status, lines[:3], said), (0, ["sum:".ljust(40) + "// .text+0x70, 0x30 bytes", "{ .mmi  // +0x70",
+                                                             "  lfetch.nta [r33]"], ""))
+            source = source.replace("lfetch.nta", "lfetch.x")
             status, lines, _ = self.lines("check", self.put(source.encode()))
             self.assertEqual((status, lines[0]), (
-                2, "x.s:56: error: not read without the GNU assembler: 'lfetch.nta' is outside the profile, or unknown"))
+                2, "x.s:56: error: not read without the GNU assembler: 'lfetch.x' is outside the profile, or unknown"))
+            status, lines, said = self.lines("show", "x.s")
+            self.assertEqual((status, lines, said), (2, [], (
+                "ia64: x.s: not read without the GNU assembler: line 56: 'lfetch.x' is outside the profile, or unknown\n")))
             text = self.put(WRONG.replace(b"x: // label", b"x: y"))
             self.assertEqual(self.lines("check", text)[1][0].split(": ")[:3], ["x.s:8", "error", "refused, form"])
 

@@ -3,16 +3,19 @@ assembler makes of it."""
 
 import os
 import random
-import struct
+import re
 import subprocess
 import tempfile
 import unittest
+import unittest.mock
 from pathlib import Path
 
-from front import sources, texts
-from front.bundle import branches, split_all, with_branch
+from front import sources
 from front.elf import Elf
-from front.tests.case import PROGRAM, ROOT, needs_gnu
+from front.functions import functions_of
+from front.stand_ins import stood_in
+from front.ties import cut_ties
+from front.tests.case import PROGRAM, ROOT, Case, needs_gnu
 
 # Sources as GCC prints them with -O2.
 LEAF = """\
@@ -528,6 +531,142 @@ inner:	{ .mib;	mov out0 = in0 ; mov.i ar.lc = COUNT ; nop.b 0 ;; }
 	br.ret.sptk.many	rp ;;
 	.endp
 """
+# Floating point, as GCC has it.
+FLOATING = """\
+	.pred.safe_across_calls p1-p5,p16-p63
+	.text
+	.align 16
+	.align 64
+	.global scale#
+	.type	scale#, @function
+	.proc scale#
+scale:
+	.prologue
+	.mmi
+	cmp4.ge p6, p7 = 0, r33
+	lfetch.nt1 [r32]
+	.save ar.lc, r2
+	mov r2 = ar.lc
+	.body
+	;;
+	.mii
+	adds r33 = -1, r33
+	nop 0
+	;;
+	mov ar.lc = r33
+	.mmf
+	nop 0
+	nop 0
+	mov f6 = f8
+	.mib
+	nop 0
+	nop 0
+	(p6) br.cond.dpnt .L1
+	;;
+.L3:
+	.mmf
+	ldfd f7 = [r32]
+	nop 0
+	nop 0
+	;;
+	.mfi
+	nop 0
+	fma.d f7 = f7, f6, f0
+	nop 0
+	;;
+	.mmb
+	stfd [r32] = f7, 8
+	nop 0
+	br.cloop.sptk.few .L3
+	;;
+.L1:
+	.mib
+	nop 0
+	mov ar.lc = r2
+	br.ret.sptk.many b0
+	;;
+	.endp scale#
+	.align 16
+	.global divide#
+	.type	divide#, @function
+	.proc divide#
+divide:
+	.prologue
+	.body
+	.mfi
+	setf.sig f6 = r32
+	nop 0
+	nop 0
+	.mfi
+	setf.sig f7 = r33
+	nop 0
+	nop 0
+	;;
+	.mfi
+	nop 0
+	fcvt.xf f6 = f6
+	nop 0
+	.mfi
+	nop 0
+	fcvt.xf f7 = f7
+	nop 0
+	;;
+	.mfi
+	nop 0
+	frcpa.s1 f8, p6 = f6, f7
+	nop 0
+	;;
+	.mfi
+	nop 0
+	(p6) fnma.s1 f9 = f7, f8, f1
+	nop 0
+	.mfi
+	nop 0
+	(p6) fmpy.s1 f10 = f6, f8
+	nop 0
+	;;
+	.mfi
+	nop 0
+	(p6) fma.s1 f8 = f9, f10, f10
+	nop 0
+	;;
+	.mfi
+	nop 0
+	fcvt.fx.trunc.s1 f8 = f8
+	nop 0
+	;;
+	.mfi
+	getf.sig r8 = f8
+	fcmp.lt.s1 p8, p9 = f8, f0
+	nop 0
+	;;
+	.mfb
+	nop 0
+	nop 0
+	(p8) br.cond.dpnt .L9
+	;;
+	.mmi
+	mov ar.ccv = r8
+	chk.s f8, .L9
+	nop 0
+	;;
+	.mmi
+	cmpxchg8.acq r9 = [r34], r33, ar.ccv
+	ldfps f12, f13 = [r35], 8
+	tf.z p10,p11 = 40
+	;;
+	.mlx
+	nop 0
+	brl.call.sptk.many b0 = abort#
+	;;
+.L9:
+	.mfb
+	nop 0
+	xma.l f8 = f8, f9, f0
+	br.ret.sptk.many b0
+	;;
+	.endp divide#
+"""
 GCC = {"leaf": LEAF, "loop": LOOP, "calls": CALLS, "table": TABLE, "predicated": PREDICATED, "data": DATA}
 HEAD = ".mii\nnop 0\nnop 0\n"
 
@@ -546,22 +685,19 @@ def asked(word, data):
     return done.returncode, done.stdout
 
 
-def built(text):
-    """The image of a source's text."""
-    status, image = asked("build", read(text).text)
-    assert status == 0, (image, read(text).text.decode())
-    return image
+def code_of(text):
+    """The code of a source as it is read here."""
+    program = read(text)
+    status, image = asked("build", program.text)
+    assert status == 0, (image, program.text.decode())
+    return sources.SourceCode(program, image)
 
 
-def bundles_of(image):
-    count, entries = struct.unpack_from("<2I", image, 8)
-    relations = struct.unpack_from("<I", image, 20)[0]
-    first = 24 + 4 * entries + 8 * relations
-    return split_all(image[first:first + 16 * count])
-
-
-def entries_of(image):
-    return list(struct.unpack_from(f"<{struct.unpack_from('<I', image, 12)[0]}I", image, 24))
+def functions_in(code):
+    """The functions of a file, their ties cut."""
+    functions = functions_of(code)
+    cut_ties(code, functions)
+    return functions
 
 
 def assembled(text):
@@ -573,58 +709,57 @@ def assembled(text):
         return Elf(Path(made).read_bytes())
 
 
-def without(bundle, slots):
-    """The bundle, with 0 as the displacement of the branches in some slots."""
-    for slot, _ in branches(bundle):
-        bundle = with_branch(bundle, slot, 0) if slot in slots else bundle
-    return bundle
-
-
 @needs_gnu
 class AsTheAssemblerHasIt(unittest.TestCase):
-    """The bundles of a text are those of the object file, but for branches that the linker settles."""
+    """The functions of a source are those of the object file, with all that is looked at: instructions outside the profile by
+    what stands in for them."""
 
-    def same(self, text, name):
-        file, mine = assembled(text), bundles_of(built(text))
-        relocated = {}
-        for relocation in file.relocations():
-            if relocation.is_branch:
-                section, offset = relocation.at
-                relocated.setdefault((section, offset >> 4), set()).add(offset & 15)
-        at = 0
-        for section in file.sections:
-            wanted = split_all(file.content(section)) if section.is_code and section.size else []
-            for number, bundle in enumerate(wanted):
-                got = without(mine[at + number], relocated.get((section.index, number), ()))
-                self.assertEqual(got, bundle, f"{name}: bundle {number} of {section.name}")
-            at += len(wanted) + bool(wanted)
-        self.assertEqual(at, len(mine), name)
+    def same(self, text, name, has_entries=True):
+        mine, wanted = (functions_in(code) for code in (code_of(text), assembled(text)))
+        self.assertEqual(len(mine), len(wanted), name)
+        for got, other in zip(mine, wanted):
+            for what in ("name", "names", "start", "size", "faults", "outside"):
+                self.assertEqual(getattr(got, what), getattr(other, what), f"{name}: {what} of {other.name}")
+            self.assertEqual(got.section.name, other.section.name, name)
+            for number, (bundle, right) in enumerate(zip(got.bundles, other.bundles)):
+                self.assertEqual(stood_in(bundle).bundle, stood_in(right).bundle, f"{name}: bundle {number} of {other.name}")
+            if has_entries:
+                self.assertEqual(got.entries, other.entries, f"{name}: entries of {other.name}")
 
     def test_sources_of_gcc(self):
+        """An object file doesn't tell all targets of a table of differences."""
         for name, text in GCC.items():
-            self.same(text, name)
+            self.same(text, name, name != "table")
 
     def test_a_source_by_hand(self):
         self.same(BY_HAND, "by hand")
 
+    def test_names_of_functions(self):
+        """By `.proc` and `.type`, with an end and without, under several names, at one place and one inside the other."""
+        bundle = ".mii;nop 1;nop 0;nop 0\n"
+        for text in (f".proc f#,g\nf:{bundle}g:{bundle}.endp f#,g\n{bundle}", f".type f,@function\nf:{bundle}.align 64\n{bundle}",
+                     f".type f,@function\n.global f,g,h\n.weak w\nf:g:{bundle}w:{bundle}.set h,f\nk=f\n.type g,@function",
+                     f"{bundle}.proc f\n{bundle}f:{bundle}.endp f\n.section .text.x,\"ax\"\n.proc z\nz:{bundle}.endp z",
+                     f".proc f\nf:{bundle}.endp f\n.proc g\ng:{bundle}.mib;br.few f\n.mib;br.call.sptk b0=h\n.endp g"):
+            self.same(text, text)
+
     def test_examples(self):
-        text = (ROOT / "examples" / "functions.s").read_text()
-        self.same(text[:text.index("\t.global sum#")], "functions.s")
+        self.same((ROOT / "examples" / "functions.s").read_text(), "functions.s")
 
     def test_tries(self):
+        """An object file has no `.entry`."""
         paths = sorted((ROOT / "tries" / "gnu").glob("*.s"))
         self.assertGreater(len(paths), 30)
         for path in paths:
-            self.same(path.read_text(), path.name)
+            self.same(path.read_text(), path.name, False)
 
     def test_random_ones(self):
         """Instructions, stops, labels and alignments at random in selectors: where the source is read, it is so too."""
         pool = ["nop 0", "nop.m 1", "nop.i 2", "nop.b 3", "nop.f 4", "add r8=r9,r10", "mf", "mov b6=r8", "(p6) br.few b6",
-                "mov ar.lc=3",
-                "movl r8=5", "break.f 0", "alloc r32=ar.pfs,0,1,0,0", "clrrrb", "br.cloop.sptk.few x", ";;", ";;", ";;",
-                ".align 32", ".align 64",
-                ".p2align 5", ".ident \"x\"", "chk.s r8,x", "cmp.leu p6,p7=5,r9", "mov r8=ar.unat", "popcnt r8=r9", "y:",
-                "[.Lz:]"]
+                "mov ar.lc=3", "movl r8=5", "break.f 0", "alloc r32=ar.pfs,0,1,0,0", "clrrrb", "br.cloop.sptk.few x", ";;", ";;",
+                ";;", ".align 32", ".align 64", ".p2align 5", ".ident \"x\"", "chk.s r8,x", "cmp.leu p6,p7=5,r9",
+                "mov r8=ar.unat", "popcnt r8=r9", "y:", "[.Lz:]", "fma.d f8=f9,f10,f11", "ldfd f8=[r9],8", "cover",
+                "lfetch [r8]", "mov ar.ccv=r8", "chk.s f8,x", "brl.few x", "padd1 r8=r9,r10"]
         chance, count = random.Random(11), 0
         for _ in range(25):
             rows, names = ["x:"], 0
@@ -665,8 +800,7 @@ class Reading(unittest.TestCase):
                      "{ .mii nop.m 0 /* a\n{ */ ; add r8=r9,r10 ;; // ;;\n# }\nnop.i 0 } ;;"):
             self.assertEqual(said(text)[:5], wanted)
         self.assertEqual(said(".mii\n.mib\nbr.few b6\n.mlx;movl r8=5")[:11], [
-            "{ .mib", "  nop 0", "  nop 0", "  br.few b6", "}", "{ .mlx", "  nop 0", "  movl r8 = 5 ;;", "}", "{ .mii",
-            "  break.m 0"])
+            "{ .mib", "  nop 0", "  nop 0", "  br.few b6", "}", "{ .mlx", "  nop 0", "  movl r8 = 5 ;;", "}", "end:", "{ .mii"])
 
     def test_slots(self):
         """An instruction goes into the next slot of its unit, and a stop in the middle of a bundle where a template has one."""
@@ -675,7 +809,7 @@ class Reading(unittest.TestCase):
             "add r8 = r9, r10", "nop 0 ;;", "add r9 = r9, r10"])
         self.assertEqual(self.slots(".mmi\nmf\n;;\nmf\n;;\n"), ["mf ;;", "mf", "nop 0 ;;"])
         self.assertEqual(self.slots(".mbb\nclrrrb\n.mib"), ["nop 0", "nop 0", "clrrrb ;;"])
-        self.assertEqual(self.slots(".bbb\nbr.ctop.sptk.few x\nx:"), ["nop 0", "nop 0", "br.ctop.sptk.few x"])
+        self.assertEqual(self.slots(".bbb\nbr.ctop.sptk.few x\nx:"), ["nop 0", "nop 0", "br.ctop.sptk.few end"])
         self.assertEqual(self.slots(".mfb\nmf\n(p6) br.few b6\n"), ["mf", "nop 0", "(p6) br.few b6"])
         self.assertEqual(self.slots(f"{HEAD}nop 1\n.mmi\nalloc r32=ar.pfs,0,1,0,0"), ["nop 0", "nop 0", "nop 1 ;;"])
 
@@ -712,7 +846,7 @@ class Reading(unittest.TestCase):
             "alloc r32 = ar.pfs, 0, 1, 0, 0", "mov ar.lc = r8", "mov r9 = ar.ec"])
         self.unread(".regstk 2,3,2,0\n.mii\nadd r8=in2,r9", 3, "the register 'in2' is outside the profile, or isn't there")
         self.unread(".mii\nadd r8=in0,r9", 2, "the register 'in0' is outside the profile, or isn't there")
-        self.unread(".mmi\nnop 0\nmov r8=ar.ccv", 3, "the register 'ar.ccv' is outside the profile, or isn't there")
+        self.unread(".mmi\nnop 0\nmov r8=psr", 3, "the register 'psr' is outside the profile, or isn't there")
 
     def test_numbers(self):
         for given, wanted in (("16", "16"), ("-1", "-1"), ("0x10", "0x10"), ("010", "8"), ("0b101", "5"), ("'a'", "97"),
@@ -740,21 +874,21 @@ class Reading(unittest.TestCase):
         self.assertEqual(self.slots(".mmi\nld8.mov r1=[r2],x#\n(p6) ld8.c.clr.nta r2 = [r3], -8"), [
             "ld8 r1 = [r2]", "(p6) ld8.c.clr.nta r2 = [r3], -8", "nop 0"])
         self.assertEqual(self.slots(".mib\nchk.s r8,x\nbr.call.sptk.many rp=f#\nx:.mii\nnop 0"), [
-            "chk.s r8, x", "nop 0", "br.call.sptk.many rp = f"])
+            "chk.s r8, end", "nop 0", "br.call.sptk.many rp = end"])
+
+    def targets(self, text):
+        """Where the branches of a source lead: to which bundle of which section, or to what name."""
+        return [(relocation.to[0], relocation.to[1] // 16) if relocation.to else relocation.name
+                for relocation in code_of(text).relocations() if relocation.is_branch]
 
     def test_labels(self):
         """Labels of bundles, local ones too, and names that the source lacks."""
-        text = "1: x: .mib;br.few 1f\n1: .mib; br.few 1b;\n.mib;br.few x#\n.mib;br.few f#;.mib;br.few f\n[.Ly:] .mib; br.few .Ly"
-        self.assertEqual([line for line in said(text) if ":" in line or "br" in line], [
-            "x:", "  br.few .label1", ".label1:", "  br.few .label1", "  br.few x", "  br.few f", "  br.few f", ".Ly:",
-            "  br.few .Ly ;;", "f:",
-            "  break.m 0"])
+        self.assertEqual(self.targets("1: x: .mib;br.few 1f\n1: .mib; br.few 1b;\n.mib;br.few x#\n.mib;br.few f#;.mib;br.few f\n"
+                                      "[.Ly:] .mib; br.few .Ly"), [(0, 1), (0, 1), (0, 0), "f", "f", (0, 5)])
         long = "n" * 64
-        lines = said(f"{long}:.mib;br.few {long}\nr5: .mib; br.few r5#; .mib; br.few d\u00e9j\u00e0")
-        self.assertEqual([line for line in lines if ":" in line], [".label1:", ".label2:", ".label3:"])
-        self.assertEqual(asked("check", "\n".join(lines).encode()), (0, b"accepted\n"))
-        self.assertEqual([line for line in said("x: .mib; br.few same; br.few y\n.set same, x\ny = same") if ":" in line],
-                         ["same:", "y:"])
+        self.assertEqual(self.targets(f"{long}:.mib;br.few {long}\nr5: .mib; br.few r5#; .mib; br.few d\u00e9j\u00e0\n"
+                                      ".section .t,\"ax\"\n.mib;br.few end\nend:"), [(0, 0), (0, 1), "d\u00e9j\u00e0", (1, 1)])
+        self.assertEqual(self.targets("x: .mib; br.few same; br.few y\n.set same, x\ny = same"), [(0, 0), (0, 0)])
         self.unread("x: .mii;nop 0\nx:", 2, "'x' stands there twice")
         self.unread(".mib\nbr.few 1f", 2, "'1' names no bundle")
         self.unread(".mii\nnop 0\n[x:] nop 0\n.mib;br.few x", 4, "'x' names no bundle")
@@ -762,75 +896,68 @@ class Reading(unittest.TestCase):
         self.unread("a = b\nb = a\n.mib;br.few a", 3, "'a' is another name for itself")
 
     def entries(self, text):
-        return entries_of(built(text))
+        """The starts and the declared entries of functions, each as section and bundle, but for the first bundle."""
+        return sorted((function.section.index, function.start // 16 + entry) for function in functions_in(code_of(text))
+                      for entry in {0, *function.entries})[1:]
 
     def test_entries(self):
         """What may be reached from elsewhere."""
-        bundle = ".mii;nop 0;nop 0;nop 0\n"
+        bundle = ".mii;nop 1;nop 0;nop 0\n"
         start, middle = f"{bundle}{bundle}", f"x: {bundle}"
         self.assertEqual(self.entries(start + middle), [])
         for line in (".proc x#", ".type x#, @function", ".global x#", ".globl y, x", ".weak x", ".entry x", ".data\ndata8 x",
                      ".section .rodata\ndata8 x-y", ".data\ndata8 @fptr(x#), 5", '.xdata8 ".ctors", x',
                      ".section .t,\"a\"\ndata4 x-y"):
-            self.assertEqual(self.entries(f"{line}\n.text\n{start}{middle}"), [2], line)
+            self.assertEqual(self.entries(f"{line}\n.text\n{start}{middle}"), [(0, 2)], line)
         for line in (".data\ndata8 y-x", ".section .debug_info,\"\",@progbits\ndata8.ua x",
                      ".section .gcc_except_table,\"a\"\ndata8 x",
                      ".handlerdata\n.uleb128 x-y\ndata8 x\n.text", ".type x,@object", ".section .rodata\n.uleb128 x-y",
                      ".section .comment\ndata8 x"):
             self.assertEqual(self.entries(f"{line}\n.text\n{start}{middle}"), [], line)
         for line in ("addl r8=@gprel(x),gp", "addl r8=@ltoff(x#), r1", "mov r8=x", "addl r8=@ltoff(@fptr(z)),r1\n.set z, x"):
-            self.assertEqual(self.entries(f"{start}{middle}.mmi\n{line}\nnop 0\nnop 0"), [2], line)
-        self.assertEqual(self.entries(f"{start}{middle}.mlx\nmovl r8=x"), [2])
+            self.assertEqual(self.entries(f"{start}{middle}.mmi\n{line}\nnop 0\nnop 0"), [(0, 2)], line)
+        self.assertEqual(self.entries(f"{start}{middle}.mlx\nmovl r8=x"), [(0, 2)])
         self.assertEqual(self.entries(f"{start}{middle}.mib\nchk.s r8,x\nbr.few x"), [])
         # Each section of code, and what follows a function, may be reached from elsewhere.
-        self.assertEqual(self.entries(f"{start}.section .text.x,\"ax\"\n{bundle}.section .init,\"ax\"\n.align 32\n{bundle}"), [3, 5])
-        self.assertEqual(self.entries(f".proc f\nf:{start}.endp f\n{bundle}"), [2])
-        # What stands behind a call is an entry anyway.
-        self.assertEqual(self.entries(f".mib;br.call.sptk.many b0=f#\n.global x\n{middle}"), [])
+        self.assertEqual(self.entries(f"{start}.section .text.x,\"ax\"\n{bundle}.section .init,\"ax\"\n.align 32\n{bundle}"),
+                         [(1, 0), (2, 0)])
+        self.assertEqual(self.entries(f".proc f\nf:{start}.endp f\n{bundle}"), [(0, 2)])
+        self.assertEqual(self.entries(f".proc f\nf:{start}.endp f\n.proc g\ng:{bundle}.mib;br.few h\n.endp g\nh=y\ny=f"), [(0, 2)])
 
     def test_relations(self):
-        """A relation stays at an entry, and is left out elsewhere."""
+        """They say nothing, in whatever form and wherever they stand."""
         bundle = ".mii;nop 0;nop 0;nop 0\n"
-
-        def relations(text):
-            return [line for line in said(text) if line.startswith(".pred")]
-
-        for relation in (".pred.rel.mutex p6, p7", '.pred.rel "mutex", p6, p7', '.pred.rel "mutex" p6,p7',
-                         ".pred.rel @mutex, p6-p7",
-                         ".pred.rel.mutex p6,p7,p16,p6"):
-            kept = ['.pred.rel "mutex",p6,p7']
-            self.assertEqual(relations(f"{bundle}x:\n{relation}\n{bundle}"), [])
-            self.assertEqual(relations(f".global x\n{bundle}x:\n{relation}\n{bundle}"), kept)
-            self.assertEqual(relations(f"{bundle}.global x\nx: .mii\n{relation}\nnop 0\n"), kept)
-            self.assertEqual(relations(f"{relation}\n{bundle}"), kept)
-            self.assertEqual(relations(f".mib;br.call.sptk.few b0=f\n{relation}\n{bundle}"), kept)
-            # Before a label, in the middle of a bundle and in data it says nothing of the bundle.
-            self.assertEqual(relations(f".global x\n{bundle}{relation}\nx:\n{bundle}"), [])
-            self.assertEqual(relations(f".mii\nnop 0\n{relation}\nnop 0\n"), [])
-            self.assertEqual(relations(f".data\n{relation}\n.text\n{bundle}"), [])
-        for relation in (".pred.rel.mutex p16, p17", ".pred.rel.clear", '.pred.rel "imply", p6, p7',
-                         ".pred.rel.imply p6,p7", ".pred.rel.mutex p6"):
-            self.assertEqual(relations(f"{relation}\n{bundle}"), [], relation)
-        self.unread(".pred.rel.mutex p6,r7", 1, "a relation that isn't known here")
+        for relation in (".pred.rel.mutex p6, p7", '.pred.rel "mutex", p6, p7', ".pred.rel @mutex, p6-p7", ".pred.rel.clear",
+                         '.pred.rel "imply", p6, p7', ".pred.rel.imply p6,p7", ".pred.rel.mutex p6"):
+            for text in (f"{relation}\n{bundle}", f".global x\n{bundle}x:\n{relation}\n{bundle}", f".data\n{relation}\n.text\n{bundle}"):
+                self.assertEqual(said(text), said(text.replace(relation, "")))
 
     def test_sections(self):
-        """Of each section of code the bundles stand one behind the other, and an end behind each section."""
+        """Of each section of code its bundles."""
         text = (".section .text.b,\"ax\",@progbits\n.mii;nop 1\n.text\n.mii;nop 2\n.section .text.b\n.mii;nop 3\n.pushsection .data\n"
                 ".string \";;{\"\n.popsection\n.mii;nop 4\n.previous\n.mii;nop 5\n.bss\nx: .skip 8\n.previous\n")
-        self.assertEqual([line.split()[1] for line in said(text) if line.startswith("  nop ") and "nop 0" not in line],
-                         ["2", "5", "1", "3", "4"])
-        self.assertEqual(sum(line == "  break.m 0" for line in said(text)), 2)
+        self.assertEqual([(code.name, [bundle.slots[0].number for bundle in code.bundles]) for code in read(text).codes],
+                         [(".text", [2, 5]), (".text.b", [1, 3, 4])])
+
+    def test_many_bundles(self):
+        """A function that is longer than a stretch of the text has its bundles, also where no stop is in it."""
+        for stop in ("", ";;"):
+            code = code_of("f: .proc f\n" + "".join(f".mii;nop {number}\n{stop}\n" for number in range(230)) + ".endp f")
+            function, = functions_in(code)
+            self.assertEqual([bundle.words[0] >> 6 & 0xFFFFF for bundle in function.bundles], list(range(230)))
 
     def test_what_is_not_read(self):
         """Each with its line."""
         for text, line, why in (
                 ("add r8=r9,r10\n;;\nadd r9=r9,r10\n", 1, "instructions in no bundle, which the assembler packs"),
                 ("x:\n.mii;nop 0;nop 0;nop 0\nnop 1;nop 2", 3, "instructions in no bundle, which the assembler packs"),
-                (".mii\nlfetch.nta [r8]\n", 2, "'lfetch.nta' is outside the profile, or unknown"),
-                (".mfi\nnop 0\n\nfma.d f8=f9,f10,f11", 4, "'fma.d' is outside the profile, or unknown"),
-                (".mmi\n(p6) ldf8 f6=[r32]", 2, "'ldf8' is outside the profile, or unknown"),
-                (".mmi\nsetf.sig f6=r32", 2, "'setf.sig' is outside the profile, or unknown"),
-                (".mlx\nnop 0\nbrl.call.sptk.many b0=f#", 3, "'brl.call.sptk.many' is outside the profile, or unknown"),
+                (".mii\nlfetch.x [r8]\n", 2, "'lfetch.x' is outside the profile, or unknown"),
+                (".mfi\nnop 0\n\nfma.d f8=f9,f10,r11", 4, "'fma.d' is outside the profile, or unknown"),
+                (".mmi\n(p6) ldf8 f6=[r32],8,9", 2, "'ldf8' is outside the profile, or unknown"),
+                (".mmi\nsetf.sig f1=r32", 2, "'setf.sig' is outside the profile, or unknown"),
+                (".mmi\nld8.d2 r8=[r32]", 2, "'ld8.d2' is outside the profile, or unknown"),
+                (".mmi\nptc.g r8,r32", 2, "'ptc.g' is outside the profile, or unknown"),
+                (".mlx\nnop 0\nbrl.call.sptk.many f#", 3, "'brl.call.sptk.many' is outside the profile, or unknown"),
                 (".mmi\nnop 0\nmov r8=psr", 3, "the register 'psr' is outside the profile, or isn't there"),
                 (".macro x\n.endm", 1, "the directive '.macro' isn't known here"),
                 ("\n.if 1\n.endif", 2, "the directive '.if' isn't known here"),
@@ -894,18 +1021,8 @@ class Reading(unittest.TestCase):
             self.assertTrue(0 < unread.line <= data.count(b"\n") + 1 and unread.why, data)
             return False
         self.assertEqual(len(got.lines), got.text.count(b"\n"))
+        self.assertEqual(asked("build", got.text)[0] in (0, 3), True, data)
         return True
-
-    def test_verdicts(self):
-        """What GCC prints is accepted, and without a stop the places of the pair have their lines in the source."""
-        for name, text in dict(GCC, by_hand=BY_HAND).items():
-            self.assertEqual(asked("check", read(text).text), (0, b"accepted\n"), name)
-        got = read(LEAF.replace("nop 0\n\t;;", "nop 0", 1))
-        self.assertEqual(asked("check", got.text), (1, b"violations 1\nRAW r14 0.0 1.0\n"))
-        slots = texts.slots_of_text(got.text)
-        lines = LEAF.split("\n")
-        self.assertEqual([lines[got.lines[slots[bundle][0].line - 1] - 1 + bundle].strip() for bundle in (0, 1)],
-                         ["add r14 = r32, r33", "add r8 = r14, r34"])
 
     def test_long_ones(self):
         """The work grows with the source alone."""
@@ -930,35 +1047,89 @@ class Lines(unittest.TestCase):
     """Where the lines of a text come from."""
 
     def test_every_line(self):
-        """Each line that is no brace and no added one has what its line of the source has."""
+        """Each line of an instruction has what its line of the source has."""
         for name, text in dict(GCC, by_hand=BY_HAND).items():
             got, source = read(text), text.split("\n")
-            rows = got.text.decode().splitlines()
-            self.assertEqual(len(rows), len(got.lines), name)
-            for row, line in zip(rows, got.lines):
-                if line == 0:
-                    self.assertIn(row.strip(), ("nop 0", "nop 0 ;;", "}", "{ .mii", "{ .mmi", "break.m 0", "nop.i 0",
-                                                "nop.i 0 ;;",
-                                                *(f"{out}:" for out in ("printf", "abort", ".label1"))), name)
-                elif row.startswith("  "):
+            for row, line in zip(got.text.decode().splitlines(), got.lines):
+                if line and row.startswith("  "):
                     word = row.split(") ")[-1].split()[0].split(".")[0]
                     self.assertIn({"addl": "add"}.get(word, word), source[line - 1].lower(), name)
-                elif row.startswith(".pred.rel"):
-                    self.assertIn(".pred.rel.mutex", source[line - 1], name)
-                elif ".label" not in row and row not in ("}", "{ .mfi"):
-                    self.assertIn(row.strip("{ :").replace(".entry ", ""), source[line - 1], name)
 
     def test_the_map(self):
-        text = ("\n.text\n.global f\n\n{ .mii\n\nnop 1\n // x\n;;\nadd r8=r9,r10\n}\n.pred.rel.mutex p6,p7\nf: .pred.rel.mutex p6,p7\r\n"
+        text = ("\n.text\n.global f\n\n{ .mii\n\nnop 1\n // x\n;;\nadd r8=r9,r10\n}\nf: .pred.rel.mutex p6,p7\r\n"
                 ".mib\n/* \n */ br.few f; ;; movl r8=5\n.align 32\n;;.mib;br.few g")
         self.assertEqual(list(zip(said(text), read(text).lines)), [
-            ("{ .mii", 5), ("  nop 1", 7), ("  nop 0 ;;", 0), ("  add r8 = r9, r10", 10), ("}", 11),
-            (".entry f", 13), ("f:", 13), ('.pred.rel "mutex",p6,p7', 13),
-            ("{ .mib", 14), ("  nop 0", 0), ("  nop 0", 0), ("  br.few f ;;", 16), ("}", 0),
-            ("{ .mlx", 16), ("  nop 0", 0), ("  movl r8 = 5 ;;", 16), ("}", 0),
+            ("{ .mii", 5), ("  nop 1", 7), ("  nop 0 ;;", 0), ("  add r8 = r9, r10", 10), ("}", 0),
+            ("{ .mib", 13), ("  nop 0", 0), ("  nop 0", 0), ("  br.few end ;;", 15), ("}", 0),
+            ("{ .mlx", 15), ("  nop 0", 0), ("  movl r8 = 5 ;;", 15), ("}", 0),
             ("{ .mmi", 0), ("  nop 0", 0), ("  nop 0", 0), ("  nop 0", 0), ("}", 0),
-            ("{ .mib", 18), ("  nop 0", 0), ("  nop 0", 0), ("  br.few g ;;", 18), ("}", 0),
-            ("g:", 0), ("{ .mii", 0), ("  break.m 0", 0), ("  nop.i 0", 0), ("  nop.i 0 ;;", 0), ("}", 0)])
+            ("{ .mib", 17), ("  nop 0", 0), ("  nop 0", 0), ("  br.few end ;;", 17), ("}", 0),
+            ("end:", 0), ("{ .mii", 0), ("  break.m 0", 0), ("  nop.i 0", 0), ("  nop.i 0 ;;", 0), ("}", 0)])
+        code = code_of(text)
+        self.assertEqual([code.line((0, 16 * bundle, slot)) for bundle in range(5) for slot in range(3)],
+                         [7, 7, 10, 15, 15, 15, 15, 15, 15, None, None, None, 17, 17, 17])
+        self.assertIsNone(code.line((0, 80, 0)))
+
+
+def with_less_stops(text, seed):
+    """A source without some of its stops."""
+    chance = random.Random(seed)
+    return "".join(part if part != ";;" or chance.random() > 0.3 else "" for part in re.split("(;;)", text))
+
+
+class Verdicts(Case):
+    """What `check` says of sources where the GNU assembler isn't installed."""
+
+    def check(self, text, *words):
+        Path("x.s").write_text(text)
+        with unittest.mock.patch("front.gnu.installed", lambda tool: None):
+            return self.lines("check", "x.s", *words)
+
+    def test_each_function(self):
+        """A function each, by its name, with the lines of the source."""
+        source = (ROOT / "examples" / "functions.s").read_text()
+        self.assertEqual(self.check(source), (1, [
+            "x.s:23: error: x.s(.text+0x20) swap: RAW r9: written by 'adds r9=0,r8' (+0x10 slot 1) and read by 'st8 [r33]=r9' "
+            "(+0x20 slot 0)", "2 accepted, 1 violated, 0 not judged (1 of these functions with stand-ins)"], ""))
+        self.assertEqual(self.check(source, "-v")[1][-2:], [
+            "x.s:56: note: x.s(.text+0x70) sum: stood in for: 'lfetch.nta [r33]' (+0x70 slot 0)",
+            "2 accepted, 1 violated, 0 not judged (1 of these functions with stand-ins)"])
+        self.assertEqual(self.check(source, "--exact")[1][-3:], [
+            "not judged, by the first reason:", "      1 lfetch.nta: no stand-in is wanted", "1 accepted, 1 violated, 1 not judged"])
+
+    def test_system_calls(self):
+        source = ".proc f\nf: .mii; break.m 0x100000\n.mmi;add r8=r9,r10;add r9=r8,r8\n.mib;br.ret.sptk.many b0;;\n.endp f"
+        self.assertEqual([self.check(source, *words)[0] for words in ((), ("--syscalls",))], [0, 1])
+
+    def test_floating_point(self):
+        """It rides on general registers, as in object files, and `--exact` doesn't judge it."""
+        self.assertEqual(self.check(FLOATING)[1], ["2 accepted, 0 violated, 0 not judged (2 of these functions with stand-ins)"])
+        wrong = self.check(FLOATING.replace("ldfd f7 = [r32]\n\tnop 0\n\tnop 0\n\t;;", "ldfd f7 = [r32]"))
+        self.assertEqual((wrong[0], wrong[1][0]), (1, (
+            "x.s:36: error: x.s(.text+0x50) scale: RAW f7: written by 'ldfd f7=[r32]' (+0x40 slot 0) and read by "
+            "'fma.d.s0 f7=f7,f6,f0' (+0x50 slot 1)")))
+
+    def test_what_the_program_refuses(self):
+        """The line of the source, and the reason."""
+        self.assertEqual(self.check(".prologue\n.mii\nadds r8=9000,r9\n")[:2], (2, [
+            "x.s:3: error: not read without the GNU assembler: refused, range: a number outside its field",
+            "0 accepted, 0 violated, 0 not judged"]))
+
+    def test_a_run_that_is_too_long(self):
+        """Such a function alone isn't judged."""
+        source = ".proc f\nf:" + ".mii;nop 1\n" * 65 + ".endp f\n.proc g\ng: .mib;br.ret.sptk.many b0;;\n.endp g"
+        self.assertEqual(self.check(source)[1][-1], "1 accepted, 0 violated, 1 not judged")
+
+    @needs_gnu
+    def test_as_with_the_assembler(self):
+        """The same verdicts and lines."""
+        for name, text in dict(GCC, by_hand=BY_HAND, floating=FLOATING.replace(", f0\n", ", f5\n")).items():
+            if name in ("leaf", "table"):            # of which GNU's lines are others, or an object file tells less
+                continue
+            for seed in range(3):
+                changed = with_less_stops(text, seed).replace("\t.endp\n", "\t.endp copy, inner\n")
+                got = self.check(changed, "-v")
+                self.assertEqual(got[:2], self.lines("check", "x.s", "-v")[:2], f"{name} {seed}")
 
 
 if __name__ == "__main__":
