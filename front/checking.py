@@ -179,9 +179,7 @@ def answers(batch, options, program, complain_of, say):
             yield reports.Answer(file, [], [], {}, {})
         else:
             own = [next(verdicts) for _ in file.functions]
-            for verdict in own:
-                if verdict.violations or verdict.unlisted or verdict.excused:
-                    judge.list_texts(verdict)
+            judge.list_texts([verdict for verdict in own if verdict.violations or verdict.unlisted or verdict.excused])
             yield reports.code_answer(file, own, options)
 
 

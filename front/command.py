@@ -149,8 +149,8 @@ def show_functions(file, options, program):
     wanted, judge = options.functions, Judge(program)
     chosen = [function for function in file.functions if not wanted or set(wanted) & {function.name, *function.names}]
     missing = [name for name in wanted if not any(name in (function.name, *function.names) for function in chosen)]
-    for number, function in enumerate(chosen):
-        print(*[""] * bool(number), *listing.lines_of_function(function, judge, options.command == "list"), sep="\n")
+    for number, lines in enumerate(listing.listings(chosen, judge, options.command == "list")):
+        print(*[""] * bool(number), *lines, sep="\n")
     for name in missing:
         complain(f"{options.file}: no function {name}")
     return WRONG if missing else DONE

@@ -100,8 +100,8 @@ class Judge:
         verdicts = [Verdict(function, faults=list(function.faults)) for function in functions]
         pieces = [(verdict, self.whole_piece(verdict)) for verdict in verdicts if not verdict.faults]
         asked = [(verdict, piece) for verdict, piece in pieces if piece is not None]
-        for batch in batches(asked, lambda row: (row[1].count(), len(row[1].entries))):
-            self.check(batch)
+        for batch in batches(asked, size_of):
+            self.ask_all(batch, "check", self.ask, lambda rows, answer: self.take(rows, *answer), self.refused)
         for verdict, piece in asked:
             if verdict.word == VIOLATED or self.verbose and verdict.word == ACCEPTED:
                 self.explain(verdict, piece)
@@ -179,25 +179,25 @@ class Judge:
 
     # ---- What is answered
 
-    def check(self, batch):
-        """Takes the violations of the pieces of one image. Where the program refuses a piece, those before it are asked about
+    def ask_all(self, batch, word, ask, take, refused):
+        """Takes what the program answers on the pieces of one image. Where it refuses a piece, those before it are asked about
         first, as they may be refused for another reason; it is looked at alone; and of those behind it so many are asked about
         at once as are likely not to be refused."""
         at, size = 0, len(batch)
         while at < len(batch):
             asked = batch[at:at + size]
-            answer = self.ask(asked)
+            answer = ask(asked)
             if not isinstance(answer, Refusal):
-                self.take(asked, *answer)
+                take(asked, answer)
                 at, size = at + size, 4 * size
                 continue
             number, bundle = owner(asked, answer.bundle)
             if number is None:
-                raise self.program.unknown("check", f"{answer}")
+                raise self.program.unknown(word, f"{answer}")
             if number:
                 size = number
             else:
-                self.refused(*asked[0], answer._replace(bundle=bundle))
+                refused(*asked[0], answer._replace(bundle=bundle))
                 at, size = at + 1, max(1, size // 2)
 
     def ask(self, batch):
@@ -279,20 +279,51 @@ class Judge:
         verdict.off_walks = flow.off_walks(verdict.function, walks.walked)
         verdict.falls_out, verdict.indirect = walks.falls_out, walks.indirect
 
-    def list_texts(self, verdict):
-        """Fills in the texts of a function's slots, as the program lists them. Those of instructions that it doesn't take are
+    # ---- Texts
+
+    def list_texts(self, verdicts):
+        """Fills in the texts of functions' slots, as the program lists them. Those of instructions that it doesn't take are
         None, and `unread` has their places."""
-        code = bytes(verdict.function.code)
-        unread = {*verdict.stood_in, *((slot.bundle, slot.slot) for slot in verdict.unlisted)}
-        rows = self.program.listing(image([(without_slots(code, unread), [])]))
-        if isinstance(rows, Refusal):
-            unread |= self.unknown_slots(code, [], unread)[0]
-            rows = self.program.listing(image([(without_slots(code, unread), [])]))
-        if isinstance(rows, Refusal):
-            return
-        verdict.unread = sorted((index, slot) for index, slot in unread if slot is not None)
-        verdict.texts = [[None if (index, slot) in unread else text for slot, text in enumerate(texts)]
-                         for index, texts in enumerate(rows[:-1])]
+        rows = [(verdict, self.listed_piece(verdict, outside_slots(verdict))) for verdict in verdicts if verdict.function.count]
+        for batch in batches(rows, size_of):
+            self.ask_all(batch, "list", self.ask_texts, self.take_texts, self.list_alone)
+
+    @staticmethod
+    def listed_piece(verdict, unread):
+        return Piece(verdict.function, without_slots(bytes(verdict.function.code), unread), [])
+
+    def ask_texts(self, batch):
+        return self.program.listing(image([(piece.code, []) for _, piece in batch]))
+
+    @staticmethod
+    def take_texts(batch, rows, further=frozenset()):
+        """Parts the texts of an image into those of its pieces, each with an end behind it."""
+        at = 0
+        for verdict, piece in batch:
+            unread = outside_slots(verdict) | further
+            verdict.unread = sorted((index, slot) for index, slot in unread if slot is not None)
+            verdict.texts = [[None if (index, slot) in unread else text for slot, text in enumerate(texts)]
+                             for index, texts in enumerate(rows[at:at + piece.count()])]
+            at += piece.count() + 1
+
+    def list_alone(self, verdict, piece, refusal):
+        """The texts of a function that the program refuses, without the slots that it doesn't take. Where it is refused for
+        another reason too, there are none."""
+        unknown, _ = self.unknown_slots(piece.code, [], set(), refusal)
+        batch = [(verdict, self.listed_piece(verdict, outside_slots(verdict) | unknown))]
+        rows = self.ask_texts(batch)
+        if not isinstance(rows, Refusal):
+            self.take_texts(batch, rows, unknown)
+
+
+def size_of(row):
+    """How many bundles and declared entries the piece of a verdict has."""
+    return row[1].count(), len(row[1].entries)
+
+
+def outside_slots(verdict):
+    """The slots of a function of which it is known that the program doesn't take them."""
+    return {*verdict.stood_in, *((slot.bundle, slot.slot) for slot in verdict.unlisted)}
 
 
 def without_slots(code, places):

@@ -14,9 +14,11 @@ import subprocess
 import sys
 import time
 import unittest
+import unittest.mock
 from pathlib import Path
 
 from front.bundle import NOPS as NOP_WORDS, Bundle, displacement_layout, split, with_displacement
+from front.program import Program
 from front.tests import case
 from front.tests.case import FRONT, HAS_GNU, PROGRAM, asked, needs_gnu
 from front.tests.writers import Elf
@@ -707,6 +709,27 @@ class Files(Case):
         print(f"test_ia64: a thousand functions in {seconds:.1f} seconds")
         self.assertEqual((got[0], got[1][-1]), (1, "933 accepted, 34 violated, 33 not judged"))
         self.assertLess(seconds, 60)
+
+    def test_a_listing_of_many_functions(self):
+        """They are asked about together, and each reads as it does alone, also beside a word of no instruction."""
+        unknown = Bundle(0x01, ((1 << 41) - 1, 1 << 27, 1 << 27)).packed()
+        codes = [bundles(WRITES + RETURN), FLUSHRS + bundles(RETURN), bytes([6]) + bytes(15), bundles(3 * NOPS)]
+        self.put(many_functions([codes[number % 4] if number != 30 else unknown for number in range(60)]))
+        calls = []
+
+        def raw(program, words, data):
+            calls.append(words)
+            return whole(program, words, data)
+
+        whole = Program.raw
+        with unittest.mock.patch.object(Program, "raw", raw):
+            together = self.lines("list", "a.o")[1]
+        self.assertLess(len(calls), 12)
+        alone = []
+        for number in range(60):
+            alone += [""] * bool(number) + self.lines("list", "a.o", f"f{number}")[1]
+        self.assertEqual(together, alone)
+        self.assertEqual(sum("word 0x1ffffffffff" in line for line in together), 1)
 
     def test_more_functions_than_an_image_has_entries(self):
         part = bundles(RETURN)
