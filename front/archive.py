@@ -15,7 +15,7 @@ HEAD = 60
 def members(path, data):
     """The names and the bytes of an archive's members, in order. Where a thin archive's member can't be read, its
     Fault stands in place of the bytes."""
-    thin, long_names, at = data.startswith(THIN_ARCHIVE), b"", len(ARCHIVE)
+    thin, long_names, at = data[:len(THIN_ARCHIVE)] == THIN_ARCHIVE, b"", len(ARCHIVE)
     while at < len(data):
         head = part(data, at, HEAD, f"the head of the member at byte {at}")
         name, size = head[:16].rstrip(b" "), head[48:58].strip()

@@ -4,6 +4,7 @@ A place is the number of a section and an offset in it. The readers of the forma
 and all that follows, from the functions of a file to the verdicts on them, looks at nothing else.
 """
 
+import struct
 from bisect import bisect_right
 from enum import IntEnum
 from typing import List, NamedTuple, Optional, Tuple
@@ -76,6 +77,7 @@ class CodeFile:
     sections: List[Section] = []
     linked = False
     addresses = Addresses([])
+    word = struct.Struct("<Q")         # of data, as wide as an address
 
     def content(self, section):
         """The bytes of a section."""
@@ -93,9 +95,31 @@ class CodeFile:
         """The relocations in code and data that say how code is reached."""
         return []
 
-    def pointed(self):
-        """The places in the code of a linked file of which the addresses stand in its data."""
+    def pointing(self):
+        """The sections of data in which addresses of code may stand, and of each whether it is only read."""
         return []
+
+    def pointed(self):
+        """The places in the code of a linked file of which the addresses stand in its data: an aligned word is one, or, in data
+        that are only read, its distance from the word on."""
+        code = [section for section in self.sections if section.is_code]
+        low = min((section.address for section in code), default=0)
+        high = max((section.address + section.size for section in code), default=0)
+        size = self.word.size
+        for section, is_only_read in self.pointing() if self.linked else ():
+            skip = -section.address % size
+            content = self.content(section)[skip:]
+            for number, (word,) in enumerate(self.word.iter_unpack(content[:len(content) - len(content) % size])):
+                if low <= word < high:
+                    yield from self.code_places(word)
+                word = word + section.address + skip + size * number & (1 << 8 * size) - 1
+                if is_only_read and low <= word < high:
+                    yield from self.code_places(word)
+
+    def code_places(self, address):
+        """The place in code that has an address, if there is one."""
+        place = self.addresses.place(address)
+        return [place] if place and self.sections[place[0]].is_code else []
 
     def entry(self):
         """The place where a linked file begins, or None."""

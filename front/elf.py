@@ -102,7 +102,7 @@ class Elf(CodeFile):
             raise Fault("it has no section headers")
         if header_size != self.row(SECTION_HEADER).size:
             raise Fault(f"cut or damaged: its section headers have {header_size} bytes each, no {self.row(SECTION_HEADER).size}")
-        self.linked = kind != RELOCATABLE
+        self.linked, self.word = kind != RELOCATABLE, self.row(WORD)
         self.headers = self.read_headers(headers_at, count, names)
         if sum(header.size for header in self.headers if header.is_stored) > len(data):
             raise Fault("cut or damaged: its sections have more bytes than the file")
@@ -236,28 +236,9 @@ class Elf(CodeFile):
             return self.addresses.place(symbol.value + addend & (1 << 8 * self.width) - 1)
         return symbol.section, symbol.value + addend
 
-    def pointed(self):
-        """An aligned word is the address of code, or, in data that are only read, its distance from the word on."""
-        if not self.linked:
-            return
-        code = [section for section in self.sections if section.is_code]
-        low = min((section.address for section in code), default=0)
-        high = max((section.address + section.size for section in code), default=0)
-        for header in self.headers:
-            if header.kind in (PROGBITS, *ARRAYS) and not header.is_code and header.is_read_for_addresses:
-                skip = -header.address % self.width
-                content = self.content(header)[skip:]
-                whole = content[:len(content) - len(content) % self.width]
-                for number, (word,) in enumerate(self.row(WORD).iter_unpack(whole)):
-                    if low <= word < high:
-                        yield from self.found(word)
-                    word = word + header.address + skip + self.width * number & (1 << 8 * self.width) - 1
-                    if low <= word < high and not header.flags & WRITABLE:
-                        yield from self.found(word)
-
-    def found(self, address):
-        place = self.addresses.place(address)
-        return [place] if place else []
+    def pointing(self):
+        return [(header.section(), not header.flags & WRITABLE) for header in self.headers
+                if header.kind in (PROGBITS, *ARRAYS) and not header.is_code and header.is_read_for_addresses]
 
     def entry(self):
         return self.addresses.place(self.start) if self.linked else None

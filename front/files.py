@@ -9,7 +9,7 @@ from front import archive, elf, gnu, pe, sources
 from front.code import CodeFile
 from front.faults import Fault, printable
 from front.functions import Function, functions_of
-from front.parts import read_file
+from front.parts import opened
 from front.ties import cut_ties
 
 IMAGES = (b"IA64IMG1", b"IA64IMG2")
@@ -90,13 +90,13 @@ def items(path):
     """What a path has: one file, or the members of an archive, one after the other."""
     label = printable(path)
     try:
-        data = read_file(path)
-        if not data.startswith((archive.ARCHIVE, archive.THIN_ARCHIVE)):
-            yield Item(path, label, data)
-            return
-        for name, body in archive.members(path, data):
-            name = printable(f"{path}:{name}")
-            yield Item(path, name, b"", str(body)) if isinstance(body, Fault) else Item(path, name, body)
+        with opened(path) as data:
+            if data[:len(archive.ARCHIVE)] not in (archive.ARCHIVE, archive.THIN_ARCHIVE):
+                yield Item(path, label, data[:])
+                return
+            for name, body in archive.members(path, data):
+                name = printable(f"{path}:{name}")
+                yield Item(path, name, b"", str(body)) if isinstance(body, Fault) else Item(path, name, body)
     except Fault as fault:
         yield Item(path, label, b"", str(fault))
 

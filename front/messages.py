@@ -7,6 +7,7 @@ from typing import NamedTuple, Tuple
 from front import ways
 from front.bundle import branches
 from front.judging import NOT_JUDGED, UNKNOWN
+from front.rules import RULES
 from front.ties import TABLES
 
 
@@ -83,12 +84,7 @@ def said_slot(texts, place):
 
 def said_violation(violation, texts):
     first, second = (said_slot(texts, place) for place in (violation.first, violation.second))
-    forms = {"RAW": f"written by {first} and read by {second}",
-             "WAW": f"written by {first} and by {second}",
-             "WAR63": f"read by {first} and written by {second}",
-             "ALLOC": f"{second} has to be the first of its group, and {first} stands before it",
-             "CLEAR": f"{first} has to be the last of its group, and {second} stands behind it"}
-    return f"{violation.rule} {violation.resource}: {forms.get(violation.rule, f'{first} and {second}')}"
+    return f"{violation.rule} {violation.resource}: {RULES[violation.rule].of_function.format(first, second)}"
 
 
 def said_ways(verdict, violation):

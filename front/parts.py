@@ -1,8 +1,10 @@
 """Parts of a file's bytes, each looked for within the file."""
 
+import contextlib
+import os
+import stat
 import struct
 import sys
-from pathlib import Path
 
 from front.faults import Fault, printable
 
@@ -35,11 +37,46 @@ def string(table, start):
     return printable(table[start:end if end >= 0 else start + LONGEST_NAME].decode("utf-8", "replace"))
 
 
-def read_file(path):
-    """The bytes of a file; `-` is standard input."""
-    try:
+class Stored:
+    """The bytes of a regular file, of which each part is read when it is wanted."""
+
+    def __init__(self, file):
+        self.file, self.size = file, os.fstat(file.fileno()).st_size
+
+    def __len__(self):
+        return self.size
+
+    def __getitem__(self, wanted):
+        start, stop, _ = wanted.indices(self.size)
+        self.file.seek(start)
+        data = self.file.read(max(stop - start, 0))
+        if len(data) < stop - start:
+            raise Fault("it was cut while it was read")
+        return data
+
+
+@contextlib.contextmanager
+def opened(path):
+    """The bytes of a file, read when they are wanted where it is a regular one; `-` is standard input."""
+    with refusing():
         if path == "-" and sys.stdin is None:
             raise Fault("standard input is closed")
-        return sys.stdin.buffer.read() if path == "-" else Path(path).read_bytes()
+        file = sys.stdin.buffer if path == "-" else open(path, "rb")
+        with contextlib.nullcontext() if path == "-" else file:
+            is_regular = path != "-" and stat.S_ISREG(os.fstat(file.fileno()).st_mode)
+            yield Stored(file) if is_regular else file.read()
+
+
+@contextlib.contextmanager
+def refusing():
+    """What the system refuses is a fault of the file."""
+    try:
+        yield
     except (OSError, ValueError) as fault:
         raise Fault(getattr(fault, "strerror", None) or str(fault)) from None
+
+
+def read_file(path):
+    """All bytes of a file; `-` is standard input."""
+    with opened(path) as data:
+        return data[:]

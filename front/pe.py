@@ -381,21 +381,9 @@ class Pe(CodeFile):
         to = (symbol.section, symbol.value + addend) if symbol.section is not None else None
         return Relocation((header.index, offset), kind in BRANCHES, to, symbol.name)
 
-    def pointed(self):
-        """An aligned word is the address of code, or, in data that are only read, its distance from the word on."""
-        code = [section for section in self.sections if section.is_code]
-        low = min((section.address for section in code), default=0)
-        high = max((section.address + section.size for section in code), default=0)
-        for header, section in zip(self.headers, self.sections):
-            if self.linked and not header.is_code and header.is_read_for_addresses:
-                skip = -section.address % 8
-                content = self.content(section)[skip:]
-                for number, (word,) in enumerate(struct.iter_unpack("<Q", content[:len(content) & ~7])):
-                    distant = word + section.address + skip + 8 * number & WORD64
-                    for address in (word, distant) if header.is_only_read else (word,):
-                        place = self.code_at(address) if low <= address < high else None
-                        if place:
-                            yield place
+    def pointing(self):
+        return [(section, header.is_only_read) for header, section in zip(self.headers, self.sections)
+                if not header.is_code and header.is_read_for_addresses]
 
 
 def long_immediate(bundle):

@@ -8,6 +8,7 @@ from typing import NamedTuple, Optional
 from front.bundle import NOPS, Bundle
 from front.faults import ProgramFault
 from front.functions import MOST_BUNDLES, MOST_ENTRIES
+from front.rules import RULES
 
 # Behind each function: `break.m 0`, two nops and a stop.
 END = Bundle(0x01, (0, NOPS["i"], NOPS["i"]))
@@ -79,6 +80,9 @@ class Broken(NamedTuple):
     second: tuple
 
 
+VIOLATIONS = re.compile(rf"violations (\d+)\n((?:(?:{'|'.join(RULES)}) \w+ \d+\.\d \d+\.\d\n)+)")
+
+
 class Program:
     """The built `ia64`. Its path is asked for when the program is first called."""
 
@@ -132,7 +136,7 @@ class Program:
     def verdict(self, text):
         if text == "accepted\n":
             return 0, []
-        found = re.match(r"violations (\d+)\n((?:[A-Z0-9]+ \w+ \d+\.\d \d+\.\d\n)+)\Z", text)
+        found = VIOLATIONS.fullmatch(text)
         if not found:
             raise self.unknown("check", text)
         return int(found[1]), [self.broken(line) for line in found[2].splitlines()]

@@ -10,11 +10,9 @@ from front.gnu import Source
 from front.judging import ACCEPTED, VIOLATED
 from front.program import END, Refusal
 from front.reports import Answer, Finding
+from front.rules import RULES
 from front.texts import REASONS, lines_of_text, slots_of_text
 from front.messages import Severity, counted
-
-SAID = {"RAW": "reads what '{}' writes in the same group", "WAW": "writes what '{}' writes in the same group",
-        "WAR63": "writes what '{}' reads in the same group", "ALLOC": "has to be the first of its group, and '{}' stands before it"}
 
 
 class Refused(Exception):
@@ -121,9 +119,7 @@ def text_findings(file, slots, broken, found, excused):
 
 def said_pair(row, first, second):
     """What a pair of slots does, by their texts."""
-    if row.rule == "CLEAR":
-        return f"'{first}' has to be the last of its group, and '{second}' stands behind it"
-    return f"'{second}' {SAID[row.rule].format(first)}"
+    return RULES[row.rule].of_text.format(f"'{first}'", f"'{second}'")
 
 
 def image_findings(file, broken, found, excused, program):

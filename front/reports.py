@@ -12,6 +12,7 @@ from front.files import File, Kind
 from front.gnu import Source
 from front.judging import ACCEPTED, CARRIED, NOT_JUDGED, UNKNOWN, VIOLATED, Verdict
 from front.messages import Severity
+from front.rules import RULES
 
 
 class Finding(NamedTuple):
@@ -211,20 +212,13 @@ def function_row(answer, verdict):
 
 # ---- SARIF -----------------------------------------------------------------------------------------------
 
-RULES = {
-    "RAW": "an instruction reads what an earlier one of its group writes",
-    "WAW": "two instructions of a group write the same resource",
-    "WAR63": "a loop branch writes p63, which an earlier instruction of its group reads",
-    "ALLOC": "an alloc isn't the first instruction of its group",
-    "CLEAR": "a clrrrb isn't the last instruction of its group",
-    messages.UNJUDGED: "a function can't be judged",
-    "refused": "a text, an image or a source is none",
-}
+OTHER_RULES = {messages.UNJUDGED: "a function can't be judged", "refused": "a text, an image or a source is none"}
 LEVELS = {Severity.ERROR: "error", Severity.WARNING: "warning", Severity.NOTE: "note"}
 
 
 DRIVER = {"name": "ia64", "version": VERSION,
-          "rules": [{"id": name, "shortDescription": {"text": text}} for name, text in RULES.items()]}
+          "rules": [{"id": name, "shortDescription": {"text": text}} for name, text in
+                    {**{name: rule.meaning for name, rule in RULES.items()}, **OTHER_RULES}.items()]}
 
 
 class Sarif:

@@ -10,6 +10,7 @@ from pathlib import Path
 from front.archive import members
 from front.elf import Elf
 from front.faults import Fault
+from front.files import items
 from front.tests.writers import archive, head_of_member, member, thin_archive
 
 HAS_GNU = all(shutil.which(f"ia64-linux-gnu-{tool}") for tool in ("as", "ar"))
@@ -48,6 +49,16 @@ class Members(unittest.TestCase):
 
     def test_a_last_member_without_its_last_byte(self):
         self.assertEqual(read(archive(member("a.o/", b"one"))[:-1]), [("a.o", b"one")])
+
+    def test_a_file_is_read_as_it_is_wanted(self):
+        """So a long archive takes no memory; what is cut off meanwhile is told."""
+        with tempfile.TemporaryDirectory() as folder:
+            path = Path(folder, "l.a")
+            path.write_bytes(archive(*(member(f"{number}.o/", bytes(1 << 20)) for number in range(3))))
+            found = items(str(path))
+            self.assertEqual([next(found).label, next(found).fault], [f"{path}:0.o", None])
+            os.truncate(path, 2 << 20)
+            self.assertEqual([item.fault for item in found], ["it was cut while it was read"])
 
     def test_what_is_before_a_fault(self):
         found, rows = [], members("l.a", archive(member("a.o/", b"body"), b"x"))
