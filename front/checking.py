@@ -5,12 +5,12 @@ from collections import Counter, deque
 from dataclasses import replace
 from typing import List, NamedTuple
 
-from front import files, gnu, programs, reports, sources
-from front.faults import Fault, ProgramFault
+from front import files, gnu, programs, reports
+from front.faults import Fault, ProgramFault, Unread
 from front.files import Kind
 from front.judging import NOT_JUDGED, VIOLATED, Judge
 from front.parts import read_file
-from front.reports import FORMS, known_by
+from front.reports import form_of, known_by
 
 # Statuses: as wanted; a violation; words or files that can't be read, or no answer; and not judged, where that is strict.
 DONE, FOUND, WRONG, UNJUDGED = 0, 1, 2, 3
@@ -32,7 +32,7 @@ class Part(NamedTuple):
 
 def check(options, program):
     """The verdicts on files."""
-    form, counts, number, is_first = FORMS[options.format], reports.Counts(), 0, True
+    form, counts, number, is_first = form_of(options.format), reports.Counts(), 0, True
     try:
         known = baseline(options.baseline)
     except Fault as fault:
@@ -147,7 +147,7 @@ def answered_whole(batch, options, program, known):
         if answer.file.fault is not None and not answer.findings:
             said.append(f"ia64: {answer.file.label}: {answer.file.fault}")
         counts.add(answer)
-        rows += FORMS[options.format].rows(without_known(answer, known, counts))
+        rows += form_of(options.format).rows(without_known(answer, known, counts))
     return Part(rows, counts, said)
 
 
@@ -209,5 +209,5 @@ def read_answer(file, refusal, options, program):
     source = replace(file, fault=None)
     try:
         return files.read_source(source, program, options.syscalls)
-    except sources.Unread as none:
+    except Unread as none:
         return programs.unread(source, none) if refusal.is_at_directive else refusal.answer

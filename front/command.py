@@ -1,4 +1,5 @@
-"""The command line with files: `ia64 COMMAND FILE..`."""
+"""The command line with files: `ia64 COMMAND FILE..`. What one command alone needs is imported where it is used, since a call
+takes longer to begin than most answers."""
 
 import argparse
 import itertools
@@ -7,12 +8,11 @@ import re
 import signal
 import subprocess
 import sys
-import traceback
 from pathlib import Path
 
-from front import VERSION, checking, files, gnu, listing, loosen, orders, reports, sources, usage
+from front import VERSION, checking, files, gnu, reports, usage
 from front.checking import DONE, WRONG, complain
-from front.faults import Fault, ProgramFault
+from front.faults import Fault, ProgramFault, Unread
 from front.files import Kind
 from front.judging import Judge
 from front.parts import read_file
@@ -30,7 +30,7 @@ def between(lowest, highest):
 
 
 def order_list(text):
-    return list(map(between(0, orders.ORDER_LIMIT), text.split(",")))
+    return list(map(between(0, usage.NUMBER_LIMIT), text.split(",")))
 
 
 def add_code_words(words):
@@ -49,7 +49,7 @@ def check_words(words):
     words.add_argument("-v", "--verbose", action="store_true",
                        help="a line for every function, every instruction outside the profile, every bundle on no "
                             "walk, and the declared entries")
-    words.add_argument("--format", choices=tuple(reports.FORMS), default="lines",
+    words.add_argument("--format", choices=reports.FORMS, default="lines",
                        help="lines as compilers print them, one JSON document, or a SARIF log")
     words.add_argument("--baseline", metavar="PATH",
                        help="errors that are among the lines of this earlier answer are left out, and don't count for the status")
@@ -80,14 +80,15 @@ def loosen_words(words):
 
 
 def compare_words(words):
+    from front import orders
     words.add_argument("file", metavar="FILE", help="a text or an image")
-    words.add_argument("-n", "--groups", type=between(1, orders.GROUP_LIMIT), default=1000, metavar="N",
+    words.add_argument("-n", "--groups", type=between(1, usage.GROUP_LIMIT), default=1000, metavar="N",
                        help="run at most N groups, by default 1000")
     words.add_argument("--orders", type=order_list, default=orders.ORDERS, metavar="K,K,..",
                        help="these orders in place of the first seven")
     words.add_argument("--random", type=between(0, 10**6), default=8, metavar="COUNT",
                        help="so many random orders more, by default 8")
-    words.add_argument("--seed", type=between(0, orders.ORDER_LIMIT), default=1, metavar="S",
+    words.add_argument("--seed", type=between(0, usage.NUMBER_LIMIT), default=1, metavar="S",
                        help="of the random orders, by default 1")
     words.add_argument("--all", action="store_true", help=f"all lines that differ, and not the first {orders.LINES} alone")
     words.set_defaults(run=compare)
@@ -141,11 +142,12 @@ def read_source(file, options, program):
     """A source with its functions as it is read without the GNU assembler."""
     try:
         return files.read_source(file, program, options.syscalls)
-    except sources.Unread as none:
+    except Unread as none:
         raise Fault(f"not read without the GNU assembler: {none}") from None
 
 
 def show_functions(file, options, program):
+    from front import listing
     wanted, judge = options.functions, Judge(program)
     chosen = [function for function in file.functions if not wanted or set(wanted) & {function.name, *function.names}]
     missing = [name for name in wanted if not any(name in (function.name, *function.names) for function in chosen)]
@@ -175,11 +177,13 @@ def read_text(path):
 
 def pack(options, program):
     """A text packed anew. Of one without bundles the stops count as written, as on standard input."""
+    from front import loosen
     data = read_text(options.file)
     return plain_answer(program, ["stops"], loosen.loosened(data, options.keep_stops) if loosen.has_bundles(data) else data)
 
 
 def loosened(options, program):
+    from front import loosen
     del program
     sys.stdout.flush()
     sys.stdout.buffer.write(loosen.loosened(read_text(options.file), options.keep_stops))
@@ -187,6 +191,7 @@ def loosened(options, program):
 
 
 def compare(options, program):
+    from front import orders
     data = read_file(options.file)
     runs = orders.run_all(program.path, options.groups, orders.orders_of(options.orders, options.random, options.seed), data)
     print("\n".join(orders.report(runs, sys.maxsize if options.all else orders.LINES)))
@@ -335,5 +340,6 @@ def run():
     except KeyboardInterrupt:
         return 130
     except Exception:  # a fault of the front: it must not end as if a function were violated
+        import traceback
         traceback.print_exc()
     return WRONG

@@ -13,6 +13,14 @@ class Why(NamedTuple):
     said: str
 
 
+class Unread(Exception):
+    """Why a source can't be read without the GNU assembler, and at which of its lines."""
+
+    def __init__(self, line, why):
+        super().__init__(f"line {line}: {why}")
+        self.line, self.why = line, why
+
+
 class ProgramFault(Exception):
     """Why a program that is called gave no answer that can be used."""
 

@@ -5,7 +5,7 @@ from dataclasses import dataclass, field
 from enum import Enum
 from typing import List, NamedTuple, Optional
 
-from front import archive, elf, gnu, pe, sources
+from front import archive, elf, gnu, pe
 from front.code import CodeFile
 from front.faults import Fault, printable
 from front.functions import Function, functions_of
@@ -108,7 +108,8 @@ def assemble(file, path, options, complain, say):
 
 
 def read_source(file, program, syscalls):
-    """The code of a source as it is read without the GNU assembler, or `sources.Unread`."""
+    """The code of a source as it is read without the GNU assembler, or `Unread`."""
+    from front import sources  # which takes longer to load than most answers
     read = sources.read(file.data)
     status, printed = program.raw(["build"], read.text)
     if status != 0:

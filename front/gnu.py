@@ -1,13 +1,11 @@
 """What the GNU tools for ia64 are asked where they are installed: to assemble sources, for lines of sources, and for the texts
-of instructions that the proved program doesn't take."""
+of instructions that the proved program doesn't take. What is needed for a tool alone is imported where it is used."""
 
+import contextlib
 import functools
 import os
 import re
-import resource
-import shutil
 import subprocess
-import tempfile
 from collections import Counter
 from pathlib import Path
 from typing import NamedTuple
@@ -29,6 +27,7 @@ def installed(tool):
 
 @functools.lru_cache(maxsize=None)
 def found_tool(tool, path):
+    import shutil
     many = shutil.which(tool, path=path)
     return shutil.which(f"ia64-linux-gnu-{tool}", path=path) or (many if many and knows_ia64(many) else None)
 
@@ -46,6 +45,14 @@ def asked(words, data=None):
     except (OSError, subprocess.SubprocessError):
         return ""
     return done.stdout.decode("utf-8", "replace") if done.returncode == 0 else ""
+
+
+@contextlib.contextmanager
+def scratch():
+    """A folder for files that a tool reads and writes."""
+    import tempfile
+    with tempfile.TemporaryDirectory() as folder:
+        yield folder
 
 
 # ---- Sources ---------------------------------------------------------------------------------------------
@@ -70,7 +77,7 @@ def assembled(path, source, flags, complain, say):
         raise Fault("a source, and the GNU assembler for ia64 isn't installed")
     stops = () if any(flag.startswith("-x") for flag in flags) else STOPS_AS_THEY_STAND
     place = os.path.abspath(os.path.dirname(path))
-    with tempfile.TemporaryDirectory() as folder:
+    with scratch() as folder:
         given, made = os.path.join(folder, os.path.basename(path)), os.path.join(folder, "made")
         Path(given).write_bytes(source)
         words = [assembler, "-g", "--debug-prefix-map", f"{folder}={place}", "-I", place, *stops, *flags, "-o", made, given]
@@ -91,6 +98,7 @@ def assembled(path, source, flags, complain, say):
 
 
 def limit_memory():
+    import resource
     resource.setrlimit(resource.RLIMIT_AS, (MEMORY, MEMORY))
 
 
@@ -124,7 +132,7 @@ def source_lines(data, file, places):
     tool, found = installed("addr2line"), {}
     if not tool or not places or not any(section.name.endswith("debug_line") for section in file.sections):
         return found
-    with tempfile.TemporaryDirectory() as folder:
+    with scratch() as folder:
         path = os.path.join(folder, "file")
         Path(path).write_bytes(data)
         if file.linked:
@@ -170,7 +178,7 @@ def slot_texts(wanted):
     tool, wanted = installed("objdump"), list(dict.fromkeys(wanted))
     if not wanted or not tool:
         return {}
-    with tempfile.TemporaryDirectory() as folder:
+    with scratch() as folder:
         raw = Path(folder) / "bundles"
         raw.write_bytes(b"".join(probe(*slot).packed() for slot in wanted))
         listing = asked([tool, "-D", "-z", "-b", "binary", "-m", "ia64-elf64", str(raw)])

@@ -33,7 +33,6 @@ from typing import Dict, List, NamedTuple, Optional
 from front.faults import Fault
 
 DONE, VIOLATED, WORDS, REFUSED, TOO_LONG, LIMIT, FAULTED = 0, 1, 2, 3, 4, 8, 9
-GROUP_LIMIT, ORDER_LIMIT = 10**7, 2**64 - 1
 
 # The statuses of a comparison.
 SAME, SEVERAL, NOT_COMPARED = 0, 1, 3

@@ -18,11 +18,11 @@ here. What pads code up to an alignment is there too. The bytes of the bundles a
 name and operands, code that the assembler packs by itself, macros, conditions, and whatever isn't known here.
 """
 
+from front.faults import Unread
 from front.sources.code import SourceCode
 from front.sources.reader import Reader
 from front.sources.statements import statements
 from front.sources.text import Program
-from front.sources.unread import Unread
 
 __all__ = ["Program", "SourceCode", "Unread", "read"]
 

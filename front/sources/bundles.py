@@ -2,9 +2,9 @@
 
 from dataclasses import dataclass
 
+from front.faults import Unread
 from front.functions import MOST_BUNDLES
 from front.sources.instructions import IN_LAST_SLOT, STANDS, UNITS, Alignment, Instruction
-from front.sources.unread import Unread
 
 
 @dataclass

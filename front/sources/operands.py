@@ -2,7 +2,7 @@
 
 import re
 
-from front.sources.unread import Unread
+from front.faults import Unread
 
 NAME = r"[A-Za-z_.$\x80-\xff][\w.$\x80-\xff]*"
 TOKEN = re.compile(rf"\s*(?:({NAME}#?|\d[\w.$]*|@\w+|'(?:\\.|[^\\])'?|<<|>>|[-+*/%&|^~()\[\]=,])|(\S))", re.A)

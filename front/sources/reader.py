@@ -3,13 +3,14 @@
 import re
 
 from front.code import Rank
+from front.faults import Unread
 from front.sources.forms import rewritten
 from front.sources.instructions import (FOLLOWED, OUTSIDE_TARGETED, PRECEDED, Alignment, Instruction, TARGETED, TEMPLATES,
                                         kind_of)
 from front.sources.operands import (LINKED, MOST_IN_FRAME, NAME, OTHER_REGISTERS, REGISTERS, SPELLED,
                                     is_branch_register, is_name, names_of, parted, tokens_of, value_of)
 from front.sources.outside import NUMBERED, outside, outside_register
-from front.sources.unread import Unread, shown
+from front.sources.shown import shown
 
 # What may stand in front of a statement: a label, a tag, a bundle's selector.
 FRONT = re.compile(rf"\s*(?:\.(?P<select>{'|'.join(TEMPLATES)})(?![\w.$:#])|(?P<label>{NAME})#?\s*:|(?P<local>\d{{1,9}})\s*:"

@@ -2,7 +2,7 @@
 
 import re
 
-from front.sources.unread import Unread
+from front.faults import Unread
 
 PIECE = re.compile(r"""(?P<words>[^"'/;{}\n]+)|(?P<mark>;;|[;{}\n])|(?P<comment>//[^\n]*)|(?P<block>/\*)
                        |(?P<quoted>"(?:[^"\\\n]|\\.)*"|'(?:\\.|[^\\\n])'?)|(?P<other>["'/])""", re.X)

@@ -4,9 +4,10 @@ import re
 from typing import List, NamedTuple, Optional
 
 from front.code import Place
+from front.faults import Unread
 from front.functions import MOST_BUNDLES
 from front.sources.bundles import Bundle, laid_out, last_slot
-from front.sources.unread import Unread, shown
+from front.sources.shown import shown
 from front.texts import REASONS
 
 # The text has an end, a `break`, behind so many bundles, since the program takes no more than 64 without a stop, whatever a
