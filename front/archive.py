@@ -5,7 +5,7 @@ import re
 import stat
 
 from front.faults import Fault
-from front.parts import LONGEST_NAME, part, read_file
+from front.content import LONGEST_NAME, part, read_file
 
 ARCHIVE, THIN_ARCHIVE = b"!<arch>\n", b"!<thin>\n"
 SYMBOL_TABLES = (b"/", b"/SYM64/", b"__.SYMDEF", b"__.SYMDEF SORTED", b"__.SYMDEF_64")
@@ -45,13 +45,13 @@ def member_name(name, long_names):
 
 def thin_member(path, name):
     """The file of a member, which is neither a device, which might have no end, nor the archive itself."""
-    place = os.path.join(os.path.dirname(path), name)
+    member = os.path.join(os.path.dirname(path), name)
     try:
-        if not stat.S_ISREG(os.stat(place).st_mode):
+        if not stat.S_ISREG(os.stat(member).st_mode):
             raise Fault("no regular file")
-        if os.path.exists(path) and os.path.samefile(path, place):
+        if os.path.exists(path) and os.path.samefile(path, member):
             raise Fault("the archive itself")
-        return read_file(place)
+        return read_file(member)
     except Fault as fault:
         return fault
     except (OSError, ValueError) as fault:

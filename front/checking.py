@@ -9,7 +9,7 @@ from front import files, gnu, programs, reports
 from front.faults import Fault, ProgramFault, Unread
 from front.files import Kind
 from front.judging import NOT_JUDGED, VIOLATED, Judge
-from front.parts import read_file
+from front.content import read_file
 from front.reports import form_of, known_by
 
 # Statuses: as wanted; a violation; words or files that can't be read, or no answer; and not judged, where that is strict.
@@ -23,7 +23,7 @@ def complain(text):
     print(f"ia64: {text}", file=sys.stderr)
 
 
-class Part(NamedTuple):
+class BatchAnswer(NamedTuple):
     """What is answered on a batch: rows of the answer, counts, and what is said on standard error."""
     rows: List[str]
     counts: reports.Counts
@@ -38,17 +38,17 @@ def check(options, program):
     except Fault as fault:
         complain(f"{options.baseline}: {fault}")
         return WRONG
-    for number, part in enumerate(parts(options, program, known), 1):
+    for number, given in enumerate(batch_answers(options, program, known), 1):
         clear_progress()
         if number == 1:
             sys.stdout.write(form.head)
-        for line in part.said:
+        for line in given.said:
             print(line, file=sys.stderr)
-        for row in part.rows:
+        for row in given.rows:
             sys.stdout.write((form.first if is_first else form.between) + row)
             is_first = False
         sys.stdout.flush()
-        counts.add_all(part.counts)
+        counts.add_all(given.counts)
         show_progress(number, counts)
     clear_progress()
     sys.stdout.write(("" if number else form.head) + form.tail(counts))
@@ -96,7 +96,7 @@ def batches(paths):
         yield batch
 
 
-def parts(options, program, known):
+def batch_answers(options, program, known):
     """The answers on all batches, in order. No more of them are under way than there are processes, and as many wait."""
     pool = processes(options.jobs)
     if pool is None:
@@ -132,12 +132,12 @@ def answered(batch, options, program, known):
     except ProgramFault as fault:
         if len(batch) == 1:
             return answered_whole([batch[0]._replace(fault=str(fault))], options, program, known)
-    whole = Part([], reports.Counts(), [])
+    whole = BatchAnswer([], reports.Counts(), [])
     for item in batch:
-        part = answered([item], options, program, known)
-        whole.rows.extend(part.rows)
-        whole.said.extend(part.said)
-        whole.counts.add_all(part.counts)
+        given = answered([item], options, program, known)
+        whole.rows.extend(given.rows)
+        whole.said.extend(given.said)
+        whole.counts.add_all(given.counts)
     return whole
 
 
@@ -148,7 +148,7 @@ def answered_whole(batch, options, program, known):
             said.append(f"ia64: {answer.file.label}: {answer.file.fault}")
         counts.add(answer)
         rows += form_of(options.format).rows(without_known(answer, known, counts))
-    return Part(rows, counts, said)
+    return BatchAnswer(rows, counts, said)
 
 
 def without_known(answer, known, counts):

@@ -15,7 +15,7 @@ from front.checking import DONE, WRONG, complain
 from front.faults import Fault, ProgramFault, Unread
 from front.files import Kind
 from front.judging import Judge
-from front.parts import read_file
+from front.content import read_file
 from front.program import Program
 
 # ---- Words -----------------------------------------------------------------------------------------------
@@ -33,75 +33,75 @@ def order_list(text):
     return list(map(between(0, usage.NUMBER_LIMIT), text.split(",")))
 
 
-def add_code_words(words):
+def add_code_options(parser):
     """Those of all commands that take files of code."""
-    words.add_argument("--syscalls", action="store_true",
+    parser.add_argument("--syscalls", action="store_true",
                        help="each `break` is a system call, which comes back to the slot after it")
-    words.add_argument("--as-flags", default=[], type=str.split, metavar="FLAGS",
+    parser.add_argument("--as-flags", default=[], type=str.split, metavar="FLAGS",
                        help="more words for the GNU assembler, as in --as-flags=-xauto, by which it sets the stops of a "
                             "source without .explicit itself, as it does where it is called by hand")
 
 
-def check_words(words):
-    words.add_argument("files", nargs="+", metavar="FILE",
+def check_options(parser):
+    parser.add_argument("files", nargs="+", metavar="FILE",
                        help="a text, an image, an object file, a linked program, a shared library or driver (ELF of 32 or "
                             "64 bits and either byte order, PE), an archive of them, or a source for the GNU assembler")
-    words.add_argument("-v", "--verbose", action="store_true",
+    parser.add_argument("-v", "--verbose", action="store_true",
                        help="a line for every function, every instruction outside the profile, every bundle on no "
                             "walk, and the declared entries")
-    words.add_argument("--format", choices=reports.FORMS, default="lines",
+    parser.add_argument("--format", choices=reports.FORMS, default="lines",
                        help="lines as compilers print them, one JSON document, or a SARIF log")
-    words.add_argument("--baseline", metavar="PATH",
+    parser.add_argument("--baseline", metavar="PATH",
                        help="errors that are among the lines of this earlier answer are left out, and don't count for the status")
-    words.add_argument("-j", "--jobs", type=between(1, 256), default=1, metavar="N", help="so many processes, by default 1")
-    words.add_argument("--exact", action="store_true", help="nothing stands in for instructions outside the profile")
-    words.add_argument("--strict", action="store_true", help="status 3 where a function isn't judged and none is violated")
-    add_code_words(words)
-    words.set_defaults(run=checking.check)
+    parser.add_argument("-j", "--jobs", type=between(1, 256), default=1, metavar="N", help="so many processes, by default 1")
+    parser.add_argument("--exact", action="store_true", help="nothing stands in for instructions outside the profile")
+    parser.add_argument("--strict", action="store_true", help="status 3 where a function isn't judged and none is violated")
+    add_code_options(parser)
+    parser.set_defaults(run=checking.check)
 
 
-def listing_words(words):
-    words.add_argument("file", metavar="FILE", help="as of check, no archive")
-    words.add_argument("functions", nargs="*", metavar="FUNCTION", help="these functions of it alone")
-    add_code_words(words)
-    words.set_defaults(run=show)
+def listing_options(parser):
+    parser.add_argument("file", metavar="FILE", help="as of check, no archive")
+    parser.add_argument("functions", nargs="*", metavar="FUNCTION", help="these functions of it alone")
+    add_code_options(parser)
+    parser.set_defaults(run=show)
 
 
-def stops_words(words):
-    words.add_argument("file", metavar="FILE", help="a text, with bundles or without")
-    words.add_argument("--keep-stops", action="store_true", help="leave each ;; of a text with bundles where it stands")
-    words.set_defaults(run=pack)
+def stops_options(parser):
+    parser.add_argument("file", metavar="FILE", help="a text, with bundles or without")
+    parser.add_argument("--keep-stops", action="store_true", help="leave each ;; of a text with bundles where it stands")
+    parser.set_defaults(run=pack)
 
 
-def loosen_words(words):
-    words.add_argument("file", metavar="FILE", help="a text, with bundles or without")
-    words.add_argument("--keep-stops", action="store_true", help="leave each ;; where it stands")
-    words.set_defaults(run=loosened)
+def loosen_options(parser):
+    parser.add_argument("file", metavar="FILE", help="a text, with bundles or without")
+    parser.add_argument("--keep-stops", action="store_true", help="leave each ;; where it stands")
+    parser.set_defaults(run=loosened)
 
 
-def compare_words(words):
+def compare_options(parser):
     from front import orders
-    words.add_argument("file", metavar="FILE", help="a text or an image")
-    words.add_argument("-n", "--groups", type=between(1, usage.GROUP_LIMIT), default=1000, metavar="N",
+    parser.add_argument("file", metavar="FILE", help="a text or an image")
+    parser.add_argument("-n", "--groups", type=between(1, usage.GROUP_LIMIT), default=1000, metavar="N",
                        help="run at most N groups, by default 1000")
-    words.add_argument("--orders", type=order_list, default=orders.ORDERS, metavar="K,K,..",
+    parser.add_argument("--orders", type=order_list, default=orders.ORDERS, metavar="K,K,..",
                        help="these orders in place of the first seven")
-    words.add_argument("--random", type=between(0, 10**6), default=8, metavar="COUNT",
+    parser.add_argument("--random", type=between(0, 10**6), default=8, metavar="COUNT",
                        help="so many random orders more, by default 8")
-    words.add_argument("--seed", type=between(0, usage.NUMBER_LIMIT), default=1, metavar="S",
+    parser.add_argument("--seed", type=between(0, usage.NUMBER_LIMIT), default=1, metavar="S",
                        help="of the random orders, by default 1")
-    words.add_argument("--all", action="store_true", help=f"all lines that differ, and not the first {orders.LINES} alone")
-    words.set_defaults(run=compare)
+    parser.add_argument("--all", action="store_true", help=f"all lines that differ, and not the first {orders.LINES} alone")
+    parser.set_defaults(run=compare)
 
 
-def plain_words(words):
-    command = words.prog.split()[1]
+def plain_options(parser):
+    command = parser.prog.split()[1]
     numbers = " ".join(name for name, _ in zip(("N", "K"), usage.NUMBERS[command]))
-    words.usage = f"{words.prog} [-h] [-o PATH] {numbers} FILE".replace("  ", " ")
-    words.add_argument("words", nargs="*", metavar=f"{numbers} FILE".strip(),
+    parser.usage = f"{parser.prog} [-h] [-o PATH] {numbers} FILE".replace("  ", " ")
+    parser.add_argument("arguments", nargs="*", metavar=f"{numbers} FILE".strip(),
                        help=f"{usage.TAKES[command]}, in any order" if numbers else "what the command takes on standard input")
-    words.add_argument("-o", "--output", metavar="PATH", help="where the answer goes, in place of standard output")
-    words.set_defaults(run=plainly, misused=words.error)
+    parser.add_argument("-o", "--output", metavar="PATH", help="where the answer goes, in place of standard output")
+    parser.set_defaults(run=plainly, misused=parser.error)
 
 
 # ---- Commands --------------------------------------------------------------------------------------------
@@ -200,24 +200,24 @@ def compare(options, program):
 
 def plainly(options, program):
     """A command as on standard input, of a file. The numbers and the file come in any order."""
-    numbers, paths = usage.parted(options.command, options.words)
+    numbers, paths = usage.parted(options.command, options.arguments)
     if len(paths) != 1 or not usage.are_numbers(options.command, numbers):
         takes = f"'{options.command}' takes {usage.TAKES[options.command]}"
-        options.misused(f"{takes}: {usage.right_call(options.command, options.words)}")
+        options.misused(f"{takes}: {usage.right_call(options.command, options.arguments)}")
     options.file = paths[0]
     return plain_answer(program, [options.command, *numbers], read_file(paths[0]), options.output)
 
 
-def plain_answer(program, words, data, output=None):
+def plain_answer(program, arguments, data, output=None):
     """The program's own status on an input, with what it prints handed on."""
-    status, printed = program.raw(words, data)
+    status, printed = program.raw(arguments, data)
     if output is not None and status == 0:
         write_file(output, printed)
     else:
         sys.stdout.flush()
         sys.stdout.buffer.write(printed)
     if status in SAID:
-        complain(SAID[status].format(words[0]))
+        complain(SAID[status].format(arguments[0]))
     return status
 
 
@@ -237,28 +237,28 @@ SAID = {3: "'{}' refused its input; the reason went to standard output",
 # ---- The commands by their words -------------------------------------------------------------------------
 
 COMMANDS = {
-    "check": (check_words, "the verdict on every function and program of files"),
-    "list": (listing_words, "the bundles of a file's functions, with their bytes"),
-    "show": (listing_words, "the text of a file's functions"),
-    "stops": (stops_words, "the instructions of a text packed anew into bundles, with the stops that they need"),
-    "loosen": (loosen_words, "the instructions of a text, without bundles and stops"),
-    "compare": (compare_words, "in what the states differ that several orders of a group's writes leave"),
-    "run": (plain_words, "the state after at most N groups of an accepted program"),
-    "watch": (plain_words, "as run, behind its first eight groups"),
-    "groups": (plain_words, "the state after at most N groups, each all at once, in the order with the number K"),
-    "build": (plain_words, "the image of a text"),
-    "wrap": (plain_words, "the image of bare bundles"),
-    "lift": (plain_words, "the image of version 2 of an image"),
+    "check": (check_options, "the verdict on every function and program of files"),
+    "list": (listing_options, "the bundles of a file's functions, with their bytes"),
+    "show": (listing_options, "the text of a file's functions"),
+    "stops": (stops_options, "the instructions of a text packed anew into bundles, with the stops that they need"),
+    "loosen": (loosen_options, "the instructions of a text, without bundles and stops"),
+    "compare": (compare_options, "in what the states differ that several orders of a group's writes leave"),
+    "run": (plain_options, "the state after at most N groups of an accepted program"),
+    "watch": (plain_options, "as run, behind its first eight groups"),
+    "groups": (plain_options, "the state after at most N groups, each all at once, in the order with the number K"),
+    "build": (plain_options, "the image of a text"),
+    "wrap": (plain_options, "the image of bare bundles"),
+    "lift": (plain_options, "the image of version 2 of an image"),
 }
 
 
-def parser(name):
+def parser_of(name):
     """That of the words of a command."""
     add, said = COMMANDS[name]
-    words = argparse.ArgumentParser(prog=f"ia64 {name}", description=f"{said[0].upper()}{said[1:]}.")
-    words.set_defaults(command=name)
-    add(words)
-    return words
+    parser = argparse.ArgumentParser(prog=f"ia64 {name}", description=f"{said[0].upper()}{said[1:]}.")
+    parser.set_defaults(command=name)
+    add(parser)
+    return parser
 
 
 # ---- Calls -----------------------------------------------------------------------------------------------
@@ -295,23 +295,23 @@ def said_version():
     return f"ia64 {VERSION}: {proved}\n"
 
 
-def main(words=None):
-    words, options = sys.argv[1:] if words is None else words, None
-    if words[:1] and words[0] in ("-h", "--help", "help"):
+def main(arguments=None):
+    arguments, options = sys.argv[1:] if arguments is None else arguments, None
+    if arguments[:1] and arguments[0] in ("-h", "--help", "help"):
         sys.stdout.write(usage.USAGE)
         return DONE
-    if words == ["--version"]:
+    if arguments == ["--version"]:
         sys.stdout.write(said_version())
         return DONE
-    if not words or words[0] not in COMMANDS:
-        for line in [*usage.explained(words, COMMANDS), "ia64 --help lists the commands"]:
+    if not arguments or arguments[0] not in COMMANDS:
+        for line in [*usage.explained(arguments, COMMANDS), "ia64 --help lists the commands"]:
             complain(line)
         return WRONG
     try:
-        options = parser(words[0]).parse_args(words[1:])
+        options = parser_of(arguments[0]).parse_args(arguments[1:])
         return options.run(options, Program(find_program))
     except Fault as fault:
-        complain(f"{getattr(options, 'file', words[0])}: {fault}")
+        complain(f"{getattr(options, 'file', arguments[0])}: {fault}")
     except ProgramFault as fault:
         complain(str(fault))
     except NoProgram as none:

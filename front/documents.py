@@ -31,7 +31,7 @@ def file_row(answer):
     row = {"file": answer.file.label, "error": answer.file.fault}
     if answer.file.kind in (Kind.TEXT, Kind.IMAGE):
         return {**row, "verdict": answer.word or "refused", "findings": [
-            {"severity": finding.severity.value, "place": str(finding.source or finding.place), "text": finding.text}
+            {"severity": finding.severity.value, "place": str(finding.source or finding.origin), "text": finding.text}
             for finding in answer.findings]}
     return {**row, "functions": [function_row(answer, verdict) for verdict in answer.verdicts]}
 
@@ -43,14 +43,14 @@ def said_source(source):
 def function_row(answer, verdict):
     function, texts = verdict.function, messages.Texts(verdict, answer.further)
 
-    def slot(place):
-        offset = function.offset(place[0])
-        return {"offset": offset, "slot": place[1], "text": None if place[0] == function.count else texts.text(place),
-                "source": said_source(answer.lines.get((function.section.index, offset, place[1])))}
+    def slot(position):
+        offset = function.offset(position[0])
+        return {"offset": offset, "slot": position[1], "text": None if position[0] == function.count else texts.text(position),
+                "source": said_source(answer.lines.get((function.section.index, offset, position[1])))}
 
     def pair(violation):
         return {"rule": violation.rule, "resource": violation.resource, "first": slot(violation.first),
-                "second": slot(violation.second), "only_by": [slot(place) for place, _ in verdict.ways.get(violation, ())]}
+                "second": slot(violation.second), "only_by": [slot(position) for position, _ in verdict.ways.get(violation, ())]}
 
     return {
         "section": function.section.name, "offset": function.start, "size": function.size, "name": function.name,
@@ -106,7 +106,7 @@ def result(file, finding):
     location = {"physicalLocation": {"artifactLocation": {"uri": quote(source.path if source else file.path)}}}
     if source:
         location["physicalLocation"]["region"] = {"startLine": source.line, **({"startColumn": source.column} if source.column else {})}
-    name = " ".join(part for part in (finding.place, finding.function) if part)
+    name = " ".join(name for name in (finding.origin, finding.function) if name)
     if name:
         location["logicalLocations"] = [{"fullyQualifiedName": name}]
     row = {"level": LEVELS[finding.severity], "message": {"text": finding.text}, "locations": [location]}

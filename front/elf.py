@@ -9,7 +9,7 @@ from typing import Dict, List, NamedTuple
 
 from front.code import Addresses, CodeFile, Rank, Relocation, Section, Stretch, Symbol
 from front.faults import Fault
-from front.parts import part, rows, string, unpacked
+from front.content import part, rows, string, unpacked
 
 MAGIC = b"\x7fELF"
 IA64 = 50

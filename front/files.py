@@ -9,7 +9,7 @@ from front import archive, elf, gnu, pe
 from front.code import CodeFile
 from front.faults import Fault, printable
 from front.functions import Function, functions_of
-from front.parts import opened
+from front.content import opened
 from front.ties import cut_ties
 
 IMAGES = (b"IA64IMG1", b"IA64IMG2")

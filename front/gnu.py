@@ -13,7 +13,7 @@ from typing import NamedTuple
 from front.bundle import NOPS, Bundle
 from front.code import WORD64
 from front.faults import Fault, printable
-from front.parts import read_file
+from front.content import read_file
 
 # Unless it is told that the stops of a source are explicit, the assembler leaves them out and sets its own. Its own check of
 # groups is off.
@@ -38,10 +38,10 @@ def knows_ia64(tool):
     return "ia64" in asked([tool, "--help"])
 
 
-def asked(words, data=None):
+def asked(command, data=None):
     """What a tool prints, or nothing where it is missing, fails or doesn't end."""
     try:
-        done = subprocess.run(words, input=data, stdout=subprocess.PIPE, stderr=subprocess.DEVNULL, timeout=120, check=False)
+        done = subprocess.run(command, input=data, stdout=subprocess.PIPE, stderr=subprocess.DEVNULL, timeout=120, check=False)
     except (OSError, subprocess.SubprocessError):
         return ""
     return done.stdout.decode("utf-8", "replace") if done.returncode == 0 else ""
@@ -76,13 +76,13 @@ def assembled(path, source, flags, complain, say):
     if assembler is None:
         raise Fault("a source, and the GNU assembler for ia64 isn't installed")
     stops = () if any(flag.startswith("-x") for flag in flags) else STOPS_AS_THEY_STAND
-    place = os.path.abspath(os.path.dirname(path))
+    home = os.path.abspath(os.path.dirname(path))
     with scratch() as folder:
         given, made = os.path.join(folder, os.path.basename(path)), os.path.join(folder, "made")
         Path(given).write_bytes(source)
-        words = [assembler, "-g", "--debug-prefix-map", f"{folder}={place}", "-I", place, *stops, *flags, "-o", made, given]
+        command = [assembler, "-g", "--debug-prefix-map", f"{folder}={home}", "-I", home, *stops, *flags, "-o", made, given]
         try:
-            done = subprocess.run(words, stdin=subprocess.DEVNULL, stdout=subprocess.DEVNULL, stderr=subprocess.PIPE,
+            done = subprocess.run(command, stdin=subprocess.DEVNULL, stdout=subprocess.DEVNULL, stderr=subprocess.PIPE,
                                   timeout=SECONDS, preexec_fn=limit_memory, check=False)
         except subprocess.TimeoutExpired:
             raise Fault(f"the GNU assembler came to no end in {SECONDS} seconds") from None
@@ -125,34 +125,34 @@ class Source(NamedTuple):
         return f"{self.path}:{self.line}" + (f":{self.column}" if self.column else "")
 
 
-def source_lines(data, file, places):
+def source_lines(data, file, locations):
     """Asks once a file, or once a section of an object file, for the source lines of places: section's number, offset,
     slot. Tables of lines have the slot in the low bits of an address; where one hasn't, its bundle's row is found. A
     section of an object file is asked for by its name, and so only where no other has this name."""
     tool, found = installed("addr2line"), {}
-    if not tool or not places or not any(section.name.endswith("debug_line") for section in file.sections):
+    if not tool or not locations or not any(section.name.endswith("debug_line") for section in file.sections):
         return found
     with scratch() as folder:
         path = os.path.join(folder, "file")
         Path(path).write_bytes(data)
         if file.linked:
-            return lines_of([tool, "-e", path], file, places)
+            return lines_of([tool, "-e", path], file, locations)
         names = Counter(section.name for section in file.sections)
-        for index in dict.fromkeys(place[0] for place in places):
+        for index in dict.fromkeys(location[0] for location in locations):
             name = file.sections[index].name
             if names[name] == 1:
                 found.update(lines_of([tool, "-e", path, "-j", name], file,
-                                      [place for place in places if place[0] == index]))
+                                      [location for location in locations if location[0] == index]))
     return found
 
 
-def lines_of(words, file, places):
-    text = "".join(f"{file.sections[index].address + offset + slot:#x}\n" for index, offset, slot in places)
-    answers, found = asked(words, text.encode()).splitlines(), {}
-    for place, answer in zip(places, answers if len(answers) == len(places) else []):
+def lines_of(command, file, locations):
+    text = "".join(f"{file.sections[index].address + offset + slot:#x}\n" for index, offset, slot in locations)
+    answers, found = asked(command, text.encode()).splitlines(), {}
+    for location, answer in zip(locations, answers if len(answers) == len(locations) else []):
         line = re.match(r"(.+):([1-9]\d*)( \(discriminator \d+\))?$", answer)
         if line and line[1] != "??":
-            found[place] = Source(printable(near(line[1])), int(line[2]))
+            found[location] = Source(printable(near(line[1])), int(line[2]))
     return found
 
 

@@ -39,27 +39,27 @@ class Unlisted(NamedTuple):
 
 @dataclass
 class Piece:
-    """What is asked of a function: its bundles, or others in their place. `places` says of the slots of these which of the
+    """What is asked of a function: its bundles, or others in their place. `positions` says of the slots of these which of the
     function's own they stand for; where it is None they stand for themselves."""
     function: Function
     code: bytes
     entries: List[int]
-    places: Optional[Dict[Tuple[int, int], Tuple[int, int]]] = None
+    positions: Optional[Dict[Tuple[int, int], Tuple[int, int]]] = None
     ridden: Optional[riding.Ridden] = None
 
     def count(self):
         return len(self.code) // 16
 
-    def place(self, bundle, slot):
+    def position(self, bundle, slot):
         """The place in the function of a slot of the piece: of its end bundle that behind the function's last."""
         if bundle >= self.count():
             return self.function.count, slot
-        return (bundle, slot) if self.places is None else self.places[bundle, slot]
+        return (bundle, slot) if self.positions is None else self.positions[bundle, slot]
 
     def told(self, broken):
         """What a line of a verdict on the piece tells of the function. Several may tell the same."""
         resource = self.ridden.resource(broken.resource) if self.ridden else broken.resource
-        return Violation(broken.rule, resource, self.place(*broken.first), self.place(*broken.second))
+        return Violation(broken.rule, resource, self.position(*broken.first), self.position(*broken.second))
 
 
 @dataclass
@@ -164,18 +164,18 @@ class Judge:
         if len(ridden.bundles) >= MOST_BUNDLES:
             raise riding.NoRoom("it would have too many bundles")
         code = b"".join(bundle.packed() for bundle in ridden.bundles)
-        return Piece(function, code, [ridden.starts[entry] for entry in entries], ridden.places, ridden)
+        return Piece(function, code, [ridden.starts[entry] for entry in entries], ridden.positions, ridden)
 
     @staticmethod
     def plain(function, bundles, entries):
         """Each bundle with what stands in for its instructions."""
-        code, places = [], {}
+        code, positions = [], {}
         for index, bundle in enumerate(bundles):
             stood = stand_ins.stood_in(bundle)
             code.append(stood.bundle.packed())
             for slot in range(3):
-                places[index, slot] = index, stood.places.get(slot, slot)
-        return Piece(function, b"".join(code), entries, places)
+                positions[index, slot] = index, stood.slots.get(slot, slot)
+        return Piece(function, b"".join(code), entries, positions)
 
     # ---- What is answered
 
@@ -211,7 +211,7 @@ class Judge:
                 self.take(half, *self.ask(half))
             return
         for row in broken:
-            (number, first), (other, second) = (owner(batch, place[0]) for place in (row.first, row.second))
+            (number, first), (other, second) = (owner(batch, position[0]) for position in (row.first, row.second))
             if number is None or number != other:
                 raise self.program.unknown("check", f"{row}")
             verdict, piece = batch[number]
@@ -231,7 +231,7 @@ class Judge:
         def ask(code):
             return self.program.check(image([(code, piece.entries)]))
 
-        verdict.ways = {piece.told(row): [(piece.place(*place), piece.place(target, 0)[0]) for place, target in found]
+        verdict.ways = {piece.told(row): [(piece.position(*position), piece.position(target, 0)[0]) for position, target in found]
                         for row, found in ways.ways(ask, piece.code, verdict.broken).items()}
         if self.verbose:
             verdict.excused = list(dict.fromkeys(map(piece.told, ways.excused(ask, piece.code, verdict.broken))))
@@ -240,11 +240,11 @@ class Judge:
         """Says why the program refuses a piece."""
         unknown, refusal = self.unknown_slots(piece.code, piece.entries, set(), refusal)
         if unknown:
-            self.add_unknown(verdict, (piece.place(*place) for place in unknown))
+            self.add_unknown(verdict, (piece.position(*position) for position in unknown))
             return
-        place = piece.place(refusal.bundle, refusal.slot or 0)
-        offset = verdict.function.offset(place[0])
-        slot = "" if refusal.slot is None else f" slot {place[1]}"
+        position = piece.position(refusal.bundle, refusal.slot or 0)
+        offset = verdict.function.offset(position[0])
+        slot = "" if refusal.slot is None else f" slot {position[1]}"
         if refusal.why == "long run":
             said = "more than 192 slots without a stop"
             verdict.faults.append(Why(said, f"{said}, up to {offset:+#x}{slot}"))
@@ -268,8 +268,8 @@ class Judge:
             refusal = None
 
     @staticmethod
-    def add_unknown(verdict, places):
-        verdict.unlisted = sorted(verdict.unlisted + [Unlisted(*place, UNKNOWN) for place in places],
+    def add_unknown(verdict, positions):
+        verdict.unlisted = sorted(verdict.unlisted + [Unlisted(*position, UNKNOWN) for position in positions],
                                   key=lambda slot: (slot.bundle, slot.slot or 0))
 
     @staticmethod
@@ -326,10 +326,10 @@ def outside_slots(verdict):
     return {*verdict.stood_in, *((slot.bundle, slot.slot) for slot in verdict.unlisted)}
 
 
-def without_slots(code, places):
+def without_slots(code, positions):
     """Bundles with nops in these places; of a reserved template, which is the slot None, one of nops."""
     read = bytearray(code)
-    for index, slot in places:
+    for index, slot in positions:
         bundle = split(read[16 * index:16 * index + 16])
         if slot is None:
             bundle = Bundle(0x00, (NOPS["m"], NOPS["i"], NOPS["i"]))

@@ -12,7 +12,8 @@ def listings(functions, judge, with_bytes):
     for batch in batches(functions, lambda function: (function.count, 0)):
         verdicts = list(map(unjudged, batch))
         judge.list_texts(verdicts)
-        further = gnu.slot_texts((verdict.function.bundles[index], slot) for verdict in verdicts for index, slot in verdict.unread)
+        further = gnu.slot_texts((verdict.function.bundles[index], slot)
+                                 for verdict in verdicts for index, slot in verdict.unread)
         for verdict in verdicts:
             yield lines_of_function(verdict, further, with_bytes)
 

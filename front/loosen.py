@@ -109,8 +109,8 @@ class Loosened:
         self.is_bare = True
 
     def take_out_nops(self):
-        for number, *parts in self.undecided:
-            self.left[number] = self.without_nop(*parts)
+        for number, *rest in self.undecided:
+            self.left[number] = self.without_nop(*rest)
         self.undecided = []
 
     def slot(self, said, front, stopped, comment):

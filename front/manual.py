@@ -35,13 +35,13 @@ def literal(text):
 
 def page():
     """The manual page."""
-    parts = [f'.TH IA64 1 "" "ia64 {VERSION}" "User Commands"\n.SH NAME\n'
+    chapters = [f'.TH IA64 1 "" "ia64 {VERSION}" "User Commands"\n.SH NAME\n'
              "ia64 \\- assembler, disassembler, checker of instruction groups, and emulator for Itanium\n"
              f".SH SYNOPSIS\n{literal(usage.USAGE)}"]
     for name in command.COMMANDS:
-        parts.append(f'.SH "THE WORDS OF {name.upper()}"\n{literal(command.parser(name).format_help())}')
-    parts.append(f".SH EXIT STATUS\n{literal(STATUSES)}")
-    return "".join(parts)
+        chapters.append(f'.SH "THE WORDS OF {name.upper()}"\n{literal(command.parser_of(name).format_help())}')
+    chapters.append(f".SH EXIT STATUS\n{literal(STATUSES)}")
+    return "".join(chapters)
 
 
 COMPLETIONS = """\
@@ -67,8 +67,8 @@ def completions():
     names = sorted({*command.COMMANDS, *usage.NUMBERS, "trial"})
     options = []
     for name in command.COMMANDS:
-        words = [word for action in command.parser(name)._actions for word in action.option_strings]
-        options.append(f"    *:{name}) words='{' '.join(words)}' ;;")
+        names = [word for action in command.parser_of(name)._actions for word in action.option_strings]
+        options.append(f"    *:{name}) words='{' '.join(names)}' ;;")
     return COMPLETIONS.format(commands=" ".join(names), options="\n".join(options))
 
 

@@ -62,17 +62,18 @@ class Runs(NamedTuple):
 # ---- Running ---------------------------------------------------------------------------------------------
 
 
-def answer(program, words, data):
+def answer(program, arguments, data):
     """The status of the program on these words and this input, and what it prints: a verdict, or a state."""
     try:
-        done = subprocess.run([program, *words], input=data, capture_output=True, check=False)
+        done = subprocess.run([program, *arguments], input=data, capture_output=True, check=False)
     except OSError as fault:
         raise Fault(f"{program}: {fault.strerror}") from None
     printed = done.stdout.decode(errors="backslashreplace")
     if done.returncode in (DONE, VIOLATED, LIMIT, FAULTED):
         return done.returncode, printed
-    causes = {WORDS: f"{program} has no command {words[0]}", REFUSED: printed.strip(), TOO_LONG: "longer than 16,777,216 bytes"}
-    raise Fault(causes.get(done.returncode, f"{words[0]} ends with status {done.returncode}"))
+    causes = {WORDS: f"{program} has no command {arguments[0]}", REFUSED: printed.strip(),
+              TOO_LONG: "longer than 16,777,216 bytes"}
+    raise Fault(causes.get(done.returncode, f"{arguments[0]} ends with status {done.returncode}"))
 
 
 def run_all(program, groups, orders, data):
@@ -104,7 +105,7 @@ def lines_of(state):
     return lines
 
 
-def position(name):
+def sort_key(name):
     """Where a line of this name stands among the others of a printed state."""
     kind = re.match(r"[a-z.]+", name)[0]
     number = name[len(kind):]
@@ -114,7 +115,7 @@ def position(name):
 def differing(states):
     """The names of the lines that aren't the same in all of these states, each given by its lines."""
     names = {name for state in states for name in state}
-    return sorted((name for name in names if len({state.get(name) for state in states}) > 1), key=position)
+    return sorted((name for name in names if len({state.get(name) for state in states}) > 1), key=sort_key)
 
 
 def table(heads, states, names):

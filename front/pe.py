@@ -11,7 +11,7 @@ from typing import Dict, List, NamedTuple, Optional
 from front.bundle import split
 from front.code import WORD64, Addresses, CodeFile, Rank, Relocation, Section, Stretch, Symbol
 from front.faults import Fault
-from front.parts import part, string, unpacked
+from front.content import part, string, unpacked
 
 LINKED, OBJECT, ANONYMOUS = b"MZ", b"\x00\x02", b"\0\0\xff\xff"       # how files begin
 IA64 = 0x200
@@ -168,15 +168,15 @@ class Pe(CodeFile):
 
     def section_name(self, index, name):
         """A name of more than eight bytes stands in the table of strings, where there is one."""
-        place = name.rstrip(b"\0")[1:]
-        if name.startswith(b"/") and place.isdigit() and self.strings_size:
-            return self.table_string(int(place), f"the name of section {index}")
+        start = name.rstrip(b"\0")[1:]
+        if name.startswith(b"/") and start.isdigit() and self.strings_size:
+            return self.table_string(int(start), f"the name of section {index}")
         return string(name, 0)
 
-    def table_string(self, place, what):
-        if not 4 <= place < self.strings_size:
-            raise Fault(f"cut or damaged: {what} is at byte {place} of the table of strings, which has {self.strings_size}")
-        return self.string(self.strings_at + place, what)
+    def table_string(self, start, what):
+        if not 4 <= start < self.strings_size:
+            raise Fault(f"cut or damaged: {what} is at byte {start} of the table of strings, which has {self.strings_size}")
+        return self.string(self.strings_at + start, what)
 
     def string(self, at, what):
         """The string that begins at a byte of the file. Each is read once: where they lie over one another, there would be
@@ -248,8 +248,8 @@ class Pe(CodeFile):
         field, value, section, kind, storage, _ = fields
         if section > len(self.headers):
             raise Fault(f"symbol {number} names section {section}, and there are {len(self.headers)}")
-        zeros, place = struct.unpack("<II", field)
-        name = self.table_string(place, f"the name of symbol {number}") if zeros == 0 and place else string(field, 0)
+        zeros, start = struct.unpack("<II", field)
+        name = self.table_string(start, f"the name of symbol {number}") if zeros == 0 and start else string(field, 0)
         is_function = kind >> 4 & 3 == 2
         size = struct.unpack_from("<4xI", further)[0] if is_function and further and section > 0 else 0
         return TableSymbol(name, storage, section - 1 if section > 0 else None, value, size, is_function,

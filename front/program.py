@@ -99,21 +99,22 @@ class Program:
         """Asks for the path, so that no copy of this has to."""
         self.found = self.path
 
-    def raw(self, words, data):
+    def raw(self, arguments, data):
         """Its status and what it prints, as bytes."""
         try:
-            done = subprocess.run([self.path, *words], input=data, stdout=subprocess.PIPE, stderr=subprocess.PIPE, check=False)
+            done = subprocess.run([self.path, *arguments], input=data, stdout=subprocess.PIPE, stderr=subprocess.PIPE,
+                                  check=False)
         except OSError as fault:
             raise ProgramFault(f"{self.path} can't be called: {fault.strerror}") from None
         if done.returncode < 0:
-            raise ProgramFault(f"`{self.path} {words[0]}` ended with signal {-done.returncode}")
+            raise ProgramFault(f"`{self.path} {arguments[0]}` ended with signal {-done.returncode}")
         return done.returncode, done.stdout
 
-    def call(self, words, data):
+    def call(self, arguments, data):
         """Its status and what it prints. Another status than 0, 1 and 3 is no answer."""
-        status, printed = self.raw(words, data)
+        status, printed = self.raw(arguments, data)
         if status not in (0, 1, 3):
-            raise ProgramFault(f"`{self.path} {words[0]}` ended with status {status}")
+            raise ProgramFault(f"`{self.path} {arguments[0]}` ended with status {status}")
         return status, printed.decode("latin-1")
 
     def answer(self, word, data):

@@ -97,9 +97,9 @@ class Image:
 def text_findings(file, slots, broken, found, excused):
     """A message at the later slot of each pair, and a note at the earlier one. Where a pair shares its slots with a loop's
     edge, the later one in the group may stand before it in the text."""
-    def slot(place):
+    def slot(position):
         try:
-            return slots[place[0]][place[1]]
+            return slots[position[0]][position[1]]
         except IndexError:
             raise ProgramFault(f"the slots of {file.label} aren't where they were looked for") from None
 
@@ -108,7 +108,7 @@ def text_findings(file, slots, broken, found, excused):
 
     for row in broken:
         first, second = slot(row.first), slot(row.second)
-        only = ways.said(found.get(row, ()), lambda place: f"line {slot(place).line}")
+        only = ways.said(found.get(row, ()), lambda position: f"line {slot(position).line}")
         yield finding(Severity.ERROR, second, f"{row.rule} {row.resource}: {said_pair(row, first.text, second.text)}{only}", row.rule)
         yield finding(Severity.NOTE, first, f"'{first.text}' is here", is_further=True)
     for row in excused:

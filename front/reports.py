@@ -13,11 +13,11 @@ from front.messages import Severity
 
 
 class Finding(NamedTuple):
-    """One message on a file, with where it is: a place in a source, or None; the object and its section and offset, or nothing;
-    and the function's name, or nothing. `rule` is that which is broken, if one is."""
+    """One message on a file, with where it is: the line of a source, or None; its origin, the object with its section and offset,
+    or nothing; and the function's name, or nothing. `rule` is that which is broken, if one is."""
     severity: Severity
     source: Optional[Source]
-    place: str
+    origin: str
     function: str
     text: str
     rule: str = ""
@@ -26,9 +26,9 @@ class Finding(NamedTuple):
     def line(self):
         """The line as compilers print it."""
         function = f"{self.function}: " if self.function else ""
-        if self.source and self.place:
-            return f"{self.source}: {self.severity.value}: {self.place} {function}{self.text}"
-        return f"{self.source or self.place}: {self.severity.value}: {function}{self.text}"
+        if self.source and self.origin:
+            return f"{self.source}: {self.severity.value}: {self.origin} {function}{self.text}"
+        return f"{self.source or self.origin}: {self.severity.value}: {function}{self.text}"
 
 
 OFFSETS = re.compile(r" ?\(?[+-]0x[0-9a-f]+ slot \d\)?|\+0x[0-9a-f]+(?=\))|:\d+:\d+$")
@@ -61,20 +61,20 @@ def code_answer(file, verdicts, options):
     further = gnu.slot_texts(slot for verdict in verdicts for slot in messages.wanted_texts(verdict, options.verbose))
     rows = [(verdict, message) for verdict in verdicts
             for message in messages.messages(verdict, messages.Texts(verdict, further), options.verbose)]
-    places = [(verdict.function.section.index, *message.place) for verdict, message in rows]
-    places += [(verdict.function.section.index, verdict.function.offset(place[0]), place[1]) for verdict in verdicts
-               for violation in verdict.violations for place in violation[2:]] if options.format != "lines" else []
-    lines = source_lines(file, list(dict.fromkeys(places)))
-    findings = [Finding(message.severity, lines.get((verdict.function.section.index, *message.place)),
+    locations = [(verdict.function.section.index, *message.line_of) for verdict, message in rows]
+    locations += [(verdict.function.section.index, verdict.function.offset(position[0]), position[1]) for verdict in verdicts
+                  for violation in verdict.violations for position in violation[2:]] if options.format != "lines" else []
+    lines = source_lines(file, list(dict.fromkeys(locations)))
+    findings = [Finding(message.severity, lines.get((verdict.function.section.index, *message.line_of)),
                         f"{file.label}({verdict.function.section.name}{message.offset:+#x})", verdict.function.name,
                         message.text, message.rule) for verdict, message in rows]
     return Answer(file, verdicts, findings, further, lines)
 
 
-def source_lines(file, places):
-    """The lines of its source of places in a file of code, as far as they are known."""
-    known = {place: Source(file.label, line) for place, line in zip(places, map(file.code.line, places)) if line}
-    return known or gnu.source_lines(file.data, file.code, places)
+def source_lines(file, locations):
+    """The lines of its source of locations in a file of code, as far as they are known."""
+    known = {location: Source(file.label, line) for location, line in zip(locations, map(file.code.line, locations)) if line}
+    return known or gnu.source_lines(file.data, file.code, locations)
 
 
 class Counts:

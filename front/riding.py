@@ -29,7 +29,7 @@ Why the verdict on the ridden function is that on the function, with what rides 
   function that goes on in the group doesn't ride.
 - Nops read and write nothing. `ALLOC` and `CLEAR` are violations of neighbours, and a nop beside a piece stands for its slot.
 
-So a place of a violation is mapped back (`Ridden.places`), and a rider to what rides (`Ridden.resource`). Several violations
+So a place of a violation is mapped back (`Ridden.positions`), and a rider to what rides (`Ridden.resource`). Several violations
 may become one, since pieces of a slot have its guard each.
 """
 
@@ -45,7 +45,7 @@ LONGEST_RUN = 192
 FIRST_STACKED, LAST_REGISTER = 32, 127
 FIRST_ROTATING_PREDICATE = 16
 
-SlotPlace = Tuple[int, int]
+Position = Tuple[int, int]
 
 
 class NoRoom(Exception):
@@ -56,8 +56,8 @@ class Ridden(NamedTuple):
     """A function with what rides in it."""
     bundles: List[Bundle]
     starts: List[int]                  # the number of the first bundle in the place of each old one, and how many there are
-    places: Dict[SlotPlace, SlotPlace]         # of each slot, nops too, the bundle and the slot that it stands for
-    rows: Dict[SlotPlace, Row]             # of the slots of the function that are outside the profile
+    positions: Dict[Position, Position]         # of each slot, nops too, the bundle and the slot that it stands for
+    rows: Dict[Position, Row]             # of the slots of the function that are outside the profile
     riders: Dict[int, str]             # what rides on a general register
     spilled: Tuple[str, ...]           # what rides on a register of the other kind
 
@@ -126,8 +126,8 @@ def general_registers(unit, word):
     if row:
         return frozenset(operand(name, word) for name in row.writes + row.reads if name in GENERAL)
     known = next((known for known in NAMINGS if unit in known.units and known.pattern.has(word)), None)
-    places = [known.pattern.fields[name] for name in GENERAL if name in known.pattern.fields] if known else ()
-    return frozenset(word >> low & (1 << bits) - 1 for low, bits in places)
+    positions = [known.pattern.fields[name] for name in GENERAL if name in known.pattern.fields] if known else ()
+    return frozenset(word >> low & (1 << bits) - 1 for low, bits in positions)
 
 
 # ---- What slots do --------------------------------------------------------------------------------------------------------
@@ -301,7 +301,7 @@ class Ride:
         self.old = bundles
         self.seats, self.spilled = seats(bundles)
         self.bundles: List[Bundle] = []
-        self.places: Dict[SlotPlace, SlotPlace] = {}
+        self.positions: Dict[Position, Position] = {}
         self.starts: List[int] = []
         self.origins: List[int] = []                   # of each new bundle the number of the old one
 
@@ -335,19 +335,19 @@ class Ride:
         words, stood = instructions(bundle), stood_in(bundle)
         pieces, before = ([make(unit, word) for unit, word in words] for make in (self.pieces, self.guard_reads))
         if not any(pieces) and not any(before):
-            self.add(index, stood.bundle, stood.places)
+            self.add(index, stood.bundle, stood.slots)
             return
-        for part in parts(bundle):
-            first = part[0]
-            if any(before[slot] for slot in part[1:]):
+        for together in slot_groups(bundle):
+            first = together[0]
+            if any(before[slot] for slot in together[1:]):
                 raise NoRoom("a branch stands behind a call in its bundle")
-            stop = part[-1] in stops_behind(bundle)
-            own = [[piece] for piece in pieces[first]] or [[own_piece(stood, slot) for slot in part]]
+            stop = together[-1] in stops_behind(bundle)
+            own = [[piece] for piece in pieces[first]] or [[own_piece(stood, slot) for slot in together]]
             made = [[piece] for piece in before[first]] + own
             for number, group in enumerate(made):
-                self.add_part(index, part, group, stop and number == len(made) - 1)
+                self.add_pieces(index, together, group, stop and number == len(made) - 1)
 
-    def add_part(self, index, part, pieces, stop):
+    def add_pieces(self, index, together, pieces, stop):
         """Adds a bundle for a piece, or for those of a call and what stands behind it. Nops beside a piece stand for its
         slot."""
         template, at = HOMES[pieces[0].unit] if len(pieces) == 1 else (BRANCHES, 3 - len(pieces))
@@ -355,12 +355,12 @@ class Ride:
         words[at:at + len(pieces)] = [piece.word for piece in pieces]
         if template == LONG:
             words[1] = pieces[0].low
-        bundle, owners = Bundle(template | stop, tuple(words)), part if len(pieces) > 1 else part[:1]
+        bundle, owners = Bundle(template | stop, tuple(words)), together if len(pieces) > 1 else together[:1]
         self.add(index, bundle, {slot: owners[min(max(0, slot - at), len(owners) - 1)] for slot in slots_of(bundle)})
 
-    def add(self, index, bundle, places):
-        for slot, old in places.items():
-            self.places[len(self.bundles), slot] = index, old
+    def add(self, index, bundle, positions):
+        for slot, old in positions.items():
+            self.positions[len(self.bundles), slot] = index, old
         self.bundles.append(bundle)
         self.origins.append(index)
 
@@ -374,7 +374,7 @@ class Ride:
                 self.bundles[number] = with_branch(self.bundles[number], slot, self.starts[target] - number)
 
 
-def parts(bundle):
+def slot_groups(bundle):
     """The slots of a bundle, parted into those that each have bundles of their own. What stands behind a call stays with
     it: the call comes back to the bundle behind its own."""
     calls = [slot for slot, (unit, word) in enumerate(instructions(bundle)) if is_call(unit, word)]
@@ -384,7 +384,7 @@ def parts(bundle):
 
 def own_piece(stood, slot):
     """What stands for a slot with nothing that rides."""
-    at = max(new for new, old in stood.places.items() if old == slot)
+    at = max(new for new, old in stood.slots.items() if old == slot)
     if stood.bundle.units[at] == "l":
         return Piece("x", stood.bundle.words[2], stood.bundle.words[1])
     return Piece(stood.bundle.units[at], stood.bundle.words[at])
@@ -406,7 +406,7 @@ def ride(bundles) -> Ridden:
     made.settle()
     require_short_runs(made.bundles)
     riders = {register: passenger for passenger, register in made.seats.items()}
-    return Ridden(made.bundles, made.starts, made.places, rows, riders, made.spilled)
+    return Ridden(made.bundles, made.starts, made.positions, rows, riders, made.spilled)
 
 
 def require_short_runs(bundles):

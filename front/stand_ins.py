@@ -536,7 +536,7 @@ class StoodIn(NamedTuple):
     """A bundle of the profile in the place of another one. Where that has nothing outside the profile, the two are one."""
     bundle: Bundle
     rows: Dict[int, Row]               # of each slot of the old bundle that is outside the profile
-    places: Dict[int, int]             # the slot of the old bundle that each slot of the new one stands for
+    slots: Dict[int, int]             # the slot of the old bundle that each slot of the new one stands for
 
 
 # An I slot in the place of the F slot of a template.
@@ -556,19 +556,19 @@ def stood_in(bundle) -> StoodIn:
     """The bundle with a stand-in for each slot outside the profile. NoStandIn where there is none for one; a word that no
     instruction has is left as it is."""
     rows = rows_of(bundle)
-    places = {slot: slot for slot in range(2 if bundle.template & ~1 == LONG else 3)}
+    slots = {slot: slot for slot in range(2 if bundle.template & ~1 == LONG else 3)}
     made = bundle
     for slot, entry in rows.items():
         if entry.none:
             raise NoStandIn(slot, entry, entry.none)
         if entry.units == "x":
             made = with_long_stand_in(made, entry)
-            places = {slot: min(slot, 1) for slot in range(2 if made.template & ~1 == LONG else 3)}
+            slots = {slot: min(slot, 1) for slot in range(2 if made.template & ~1 == LONG else 3)}
         else:
             unit, word = stand_in(bundle.units[slot], bundle.words[slot])
             template = WITHOUT_F[made.template & ~1] | made.template & 1 if unit != bundle.units[slot] else made.template
             made = Bundle(template, made.words).with_word(slot, word)
-    return StoodIn(made, rows, places)
+    return StoodIn(made, rows, slots)
 
 
 def with_long_stand_in(bundle, entry):

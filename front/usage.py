@@ -67,11 +67,11 @@ def are_numbers(command, numbers):
         is_number(word, 1 if at == 0 else 0, limit) for at, (word, limit) in enumerate(zip(numbers, limits)))
 
 
-def parted(command, words):
+def parted(command, arguments):
     """The numbers and the paths among the words of a command. One that begins as a number counts as one, whether the command
     takes it or not, as long as it takes so many; behind these, what is the path of a file counts as one."""
     numbers, paths = [], []
-    for word in words:
+    for word in arguments:
         if re.match(r"[-+]?[0-9]", word) and (len(numbers) < len(NUMBERS.get(command, ())) or not os.path.exists(word)):
             numbers.append(word)
         else:
@@ -79,9 +79,9 @@ def parted(command, words):
     return numbers, paths
 
 
-def right_call(command, words=()):
+def right_call(command, arguments=()):
     """The call of a command, with the numbers among these words as far as it takes them, and else with some that it takes."""
-    numbers, paths = parted(command, words)
+    numbers, paths = parted(command, arguments)
     if command == "trial":
         return "ia64 trial 1 100"
     shown = list(NUMBERS.get(command, ()))
@@ -94,12 +94,12 @@ def right_call(command, words=()):
     return " ".join(["ia64", command, *shown, paths[0] if paths else "FILE"])
 
 
-def explained(words, commands):
+def explained(arguments, commands):
     """What is wrong with words that are none of these commands, and the call that was meant."""
-    if not words:
+    if not arguments:
         return ["a command is missing"]
-    if words[0] == "trial":
+    if arguments[0] == "trial":
         return [f"'trial' takes {TRIAL}: {right_call('trial')}"]
-    meant = re.sub(r".*-", "", words[0]).lower()
-    perhaps = [f"perhaps: {right_call(meant, words[1:])}"] if meant in (*commands, "trial") else []
-    return [f"no command '{words[0]}'", *perhaps]
+    meant = re.sub(r".*-", "", arguments[0]).lower()
+    perhaps = [f"perhaps: {right_call(meant, arguments[1:])}"] if meant in (*commands, "trial") else []
+    return [f"no command '{arguments[0]}'", *perhaps]

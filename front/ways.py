@@ -16,7 +16,7 @@ from front.program import Refusal
 MOST_BRANCHES, MOST_VIOLATIONS, MOST_BUNDLES, WORK = 200, 20, 5000, 100_000
 
 
-def branch_places(bundles):
+def branch_positions(bundles):
     """The slots of a program's direct branches, each as bundle and slot, with how far it goes; checks don't count."""
     return [((index, slot), away) for index, bundle in enumerate(bundles) for slot, away in branches(bundle)
             if bundle.units[slot] == "b"]
@@ -26,11 +26,11 @@ def ways(ask, code, broken):
     """Of each pair the branches without which predicates excuse it, each with its target. `ask` answers on bundles, behind
     which it sets an end bundle, what a check of them answers; `broken` is what it answers on these."""
     bundles, found = split_all(code), {}
-    places = branch_places(bundles)
-    if (not 0 < len(broken) <= MOST_VIOLATIONS or len(places) > MOST_BRANCHES or len(bundles) > MOST_BUNDLES
-            or len(places) * len(bundles) > WORK):
+    positions = branch_positions(bundles)
+    if (not 0 < len(broken) <= MOST_VIOLATIONS or len(positions) > MOST_BRANCHES or len(bundles) > MOST_BUNDLES
+            or len(positions) * len(bundles) > WORK):
         return found
-    for (index, slot), away in places:
+    for (index, slot), away in positions:
         turned = with_branch(bundles[index], slot, len(bundles) - index).packed()
         changed = code[:16 * index] + turned + code[16 * index + 16:]
         gone = set(broken) - set(violations(ask(changed)))
@@ -41,7 +41,8 @@ def ways(ask, code, broken):
 
 def said(found, name):
     """What is said of the branches of a pair behind it: nothing, or their places by their names."""
-    ways_of = [f"{'the way back from' if target <= place[0] else 'the branch at'} {name(place)}" for place, target in found]
+    ways_of = [f"{'the way back from' if target <= position[0] else 'the branch at'} {name(position)}"
+               for position, target in found]
     return f"; only by {' and '.join(ways_of)}" if ways_of else ""
 
 

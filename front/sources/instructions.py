@@ -25,7 +25,7 @@ KINDS = {
     "check": r"chk\.s",
     "move": r"mov(?:\.[im]|(?:\.ret)?(?:\.(?:sptk|dptk))?(?:\.imp)?)",
 }
-KIND = re.compile("|".join(f"(?P<{kind}>{words})" for kind, words in KINDS.items()))
+KIND = re.compile("|".join(f"(?P<{kind}>{mnemonics})" for kind, mnemonics in KINDS.items()))
 
 # The units in whose slots a kind stands, and templates, in the order of their codes, by their units. A long instruction
 # stands in the slot of unit L, and that of unit X is its second half.

@@ -28,14 +28,14 @@ def tokens_of(text, line):
 
 def parted(tokens, mark):
     """Tokens, parted at a mark that stands in no parentheses."""
-    parts, depth = [[]], 0
+    lists, depth = [[]], 0
     for token in tokens:
         depth += (token in "([") - (token in ")]")
         if token == mark and depth == 0:
-            parts.append([])
+            lists.append([])
         else:
-            parts[-1].append(token)
-    return parts
+            lists[-1].append(token)
+    return lists
 
 
 def number_of(token):

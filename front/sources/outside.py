@@ -5,7 +5,8 @@ operands in their places, and 0, or the first of a row's choices, for all that c
 completers and numbers. It is no assembler's word. `nop` stands for it in the text, and the word in its place in the code.
 
 A row is that of an instruction if all its registers have a field there, it has as many numbers, and all operands of the row that
-an instruction can't leave out are named. Those that it can are f0 and f1 in place of a factor or a sum, and the second of two predicates.
+an instruction can't leave out are named. Those that it can are f0 and f1 in place of a factor or a sum, and the second of two
+predicates.
 """
 
 import functools
@@ -165,7 +166,7 @@ class Filled:
         """An instruction has as many numbers as its format, and one more where it is added to an address and is always the
         same. That of a target isn't among these."""
         count = sum(not OPERAND.fullmatch(operand) and operand[:2] != "ar" for operand in operands)
-        wanted = {found[0] for found in map(NUMBER.match, self.row.pattern.fields) if found} if self.row.kind not in TARGETED else ()
+        wanted = {found[0] for found in map(NUMBER.match, self.row.pattern.fields) if found and self.row.kind not in TARGETED}
         is_implied = not wanted and "r3" in self.row.writes and "r2" not in self.row.reads
         if count != len(wanted) + is_implied:
             raise Misfit

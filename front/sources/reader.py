@@ -37,8 +37,8 @@ DROPPED = frozenset("""
     .symver .prologue .body .save .save.f .save.g .save.b .save.gf .savesp .savepsp .vframe .vframesp .vframepsp .fframe
     .altrp .unwabi .unwentry .restore .restorereg .restorereg.p .spill .spillreg .spillreg.p .spillsp .spillsp.p
     .spillpsp .spillpsp.p .copy_state .label_state .personality .pred.safe_across_calls .pred.rel .pred.rel.clear
-    .pred.rel.imply .pred.rel.mutex .mem.offset .reg.val .serialize.data .serialize.instruction .explicit .default .lsb .msb .psr .alias .secalias
-    .gnu_attribute .vtable_entry .vtable_inherit .stabs .stabn .stabd
+    .pred.rel.imply .pred.rel.mutex .mem.offset .reg.val .serialize.data .serialize.instruction .explicit .default .lsb .msb
+    .psr .alias .secalias .gnu_attribute .vtable_entry .vtable_inherit .stabs .stabn .stabd
     """.split())
 # Data. Names in those of the first table are addresses.
 ADDRESSES = frozenset("""
@@ -332,8 +332,8 @@ class Reader:
     def alignment(self, rest, is_power, is_plain):
         if not self.code:
             return
-        parts = [self.settled(part) for part in parted(tokens_of(rest, self.line), ",")]
-        size, most = self.constant(parts[0]), self.constant(parts[2]) if len(parts) > 2 else 0
+        operands = [self.settled(part) for part in parted(tokens_of(rest, self.line), ",")]
+        size, most = self.constant(operands[0]), self.constant(operands[2]) if len(operands) > 2 else 0
         size = 1 << size if is_power and 0 <= size <= 16 else size
         if not 0 < size <= 1 << 16 or size & (size - 1):
             self.fail("an alignment that isn't known here")

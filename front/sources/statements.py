@@ -4,7 +4,7 @@ import re
 
 from front.faults import Unread
 
-PIECE = re.compile(r"""(?P<words>[^"'/;{}\n]+)|(?P<mark>;;|[;{}\n])|(?P<comment>//[^\n]*)|(?P<block>/\*)
+PIECE = re.compile(r"""(?P<code>[^"'/;{}\n]+)|(?P<mark>;;|[;{}\n])|(?P<comment>//[^\n]*)|(?P<block>/\*)
                        |(?P<quoted>"(?:[^"\\\n]|\\.)*"|'(?:\\.|[^\\\n])'?)|(?P<other>["'/])""", re.X)
 LINE_COMMENT = re.compile(r"[ \t]*#[^\n]*")
 # A line that is a statement, or a stop, or blank.

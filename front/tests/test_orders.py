@@ -199,8 +199,8 @@ class Calls(Compared):
     def test_numbers_of_orders(self):
         """Which orders are run: the first seven, and random ones by their seed."""
         def numbers(*words):
-            options = command.parser("compare").parse_args([*words, "x"])
-            return command.orders.orders_of(options.orders, options.random, options.seed)
+            options = command.parser_of("compare").parse_args([*words, "x"])
+            return orders.orders_of(options.orders, options.random, options.seed)
         self.assertEqual(numbers("--random", "0"), [0, 1, 2, 3, 4, 5, REVERSE])
         self.assertEqual(numbers("--orders", "7,9,7", "--random", "0"), [7, 9])
         self.assertEqual(len(set(numbers())), 15)

@@ -86,7 +86,7 @@ def check(bundles, entries=()):
 def ridden_verdict(bundles, entries=()):
     """That of the ridden function, mapped back."""
     ridden = ride(bundles)
-    places = {**ridden.places, **{(len(ridden.bundles), slot): (len(bundles), slot) for slot in range(3)}}
+    places = {**ridden.positions, **{(len(ridden.bundles), slot): (len(bundles), slot) for slot in range(3)}}
     return {(rule, ridden.resource(resource), places[first], places[second])
             for rule, resource, first, second in check(ridden.bundles, [ridden.starts[entry] for entry in entries])}
 
@@ -94,7 +94,7 @@ def ridden_verdict(bundles, entries=()):
 def plain_verdict(bundles, entries=()):
     """That of the function with plain stand-ins, mapped back."""
     stood = [stood_in(bundle) for bundle in [*bundles, END]]
-    return {(rule, resource, *((index, stood[index].places[slot]) for index, slot in places))
+    return {(rule, resource, *((index, stood[index].slots[slot]) for index, slot in places))
             for rule, resource, *places in check([found.bundle for found in stood[:-1]], entries)}
 
 
@@ -384,9 +384,9 @@ class Bundles(unittest.TestCase):
         bundles = [bundle(MFI, out("setf", f1=6, r2=8), out("fma", **FMA), None), bundle(MLX | STOP, None, 5, NOPS["x"]),
                    bundle(MMF | STOP, out("lfetch", r3=8), None, out("fma", **FMA))]
         ridden = ride(bundles)
-        places = [ridden.places[index, slot] for index, part in enumerate(ridden.bundles) for slot in riding.slots_of(part)]
+        places = [ridden.positions[index, slot] for index, part in enumerate(ridden.bundles) for slot in riding.slots_of(part)]
         self.assertEqual(places, sorted(places))
-        self.assertEqual(len(places), len(ridden.places))
+        self.assertEqual(len(places), len(ridden.positions))
         self.assertEqual(set(places), {(index, slot) for index, part in enumerate(bundles) for slot in riding.slots_of(part)})
         self.assertEqual(ridden.starts, [0, 4, 5, 9])
         self.assertEqual({name for name in ridden.riders.values()}, {"f6", "f7", "f8", "f9"})
@@ -397,7 +397,7 @@ class Bundles(unittest.TestCase):
                                  (MLX | STOP, [1]), (MMB | STOP, [2]), (MFB, [])):
             words = [out("setf", f1=6, r2=8)] + [None, None]
             ridden = ride([bundle(template, *words)])
-            stops = [ridden.places[index, slot] for index, part in enumerate(ridden.bundles)
+            stops = [ridden.positions[index, slot] for index, part in enumerate(ridden.bundles)
                      for slot in riding.stops_behind(part)]
             self.assertEqual(stops, [(0, slot) for slot in behind])
             for index, part in enumerate(ridden.bundles):
@@ -410,7 +410,7 @@ class Bundles(unittest.TestCase):
                    fp(out("fma", **FMA)),
                    with_branch(with_branch(bundle(MLX | STOP, out("chk.s", f2=6), 0, 0xC << 37 | 6), 0, 1), 1, -3)]
         ridden = ride(bundles)
-        found = [(ridden.places[index, slot], ridden.starts.index(index + away)) for index, part in enumerate(ridden.bundles)
+        found = [(ridden.positions[index, slot], ridden.starts.index(index + away)) for index, part in enumerate(ridden.bundles)
                  for slot, away in branches(part)]
         self.assertEqual(found, [((1, 1), 0), ((1, 2), 2), ((3, 0), 4), ((3, 1), 0)])
         self.assertEqual(ridden.starts[-1], len(ridden.bundles))
@@ -426,7 +426,7 @@ class Bundles(unittest.TestCase):
             self.assertEqual(calls, [ridden.starts[1] - 1])
         fcmp = fp(out("fcmp", p1=6, p2=7), MFI)
         ridden = ride([fcmp, bundle(MBB | STOP, None, call(1, 6), branch(1, 8)), fcmp])
-        self.assertEqual([ridden.places[ridden.starts[1] + 2, slot] for slot in range(3)], [(1, 1), (1, 1), (1, 2)])
+        self.assertEqual([ridden.positions[ridden.starts[1] + 2, slot] for slot in range(3)], [(1, 1), (1, 1), (1, 2)])
         with self.assertRaisesRegex(NoRoom, "behind a call"):
             ride([fcmp, bundle(MBB | STOP, None, call(1, 8), branch(1, 6)), fcmp])
 

@@ -922,14 +922,16 @@ class Reading(unittest.TestCase):
         self.assertEqual(self.entries(f"{start}.section .text.x,\"ax\"\n{bundle}.section .init,\"ax\"\n.align 32\n{bundle}"),
                          [(1, 0), (2, 0)])
         self.assertEqual(self.entries(f".proc f\nf:{start}.endp f\n{bundle}"), [(0, 2)])
-        self.assertEqual(self.entries(f".proc f\nf:{start}.endp f\n.proc g\ng:{bundle}.mib;br.few h\n.endp g\nh=y\ny=f"), [(0, 2)])
+        self.assertEqual(self.entries(f".proc f\nf:{start}.endp f\n.proc g\ng:{bundle}.mib;br.few h\n.endp g\nh=y\ny=f"),
+                         [(0, 2)])
 
     def test_relations(self):
         """They say nothing, in whatever form and wherever they stand."""
         bundle = ".mii;nop 0;nop 0;nop 0\n"
         for relation in (".pred.rel.mutex p6, p7", '.pred.rel "mutex", p6, p7', ".pred.rel @mutex, p6-p7", ".pred.rel.clear",
                          '.pred.rel "imply", p6, p7', ".pred.rel.imply p6,p7", ".pred.rel.mutex p6"):
-            for text in (f"{relation}\n{bundle}", f".global x\n{bundle}x:\n{relation}\n{bundle}", f".data\n{relation}\n.text\n{bundle}"):
+            for text in (f"{relation}\n{bundle}", f".global x\n{bundle}x:\n{relation}\n{bundle}",
+                         f".data\n{relation}\n.text\n{bundle}"):
                 self.assertEqual(said(text), said(text.replace(relation, "")))
 
     def test_sections(self):
@@ -1095,7 +1097,8 @@ class Verdicts(Case):
             "x.s:56: note: x.s(.text+0x70) sum: stood in for: 'lfetch.nta [r33]' (+0x70 slot 0)",
             "2 accepted, 1 violated, 0 not judged (1 of these functions with stand-ins)"])
         self.assertEqual(self.check(source, "--exact")[1][-3:], [
-            "not judged, by the first reason:", "      1 lfetch.nta: no stand-in is wanted", "1 accepted, 1 violated, 1 not judged"])
+            "not judged, by the first reason:", "      1 lfetch.nta: no stand-in is wanted",
+            "1 accepted, 1 violated, 1 not judged"])
 
     def test_system_calls(self):
         source = ".proc f\nf: .mii; break.m 0x100000\n.mmi;add r8=r9,r10;add r9=r8,r8\n.mib;br.ret.sptk.many b0;;\n.endp f"

@@ -317,7 +317,7 @@ class StandIns(unittest.TestCase):
         for (bundle, text, row, found), slots in zip(rows, texts):
             (old, of), = found.rows.items()
             self.assertIs(of, row)
-            slot = max(new for new, at in found.places.items() if at == old)
+            slot = max(new for new, at in found.slots.items() if at == old)
             made = read_text(slots[slot])
             with self.subTest(row=row.mnemonic, form=row.form, text=text, made=made):
                 self.assertEqual(in_profile(made.writes), in_profile(text.writes))
@@ -410,7 +410,7 @@ class StoodInBundles(unittest.TestCase):
             found = stood_in(Bundle(template, (setf, fcmp, add)))
             self.assertEqual(found.bundle.template, new)
             self.assertEqual({slot: row.mnemonic for slot, row in found.rows.items()}, {0: "setf", 1: "fcmp"})
-            self.assertEqual(found.places, {0: 0, 1: 1, 2: 2})
+            self.assertEqual(found.slots, {0: 0, 1: 1, 2: 2})
             self.assertEqual(found.bundle.words[2], add)
 
     @needs_program
@@ -433,7 +433,7 @@ class StoodInBundles(unittest.TestCase):
         """A long branch is at slot 1, and its stand-in at slot 2 of another template."""
         bundle = with_long_displacement(Bundle(0x05, (NOPS["m"], 0, 0xC << 37 | 6)), -7)
         found = stood_in(bundle)
-        self.assertEqual((found.bundle.template, found.places), (0x11, {0: 0, 1: 1, 2: 1}))
+        self.assertEqual((found.bundle.template, found.slots), (0x11, {0: 0, 1: 1, 2: 1}))
         word = found.bundle.words[2]
         self.assertEqual((word >> 37, word & 63, list(branches(found.bundle))), (4, 6, [(2, -7)]))
         for value in (1 << 20, -(1 << 20) - 1, 1 << 58):
