@@ -12,7 +12,7 @@ from pathlib import Path
 
 from front import VERSION, checking, files, gnu, reports, usage
 from front.checking import DONE, WRONG, complain
-from front.faults import Fault, ProgramFault, Unread
+from front.faults import Fault, ProgramFault, Unread, printable
 from front.files import Kind
 from front.judging import Judge
 from front.content import read_file
@@ -77,6 +77,29 @@ def loosen_options(parser):
     parser.add_argument("file", metavar="FILE", help="a text, with bundles or without")
     parser.add_argument("--keep-stops", action="store_true", help="leave each ;; where it stands")
     parser.set_defaults(run=loosened)
+
+
+def draw_options(parser):
+    parser.add_argument("file", metavar="FILE", help="as of check, no archive")
+    parser.add_argument("functions", nargs="*", metavar="FUNCTION",
+                        help=f"these functions of it; without one all, of a file that has {MOST_FIGURES} at most")
+    parser.add_argument("-o", "--output", metavar="PATH", type=picture_path,
+                        help="where the picture goes: x.svg, or x.html, a page; by default an SVG on standard output")
+    add_code_options(parser)
+    parser.set_defaults(run=draw)
+
+
+def picture_path(text):
+    forms = pictures().FORMS
+    if os.path.splitext(text)[1] not in forms:
+        raise argparse.ArgumentTypeError(f"{text} ends with none of {', '.join(forms)}")
+    return text
+
+
+def pictures():
+    """What draws: it takes as long to load as all else that a short answer needs, so only where it is wanted."""
+    from front import drawing
+    return drawing
 
 
 def compare_options(parser):
@@ -198,6 +221,46 @@ def compare(options, program):
     return orders.status_of(runs)
 
 
+def draw(options, program):
+    """The picture of a program, or of functions of a file of code."""
+    source = one_file(options.file, options.syscalls)
+    file = built(source, options, program) if source.kind is Kind.TEXT else source
+    drawing = pictures()
+    if file.kind is Kind.CODE:
+        figures = drawing.of_code(file, chosen_functions(file, options.functions), Judge(program, verbose=True), is_proved())
+    elif options.functions:
+        raise Fault("a program, which has no functions with names")
+    else:
+        figures = [drawing.of_program(file, source, program, is_proved())]
+    form = drawing.FORMS[os.path.splitext(options.output)[1] if options.output else ".svg"]
+    picture = form(figures).encode()
+    if options.output:
+        write_file(options.output, picture)
+    else:
+        sys.stdout.flush()
+        sys.stdout.buffer.write(picture)
+    return DONE
+
+
+def chosen_functions(file, names):
+    """The functions of a file with these names, or all of them where there are few."""
+    missing = [name for name in names if not any(name in (function.name, *function.names) for function in file.functions)]
+    if missing:
+        raise Fault(f"no function {', '.join(map(printable, missing))}; {some_of(file.functions)}")
+    chosen = [function for function in file.functions if not names or set(names) & {function.name, *function.names}]
+    if not chosen:
+        raise Fault("no function is in it")
+    if not names and len(chosen) > MOST_FIGURES:
+        raise Fault(f"{len(chosen):,} functions, and without a name {MOST_FIGURES} are drawn at most; {some_of(chosen)}")
+    return chosen
+
+
+def some_of(functions):
+    """The names of functions, the first ones where there are many."""
+    names = [function.name for function in functions[:MOST_NAMES]]
+    return f"it has {', '.join(names)}{' ..' if len(functions) > MOST_NAMES else ''}" if names else "it has none"
+
+
 def plainly(options, program):
     """A command as on standard input, of a file. The numbers and the file come in any order."""
     numbers, paths = usage.parted(options.command, options.arguments)
@@ -228,6 +291,9 @@ def write_file(path, data):
         raise Fault(f"{path} can't be written: {fault.strerror}") from None
 
 
+# So many functions are drawn without a name, and so many names are told of those that a file has.
+MOST_FIGURES, MOST_NAMES = 10, 20
+
 # What a status of the program means that prints nothing, or not all.
 SAID = {3: "'{}' refused its input; the reason went to standard output",
         4: "the input is longer than 16,777,216 bytes; nothing was written",
@@ -242,6 +308,7 @@ COMMANDS = {
     "show": (listing_options, "the text of a file's functions"),
     "stops": (stops_options, "the instructions of a text packed anew into bundles, with the stops that they need"),
     "loosen": (loosen_options, "the instructions of a text, without bundles and stops"),
+    "draw": (draw_options, "a picture of a program or of functions: bundles, groups, branches, and pairs that clash"),
     "compare": (compare_options, "in what the states differ that several orders of a group's writes leave"),
     "run": (plain_options, "the state after at most N groups of an accepted program"),
     "watch": (plain_options, "as run, behind its first eight groups"),
@@ -289,10 +356,17 @@ def said_version():
     """The version, and whether the program that is asked is proved."""
     if os.environ.get("IA64_PROGRAM"):
         return f"ia64 {VERSION}: answers come from {os.environ['IA64_PROGRAM']}, of which nothing is known to be proved\n"
+    proved = "the program is proved and built" if is_proved() else "the program isn't built, and nothing is proved of its answers"
+    return f"ia64 {VERSION}: {proved}\n"
+
+
+def is_proved():
+    """Whether the program that is asked is known to be proved."""
+    if os.environ.get("IA64_PROGRAM"):
+        return False
     done = subprocess.run([WRAPPER, "--program"], stdin=subprocess.DEVNULL, stdout=subprocess.DEVNULL, stderr=subprocess.DEVNULL,
                           env={**os.environ, "IA64_PROVED": "1"}, check=False)
-    proved = "the program is proved and built" if done.returncode == 0 else "the program isn't built, and nothing is proved of its answers"
-    return f"ia64 {VERSION}: {proved}\n"
+    return done.returncode == 0
 
 
 def main(arguments=None):

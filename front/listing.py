@@ -10,12 +10,17 @@ from front.program import batches
 def listings(functions, judge, with_bytes):
     """The lines of each function. So many are asked about at once as an image has room for."""
     for batch in batches(functions, lambda function: (function.count, 0)):
-        verdicts = list(map(unjudged, batch))
-        judge.list_texts(verdicts)
-        further = gnu.slot_texts((verdict.function.bundles[index], slot)
-                                 for verdict in verdicts for index, slot in verdict.unread)
-        for verdict in verdicts:
-            yield lines_of_function(verdict, further, with_bytes)
+        for texts in texts_of(batch, judge):
+            yield lines_of_function(texts, with_bytes)
+
+
+def texts_of(functions, judge):
+    """The texts of the slots of each function, of so many as an image has room for."""
+    verdicts = list(map(unjudged, functions))
+    judge.list_texts(verdicts)
+    further = gnu.slot_texts((verdict.function.bundles[index], slot)
+                             for verdict in verdicts for index, slot in verdict.unread)
+    return [messages.Texts(verdict, further) for verdict in verdicts]
 
 
 def unjudged(function):
@@ -27,10 +32,9 @@ def unjudged(function):
     return verdict
 
 
-def lines_of_function(verdict, further, with_bytes):
+def lines_of_function(texts, with_bytes):
     """The lines of a function: its name and place, and its bundles with their offsets and, where they are wanted, bytes."""
-    function = verdict.function
-    texts = messages.Texts(verdict, further)
+    function = texts.verdict.function
     yield f"{function.name}:".ljust(40) + f"// {function.section.name}{function.start:+#x}, {function.size:#x} bytes"
     for index, bundle in enumerate(function.bundles):
         code = f"  {bytes(function.code[16 * index:16 * index + 16]).hex()}" * with_bytes

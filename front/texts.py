@@ -5,7 +5,7 @@ the program takes.
 """
 
 import re
-from typing import List, NamedTuple
+from typing import Dict, List, NamedTuple
 
 CODE = re.compile(r'(?:[^"/]|"[^"]*"|/(?!/)|")*')
 OPENING = re.compile(r"\{\s*\.(m(?:ii|lx|mi|fi|mf|ib|bb|mb|fb)|bbb)#?$")
@@ -78,3 +78,17 @@ def slots_of_text(data) -> List[List[Slot]]:
         elif is_open and not is_data and name and not OUTSIDE.match(name) and not LABEL.match(name):
             bundles[-1].append(Slot(number, len(front) + 1, name))
     return bundles
+
+
+def labels_of_text(data) -> Dict[int, List[str]]:
+    """The labels in code of a text that the program takes, by the numbers of the bundles that they name."""
+    found: Dict[int, List[str]] = {}
+    count, is_data = 0, False
+    for line in lines_of_text(data):
+        said, _, _ = parts_of(line)
+        count += OPENING.match(said) is not None
+        if TEXT.match(said) or DATA.match(said):
+            is_data = bool(DATA.match(said))
+        elif LABEL.match(said) and not is_data:
+            found.setdefault(count, []).append(said[:-1].strip().rstrip("#"))
+    return found

@@ -19,6 +19,8 @@ assembler.
                   the text of functions, or of a program
   stops FILE      the text of the program into which the instructions of a text are packed, with the stops that they need
   loosen FILE     the instructions of a text, without its bundles and stops
+  draw FILE [FUNCTION..] -o x.svg
+                  a picture of a program or of functions, or, with -o x.html, a page: bundles, groups, branches, pairs that clash
   compare FILE    in what the states differ that several orders of a group's writes leave
 
 Programs, texts or images, from a FILE or from standard input:
@@ -38,7 +40,7 @@ Programs, texts or images, from a FILE or from standard input:
                   a stated program of 1 to 4096 bundles, checked and run; it reads nothing
 
   --help, --version, and COMMAND --help for the options of a command with files; -o PATH puts an answer of run, watch, groups,
-  build, wrap and lift into a file
+  build, wrap, lift and draw into a file
 
 What is asked of standard input alone is answered by the proved program as it is. Files are read by the part that isn't proved,
 which asks that program. docs/MANUAL.md is a walk through it, and docs/FORMATS.md says what each answer and status means.

@@ -30,6 +30,9 @@ tries() {
   got=$(PATH=$folder/bin "$ia64" run 100 "$examples/count.s" 2>&1 | head -n 1)
   [ "$got" = 'end break 0x0 at 3.2' ]
   note $? "$2: a run"
+  got=$(PATH=$folder/bin "$ia64" draw "$examples/count.s" 2>&1 | head -c 4)
+  [ "$got" = '<svg' ]
+  note $? "$2: a picture"
   PATH=$folder/bin "$ia64" --version 2>&1 | grep -q 'the program is proved and built'
   note $? "$2: the version"
   PATH=$folder/bin "$ia64" --help 2>&1 | grep -q '^  check FILE'

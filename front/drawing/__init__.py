@@ -1,0 +1,24 @@
+"""`ia64 draw`: pictures of programs and functions.
+
+A `figure.Figure` says what is drawn. `of_programs` and `of_functions` make it, and ask the proved program for all that can be
+asked of it: the verdict, the texts, what predicates excuse and by which branches alone a pair clashes. From there on all is pure:
+`geometry` (with `measures`, `routes`, `lanes` and `words`) says where everything stands, `svg` writes it as a picture, and `page`
+as a page.
+
+Nothing is proved of a picture. It shows the pairs that `check` prints, and none other, in red.
+"""
+
+from front.drawing import of_functions, of_programs, page, svg
+
+# By the suffix of the file where a picture goes.
+FORMS = {".svg": svg.document, ".html": page.document}
+
+
+def of_program(file, source, program, is_proved):
+    """The figure of the program of an image, which may be that of a source."""
+    return of_programs.figure(file, source, program, is_proved)
+
+
+def of_code(file, functions, judge, is_proved):
+    """The figures of functions of a file of code."""
+    return [of_functions.figure(file, verdict, judge, is_proved) for verdict in judge.judge(functions)]
