@@ -30,7 +30,7 @@ def between(lowest, highest):
 
 
 def order_list(text):
-    return list(map(between(0, usage.NUMBER_LIMIT), text.split(",")))
+    return tuple(map(between(0, usage.NUMBER_LIMIT), text.split(",")))
 
 
 def add_code_options(parser):
@@ -102,19 +102,24 @@ def pictures():
     return drawing
 
 
-def compare_options(parser):
-    from front import orders
+def orders_options(parser):
+    from front.ordering import one_group, orders
     parser.add_argument("file", metavar="FILE", help="a text or an image")
-    parser.add_argument("-n", "--groups", type=between(1, usage.GROUP_LIMIT), default=1000, metavar="N",
-                       help="run at most N groups, by default 1000")
-    parser.add_argument("--orders", type=order_list, default=orders.ORDERS, metavar="K,K,..",
-                       help="these orders in place of the first seven")
+    parser.add_argument("group", nargs="?", type=between(1, usage.GROUP_LIMIT), metavar="GROUP",
+                        help="the number of a group in the run, from 1: the orders of its writes alone, up to its end")
+    parser.add_argument("--order", action="append", default=[], metavar="W,W,..",
+                        help="with GROUP, this order of its writes, each by its number or by its slot, as in 0.2,0.0,0.1")
+    parser.add_argument("-n", "--groups", type=between(1, usage.GROUP_LIMIT), metavar="N",
+                        help="without GROUP, run at most N groups, by default 1000")
+    parser.add_argument("--orders", type=order_list, metavar="K,K,..",
+                        help="without GROUP, these orders in place of the first seven")
     parser.add_argument("--random", type=between(0, 10**6), default=8, metavar="COUNT",
-                       help="so many random orders more, by default 8")
+                        help="so many random orders more, by default 8; with GROUP, of more than "
+                             f"{one_group.MOST_WRITES} writes alone")
     parser.add_argument("--seed", type=between(0, usage.NUMBER_LIMIT), default=1, metavar="S",
-                       help="of the random orders, by default 1")
+                        help="of the random orders, by default 1")
     parser.add_argument("--all", action="store_true", help=f"all lines that differ, and not the first {orders.LINES} alone")
-    parser.set_defaults(run=compare)
+    parser.set_defaults(run=run_orders, misused=parser.error)
 
 
 def plain_options(parser):
@@ -213,11 +218,21 @@ def loosened(options, program):
     return DONE
 
 
-def compare(options, program):
-    from front import orders
-    data = read_file(options.file)
-    runs = orders.run_all(program.path, options.groups, orders.orders_of(options.orders, options.random, options.seed), data)
-    print("\n".join(orders.report(runs, sys.maxsize if options.all else orders.LINES)))
+def run_orders(options, program):
+    """The states of several orders of all groups of a run, or of the orders of one group."""
+    from front.ordering import one_group, orders
+    if options.group is None and options.order:
+        options.misused("--order names the writes of one group, so it takes its number: ia64 orders FILE GROUP --order W,W,..")
+    if options.group is not None and (options.groups, options.orders) != (None, None):
+        options.misused("-n and --orders are of all groups of a run, and GROUP is one of them: name orders of it by --order")
+    data, most = read_file(options.file), sys.maxsize if options.all else orders.LINES
+    if options.group is not None:
+        runs = one_group.run_all(program.path, data, options.group, options.order, options.random, options.seed)
+        print("\n".join(orders.report_group(runs, most, bool(options.order))))
+    else:
+        wanted = orders.orders_of(options.orders or orders.ORDERS, options.random, options.seed)
+        runs = orders.run_all(program.path, options.groups or 1000, wanted, data)
+        print("\n".join(orders.report(runs, most)))
     return orders.status_of(runs)
 
 
@@ -309,7 +324,7 @@ COMMANDS = {
     "stops": (stops_options, "the instructions of a text packed anew into bundles, with the stops that they need"),
     "loosen": (loosen_options, "the instructions of a text, without bundles and stops"),
     "draw": (draw_options, "a picture of a program or of functions: bundles, groups, branches, and pairs that clash"),
-    "compare": (compare_options, "in what the states differ that several orders of a group's writes leave"),
+    "orders": (orders_options, "which states the orders of a group's writes leave, and in what they differ"),
     "run": (plain_options, "the state after at most N groups of an accepted program"),
     "watch": (plain_options, "as run, behind its first eight groups"),
     "groups": (plain_options, "the state after at most N groups, each all at once, in the order with the number K"),

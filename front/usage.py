@@ -21,7 +21,9 @@ assembler.
   loosen FILE     the instructions of a text, without its bundles and stops
   draw FILE [FUNCTION..] -o x.svg
                   a picture of a program or of functions, or, with -o x.html, a page: bundles, groups, branches, pairs that clash
-  compare FILE    in what the states differ that several orders of a group's writes leave
+  orders FILE [GROUP]
+                  which states the orders of a group's writes leave, and in what they differ: those of all groups of a run, or
+                  of the one with this number
 
 Programs, texts or images, from a FILE or from standard input:
 

@@ -105,7 +105,7 @@ try 'upper case before a seed' 2 "$dir/nothing" 'perhaps: ia64 trial 1 100$' /de
 try 'an unknown word' 2 "$dir/nothing" "no command 'assemble'" /dev/null ./ia64 assemble
 ./ia64 --help > "$dir/help"
 try 'help' 0 "$dir/help" '' /dev/null ./ia64 --help
-for command in 'check FILE..' 'list FILE' 'show FILE' 'stops FILE' 'loosen FILE' 'compare FILE' check 'run N' 'watch N' 'groups N' build stops show list wrap lift 'trial SEED'; do grep -q "^  $command " "$dir/help"; note $? "--help has no $command"; done
+for command in 'check FILE..' 'list FILE' 'show FILE' 'stops FILE' 'loosen FILE' 'orders FILE' check 'run N' 'watch N' 'groups N' build stops show list wrap lift 'trial SEED'; do grep -q "^  $command " "$dir/help"; note $? "--help has no $command"; done
 try 'a refusal' 3 "$dir/magic" "'list' refused its input; the reason went to standard output" examples/call.s ./ia64 list
 head -c 16777217 /dev/zero > "$dir/too_long"
 try 'a long input' 4 "$dir/nothing" 'longer than 16,777,216 bytes' "$dir/too_long" ./ia64 check

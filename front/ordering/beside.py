@@ -1,0 +1,95 @@
+"""The state slot by slot that stands beside those of the orders of a group's writes.
+
+Of an accepted program it is what `ia64 run` prints. Of another one `run` prints the verdict alone; so it is taken from the same
+program with a stop behind each slot, of the whole text or of one group (`front/split.py`), by `ia64 groups N 0`. Places are
+told by the bundles of the program as it is. So are addresses of bundles, in branch registers, and in other registers and in
+data where the state in program order has the address. The hardware needn't do anything of the kind.
+"""
+
+import re
+from typing import Dict, NamedTuple, Optional
+
+from front.faults import Fault
+from front.files import IMAGES
+from front.ordering.asking import answer
+from front.ordering.split import split
+from front.ordering.states import lines_of, place_of
+from front.ordering.writes import named
+from front.usage import GROUP_LIMIT
+
+LONGEST_GROUP = 192
+
+
+class Beside(NamedTuple):
+    """A state slot by slot by its lines, or why there is none; and what it is called."""
+    name: str
+    lines: Optional[Dict[str, str]]
+    why: str = ""
+
+    def is_same(self, state):
+        """Whether a printed state is this one, but for how many groups there were."""
+        return self.lines is not None and {**lines_of(state), "groups": ""} == {**self.lines, "groups": ""}
+
+
+def not_shown(why):
+    return Beside("slot by slot", None, why)
+
+
+def text_of(program, data):
+    """The text of a program."""
+    return answer(program, ["show"], data)[1].encode() if data.startswith(IMAGES) else data
+
+
+def told(state, parted, beside):
+    """The lines of a state of a text that was taken apart, with the places and the addresses that it had before, and with the
+    number of groups of the state that it stands beside."""
+    lines, others = lines_of(state), lines_of(beside)
+    said, place = lines["end"].rsplit(" ", 1)
+    before = parted.place(*place_of(place))
+    lines.update({"end": f"{said} {named(before) if before else place}", "groups": others["groups"]})
+    for name in [name for name, value in lines.items() if re.fullmatch(r"b\d|r\d+|m \w+", name) and " " not in value]:
+        value = f"{parted.address(int(lines[name], 16)):016x}"
+        if name[0] == "b" or value == others.get(name):
+            lines[name] = value
+    return lines
+
+
+def beside_all(program, data, groups, state):
+    """Slot by slot to the end of a run, which leaves this state in program order."""
+    if state.startswith("end limit"):
+        return not_shown(f"the run doesn't end within {groups} group" + "s" * (groups != 1))
+    try:
+        parted = split(text_of(program, data))
+        if not parted.places:
+            return not_shown("the program has no bundle")
+        most = min(GROUP_LIMIT, LONGEST_GROUP * groups)
+        printed = answer(program, ["groups", str(most), "0"], parted.text)[1]
+    except Fault as fault:
+        return not_shown(str(fault))
+    if printed.startswith("end limit"):
+        return not_shown(f"slot by slot the run doesn't end within {most} slots")
+    return Beside("slot by slot", told(printed, parted, state))
+
+
+def is_same_before(asked, parted):
+    """Whether the groups before a group leave the same state in the text that was taken apart."""
+    if asked.number == 1:
+        return True
+    return told(asked.groups(parted.text, asked.number - 1, 0), parted, asked.before) == lines_of(asked.before)
+
+
+def beside_group(asked, is_apart):
+    """Slot by slot through one group of a run, and all groups before it as they are."""
+    if asked.accepted:
+        return Beside("run", lines_of(answer(asked.program, ["run", str(asked.number)], asked.data)[1]))
+    if not is_apart:
+        return not_shown("the groups before this one can't be kept apart from it, as in a loop")
+    places = asked.reached()
+    try:
+        parted = split(text_of(asked.program, asked.data), set(places))
+        if not is_same_before(asked, parted):
+            return not_shown("with bundles at other addresses the groups before it leave another state")
+        printed = asked.groups(parted.text, asked.number - 1 + len(places), 0)
+    except Fault as fault:
+        return not_shown(str(fault))
+    return Beside("slot by slot", told(printed, parted, asked.after))
