@@ -7,7 +7,7 @@ from typing import List, NamedTuple, Optional
 
 from front import archive, elf, gnu, pe
 from front.code import CodeFile
-from front.faults import Fault, printable
+from front.faults import Fault, ProgramFault, printable
 from front.functions import Function, functions_of
 from front.content import opened
 from front.ties import cut_ties
@@ -112,8 +112,10 @@ def read_source(file, program, syscalls):
     from front import sources  # which takes longer to load than most answers
     read = sources.read(file.data)
     status, printed = program.raw(["build"], read.text)
-    if status != 0:
+    if status == 3:
         raise read.refusal(printed.decode("latin-1"))
+    if status != 0:
+        raise ProgramFault(f"`{program.path} build` ended with status {status}")
     code = sources.SourceCode(read, printed)
     made = with_functions(file.label, file.path, file.data, code, syscalls)
     for function in made.functions:

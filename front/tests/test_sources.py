@@ -1118,6 +1118,15 @@ class Verdicts(Case):
             "x.s:3: error: not read without the GNU assembler: refused, range: a number outside its field",
             "0 accepted, 0 violated, 0 not judged"]))
 
+    def test_a_program_without_answers(self):
+        """It is told as such, and not as a fault of the source."""
+        broken = Path("broken")
+        broken.write_text("#!/bin/sh\ncat > /dev/null\n[ $1 = build ] && exit 7\necho 'line 1: name'\nexit 3\n")
+        broken.chmod(0o755)
+        self.program = str(broken.resolve())
+        status, _, said = self.check(".mii\nnop 0\n")
+        self.assertEqual((status, said), (2, f"ia64: x.s: `{self.program} build` ended with status 7\n"))
+
     def test_a_run_that_is_too_long(self):
         """Such a function alone isn't judged."""
         source = ".proc f\nf:" + ".mii;nop 1\n" * 65 + ".endp f\n.proc g\ng: .mib;br.ret.sptk.many b0;;\n.endp g"
