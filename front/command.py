@@ -122,6 +122,11 @@ def orders_options(parser):
     parser.set_defaults(run=run_orders, misused=parser.error)
 
 
+def call_options(parser):
+    from front.calling import command
+    command.add_options(parser, between)
+
+
 def plain_options(parser):
     command = parser.prog.split()[1]
     numbers = " ".join(name for name, _ in zip(("N", "K"), usage.NUMBERS[command]))
@@ -325,6 +330,7 @@ COMMANDS = {
     "loosen": (loosen_options, "the instructions of a text, without bundles and stops"),
     "draw": (draw_options, "a picture of a program or of functions: bundles, groups, branches, and pairs that clash"),
     "orders": (orders_options, "which states the orders of a group's writes leave, and in what they differ"),
+    "call": (call_options, "what a compiled function answers to a call, and what data it changes"),
     "run": (plain_options, "the state after at most N groups of an accepted program"),
     "watch": (plain_options, "as run, behind its first eight groups"),
     "groups": (plain_options, "the state after at most N groups, each all at once, in the order with the number K"),

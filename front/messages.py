@@ -83,7 +83,11 @@ def said_slot(texts, position):
 
 
 def said_violation(violation, texts):
-    first, second = (said_slot(texts, position) for position in (violation.first, violation.second))
+    return said_clash(violation, *(said_slot(texts, position) for position in (violation.first, violation.second)))
+
+
+def said_clash(violation, first, second):
+    """What is said of a violation by what is said of its two slots."""
     return f"{violation.rule} {violation.resource}: {RULES[violation.rule].of_function.format(first, second)}"
 
 

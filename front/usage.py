@@ -24,6 +24,9 @@ assembler.
   orders FILE [GROUP]
                   which states the orders of a group's writes leave, and in what they differ: those of all groups of a run, or
                   of the one with this number
+  call FILE FUNCTION [ARG..]
+                  what a function of an object file answers to a call with numbers, texts and buffers, and what data it changes;
+                  with GNU ld for ia64
 
 Programs, texts or images, from a FILE or from standard input:
 

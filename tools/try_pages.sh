@@ -12,7 +12,7 @@ try --section 'From a text' --section 'See it' --section 'Let the tool set the s
 try --answers --section 'Programs of a stated size' "$root/docs/MANUAL.md"
 try --answers --section 'Run it' "$root/README.md"
 if type -P ia64-linux-gnu-objcopy > /dev/null; then
-  try --section 'You have an object file' "$root/docs/MANUAL.md"
+  try --section 'You have an object file' --section 'Call a compiled function' "$root/docs/MANUAL.md"
   try --section 'In the first minute' "$root/README.md"
 fi
 exit $status

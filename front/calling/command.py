@@ -1,0 +1,129 @@
+"""`call`: the words, and the call as a whole."""
+
+import argparse
+import re
+import sys
+from pathlib import Path
+
+from front import usage
+from front.calling import answer as answers
+from front.calling import image, linking
+from front.calling.arguments import FORMS, arguments_of
+from front.calling.ends import Names
+from front.checking import WRONG, complain
+from front.faults import Fault, ProgramFault, printable
+
+# The status where the program refuses the image, beside those of `answer`.
+REFUSED = 3
+
+# How many groups are run, and how many bytes the stack and a structure have, unless others are asked for.
+GROUPS, STACK, LEAST_STACK, MOST_STACK, MOST_STRUCTURE = 1_000_000, 1 << 17, 64, 1 << 20, 1 << 20
+
+
+def add_options(parser, number):
+    """Adds the options of the command; `number` reads a number from one to another."""
+    parser.formatter_class = argparse.RawDescriptionHelpFormatter
+    parser.usage = f"{parser.prog} [OPTION..] FILE FUNCTION [ARG..]"
+    parser.epilog = FORMS
+    parser.add_argument("file", metavar="FILE",
+                        help="an ELF object file of 64 bits, an archive of them, or a source for the GNU assembler")
+    parser.add_argument("function", metavar="FUNCTION", help="a function of it, a static one too")
+    parser.add_argument("arguments", nargs="*", metavar="ARG", help="what is passed, by the forms below")
+    parser.add_argument("--with", action="append", default=[], dest="more", metavar="FILE",
+                        help="one more file of the kinds of FILE, with what the function needs; may stand several times")
+    parser.add_argument("-n", type=number(1, usage.GROUP_LIMIT), default=GROUPS, dest="limit", metavar="N",
+                        help=f"run at most N groups, by default {GROUPS:,}, at most {usage.GROUP_LIMIT:,}")
+    parser.add_argument("--groups", type=number(0, usage.NUMBER_LIMIT), metavar="K",
+                        help="run it without a verdict, each group all at once and its writes in the order with the number K")
+    parser.add_argument("--struct", type=number(1, MOST_STRUCTURE), default=0, metavar="BYTES",
+                        help="the function answers a structure of so many bytes: of up to 32 in ret0 to ret3, of more in memory, "
+                             "whose address it gets in r8")
+    parser.add_argument("--stack", type=number(LEAST_STACK, MOST_STACK), default=STACK, metavar="BYTES",
+                        help=f"of the memory stack, a multiple of 16, by default {STACK:,}")
+    parser.add_argument("--skip-hints", action="store_true",
+                        help="leave prefetches (lfetch), predictions (brp) and hints of loads and stores out, which the profile "
+                             "doesn't have and which change no result; else the run ends there")
+    parser.add_argument("--all", action="store_true", help="all that changed, and each change as a whole")
+    parser.add_argument("--format", choices=("lines", "json"), default="lines", help="lines, or one JSON document")
+    parser.add_argument("--image", metavar="PATH", help="put the image that is run into a file, for run, watch and orders")
+    parser.add_argument("--as-flags", default=[], type=str.split, metavar="FLAGS", help="more words for the GNU assembler")
+    parser._negative_number_matcher = re.compile(r"-(\d+|0[xX][0-9a-fA-F]+)$")
+    parser.parse_args = parser.parse_intermixed_args
+    parser.set_defaults(run=call)
+
+
+def call(options, program):
+    """Links, runs, and says what came of it."""
+    try:
+        arguments = arguments_of(options.arguments)
+        if options.stack % 16:
+            raise Fault(f"--stack {options.stack}: no multiple of 16")
+    except Fault as fault:
+        complain(str(fault))
+        return WRONG
+    try:
+        return answer_of(options, program, arguments)
+    except image.Refused as refusal:
+        complain(f"{options.file}: {refusal}")
+        return REFUSED
+
+
+def answer_of(options, program, arguments):
+    """The status of a call with these arguments, whose answer is printed."""
+    linked, function = linked_files(options)
+    made = image.cut(program, linked, function, arguments, options.stack, options.struct, options.skip_hints)
+    names = Names(linked, made)
+    status, printed = image.run(program, made, run_words(options))
+    if options.image is not None:
+        put(options.image, made.image())
+    found = answered(program, linked, made, names, options, status, printed)
+    if options.format == "json":
+        print(answers.document(found, names, printable(options.file), options.function))
+    else:
+        print(*answers.Lines(names, arguments, options.all).of(found), sep="\n")
+    return found.status
+
+
+def run_words(options):
+    if options.groups is None:
+        return ["run", str(options.limit)]
+    return ["groups", str(options.limit), str(options.groups)]
+
+
+def answered(program, linked, made, names, options, status, printed):
+    """What is said of what the program printed."""
+    teller = answers.Teller(program, linked, made, names)
+    if status == 1:
+        return teller.verdict(printed)
+    if status in (0, 8, 9):
+        return teller.state(printed, options.groups is not None, options.limit, options.struct)
+    refusal = re.fullmatch(r"image: bundle (\d+)(?: slot (\d))?: ([a-z ]+)\n", printed) if status == 3 else None
+    if refusal is None:
+        raise ProgramFault(f"`{program.path} run` ended with status {status}: {printed[:100]!r}")
+    why = "more than 192 slots without a stop" if refusal[3] == "long run" else refusal[3]
+    raise image.Refused(f"the program refuses {names.code(int(refusal[1]))}: {why}")
+
+
+def linked_files(options):
+    """The linked file, and the address of the function in it."""
+    def say(said):
+        print(said, file=sys.stderr)
+
+    files, is_local = linking.chosen(linking.given(options.file, options.as_flags, complain, say), options.function)
+    for path in options.more:
+        try:
+            files.append(linking.given(path, options.as_flags, complain, say))
+        except Fault as fault:
+            raise Fault(f"--with {printable(path)}: {fault}") from None
+    linked = linking.link(files, options.stack)
+    function = linked.function(options.function, is_local)
+    if function is None or function % 16 or not linking.STUBS_AT <= function < linked.end(True, linking.CODE_AT):
+        raise Fault(f"{printable(options.function)} is at no bundle of what was linked")
+    return linked, function
+
+
+def put(path, data):
+    try:
+        Path(path).write_bytes(data)
+    except OSError as fault:
+        raise Fault(f"{path} can't be written: {fault.strerror}") from None
