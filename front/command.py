@@ -232,11 +232,11 @@ def run_orders(options, program):
         options.misused("-n and --orders are of all groups of a run, and GROUP is one of them: name orders of it by --order")
     data, most = read_file(options.file), sys.maxsize if options.all else orders.LINES
     if options.group is not None:
-        runs = one_group.run_all(program.path, data, options.group, options.order, options.random, options.seed)
+        runs = one_group.run_all(program, data, options.group, options.order, options.random, options.seed)
         print("\n".join(orders.report_group(runs, most, bool(options.order))))
     else:
         wanted = orders.orders_of(options.orders or orders.ORDERS, options.random, options.seed)
-        runs = orders.run_all(program.path, options.groups or 1000, wanted, data)
+        runs = orders.run_all(program, options.groups or 1000, wanted, data)
         print("\n".join(orders.report(runs, most)))
     return orders.status_of(runs)
 

@@ -196,8 +196,10 @@ class Calls(Compared):
             self.refuses(text, self.input)
         self.stand_in(run=(0, state()), groups=(2, ""))
         self.refuses("has no command groups", self.input)
+        Path(self.program).write_text("#!/bin/sh\nkill -9 $$\n")
+        self.refuses("stand_in run` ended with signal 9", self.input)
         self.program = str(self.folder / "nowhere")
-        self.refuses("nowhere: No such file or directory", self.input)
+        self.refuses("nowhere can't be called: No such file or directory", self.input)
 
     def test_numbers_of_orders(self):
         """Which orders are run: the first seven, and random ones by their seed."""
