@@ -1,25 +1,34 @@
-"""What the proved program prints of one input, and what stands in the place of an answer."""
+"""What the proved program prints of inputs, and what stands in the place of an answer."""
 
 from front.faults import Fault, ProgramFault
 
 DONE, VIOLATED, WORDS, REFUSED, TOO_LONG, LIMIT, FAULTED = 0, 1, 2, 3, 4, 8, 9
 
 
-def answer_bytes(program, words, data):
-    """The status of the program on these words and this input, and what it prints, as bytes."""
-    status, printed = program.raw(words, data)
-    if status in (DONE, VIOLATED, LIMIT, FAULTED):
-        return status, printed
-    if status == REFUSED:
-        raise Fault(printed.decode(errors="backslashreplace").strip())
-    if status == TOO_LONG:
-        raise Fault("longer than 16,777,216 bytes")
-    if status == WORDS:
-        raise ProgramFault(f"{program.path} has no command {words[0]}")
-    raise ProgramFault(f"{words[0]} ends with status {status}")
+class Answers:
+    """The answers of the program. Those in text are kept, so that no process is started twice for one, and each text once."""
 
+    def __init__(self, program):
+        self.program, self.kept, self.texts = program, {}, {}
 
-def answer(program, words, data):
-    """The same: a verdict, a state or a listing, as text."""
-    status, printed = answer_bytes(program, words, data)
-    return status, printed.decode(errors="backslashreplace")
+    def raw(self, words, data):
+        """The status of the program on these words and this input, and what it prints, as bytes."""
+        status, printed = self.program.raw(words, data)
+        if status in (DONE, VIOLATED, LIMIT, FAULTED):
+            return status, printed
+        if status == REFUSED:
+            raise Fault(printed.decode(errors="backslashreplace").strip())
+        if status == TOO_LONG:
+            raise Fault("longer than 16,777,216 bytes")
+        if status == WORDS:
+            raise ProgramFault(f"{self.program.path} has no command {words[0]}")
+        raise ProgramFault(f"{words[0]} ends with status {status}")
+
+    def of(self, words, data):
+        """The same: a verdict, a state or a listing, as text."""
+        asked = (*words, data)
+        if asked not in self.kept:
+            status, printed = self.raw(words, data)
+            text = printed.decode(errors="backslashreplace")
+            self.kept[asked] = status, self.texts.setdefault(text, text)
+        return self.kept[asked]

@@ -11,7 +11,6 @@ from typing import Dict, NamedTuple, Optional
 
 from front.faults import Fault
 from front.files import IMAGES
-from front.ordering.asking import answer
 from front.ordering.split import split
 from front.ordering.states import lines_of, place_of
 from front.ordering.writes import named
@@ -35,9 +34,9 @@ def not_shown(why):
     return Beside("slot by slot", None, why)
 
 
-def text_of(program, data):
+def text_of(answers, data):
     """The text of a program."""
-    return answer(program, ["show"], data)[1].encode() if data.startswith(IMAGES) else data
+    return answers.of(["show"], data)[1].encode() if data.startswith(IMAGES) else data
 
 
 def told(state, parted, beside):
@@ -54,16 +53,16 @@ def told(state, parted, beside):
     return lines
 
 
-def beside_all(program, data, groups, state):
+def beside_all(answers, data, groups, state):
     """Slot by slot to the end of a run, which leaves this state in program order."""
     if state.startswith("end limit"):
         return not_shown(f"the run doesn't end within {groups} group" + "s" * (groups != 1))
     try:
-        parted = split(text_of(program, data))
+        parted = split(text_of(answers, data))
         if not parted.places:
             return not_shown("the program has no bundle")
         most = min(GROUP_LIMIT, LONGEST_GROUP * groups)
-        printed = answer(program, ["groups", str(most), "0"], parted.text)[1]
+        printed = answers.of(["groups", str(most), "0"], parted.text)[1]
     except Fault as fault:
         return not_shown(str(fault))
     if printed.startswith("end limit"):
@@ -81,12 +80,12 @@ def is_same_before(asked, parted):
 def beside_group(asked, is_apart):
     """Slot by slot through one group of a run, and all groups before it as they are."""
     if asked.accepted:
-        return Beside("run", lines_of(answer(asked.program, ["run", str(asked.number)], asked.data)[1]))
+        return Beside("run", lines_of(asked.answers.of(["run", str(asked.number)], asked.data)[1]))
     if not is_apart:
         return not_shown("the groups before this one can't be kept apart from it, as in a loop")
     places = asked.reached()
     try:
-        parted = split(text_of(asked.program, asked.data), set(places))
+        parted = split(text_of(asked.answers, asked.data), set(places))
         if not is_same_before(asked, parted):
             return not_shown("with bundles at other addresses the groups before it leave another state")
         printed = asked.groups(parted.text, asked.number - 1 + len(places), 0)

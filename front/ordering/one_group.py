@@ -20,7 +20,7 @@ from front.bundle import split_all
 from front.faults import Fault
 from front.files import IMAGES
 from front.ordering import writes
-from front.ordering.asking import answer, answer_bytes
+from front.ordering.asking import Answers
 from front.ordering.beside import Beside, beside_group
 from front.ordering.states import ZERO, State, lines_of
 from front.usage import NUMBER_LIMIT
@@ -52,14 +52,14 @@ class Asked:
     """A program, and what is asked of one group of its run."""
 
     def __init__(self, program, data, number):
-        self.program, self.data, self.number = program, data, number
-        status, verdict = answer(program, ["check"], data)
+        self.answers, self.data, self.number = Answers(program), data, number
+        status, verdict = self.answers.of(["check"], data)
         self.verdict, self.accepted = verdict.split("\n")[0], status == 0
-        self.image = data if data.startswith(IMAGES) else answer_bytes(program, ["build"], data)[1]
+        self.image = data if data.startswith(IMAGES) else self.answers.raw(["build"], data)[1]
         self.before = self.start() if number == 1 else self.groups(data, number - 1, 0)
         if number > 1 and not self.before.startswith("end limit"):
             raise Fault(f"the run has no group {number}: {', '.join(self.before.splitlines()[1::-1])}")
-        rows = writes.read_listing(answer(program, ["list"], self.image)[1])
+        rows = writes.read_listing(self.answers.of(["list"], self.image)[1])
         self.after = self.groups(data, number, 0)
         state = State(self.before)
         self.group = writes.group_between(rows, state, State(self.after))
@@ -74,7 +74,7 @@ class Asked:
 
     def groups(self, data, number, order):
         """The state after so many groups, in the order with this number."""
-        return answer(self.program, ["groups", str(number), str(order)], data)[1]
+        return self.answers.of(["groups", str(number), str(order)], data)[1]
 
     def reached(self):
         """The places of the group's slots, with that of one that ends the run."""
@@ -98,7 +98,7 @@ class Asked:
         changed = self.with_breaks(self.reached())
         try:
             is_apart = self.groups(changed, self.number - 1, 0) == self.before
-            return is_apart, self.accepted or is_apart and answer(self.program, ["check"], changed)[0] == 0
+            return is_apart, self.accepted or is_apart and self.answers.of(["check"], changed)[0] == 0
         except Fault:
             return False, self.accepted
 

@@ -29,7 +29,7 @@ import random
 import textwrap
 from typing import Dict, List, NamedTuple
 
-from front.ordering.asking import VIOLATED, answer
+from front.ordering.asking import VIOLATED, Answers
 from front.ordering.beside import Beside, beside_all
 from front.ordering.order_words import described
 from front.ordering.states import differing, lines_of, table
@@ -57,14 +57,15 @@ class Runs(NamedTuple):
 
 def run_all(program, groups, orders, data):
     """Runs the program in these orders, each for at most so many groups, and slot by slot."""
-    status, printed = answer(program, ["run", str(groups)], data)
+    answers = Answers(program)
+    status, printed = answers.of(["run", str(groups)], data)
     violated = status == VIOLATED
     states = {} if violated else {printed: []}
     for order in orders:
-        state = answer(program, ["groups", str(groups), str(order)], data)[1]
+        state = answers.of(["groups", str(groups), str(order)], data)[1]
         states.setdefault(state, []).append(order)
     if violated:
-        return Runs(printed.split("\n")[0], states, beside_all(program, data, groups, next(iter(states))))
+        return Runs(printed.split("\n")[0], states, beside_all(answers, data, groups, next(iter(states))))
     return Runs("accepted", states, Beside("run", lines_of(printed)))
 
 

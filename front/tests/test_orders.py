@@ -224,6 +224,36 @@ class Calls(Compared):
         self.assertEqual((done.returncode, done.stderr), (2, b""))
 
 
+class Processes(Compared):
+    """How often the program is called, by a wrapper that keeps the words and the input of each call."""
+
+    WRAPPER = """#!/bin/sh
+input=$(mktemp "{0}/input.XXXXXX")
+cat > "$input"
+echo "$* $(cksum < "$input")" >> "{0}/called"
+exec "{1}" "$@" < "$input"
+"""
+
+    def called(self, *words):
+        """The calls of one call of the front, as they were made."""
+        self.program = str(self.folder / "wrapper")
+        Path(self.program).write_text(self.WRAPPER.format(self.folder, PROGRAM))
+        Path(self.program).chmod(0o755)
+        log = self.folder / "called"
+        log.write_text("")
+        self.assertIn(self.call(*words)[0], (0, 1, 3))
+        return log.read_text().splitlines()
+
+    def test_no_call_twice(self):
+        """One for each order, and with a group one more where earlier groups are run too; and eight besides at most."""
+        for words, count in (((example("swap"), 2), 6 + 8), ((example("counted_loop"), 2), 6 + 6), ((example("loop_edge"), 6), 7),
+                             ((example("override"), 1), 2 + 5), ((example("read_after_write"), 1), 1 + 5),
+                             ((example("swap"),), 15 + 2), ((example("count"),), 15 + 1)):
+            with self.subTest(words):
+                called = self.called(*words)
+                self.assertEqual((len(called), sorted(called)), (count, sorted(set(called))))
+
+
 class OneGroup(Compared):
     """The orders of one group's writes, with the built program."""
 
