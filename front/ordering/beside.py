@@ -1,8 +1,8 @@
 """The state slot by slot that stands beside those of the orders of a group's writes.
 
 Of an accepted program it is what `ia64 run` prints. Of another one `run` prints the verdict alone; so it is taken from the same
-program with a stop behind each slot, of the whole text or of one group (`front/split.py`), by `ia64 groups N 0`. Places are
-told by the bundles of the program as it is. So are addresses of bundles, in branch registers, and in other registers and in
+program with a stop behind each slot, of the whole text or of one group (`front/split.py`), by `ia64 groups N 0`. Positions
+are told by the bundles of the program as it is. So are addresses of bundles, in branch registers, and in other registers and in
 data where the state in program order has the address. The hardware needn't do anything of the kind.
 """
 
@@ -12,7 +12,7 @@ from typing import Dict, NamedTuple, Optional
 from front.faults import Fault
 from front.files import IMAGES
 from front.ordering.split import split
-from front.ordering.states import lines_of, place_of
+from front.ordering.states import lines_of, position_of
 from front.ordering.writes import named
 from front.usage import GROUP_LIMIT
 
@@ -40,12 +40,12 @@ def text_of(answers, data):
 
 
 def told(state, parted, beside):
-    """The lines of a state of a text that was taken apart, with the places and the addresses that it had before, and with the
+    """The lines of a state of a text that was taken apart, with the positions and the addresses that it had before, and with the
     number of groups of the state that it stands beside."""
     lines, others = lines_of(state), lines_of(beside)
-    said, place = lines["end"].rsplit(" ", 1)
-    before = parted.place(*place_of(place))
-    lines.update({"end": f"{said} {named(before) if before else place}", "groups": others["groups"]})
+    said, position = lines["end"].rsplit(" ", 1)
+    before = parted.position(*position_of(position))
+    lines.update({"end": f"{said} {named(before) if before else position}", "groups": others["groups"]})
     for name in [name for name, value in lines.items() if re.fullmatch(r"b\d|r\d+|m \w+", name) and " " not in value]:
         value = f"{parted.address(int(lines[name], 16)):016x}"
         if name[0] == "b" or value == others.get(name):
@@ -59,7 +59,7 @@ def beside_all(answers, data, groups, state):
         return not_shown(f"the run doesn't end within {groups} group" + "s" * (groups != 1))
     try:
         parted = split(text_of(answers, data))
-        if not parted.places:
+        if not parted.positions:
             return not_shown("the program has no bundle")
         most = min(GROUP_LIMIT, LONGEST_GROUP * groups)
         printed = answers.of(["groups", str(most), "0"], parted.text)[1]
@@ -83,12 +83,12 @@ def beside_group(asked, is_apart):
         return Beside("run", lines_of(asked.answers.of(["run", str(asked.number)], asked.data)[1]))
     if not is_apart:
         return not_shown("the groups before this one can't be kept apart from it, as in a loop")
-    places = asked.reached()
+    positions = asked.reached()
     try:
-        parted = split(text_of(asked.answers, asked.data), set(places))
+        parted = split(text_of(asked.answers, asked.data), set(positions))
         if not is_same_before(asked, parted):
             return not_shown("with bundles at other addresses the groups before it leave another state")
-        printed = asked.groups(parted.text, asked.number - 1 + len(places), 0)
+        printed = asked.groups(parted.text, asked.number - 1 + len(positions), 0)
     except Fault as fault:
         return not_shown(str(fault))
     return Beside("slot by slot", told(printed, parted, asked.after))

@@ -77,15 +77,15 @@ class Asked:
         return self.answers.of(["groups", str(number), str(order)], data)[1]
 
     def reached(self):
-        """The places of the group's slots, with that of one that ends the run."""
-        return [slot.place for slot in self.group.slots] + ([self.group.ended.place] if self.group.ended else [])
+        """The positions of the group's slots, with that of one that ends the run."""
+        return [slot.position for slot in self.group.slots] + ([self.group.ended.position] if self.group.ended else [])
 
-    def with_breaks(self, places):
-        """The image with a `break` in each of these places: a word of zeros, whatever the unit."""
+    def with_breaks(self, positions):
+        """The image with a `break` in each of these positions: a word of zeros, whatever the unit."""
         count, entries, _, relations = struct.unpack_from("<4I", self.image, 8)
         first = 24 + 4 * entries + 8 * relations
         bundles = split_all(self.image[first:first + 16 * count])
-        for bundle, slot in places:
+        for bundle, slot in positions:
             is_long = bundles[bundle].units == "mlx" and slot == 1
             bundles[bundle] = bundles[bundle].with_word(slot, 0).with_word(2 if is_long else slot, 0)
         return self.image[:first] + b"".join(bundle.packed() for bundle in bundles) + self.image[first + 16 * count:]

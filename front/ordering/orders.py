@@ -183,14 +183,14 @@ def slot_lines(runs):
     """The slots of the group but for nops, each with its writes by their numbers; and the one that ends the run."""
     own = {}
     for number, write in enumerate(runs.writes):
-        own.setdefault(write.slot.place, []).append(f"{number} {write.target}")
-    rows = [(slot.named(), slot.text, f"write{'s' * (len(own[slot.place]) > 1)} " + ", ".join(own[slot.place])
-             if slot.place in own else "no write") for slot in runs.group.slots if slot.word.split(".")[0] != "nop"]
+        own.setdefault(write.slot.position, []).append(f"{number} {write.target}")
+    rows = [(slot.named(), slot.text, f"write{'s' * (len(own[slot.position]) > 1)} " + ", ".join(own[slot.position])
+             if slot.position in own else "no write") for slot in runs.group.slots if slot.word.split(".")[0] != "nop"]
     if runs.group.ended:
         end = lines_of(next(iter(runs.states)))["end"].split(" at ")[0]
         rows.append((runs.group.ended.named(), runs.group.ended.text, f"ends the run, {end}"))
     widths = [max(map(len, column)) for column in list(zip(*rows))[:2]]
-    return [f"  {place.ljust(widths[0])}  {text.ljust(widths[1])}  {said}" for place, text, said in rows]
+    return [f"  {position.ljust(widths[0])}  {text.ljust(widths[1])}  {said}" for position, text, said in rows]
 
 
 def named_both_ways(order, made):

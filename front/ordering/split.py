@@ -19,26 +19,26 @@ ALONE = {"m": ("mii", 0), "i": ("mii", 1), "f": ("mfi", 1), "b": ("mib", 2), "x"
 
 
 class Split(NamedTuple):
-    """A text, and of each of its bundles the places that its slots had before."""
+    """A text, and of each of its bundles the positions that its slots had before."""
     text: bytes
-    places: List[tuple]
+    positions: List[tuple]
 
-    def place(self, bundle, slot):
-        """The place that a slot had; of one behind the last bundle, none."""
-        return self.places[bundle][slot] if bundle < len(self.places) else None
+    def position(self, bundle, slot):
+        """The position that a slot had; of one behind the last bundle, none."""
+        return self.positions[bundle][slot] if bundle < len(self.positions) else None
 
     def address(self, value):
         """The address that a bundle had, of its address now; of any other number, that number."""
         number, rest = divmod(value - 0x10000, 16)
-        if rest or not 0 <= number < len(self.places):
+        if rest or not 0 <= number < len(self.positions):
             return value
-        bundle = self.places[number][0][0]
-        return 0x10000 + 16 * bundle if number == 0 or self.places[number - 1][0][0] != bundle else value
+        bundle = self.positions[number][0][0]
+        return 0x10000 + 16 * bundle if number == 0 or self.positions[number - 1][0][0] != bundle else value
 
 
 def split(data, wanted=None):
-    """A text with a stop behind each slot whose place, as bundle and number, is wanted, or behind all of them."""
-    made, places, units, slots, number = [], [], None, [], -1
+    """A text with a stop behind each slot whose position, as bundle and number, is wanted, or behind all of them."""
+    made, positions, units, slots, number = [], [], None, [], -1
     for line in lines_of_text(data):
         said, _, _ = parts_of(line)
         name, stopped = without_stop(said)
@@ -49,14 +49,14 @@ def split(data, wanted=None):
             if units is not None:
                 for piece in pieces(slots, number, wanted):
                     made += bundle_of(piece, units)
-                    places.append(places_of(piece, number, units))
+                    positions.append(positions_of(piece, number, units))
             units = None
             made += [line] * (said != "}")
         elif not name and stopped:
             slots[-1] = (*slots[-1][:2], True)
         elif name and not OUTSIDE.match(name) and not LABEL.match(name):
             slots.append((len(slots), with_unit(name, units[len(slots)]), stopped))
-    return Split("".join(f"{line}\n" for line in made).encode("latin-1"), places)
+    return Split("".join(f"{line}\n" for line in made).encode("latin-1"), positions)
 
 
 def pieces(slots, number, wanted):
@@ -89,7 +89,7 @@ def bundle_of(piece, units):
     return [f"{{ .{units.replace('mx', 'mlx')}", *(f"  {line}" for line in lines), "}"]
 
 
-def places_of(piece, number, units):
-    """The places that the slots of such a bundle had: those that a `nop` was put in have that of the first other one."""
+def positions_of(piece, number, units):
+    """The positions that the slots of such a bundle had: those that a `nop` was put in have that of the first other one."""
     own = {slot: (number, slot) for slot, _, _ in piece} if len(piece) > 1 else {}
     return tuple(own.get(slot, (number, piece[0][0])) for slot in range(3))

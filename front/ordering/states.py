@@ -26,7 +26,7 @@ def lines_of(state):
     return lines
 
 
-def position(name):
+def rank_of(name):
     """Where a line of this name stands among the others of a printed state."""
     kind = re.match(r"[a-z.]+", name)[0]
     number = name[len(kind):]
@@ -36,7 +36,7 @@ def position(name):
 def differing(states):
     """The names of the lines that aren't the same in all of these states, each given by its lines."""
     names = {name for state in states for name in state}
-    return sorted((name for name in names if len({state.get(name) for state in states}) > 1), key=position)
+    return sorted((name for name in names if len({state.get(name) for state in states}) > 1), key=rank_of)
 
 
 def table(heads, states, names):
@@ -46,7 +46,7 @@ def table(heads, states, names):
     return ["  ".join(cell.ljust(width) for cell, width in zip(row, widths)).rstrip() for row in rows]
 
 
-def place_of(said):
+def position_of(said):
     bundle, slot = said.split(".")
     return int(bundle), int(slot)
 
@@ -59,7 +59,7 @@ class State:
         found = re.fullmatch(r"(\w+)( \w+)? at (\d+\.\d)", self.lines.get("end", ""))
         if not found or not {"frame", "pr"} <= set(self.lines):
             raise ProgramFault(f"a state was printed that isn't known here: {text[:100]!r}")
-        self.kind, self.place = found[1], place_of(found[3])
+        self.kind, self.position = found[1], position_of(found[3])
         self.first, _, _, self.rotating, self.rrb, _, self.rrb_of_predicates = map(int, re.findall(r"\d+", self.lines["frame"]))
         self.predicates = int(self.lines["pr"], 16)
 

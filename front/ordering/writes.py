@@ -12,7 +12,7 @@ import re
 from typing import List, NamedTuple, Optional, Tuple
 
 from front.faults import Fault
-from front.ordering.states import place_of
+from front.ordering.states import position_of
 
 SLOT = re.compile(r"(?:\(p(\d+)\) )?(\S+)(?: (.*))?")
 LABEL = re.compile(r"L(\d+)$")
@@ -24,9 +24,9 @@ LOOPS = ("br.cloop", "br.ctop", "br.cexit", "br.wtop", "br.wexit")
 
 
 class Slot(NamedTuple):
-    """A slot of a listing: its place, its text, the number of its qualifying predicate, its words, and whether a stop stands
+    """A slot of a listing: its position, its text, the number of its qualifying predicate, its words, and whether a stop stands
     behind it."""
-    place: Tuple[int, int]
+    position: Tuple[int, int]
     text: str
     guard: int
     word: str
@@ -38,7 +38,7 @@ class Slot(NamedTuple):
         return any(re.match(re.escape(word) + r"(?![a-z])", self.word) for word in words)
 
     def named(self):
-        return named(self.place)
+        return named(self.position)
 
 
 class Group(NamedTuple):
@@ -56,8 +56,8 @@ class Write(NamedTuple):
     name: str
 
 
-def named(place):
-    return "{}.{}".format(*place)
+def named(position):
+    return "{}.{}".format(*position)
 
 
 def read_listing(text):
@@ -76,39 +76,41 @@ def read_listing(text):
 # ---- What a group reaches --------------------------------------------------------------------------------
 
 
-def straight(rows, place):
-    """The slots from a place to the first one with a stop behind it, and the place that follows."""
+def straight(rows, position):
+    """The slots from a position to the first one with a stop behind it, and the position that follows."""
     found = []
-    bundle, first = place
+    bundle, first = position
     for number in range(bundle, len(rows)):
         for slot in rows[number][first:]:
             found.append(slot)
             if slot.has_stop:
-                return found, next_place(rows, slot.place)
+                return found, next_position(rows, slot.position)
         first = 0
     return found, (len(rows), 0)
 
 
-def next_place(rows, place):
-    bundle, slot = place
+def next_position(rows, position):
+    bundle, slot = position
     return (bundle, slot + 1) if slot + 1 < len(rows[bundle]) else (bundle + 1, 0)
 
 
 def group_between(rows, before, after):
     """The group that a run executes between two states, the second of which is that at its end."""
-    slots, behind = straight(rows, before.place)
+    slots, behind = straight(rows, before.position)
     if after.kind != "limit":
-        reached = [slot for slot in slots if slot.place < after.place]
+        reached = [slot for slot in slots if slot.position < after.position]
         return Group(reached, False, slots[len(reached)])
-    ways = [(number, True) for number, slot in enumerate(slots) if may_lead(slot, before, written(slots[:number]), after.place)]
+    ways = [(number, True) for number, slot in enumerate(slots)
+            if may_lead(slot, before, written(slots[:number]), after.position)]
     sure = [number for number, _ in ways if must_lead(slots[number], before, written(slots[:number]))]
     if sure:
         ways = [way for way in ways if way[0] <= sure[0]]
-    elif behind == after.place and not (ways and ways[-1][0] == len(slots) - 1 and slots[-1].is_of(["br.cond"])):
+    elif behind == after.position and not (ways and ways[-1][0] == len(slots) - 1 and slots[-1].is_of(["br.cond"])):
         ways.append((len(slots) - 1, False))
     if len(ways) != 1:
         branches = " or ".join(slots[number].named() for number, taken in ways if taken)
-        raise Fault(f"whether the branch at {branches or named(before.place)} is taken isn't told by the states round the group")
+        raise Fault(f"whether the branch at {branches or named(before.position)} is taken isn't told by the states round the "
+                    "group")
     number, taken = ways[0]
     return Group(slots[:number + 1], taken, None)
 
@@ -134,10 +136,10 @@ def guard_of(slot, before, changed):
     return before.predicate(slot.guard)
 
 
-def may_lead(slot, before, changed, place):
-    """Whether a slot may leave its group for this place."""
+def may_lead(slot, before, changed, position):
+    """Whether a slot may leave its group for this position."""
     label = LABEL.search(slot.operands)
-    if label and place != (int(label[1]), 0) or place[1] != 0:
+    if label and position != (int(label[1]), 0) or position[1] != 0:
         return False
     guard, counts = guard_of(slot, before, changed), before.counter("ar.ec") > 1
     goes_on = before.counter("ar.lc") != 0 or counts

@@ -529,7 +529,7 @@ class Splits(unittest.TestCase):
         lines = parted.text.decode().splitlines()
         self.assertEqual(lines[:6], ["x:", "{ .mii", "  (p6) nop.m 0", "  nop.i 0", "  nop.i 0 ;;", "}"])
         self.assertEqual(lines[-6:], ["{ .mlx", "  nop.m 0", "  movl r8=x ;;", "}", ".data", " data8 5"])
-        self.assertEqual([row[0] for row in parted.places], [(0, 0), (0, 1), (0, 2), (1, 0), (1, 1)])
+        self.assertEqual([row[0] for row in parted.positions], [(0, 0), (0, 1), (0, 2), (1, 0), (1, 1)])
         self.assertEqual([parted.address(0x10000 + 16 * number) for number in (0, 1, 3, 4, 5)],
                          [0x10000, 0x10010, 0x10010, 0x10040, 0x10050])
 
@@ -537,7 +537,7 @@ class Splits(unittest.TestCase):
         """What isn't wanted stays together up to a stop."""
         parted = split.split(self.TEXT, {(0, 2)})
         self.assertEqual(parted.text.decode().splitlines()[1:6], ["{ .mii", "  (p6) nop.m 0", "  nop.i 7", "  nop.i 0 ;;", "}"])
-        self.assertEqual(parted.places[:2], [((0, 0), (0, 1), (0, 0)), ((0, 2),) * 3])
+        self.assertEqual(parted.positions[:2], [((0, 0), (0, 1), (0, 0)), ((0, 2),) * 3])
 
 
 class Page(unittest.TestCase):
