@@ -103,7 +103,7 @@ def pictures():
 
 
 def orders_options(parser):
-    from front.ordering import one_group, orders
+    from front.ordering import lines, one_group
     parser.add_argument("file", metavar="FILE", help="a text or an image")
     parser.add_argument("group", nargs="?", type=between(1, usage.GROUP_LIMIT), metavar="GROUP",
                         help="the number of a group in the run, from 1: the orders of its writes alone, up to its end")
@@ -118,7 +118,7 @@ def orders_options(parser):
                              f"{one_group.MOST_WRITES} writes alone")
     parser.add_argument("--seed", type=between(0, usage.NUMBER_LIMIT), default=1, metavar="S",
                         help="of the random orders, by default 1")
-    parser.add_argument("--all", action="store_true", help=f"all lines that differ, and not the first {orders.LINES} alone")
+    parser.add_argument("--all", action="store_true", help=f"all lines that differ, and not the first {lines.LINES} alone")
     parser.set_defaults(run=run_orders, misused=parser.error)
 
 
@@ -225,19 +225,19 @@ def loosened(options, program):
 
 def run_orders(options, program):
     """The states of several orders of all groups of a run, or of the orders of one group."""
-    from front.ordering import one_group, orders
+    from front.ordering import lines, one_group, orders
     if options.group is None and options.order:
         options.misused("--order names the writes of one group, so it takes its number: ia64 orders FILE GROUP --order W,W,..")
     if options.group is not None and (options.groups, options.orders) != (None, None):
         options.misused("-n and --orders are of all groups of a run, and GROUP is one of them: name orders of it by --order")
-    data, most = read_file(options.file), sys.maxsize if options.all else orders.LINES
+    data, most = read_file(options.file), sys.maxsize if options.all else lines.LINES
     if options.group is not None:
         runs = one_group.run_all(program, data, options.group, options.order, options.random, options.seed)
-        print("\n".join(orders.report_group(runs, most, bool(options.order))))
+        print("\n".join(lines.report_group(runs, most, bool(options.order))))
     else:
         wanted = orders.orders_of(options.orders or orders.ORDERS, options.random, options.seed)
         runs = orders.run_all(program, options.groups or 1000, wanted, data)
-        print("\n".join(orders.report(runs, most)))
+        print("\n".join(lines.report(runs, most)))
     return orders.status_of(runs)
 
 

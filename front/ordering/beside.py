@@ -1,7 +1,7 @@
 """The state slot by slot that stands beside those of the orders of a group's writes.
 
 Of an accepted program it is what `ia64 run` prints. Of another one `run` prints the verdict alone; so it is taken from the same
-program with a stop behind each slot, of the whole text or of one group (`front/split.py`), by `ia64 groups N 0`. Positions
+program with a stop behind each slot, of the whole text or of one group (`split.py`), by `ia64 groups N 0`. Positions
 are told by the bundles of the program as it is. So are addresses of bundles, in branch registers, and in other registers and in
 data where the state in program order has the address. The hardware needn't do anything of the kind.
 """

@@ -7,7 +7,7 @@ these slots, and the state there is the same for each K: that is proved of an ac
 with each K too, and where they leave another state than in program order, the order isn't shown.
 
 Slot by slot is what `run` prints where the program is accepted. Else it is the same run with a stop behind each slot of this
-one group (`front/split.py`): no promise is made that the hardware does so.
+one group (`split.py`): no promise is made that the hardware does so.
 """
 
 import math
