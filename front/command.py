@@ -109,7 +109,7 @@ def orders_options(parser):
                         help="the number of a group in the run, from 1: the orders of its writes alone, up to its end")
     parser.add_argument("--order", action="append", default=[], metavar="W,W,..",
                         help="with GROUP, this order of its writes, each by its number or by its slot, as in 0.2,0.0,0.1")
-    parser.add_argument("-n", "--groups", type=between(1, usage.GROUP_LIMIT), metavar="N",
+    parser.add_argument("-n", type=between(1, usage.GROUP_LIMIT), dest="limit", metavar="N",
                         help="without GROUP, run at most N groups, by default 1000")
     parser.add_argument("--orders", type=order_list, metavar="K,K,..",
                         help="without GROUP, these orders in place of the first seven")
@@ -228,7 +228,7 @@ def run_orders(options, program):
     from front.ordering import lines, one_group, orders
     if options.group is None and options.order:
         options.misused("--order names the writes of one group, so it takes its number: ia64 orders FILE GROUP --order W,W,..")
-    if options.group is not None and (options.groups, options.orders) != (None, None):
+    if options.group is not None and (options.limit, options.orders) != (None, None):
         options.misused("-n and --orders are of all groups of a run, and GROUP is one of them: name orders of it by --order")
     data, most = read_file(options.file), sys.maxsize if options.all else lines.LINES
     if options.group is not None:
@@ -236,7 +236,7 @@ def run_orders(options, program):
         print("\n".join(lines.report_group(runs, most, bool(options.order))))
     else:
         wanted = orders.orders_of(options.orders or orders.ORDERS, options.random, options.seed)
-        runs = orders.run_all(program, options.groups or 1000, wanted, data)
+        runs = orders.run_all(program, options.limit or 1000, wanted, data)
         print("\n".join(lines.report(runs, most)))
     return orders.status_of(runs)
 

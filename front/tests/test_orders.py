@@ -183,7 +183,7 @@ class Calls(Compared):
     def test_words(self):
         for words in ([], ["-n", "0", "x"], ["-n", "10000001", "x"], ["--orders", "", "x"], ["--orders", "1,,2", "x"],
                       ["--orders", "18446744073709551616", "x"], ["--orders", "-1", "x"], ["--orders", "07", "x"],
-                      ["-n", "007", "x"], ["--random", "x", "x"], ["x", "y"], ["x", "0"], ["x", "1", "2"]):
+                      ["-n", "007", "x"], ["--groups", "5", "x"], ["--random", "x", "x"], ["x", "y"], ["x", "0"], ["x", "1", "2"]):
             self.refuses("usage: ia64 orders", *words)
         self.refuses("--order names the writes of one group", "--order", "0,1", "x")
         for words in (["-n", "5"], ["--orders", "1"]):
