@@ -223,14 +223,41 @@ def loosened(options, program):
     return DONE
 
 
+def read_program(path):
+    """The bytes of a text or an image that is to be run."""
+    data = read_file(path)
+    if files.kind_of(data) is Kind.CODE:
+        raise Fault(f"an object file or a linked one, and no program; {OF_A_CALL}")
+    return data
+
+
+def said_of_source(path, data, refusal):
+    """What there is to say of a refused text that is a source for the GNU assembler, as its name and a directive tell that no
+    text has."""
+    from front import programs
+    is_source = files.is_source(path) and refusal.endswith(": name")
+    directive = programs.directive_at(data, refusal) if is_source else ""
+    return f"'{printable(directive)}' is of a source for the GNU assembler; {OF_A_CALL}" if directive else ""
+
+
 def run_orders(options, program):
     """The states of several orders of all groups of a run, or of the orders of one group."""
-    from front.ordering import lines, one_group, orders
     if options.group is None and options.order:
         options.misused("--order names the writes of one group, so it takes its number: ia64 orders FILE GROUP --order W,W,..")
     if options.group is not None and (options.limit, options.orders) != (None, None):
         options.misused("-n and --orders are of all groups of a run, and GROUP is one of them: name orders of it by --order")
-    data, most = read_file(options.file), sys.maxsize if options.all else lines.LINES
+    data = read_program(options.file)
+    try:
+        return print_orders(options, program, data)
+    except Fault as fault:
+        said = said_of_source(options.file, data, str(fault))
+        raise Fault(f"{fault}: {said}" if said else str(fault)) from None
+
+
+def print_orders(options, program, data):
+    """The status of a comparison of states, which is printed."""
+    from front.ordering import lines, one_group, orders
+    most = sys.maxsize if options.all else lines.LINES
     if options.group is not None:
         runs = one_group.run_all(program, data, options.group, options.order, options.random, options.seed)
         print("\n".join(lines.report_group(runs, most, bool(options.order))))
@@ -288,10 +315,11 @@ def plainly(options, program):
         takes = f"'{options.command}' takes {usage.TAKES[options.command]}"
         options.misused(f"{takes}: {usage.right_call(options.command, options.arguments)}")
     options.file = paths[0]
-    return plain_answer(program, [options.command, *numbers], read_file(paths[0]), options.output)
+    data = read_program(paths[0]) if options.command in usage.LIMITS else read_file(paths[0])
+    return plain_answer(program, [options.command, *numbers], data, options.output, paths[0])
 
 
-def plain_answer(program, arguments, data, output=None):
+def plain_answer(program, arguments, data, output=None, path=""):
     """The program's own status on an input, with what it prints handed on."""
     status, printed = program.raw(arguments, data)
     if output is not None and status == 0:
@@ -301,6 +329,10 @@ def plain_answer(program, arguments, data, output=None):
         sys.stdout.buffer.write(printed)
     if status in SAID:
         complain(SAID[status].format(arguments[0]))
+    if status == 3 and arguments[0] in usage.LIMITS:
+        said = said_of_source(path, data, printed.decode("latin-1").strip())
+        if said:
+            complain(f"{path}: {said}")
     return status
 
 
@@ -313,6 +345,9 @@ def write_file(path, data):
 
 # So many functions are drawn without a name, and so many names are told of those that a file has.
 MOST_FIGURES, MOST_NAMES = 10, 20
+
+# How what isn't run by itself is run.
+OF_A_CALL = "`ia64 call FILE FUNCTION --image PATH` makes an image of a call, which run, watch, groups and orders take"
 
 # What a status of the program means that prints nothing, or not all.
 SAID = {3: "'{}' refused its input; the reason went to standard output",

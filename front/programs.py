@@ -46,17 +46,25 @@ def checked(file, program, verbose=False):
 
 def refused(file, said):
     """The refusal of a text or an image, in the program's words and in more."""
-    found = re.fullmatch(r"line (\d+): (.*)", said)
-    is_at_directive = False
+    found = re.fullmatch(REFUSAL_OF_TEXT, said)
     if found:
-        lines = lines_of_text(file.data)
-        is_at_directive = int(found[1]) <= len(lines) and lines[int(found[1]) - 1].lstrip().startswith(".")
         meaning = f": {REASONS[found[2]]}" if found[2] in REASONS else ""
         finding = Finding(Severity.ERROR, Source(file.label, int(found[1])), "", "", f"refused, {found[2]}{meaning}", "refused")
     else:
         finding = Finding(Severity.ERROR, None, file.label, "", f"refused, {said}", "refused")
     file.fault = said
-    return Refused(Answer(file, [], [finding], {}, {}), is_at_directive)
+    return Refused(Answer(file, [], [finding], {}, {}), bool(directive_at(file.data, said)))
+
+
+REFUSAL_OF_TEXT = r"line (\d+): (.*)"
+
+
+def directive_at(data, said):
+    """The directive at which the program refuses a text, and nothing where it is none that is refused."""
+    found = re.fullmatch(REFUSAL_OF_TEXT, said)
+    lines = lines_of_text(data) if found else []
+    line = lines[int(found[1]) - 1].lstrip() if found and int(found[1]) <= len(lines) else ""
+    return line.split()[0] if line.startswith(".") else ""
 
 
 def not_assembled(file, lines):

@@ -110,6 +110,37 @@ class Examples(Compared):
         self.refuses("nowhere: No such file", self.folder / "nowhere")
 
 
+class Code(Compared):
+    """Files that are no programs are refused by what they are, and how one is made of them is said."""
+
+    HINT = "`ia64 call FILE FUNCTION --image PATH` makes an image of a call, which run, watch, groups and orders take\n"
+    COMMANDS = (("orders",), ("run", 5), ("watch", 5), ("groups", 5, 0))
+
+    def test_an_object_file(self):
+        for words in (*self.COMMANDS, ("orders", "-n", 5)):
+            status, printed, error = self.ia64(*words, ROOT / "examples" / "functions.o")
+            self.assertEqual((status, printed), (2, b""), words)
+            self.assertTrue(error.endswith(f"functions.o: an object file or a linked one, and no program; {self.HINT}"), error)
+
+    def test_a_source(self):
+        """A text named as a source that is refused at a directive which no text has."""
+        said = f"'.explicit' is of a source for the GNU assembler; {self.HINT}"
+        status, printed, error = self.ia64("orders", example("functions"))
+        self.assertEqual((status, printed), (2, b""))
+        self.assertTrue(error.endswith(f"functions.s: line 7: name: {said}"), error)
+        for words in self.COMMANDS[1:]:
+            status, printed, error = self.ia64(*words, example("functions"))
+            self.assertEqual((status, printed), (3, b"line 7: name\n"))
+            self.assertTrue(error.endswith(f"functions.s: {said}"), error)
+
+    def test_a_text(self):
+        """Any other refusal is the program's alone."""
+        for name, text in (("x.s", "no instruction\n"), ("x", ".explicit\n"), ("x.s", ".entry 5\n")):
+            Path(name).write_text(text)
+            for words in self.COMMANDS:
+                self.assertNotIn("call", self.ia64(*words, name)[2])
+
+
 class Printing(Compared):
     """What is printed of states."""
 
@@ -183,7 +214,8 @@ class Calls(Compared):
     def test_words(self):
         for words in ([], ["-n", "0", "x"], ["-n", "10000001", "x"], ["--orders", "", "x"], ["--orders", "1,,2", "x"],
                       ["--orders", "18446744073709551616", "x"], ["--orders", "-1", "x"], ["--orders", "07", "x"],
-                      ["-n", "007", "x"], ["--groups", "5", "x"], ["--random", "x", "x"], ["x", "y"], ["x", "0"], ["x", "1", "2"]):
+                      ["-n", "007", "x"], ["--groups", "5", "x"], ["--random", "x", "x"], ["x", "y"], ["x", "0"],
+                      ["x", "1", "2"]):
             self.refuses("usage: ia64 orders", *words)
         self.refuses("--order names the writes of one group", "--order", "0,1", "x")
         for words in (["-n", "5"], ["--orders", "1"]):
