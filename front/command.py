@@ -270,6 +270,8 @@ def print_orders(options, program, data):
 
 def draw(options, program):
     """The picture of a program, or of functions of a file of code."""
+    if not options.output and sys.stdout.isatty():
+        raise Fault("a picture is no text for a terminal: -o x.svg or -o x.html says where it goes")
     source = one_file(options.file, options.syscalls)
     file = built(source, options, program) if source.kind is Kind.TEXT else source
     drawing = pictures()

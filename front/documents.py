@@ -105,7 +105,8 @@ def result(file, finding):
     source = finding.source
     location = {"physicalLocation": {"artifactLocation": {"uri": quote(source.path if source else file.path)}}}
     if source:
-        location["physicalLocation"]["region"] = {"startLine": source.line, **({"startColumn": source.column} if source.column else {})}
+        column = {"startColumn": source.column} if source.column else {}
+        location["physicalLocation"]["region"] = {"startLine": source.line, **column}
     name = " ".join(name for name in (finding.origin, finding.function) if name)
     if name:
         location["logicalLocations"] = [{"fullyQualifiedName": name}]

@@ -128,7 +128,8 @@ def functions_of_symbols(section, content, symbols):
             found[-1].faults.append(Why("its symbol points out of the section",
                                         f"its symbol points out of the section, which has {section.size:#x} bytes"))
         elif start + size > section.size:
-            found[-1].faults.append(Why("cut off", f"cut off: it has {size:#x} bytes, and the section ends at +{section.size:#x}"))
+            said = f"cut off: it has {size:#x} bytes, and the section ends at +{section.size:#x}"
+            found[-1].faults.append(Why("cut off", said))
     return found
 
 
@@ -137,7 +138,8 @@ def declare_inner(function, start, name):
     if start % 16 == function.start % 16:
         function.entries[(start - function.start) // 16] = f"function symbol {name}"
     else:
-        function.faults.append(Why("a symbol inside it is no bundle", f"the symbol {name} inside it, {start:+#x}, is no bundle of it"))
+        said = f"the symbol {name} inside it, {start:+#x}, is no bundle of it"
+        function.faults.append(Why("a symbol inside it is no bundle", said))
 
 
 def uncovered(section, content, found):

@@ -260,7 +260,8 @@ class Judge:
             if refusal is None:
                 read = without_slots(code, left_out | unknown)
                 refusal = self.program.check(image([(read, entries)]))
-            if not isinstance(refusal, Refusal) or refusal.why != "unlisted" or len(unknown) >= max(1, min(MOST_UNKNOWN, WORK // count)):
+            most = max(1, min(MOST_UNKNOWN, WORK // count))
+            if not isinstance(refusal, Refusal) or refusal.why != "unlisted" or len(unknown) >= most:
                 return unknown, refusal
             if refusal.bundle >= count or (refusal.bundle, refusal.slot) in unknown:
                 raise self.program.unknown("check", f"{refusal}")

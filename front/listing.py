@@ -8,19 +8,18 @@ from front.program import batches
 
 
 def listings(functions, judge, with_bytes):
-    """The lines of each function. So many are asked about at once as an image has room for."""
-    for batch in batches(functions, lambda function: (function.count, 0)):
-        for texts in texts_of(batch, judge):
-            yield lines_of_function(texts, with_bytes)
+    """The lines of each function."""
+    return (lines_of_function(texts, with_bytes) for texts in texts_of(functions, judge))
 
 
 def texts_of(functions, judge):
-    """The texts of the slots of each function, of so many as an image has room for."""
-    verdicts = list(map(unjudged, functions))
-    judge.list_texts(verdicts)
-    further = gnu.slot_texts((verdict.function.bundles[index], slot)
-                             for verdict in verdicts for index, slot in verdict.unread)
-    return [messages.Texts(verdict, further) for verdict in verdicts]
+    """The texts of the slots of each function. So many are asked about at once as an image has room for."""
+    for batch in batches(functions, lambda function: (function.count, 0)):
+        verdicts = list(map(unjudged, batch))
+        judge.list_texts(verdicts)
+        further = gnu.slot_texts((verdict.function.bundles[index], slot)
+                                 for verdict in verdicts for index, slot in verdict.unread)
+        yield from (messages.Texts(verdict, further) for verdict in verdicts)
 
 
 def unjudged(function):

@@ -134,7 +134,8 @@ def verdict_messages(verdict, texts, verbose):
     function = verdict.function
     start = function.start
     if verdict.faults:
-        yield Message(Severity.WARNING, start, (start, 0), f"{NOT_JUDGED}: {'; '.join(why.said for why in verdict.faults)}", UNJUDGED)
+        said = "; ".join(why.said for why in verdict.faults)
+        yield Message(Severity.WARNING, start, (start, 0), f"{NOT_JUDGED}: {said}", UNJUDGED)
     elif verdict.unlisted:
         positions = [(function.offset(slot.bundle), slot.slot or 0) for slot in verdict.unlisted]
         first, more = verdict.unlisted[0], len(verdict.unlisted) - 1

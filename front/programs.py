@@ -117,7 +117,8 @@ def text_findings(file, slots, broken, found, excused):
     for row in broken:
         first, second = slot(row.first), slot(row.second)
         only = ways.said(found.get(row, ()), lambda position: f"line {slot(position).line}")
-        yield finding(Severity.ERROR, second, f"{row.rule} {row.resource}: {said_pair(row, first.text, second.text)}{only}", row.rule)
+        said = said_pair(row, first.text, second.text)
+        yield finding(Severity.ERROR, second, f"{row.rule} {row.resource}: {said}{only}", row.rule)
         yield finding(Severity.NOTE, first, f"'{first.text}' is here", is_further=True)
     for row in excused:
         first, second = slot(row.first), slot(row.second)

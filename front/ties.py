@@ -47,10 +47,14 @@ def cut_ties(file, functions, syscalls=False):
 
 def go_on_behind_ends(function):
     """Code that no symbol covers may be several functions, of which each but the first begins behind a slot that a walk doesn't
-    fall out of. So the bundle after such a slot is an entry, which errs on the strict side."""
-    for index, bundle in enumerate(function.bundles[:-1]):
-        if any(not turn.falls for turn in turns_of(index, bundle)) and not is_padding(function.bundles[index + 1]):
-            function.entries.setdefault(index + 1, "behind an end")
+    fall out of, and behind what pads code up to an alignment there. So the next bundle that doesn't pad is an entry, which errs
+    on the strict side."""
+    is_behind_end = False
+    for index, bundle in enumerate(function.bundles):
+        if is_behind_end and not is_padding(bundle):
+            function.entries.setdefault(index, "behind an end")
+            is_behind_end = False
+        is_behind_end = is_behind_end or any(not turn.falls for turn in turns_of(index, bundle))
 
 
 def go_on_behind_breaks(function):

@@ -1,8 +1,8 @@
 """Why a pair clashes, and which pairs don't for the sake of predicates: both are asked of the proved program, of the same bundles
 with a few words changed.
 
-- *The way*: a branch is made to lead out of the program, to an end bundle behind it. Then the walks that take it are gone, and all
-  others are as they were. A taken branch ends its group, so no pair shares a group for it; but what is known of predicates may
+- *The way*: a branch is made to lead out of the program, to an end bundle behind it. Then the walks that take it are gone, and
+  all others are as they were. A taken branch ends its group, so no pair shares a group for it; but what is known of predicates may
   be lost on it. So where a pair doesn't clash any more then, but does so still where no other slot has a qualifying predicate,
   the way over this branch is why the pair isn't excused.
 - *What predicates excuse*: all slots but branches, checks and breaks get p0 for their qualifying predicate. They are on the same
@@ -65,5 +65,5 @@ def without_guards(code):
 
 def excused(ask, code, broken):
     """The pairs that predicates excuse, the first hundred at most."""
-    known = set(broken)
-    return [row for row in violations(ask(without_guards(code))) if row not in known]
+    bare, known = without_guards(code), set(broken)
+    return [row for row in violations(ask(bare)) if row not in known] if bare != code else []

@@ -21,4 +21,4 @@ def of_program(file, source, program, is_proved):
 
 def of_code(file, functions, judge, is_proved):
     """The figures of functions of a file of code."""
-    return [of_functions.figure(file, verdict, judge, is_proved) for verdict in judge.judge(functions)]
+    return of_functions.all_figures(file, functions, judge, is_proved)

@@ -13,12 +13,18 @@ KEPT = f"{figures.PROVED}Proved: on no walk two slots of one group break a rule,
 OF_THE_IMAGE = "That is of the image that was made of the function. That it stands for the function isn't proved."
 
 
-def figure(file, verdict, judge, is_proved):
-    """The figure of a function, by its verdict."""
+def all_figures(file, functions, judge, is_proved):
+    """The figures of functions."""
+    for function in functions:
+        if function.count > figures.MOST_BUNDLES:
+            raise Fault(f"{function.name} has {function.count:,} bundles, and a picture has {figures.MOST_BUNDLES:,} at most")
+    rows = zip(judge.judge(functions), listing.texts_of(functions, judge))
+    return [figure(file, verdict, texts, is_proved) for verdict, texts in rows]
+
+
+def figure(file, verdict, texts, is_proved):
+    """The figure of a function, by its verdict and the texts of its slots."""
     function = verdict.function
-    if function.count > figures.MOST_BUNDLES:
-        raise Fault(f"{function.name} has {function.count:,} bundles, and a picture has {figures.MOST_BUNDLES:,} at most")
-    texts, = listing.texts_of([function], judge)
     places = [(index, slot) for index, bundle in enumerate(function.bundles) if bundle.units for slot in slots_of(bundle)]
     accesses = {place: slot_accesses(texts, function.bundles[place[0]], place) for place in places}
 

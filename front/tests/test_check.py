@@ -564,6 +564,13 @@ class Symbols(Case):
         self.gives(elf, 1, writes_twice(0x10, ".text+0x0"),
                    "a.o(.text+0x0): note: .text+0x0: no function symbol covers these 0x30 bytes")
 
+    def test_padding_behind_an_end(self):
+        """In code without symbols another function may begin behind what pads up to it, too."""
+        elf = Elf()
+        elf.section(".text", bundles(RETURN + 3 * NOPS + WRITES + RETURN))
+        self.gives(elf, 1, writes_twice(0x40, ".text+0x0"),
+                   "a.o(.text+0x0): note: .text+0x0: no function symbol covers these 0x60 bytes")
+
     def test_what_a_linker_fills_with(self):
         """Between two functions without symbols: else the fill and the function behind it would be one, whose `alloc` isn't the
         first of its group."""
