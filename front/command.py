@@ -377,10 +377,17 @@ COMMANDS = {
 }
 
 
+class Parser(argparse.ArgumentParser):
+    """The library's, which passes over an output that fails."""
+
+    def print_help(self, file=None):
+        (file or sys.stdout).write(self.format_help())
+
+
 def parser_of(name):
     """That of the words of a command."""
     add, said = COMMANDS[name]
-    parser = argparse.ArgumentParser(prog=f"ia64 {name}", description=f"{said[0].upper()}{said[1:]}.")
+    parser = Parser(prog=f"ia64 {name}", description=f"{said[0].upper()}{said[1:]}.")
     parser.set_defaults(command=name)
     add(parser)
     return parser
@@ -453,15 +460,28 @@ def main(arguments=None):
     return WRONG
 
 
+def closed_output():
+    complain("standard output is closed")
+    return WRONG
+
+
+def status_of(call):
+    """The status of a call, also where the options end it, as those for help do."""
+    try:
+        return call()
+    except SystemExit as ended:
+        return ended.code or DONE
+
+
 def run():
     """The status of a call. Where the lines can't be written it is 2, as where a file can't be read."""
     signal.signal(signal.SIGTERM, lambda *_: sys.exit(143))
-    for stream in (sys.stdout, sys.stderr):
+    for stream in (sys.stderr, sys.stdout):
         if stream is None:
-            return WRONG
+            return WRONG if sys.stderr is None else closed_output()
         stream.reconfigure(errors="backslashreplace")
     try:
-        ended = main()
+        ended = status_of(main)
         sys.stdout.flush()
         return ended
     except BrokenPipeError:

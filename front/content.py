@@ -11,6 +11,9 @@ from front.faults import Fault, printable
 # So many bytes of a name are read, and no more.
 LONGEST_NAME = 1000
 
+# So many bytes are read of what is no regular file, as a pipe.
+MOST_STREAMED = 1 << 28
+
 
 def part(data, start, size, what):
     """A part of a file's bytes."""
@@ -64,7 +67,15 @@ def opened(path):
         file = sys.stdin.buffer if path == "-" else open(path, "rb")
         with contextlib.nullcontext() if path == "-" else file:
             is_regular = path != "-" and stat.S_ISREG(os.fstat(file.fileno()).st_mode)
-            yield Stored(file) if is_regular else file.read()
+            yield Stored(file) if is_regular else read_stream(file)
+
+
+def read_stream(file):
+    """The bytes of what is no regular file, to its end."""
+    data = file.read(MOST_STREAMED + 1)
+    if len(data) > MOST_STREAMED:
+        raise Fault(f"more than {MOST_STREAMED:,} bytes, and it is no regular file")
+    return data
 
 
 @contextlib.contextmanager

@@ -6,7 +6,7 @@ It needs nothing but Python 3.8 and the files of this repository. Run
     tools/make_call_rows.py
 
 in any folder. It writes its part of `crates/vectors/stdin`, and prints how many rows speak of what. With `--check` it writes
-nothing: it ends with status 1 where that isn't what it makes.
+nothing: it ends with status 1 where that isn't what it makes, or where the file has lost rows of any part.
 
 The head of `crates/vectors/src/main.rt` says what a row is; here, a `Row`. An input or an output is pieces: a text, bytes,
 or so many times one.
@@ -874,8 +874,7 @@ def main():
     made, counts = rows()
     if sys.argv[1:] == ["--check"]:
         stale = vector_rows.stale("call", made)
-        for name in stale:
-            print(f"crates/vectors/{name} isn't what tools/make_call_rows.py makes")
+        print("".join(f"{fault}\n" for fault in stale), end="")
         sys.exit(1 if stale else 0)
     if sys.argv[1:]:
         sys.exit("usage: make_call_rows.py [--check]")

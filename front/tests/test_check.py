@@ -18,6 +18,8 @@ import unittest.mock
 from pathlib import Path
 
 from front.bundle import NOPS as NOP_WORDS, Bundle, displacement_layout, split, with_displacement
+from front.content import read_file
+from front.faults import Fault
 from front.program import Program
 from front.tests import case
 from front.tests.case import FRONT, HAS_GNU, PROGRAM, asked, needs_gnu
@@ -828,10 +830,21 @@ class Calls(Case):
 
     def test_a_full_output(self):
         self.put(one_function(RETURN))
-        with open("/dev/full", "w") as full, asked(PROGRAM):
-            done = subprocess.run([sys.executable, FRONT, "check", "a.o"], stdout=full, stderr=subprocess.PIPE, check=False)
-        self.assertEqual(done.returncode, 2)
-        self.assertIn(b"the lines can't be written", done.stderr)
+        for words in (["check", "a.o"], ["check", "--help"]):
+            with open("/dev/full", "w") as full, asked(PROGRAM):
+                done = subprocess.run([sys.executable, FRONT, *words], stdout=full, stderr=subprocess.PIPE, check=False)
+            self.assertEqual(done.returncode, 2)
+            self.assertEqual(done.stderr, b"ia64: the lines can't be written: No space left on device\n")
+
+    def test_a_closed_output(self):
+        command = ["sh", "-c", 'exec "$0" "$1" check --help >&-', sys.executable, FRONT]
+        done = subprocess.run(command, stderr=subprocess.PIPE, check=False)
+        self.assertEqual((done.returncode, done.stderr), (2, b"ia64: standard output is closed\n"))
+
+    def test_a_stream_without_an_end(self):
+        with unittest.mock.patch("front.content.MOST_STREAMED", 1000), self.assertRaises(Fault) as refused:
+            read_file("/dev/zero")
+        self.assertEqual(str(refused.exception), "more than 1,000 bytes, and it is no regular file")
 
     def test_help(self):
         status, out, _ = self.call("--help")
