@@ -15,7 +15,7 @@ from front.checking import DONE, WRONG, complain
 from front.faults import Fault, ProgramFault, Unread, printable
 from front.files import Kind
 from front.judging import Judge
-from front.content import read_file
+from front.content import read_file, write_file
 from front.program import Program
 
 # ---- Words -----------------------------------------------------------------------------------------------
@@ -336,13 +336,6 @@ def plain_answer(program, arguments, data, output=None, path=""):
         if said:
             complain(f"{path}: {said}")
     return status
-
-
-def write_file(path, data):
-    try:
-        Path(path).write_bytes(data)
-    except OSError as fault:
-        raise Fault(f"{path} can't be written: {fault.strerror}") from None
 
 
 # So many functions are drawn without a name, and so many names are told of those that a file has.

@@ -1,10 +1,11 @@
-"""Parts of a file's bytes, each looked for within the file."""
+"""Parts of a file's bytes, each looked for within the file; and files as a whole, read and written."""
 
 import contextlib
 import os
 import stat
 import struct
 import sys
+from pathlib import Path
 
 from front.faults import Fault, printable
 
@@ -91,3 +92,11 @@ def read_file(path):
     """All bytes of a file; `-` is standard input."""
     with opened(path) as data:
         return data[:]
+
+
+def write_file(path, data):
+    """Puts bytes into a file."""
+    try:
+        Path(path).write_bytes(data)
+    except OSError as fault:
+        raise Fault(f"{path} can't be written: {fault.strerror}") from None

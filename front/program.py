@@ -72,6 +72,12 @@ class Refusal(NamedTuple):
     why: str
 
 
+def refusal_of(text):
+    """The refusal of an image as it is printed, or None where a text is none."""
+    found = re.fullmatch(r"image: bundle (\d+)(?: slot (\d))?: ([a-z ]+)\n", text)
+    return Refusal(int(found[1]), int(found[2]) if found[2] else None, found[3]) if found else None
+
+
 class Broken(NamedTuple):
     """A line of a verdict: two slots of an image, each as bundle and slot, that break a rule."""
     rule: str
@@ -122,10 +128,10 @@ class Program:
         status, text = self.call([word], data)
         if status != 3:
             return text
-        found = re.fullmatch(r"image: bundle (\d+)(?: slot (\d))?: ([a-z ]+)\n", text)
-        if not found:
+        refusal = refusal_of(text)
+        if refusal is None:
             raise self.unknown(word, text)
-        return Refusal(int(found[1]), int(found[2]) if found[2] else None, found[3])
+        return refusal
 
     def check(self, data):
         """How many pairs of slots of an image break a rule, and the first hundred of them, or its refusal."""

@@ -3,7 +3,6 @@
 import argparse
 import re
 import sys
-from pathlib import Path
 
 from front import usage
 from front.calling import answer as answers
@@ -11,7 +10,9 @@ from front.calling import image, linking
 from front.calling.arguments import FORMS, arguments_of
 from front.calling.ends import Names
 from front.checking import WRONG, complain
+from front.content import write_file
 from front.faults import Fault, ProgramFault, printable
+from front.program import refusal_of
 
 # The status where the program refuses the image, beside those of `answer`.
 REFUSED = 3
@@ -75,7 +76,7 @@ def answer_of(options, program, arguments):
     names = Names(linked, made)
     status, printed = image.run(program, made, run_words(options))
     if options.image is not None:
-        put(options.image, made.image())
+        write_file(options.image, made.image())
     found = answered(program, linked, made, names, options, status, printed)
     if options.format == "json":
         print(answers.document(found, names, printable(options.file), options.function))
@@ -97,11 +98,11 @@ def answered(program, linked, made, names, options, status, printed):
         return teller.verdict(printed)
     if status in (0, 8, 9):
         return teller.state(printed, options.groups is not None, options.limit, options.struct)
-    refusal = re.fullmatch(r"image: bundle (\d+)(?: slot (\d))?: ([a-z ]+)\n", printed) if status == 3 else None
+    refusal = refusal_of(printed) if status == 3 else None
     if refusal is None:
         raise ProgramFault(f"`{program.path} run` ended with status {status}: {printed[:100]!r}")
-    why = "more than 192 slots without a stop" if refusal[3] == "long run" else refusal[3]
-    raise image.Refused(f"the program refuses {names.code(int(refusal[1]))}: {why}")
+    why = "more than 192 slots without a stop" if refusal.why == "long run" else refusal.why
+    raise image.Refused(f"the program refuses {names.code(refusal.bundle)}: {why}")
 
 
 def linked_files(options):
@@ -120,10 +121,3 @@ def linked_files(options):
     if function is None or function % 16 or not linking.STUBS_AT <= function < linked.end(True, linking.CODE_AT):
         raise Fault(f"{printable(options.function)} is at no bundle of what was linked")
     return linked, function
-
-
-def put(path, data):
-    try:
-        Path(path).write_bytes(data)
-    except OSError as fault:
-        raise Fault(f"{path} can't be written: {fault.strerror}") from None

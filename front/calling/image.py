@@ -12,7 +12,6 @@
   So does one stand in what is left out, for each missing name, and for a branch that leads out of the code.
 """
 
-import re
 import struct
 from dataclasses import dataclass, field
 from enum import Enum
@@ -25,6 +24,7 @@ from front.calling.linking import CODE_AT, DATA_AT, DATA_BYTES, GLOBAL_POINTER, 
 from front.faults import Fault, ProgramFault, printable
 from front.flow import turns_of
 from front.functions import MOST_ENTRIES
+from front.program import refusal_of
 from front.stand_ins import Kind, rows_of
 
 # Bytes at the top of the stack that a called function may use, and between what arguments point to.
@@ -284,8 +284,8 @@ def run(program, made, words):
     for _ in range(MOST_UNKNOWN):
         status, printed = program.raw(words, made.image())
         text = printed.decode("latin-1")
-        refusal = re.fullmatch(r"image: bundle (\d+) slot (\d): unlisted\n", text) if status == 3 else None
-        if refusal is None:
+        refusal = refusal_of(text) if status == 3 else None
+        if refusal is None or refusal.slot is None or refusal.why != "unlisted":
             return status, text
-        made.put_break(int(refusal[1]), int(refusal[2]), Stopped(Stop.OUTSIDE), True)
+        made.put_break(refusal.bundle, refusal.slot, Stopped(Stop.OUTSIDE), True)
     raise Fault(f"more than {MOST_UNKNOWN} slots have no instruction that is known here")

@@ -20,6 +20,7 @@ has what the group changes.
 import math
 import textwrap
 
+from front.messages import counted
 from front.ordering.order_words import described
 from front.ordering.orders import SEVERAL, is_another, same_as, status_of
 from front.ordering.states import differing, lines_of, table
@@ -28,10 +29,6 @@ from front.ordering.writes import number_of
 # How many states stand beside each other, how many lines of them are printed, how long the line of orders gets, and how many
 # numbers of orders it has of one group.
 COLUMNS, LINES, WIDTH, NUMBERS = 4, 40, 110, 8
-
-
-def counted(number, what):
-    return f"{number} {what}" + "s" * (number != 1)
 
 
 def wrapped(head, text):
