@@ -14,6 +14,7 @@ from front import VERSION, checking, files, gnu, reports, usage
 from front.checking import DONE, WRONG, complain
 from front.faults import Fault, ProgramFault, Unread, printable
 from front.files import Kind
+from front.functions import chosen
 from front.judging import Judge
 from front.content import read_file, write_file
 from front.program import Program
@@ -181,13 +182,11 @@ def read_source(file, options, program):
 
 def show_functions(file, options, program):
     from front import listing
-    wanted, judge = options.functions, Judge(program)
-    chosen = [function for function in file.functions if not wanted or set(wanted) & {function.name, *function.names}]
-    missing = [name for name in wanted if not any(name in (function.name, *function.names) for function in chosen)]
-    for number, lines in enumerate(listing.listings(chosen, judge, options.command == "list")):
+    wanted, missing = chosen(file.functions, options.functions)
+    for number, lines in enumerate(listing.listings(wanted, Judge(program), options.command == "list")):
         print(*[""] * bool(number), *lines, sep="\n")
-    for name in missing:
-        complain(f"{options.file}: no function {name}")
+    for said in missing:
+        complain(f"{options.file}: {said}")
     return WRONG if missing else DONE
 
 
@@ -293,21 +292,20 @@ def draw(options, program):
 
 def chosen_functions(file, names):
     """The functions of a file with these names, or all of them where there are few."""
-    missing = [name for name in names if not any(name in (function.name, *function.names) for function in file.functions)]
+    found, missing = chosen(file.functions, names)
     if missing:
-        raise Fault(f"no function {', '.join(map(printable, missing))}; {some_of(file.functions)}")
-    chosen = [function for function in file.functions if not names or set(names) & {function.name, *function.names}]
-    if not chosen:
+        raise Fault("; ".join(missing))
+    if not found:
         raise Fault("no function is in it")
-    if not names and len(chosen) > MOST_FIGURES:
-        raise Fault(f"{len(chosen):,} functions, and without a name {MOST_FIGURES} are drawn at most; {some_of(chosen)}")
-    return chosen
+    if not names and len(found) > MOST_FIGURES:
+        raise Fault(f"{len(found):,} functions, and without a name {MOST_FIGURES} are drawn at most; {some_of(found)}")
+    return found
 
 
 def some_of(functions):
     """The names of functions, the first ones where there are many."""
     names = [function.name for function in functions[:MOST_NAMES]]
-    return f"it has {', '.join(names)}{' ..' if len(functions) > MOST_NAMES else ''}" if names else "it has none"
+    return f"it has {', '.join(names)}{' ..' if len(functions) > MOST_NAMES else ''}"
 
 
 def plainly(options, program):

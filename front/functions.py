@@ -10,7 +10,7 @@ from typing import Dict, List, Tuple
 
 from front.bundle import PADDING, Bundle, split_all
 from front.code import Rank, Section, Symbol
-from front.faults import Why
+from front.faults import Why, printable
 
 # How many bundles and declared entries an image of version 2 has room for.
 MOST_BUNDLES, MOST_ENTRIES = 32768, 1024
@@ -191,3 +191,26 @@ def why_not(function, section, count):
     if count >= MOST_BUNDLES:
         return Why("too many bundles", f"{count} bundles, and it may have {MOST_BUNDLES - 1}")
     return None
+
+
+# ---- Names -----------------------------------------------------------------------------------------------
+
+# So many names are told of those that are near one, and where none is, of all.
+MOST_NEAR, MOST_NAMES = 3, 10
+
+
+def chosen(functions, names):
+    """The functions with these names, or all of them without one, and what is said of each name that none has."""
+    known = {name for function in functions for name in (function.name, *function.names)}
+    missing = [no_function(name, known) for name in names if name not in known]
+    return [function for function in functions if not names or set(names) & {function.name, *function.names}], missing
+
+
+def no_function(wanted, names):
+    """What is said where none of the functions with these names has the one that is wanted."""
+    from difflib import get_close_matches
+    near = get_close_matches(wanted, names, MOST_NEAR, 0.6)
+    shown = near or sorted(names)[:MOST_NAMES]
+    more = ", .." if not near and len(names) > MOST_NAMES else ""
+    has = f"it has {', '.join(map(printable, shown))}{more}" if shown else "it has none"
+    return f"no function {printable(wanted)}; {has}"

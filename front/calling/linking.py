@@ -10,7 +10,6 @@ import subprocess
 import tempfile
 from bisect import bisect_right
 from contextlib import contextmanager
-from difflib import get_close_matches
 from pathlib import Path
 from typing import NamedTuple, Optional
 
@@ -19,7 +18,7 @@ from front.code import Rank
 from front.content import read_file
 from front.faults import Fault, printable
 from front.files import Kind, is_source, kind_of
-from front.functions import MOST_BUNDLES
+from front.functions import MOST_BUNDLES, no_function
 
 # Where an image has its code and its data, and how many bytes of each it has room for.
 CODE_AT, DATA_AT, CODE_BYTES, DATA_BYTES = 0x10000, 0x100000, 16 * MOST_BUNDLES, 1 << 20
@@ -120,10 +119,7 @@ def local_name(functions, wanted):
     """Whether the name of a function is a local one."""
     if wanted in functions:
         return functions[wanted]
-    near = get_close_matches(wanted, functions, 3, 0.6) or sorted(functions)[:10]
-    more = ", .." if len(functions) > 10 and len(near) == 10 else ""
-    has = f"; it has {', '.join(map(printable, near))}{more}" if near else "; it has none"
-    raise Fault(f"no function {printable(wanted)}{has}")
+    raise Fault(no_function(wanted, functions))
 
 
 # ---- Linking ---------------------------------------------------------------------------------------------

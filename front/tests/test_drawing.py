@@ -308,7 +308,7 @@ class Functions(Draw):
         """Which functions there are is said, where none is named of many, and where one isn't there."""
         object_file = str(ROOT / "examples" / "functions.o")
         self.assertEqual(self.ia64("draw", object_file, "sums"),
-                         (2, b"", f"ia64: {object_file}: no function sums; it has swap, twice, sum\n"))
+                         (2, b"", f"ia64: {object_file}: no function sums; it has sum\n"))
         made = writers.Elf()
         code = made.section(".text", writers.RETURN * 30)
         for at in range(30):

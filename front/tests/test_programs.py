@@ -212,7 +212,10 @@ class Commands(Case):
         self.assertEqual((status, lines[0].split()[0], [line for line in lines if line.endswith(":")]), (0, "twice:", []))
         self.assertIn("  br.call.sptk.many b0=swap ;;", lines)
         self.assertTrue(any("lfetch" in line or "word 0x" in line for line in lines))
-        self.assertEqual(self.ia64("list", example("functions.o"), "nothing")[0], 2)
+        status, lines, said = self.lines("list", example("functions.o"), "twices", "nothing", "sum")
+        self.assertEqual((status, lines[0].split()[0], said), (2, "sum:", "".join(
+            f"ia64: {example('functions.o')}: no function {each}\n"
+            for each in ("twices; it has twice", "nothing; it has sum, swap, twice"))))
         self.assertEqual(self.ia64("show", example("count.s"))[0], 0)
 
     def test_wrong_words(self):
