@@ -208,9 +208,11 @@ class Pictures(Draw):
             self.assertLess(int(root.get("height")), 300 + 90 * count)
 
     def test_more_than_a_hundred(self):
-        text = "".join("{ .mii\nadds r8=1,r0\nadds r8=2,r0\nadds r8=3,r0 ;;\n}\n" for _ in range(60)) + END
+        """The first hundred are drawn; what predicates excuse isn't looked for then."""
+        text = "{ .mii\ncmp.eq p6,p7=r8,r9\nnop.i 0\nnop.i 0 ;;\n}\n{ .mii\nnop.m 0\n(p6) mov r9=1\n(p7) mov r9=2 ;;\n}\n"
+        text += "".join("{ .mii\nadds r8=1,r0\nadds r8=2,r0\nadds r8=3,r0 ;;\n}\n" for _ in range(60)) + END
         root = self.svg(self.put(text))
-        self.assertEqual(len(classes(root, "is-violation")), 100)
+        self.assertEqual((len(classes(root, "is-violation")), classes(root, "is-excused")), (100, []))
         self.assertTrue(any("lists 100 of the 180 violations" in text_of(note) for note in classes(root, "note")))
 
     def test_many_resources_of_one_pair(self):
@@ -253,6 +255,16 @@ class Functions(Draw):
         self.assertEqual([line.get("data-slots") for line in classes(root, "is-violation")], ["f0-slot-1-1 f0-slot-2-0"])
         self.assertIn("RAW r9: written by 'adds r9=0,r8' (+0x10 slot 1) and read by 'st8 [r33]=r9' (+0x20 slot 0)",
                       classes(root, "is-violation")[0].get("aria-label"))
+
+    def test_branches_and_starts(self):
+        """A branch says where it leads, and each function has its start."""
+        made = writers.Elf()
+        code = made.section(".text", writers.NOP + writers.BRANCH + writers.RETURN)
+        made.symbol("f", code, 0, 48)
+        (self.folder / "x.o").write_bytes(made.data())
+        root = self.svg("x.o")
+        self.assertEqual([edge.get("aria-label") for edge in classes(root, "is-branch")], ["branch from +0x10 slot 2 to f+0x10"])
+        self.assertEqual([part.tag for part in classes(root, "entry")].count(f"{SVG}polygon"), 2)      # and in the legend
 
     def test_one_function(self):
         """What stood in is marked, and has what it reads and writes of the table of stand-ins."""
