@@ -10,7 +10,8 @@ from itertools import permutations
 from pathlib import Path
 
 from front import command, usage
-from front.ordering import order_words, orders, split, states, writes
+from front.ordering import one_group, order_words, orders, split, states, writes
+from front.program import Program
 from front.tests.case import FRONT, PROGRAM, ROOT, Case, asked
 from front.ordering.writes import arranged
 
@@ -289,6 +290,10 @@ exec "{1}" "$@" < "$input"
 class OneGroup(Compared):
     """The orders of one group's writes, with the built program."""
 
+    # A group that writes r8 twice, and a last one.
+    TWICE = "{ .mii\n addl r8=1,r0\n addl r8=2,r0\n nop 0 ;;\n}\n"
+    LAST = "{ .mib\n nop 0\n nop 0\n break.b 0 ;;\n}\n"
+
     def test_a_swap(self):
         self.gives(1, [
             "violations 1: group 2 of the run, 1.0 to 1.2, makes 3 writes, and all 6 orders of them leave one state",
@@ -361,6 +366,25 @@ class OneGroup(Compared):
             "state 1: 1.1, 1.2 (K 0)",
             "not shown: 1 order by which groups before this one leave another state; K 1"]))
 
+    def test_earlier_groups_that_depend_on_the_order(self):
+        """They don't reach slots of this one, and an order by which they leave another state isn't shown all the same."""
+        self.input.write_text(f"{self.TWICE}{{ .mii\n addl r9=1,r0\n addl r10=2,r0\n nop 0 ;;\n}}\n{self.LAST}")
+        lines = self.call(self.input, 2)[1]
+        self.assertTrue(lines[0].endswith(" makes 2 writes, and 1 of the 2 orders of them leaves one state"), lines[0])
+        self.assertEqual(lines[3:6], ["state 1: 1.0, 1.1 (K 0)",
+                                      "not shown: 1 order by which groups before this one leave another state; K 1",
+                                      f"{NEEDNT}: state 1"])
+
+    def test_breaks(self):
+        """A `break` in each of some slots, a long one too, and in no other."""
+        text = "{ .mlx\n addl r8=1,r0\n movl r9=-1\n}\n{ .mii\n addl r8=2,r0\n addl r9=2,r0 ;;\n addl r8=3,r0 ;;\n}\n"
+        of_group = one_group.Asked(Program(lambda: PROGRAM), text.encode(), 1)
+        start = text.replace("addl r8=1,r0", "break.m 0")
+        group = start.replace("movl r9=-1", "break.x 0").replace("addl r8=2,r0", "break.m 0").replace("addl r9=2,r0", "break.i 0")
+        for positions, wanted in (([(0, 0)], start), (of_group.reached(), group)):
+            built = subprocess.run([PROGRAM, "build"], input=wanted.encode(), stdout=subprocess.PIPE, check=True).stdout
+            self.assertEqual(of_group.with_breaks(positions), built)
+
     def test_the_end_of_a_run(self):
         self.gives(3, ["violations 1: group 1 of the run, 0.0 to 0.2, makes 1 write, which has one order",
                        "  0.1  add r8=r9,r10  write 0 r8", "  0.2  add r11=r8,r9  ends the run, fault FellOff",
@@ -413,6 +437,22 @@ class OneGroup(Compared):
         self.assertIn(f"{NEEDNT}: state 1", lines)
         self.assertIn("r9  -       0000000000010020  0000000000010020", lines)
 
+    def test_a_number(self):
+        """One that is no address in program order stays as it is, where slot by slot a bundle has that address."""
+        self.input.write_text(self.TWICE.replace("nop 0", "addl r9=0x10030,r0") + self.LAST)
+        self.assertIn(f"{NEEDNT}: state 1", self.call(self.input, 1)[1])
+        self.gives(3, ["violations 1: 1 order leaves one state, end break 0x0 at 1.2, and so does slot by slot"],
+                   "--orders", "0", "--random", 0, self.input)
+
+    def test_earlier_groups_at_other_addresses(self):
+        """An address that they leave is told as it was. Where they make another number of it, slot by slot isn't shown."""
+        head = "{ .mlx\n nop 0\n movl r9=z ;;\n}\n{ .mib\n EARLIER\n nop 0\n nop 0 ;;\n}\n"
+        for earlier, said in (("adds r10=0,r9", f"{NEEDNT}: state 1"),
+                              ("adds r10=1,r9", "slot by slot isn't shown: with bundles at other addresses the groups before it "
+                                                "leave another state")):
+            self.input.write_text(f"{head.replace('EARLIER', earlier)}{self.TWICE}z:\n{self.LAST}")
+            self.assertIn(said, self.call(self.input, 3)[1])
+
     def test_refusals(self):
         self.input.write_text("no instruction\n")
         self.refuses("input: line 1: name", self.input, 1)
@@ -426,6 +466,10 @@ class Writes(Compared):
     SET_UP = """{ .mlx
   alloc r40=ar.pfs,0,16,0,8
   movl r14=0x100000
+}
+{ .mlx
+  nop.m 0
+  movl r15=0x100000005
 }
 { .mii
   adds r8=5,r0
@@ -443,6 +487,7 @@ class Writes(Compared):
   nop.i 0 ;;
 }
 """
+    ROTATING = "{ .mib\n  ld8.a r33=[r14]\n  nop.i 0\n  br.ctop.sptk.few on ;;\n}\non:\n"
     GROUP = "{ .UNITS\n  adds r31=1,r0\n  FIRST\n  SECOND ;;\n}\n"
     END = "{ .mib\n  nop 0\n  nop 0\n  break.b 0 ;;\n}\nz:\n{ .mib\n  nop 0\n  nop 0\n  break.b 0 ;;\n}\n.data\ndata8 1,2\n"
     SECOND = "adds r31=2,r0"
@@ -450,8 +495,9 @@ class Writes(Compared):
         "mii": ("cmp.eq p8,p9=r8,r9", "cmp.eq p8,p0=r8,r9", "(p7) cmp.lt p8,p9=r8,r9", "(p7) cmp.lt.unc p8,p9=r8,r9",
                 "cmp.eq.or p8,p9=r8,r8", "cmp.ne.or p8,p9=r8,r8", "cmp.eq.and p8,p9=5,r8", "cmp.eq.and p8,p9=6,r8",
                 "cmp.eq.or p8,p9=r20,r20", "cmp.eq.and p8,p9=r20,r20", "cmp4.lt.or.andcm p8,p9=r0,r8",
-                "cmp4.ge.or.andcm p8,p9=r0,r8", "(p7) tbit.z.unc p8,p9=r8,3", "mov b6=r8", "mov.i ar.lc=r8", "mov r9=pr",
-                "mov pr=r8,0x1fe", "mov pr=r8,0x1fffe", "mov pr.rot=0x30000", "(p7) shl r9=r8,r8", "nop.i 3"),
+                "cmp4.ge.or.andcm p8,p9=r0,r8", "cmp4.eq.or p8,p9=r15,r8", "cmp.ne.or p8,p9=r15,r8",
+                "(p7) tbit.z.unc p8,p9=r8,3", "mov b6=r8", "mov.i ar.lc=r8", "mov r9=pr", "mov pr=r8,0x1fe",
+                "mov pr=r8,0x1fffe", "mov pr.rot=0x30000", "(p7) shl r9=r8,r8", "nop.i 3"),
         "mmi": ("ld8 r9=[r14]", "ld8 r9=[r14],8", "ld8.c.clr r21=[r14]", "ld8.c.nc r21=[r14],8", "ld4.c.clr r21=[r14]",
                 "ld8.a r33=[r14],r8", "st8 [r14]=r8", "st8.spill [r14]=r8,8", "(p7) st8 [r14]=r8,8", "xchg8 r9=[r14],r8",
                 "fetchadd8.acq r9=[r14],-4", "mf", "chk.s.m r8,z", "alloc r41=ar.pfs,0,16,0,8"),
@@ -464,9 +510,9 @@ class Writes(Compared):
         done = subprocess.run([PROGRAM, *map(str, words)], input=text, stdout=subprocess.PIPE, check=False)
         return done.stdout
 
-    def told(self, units, first, second, counters=(0, 0)):
+    def told(self, units, first, second, counters=(0, 0), set_up=SET_UP):
         """The program with a group that writes r31 twice, and the writes of that group as they are told."""
-        text = self.SET_UP.replace("LC", str(counters[0])).replace("EC", str(counters[1]))
+        text = set_up.replace("LC", str(counters[0])).replace("EC", str(counters[1]))
         text += self.GROUP.replace("UNITS", units).replace("FIRST", first).replace("SECOND", second)
         text = (text + self.END).encode()
         before, after = (states.State(self.ask(text, "groups", number, 0).decode()) for number in (2, 3))
@@ -477,15 +523,24 @@ class Writes(Compared):
         """Whether the order with this number makes the second write of r31 before the first one."""
         return states.State(self.ask(text, "groups", 3, number).decode()).register(31)[0] == 1
 
-    def test_slots(self):
+    def is_counted(self, text, told):
         """In the order with the number of the second write of r31 that comes first, and in none with a number beside it."""
+        number = [write.target for write in told].index("r31", 1)
+        self.assertEqual([self.last_is_first(text, each) for each in (number - 1, number, number + 1)], [False, True, False])
+
+    def test_slots(self):
         for units, slots in self.SLOTS.items():
             for slot in slots:
                 with self.subTest(slot):
-                    text, told = self.told(units, slot, self.SECOND)
-                    number = [write.target for write in told].index("r31", 1)
-                    self.assertEqual([self.last_is_first(text, each) for each in (number - 1, number, number + 1)],
-                                     [False, True, False])
+                    self.is_counted(*self.told(units, slot, self.SECOND))
+
+    def test_a_rotated_frame(self):
+        """A check load finds the entry of a register by the name that this has behind a rotation."""
+        set_up = self.SET_UP[:self.SET_UP.rindex("{")] + self.ROTATING
+        for target, made in (("r33", ["r31", "r33", "r31"]), ("r34", ["r31", "r31"])):
+            text, told = self.told("mmi", f"ld8.c.clr {target}=[r14]", self.SECOND, (1, 0), set_up)
+            self.assertEqual([write.target for write in told], made)
+            self.is_counted(text, told)
 
     def test_branches(self):
         """Of m writes, of which these two come first, the orders with the numbers 2 to m make the first one first."""
