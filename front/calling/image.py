@@ -154,7 +154,7 @@ class Layout:
         return argument.number if argument.symbol is None else self.address(argument.symbol)
 
     def address(self, name):
-        """The address of a variable, or of a descriptor of a function, which is made where it is wanted."""
+        """The address of a variable, or of the descriptor of a function: that of the linked code, or one that is made here."""
         found = sorted((symbol for symbol in self.linked.symbols if symbol.name == name), key=lambda symbol: symbol.rank)
         if not found:
             raise Fault(f"&{printable(name)}: nothing that was linked has this name")
@@ -164,8 +164,19 @@ class Layout:
         if function % 16 or not STUBS_AT <= function < self.linked.end(True, CODE_AT):
             raise Fault(f"&{printable(name)}: at no bundle of what was linked")
         if function not in self.descriptors:
-            self.descriptors[function] = self.put(struct.pack("<QQ", function, GLOBAL_POINTER))
+            made = struct.pack("<QQ", function, GLOBAL_POINTER)
+            self.descriptors[function] = self.linked_descriptor(made) or self.put(made)
         return self.descriptors[function]
+
+    def linked_descriptor(self, descriptor):
+        """The address of the first descriptor with these bytes among the linked ones, or None. Code that compares the addresses
+        of functions finds the one that is passed equal to its own."""
+        for header in self.linked.sections(False):
+            if header.name == ".opd":
+                for at in range(-(-header.address // 16) * 16, header.address + header.size - 15, 16):
+                    if self.data[at - DATA_AT:at - DATA_AT + 16] == descriptor:
+                        return at
+        return None
 
     def push(self, values):
         """The stack pointer, with values in the slots above the scratch area."""

@@ -554,6 +554,20 @@ class Calls(Case):
         self.assertEqual(printed[1], "argument 1+0x0: 00 -> 05")
         self.assertRegex(printed[2], r"argument 1\+0x8: 0 -> \d+ \(0x[0-9a-f]+\), address of counter$")
 
+    def test_descriptors(self):
+        """The address of a function that is passed is the one that the code has for it, in its instructions and in its data."""
+        load = ("addl r14=@%s,gp ;;\nld8 r14=[r14] ;;\ncmp.eq p6,p7=r14,r32 ;;\n(p6) addl r8=1,r0\n(p7) mov r8=r0 ;;\n"
+                "br.ret.sptk.many b0 ;;\n")
+        self.made(".explicit\n.text\n" + "".join(
+            f".global {name}#\n.type {name}#,@function\n.proc {name}#\n{name}:\n{code}.endp {name}#\n" for name, code in (
+                ("one", RETURN % 1), ("two", RETURN % 2), ("is_one", load % "ltoff(@fptr(one#))"),
+                ("in_table", load % "gprel(table#)")))
+            + ".sdata\n.align 8\ntable: data8 @fptr(two#)\n", "fp.o")
+        for words, answer in ((("is_one", "&one"), 1), (("is_one", "&two"), 0), (("in_table", "&two"), 1), (("in_table", "&one"), 0),
+                              (("is_one", "&is_one"), 0)):
+            status, printed, _ = self.lines("call", "fp.o", *words)
+            self.assertEqual((status, printed[:-1]), (0, [f"ret0 = {answer}", "no data changed"]), words)
+
     def test_arguments_on_the_stack(self):
         self.returns("ret0 = 123 (0x7b)", "tenth", *range(8), 100, 23)
 
