@@ -211,7 +211,7 @@ def cut(program, linked, function, arguments, stack, structure, skip_hints=False
     made.entries = sorted(entries)
     for address, name in linked.missing.items():
         made.put_break((address - CODE_AT) // 16, 0, Stopped(Stop.MISSING, name=name))
-    for index in range((STUBS_AT - CODE_AT) // 16 + len(linked.missing), len(made.bundles)):
+    for index in range((linked.start - CODE_AT) // 16, (linked.stop - CODE_AT) // 16):
         if reached[index]:
             put_breaks(made, index, skip_hints)
         else:
@@ -226,14 +226,20 @@ LEFT_OUT = Bundle(0x01, (break_word(0), NOPS["i"], NOPS["i"]))
 
 
 def all_bundles(linked, first):
-    """The caller's bundles, room for missing names, and the linked code at its place."""
-    code = bytearray((linked.end(True, STUBS_AT + 16 * len(linked.missing)) - CODE_AT + 15) // 16 * LEFT_OUT.packed())
+    """The caller's bundles, room for missing names, and the linked code at its place, with its branches to weak names that
+    are missing led to the bundles of these."""
+    code = bytearray((linked.code_end - CODE_AT) // 16 * LEFT_OUT.packed())
     for at, bundle in enumerate(first):
         code[16 * at:16 * at + 16] = bundle.packed()
     for header in linked.sections(True):
         content = linked.elf.content(header)
         code[header.address - CODE_AT:header.address - CODE_AT + len(content)] = content
-    return split_all(code)
+    bundles = split_all(code)
+    for (address, slot), target in linked.led.items():
+        index = (address - CODE_AT) // 16
+        if slot in dict(branches(bundles[index])):
+            bundles[index] = with_branch(bundles[index], slot, (target - address) // 16)
+    return bundles
 
 
 def walk(bundles, linked, functions):

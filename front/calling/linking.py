@@ -1,7 +1,8 @@
 """Object files, linked by GNU's linker at the addresses of an image.
 
 The linker is asked for the relocations too (`--emit-relocs`): they tell what code is reached by its address. What is missing
-gets an address in the code, one bundle each, at which a run ends.
+gets an address in the code, one bundle each, at which a run ends. What is missing and weak has the address 0, as in a program,
+and such a bundle behind the code, to which its branches are led.
 """
 
 import os
@@ -135,10 +136,17 @@ class Symbol(NamedTuple):
 
 
 class Linked:
-    """The linked file, and the names that nothing defines, by the addresses that they got."""
+    """The linked file, and the names that nothing defines, by the addresses of their bundles; `start` is where the linked code
+    begins, `stop` where the bundles of the missing weak names do, and `code_end` where these end."""
 
     def __init__(self, data, missing):
-        self.data, self.elf, self.missing = data, elf.Elf(data), missing
+        self.data, self.elf, self.start = data, elf.Elf(data), STUBS_AT + 16 * len(missing)
+        self.stop = self.end(True, self.start) + 15 & ~15
+        calls = list(self.weak_branches())
+        weak = {name: self.stop + 16 * number for number, name in enumerate(sorted({name for _, name in calls}))}
+        self.missing = {**missing, **{address: name for name, address in weak.items()}}
+        self.code_end = self.stop + 16 * len(weak)
+        self.led = {place: weak[name] for place, name in calls}           # branches to missing weak names, and to where
         self.symbols = list(symbols_of(self.elf))
         self.rows = {is_code: by_address(symbol for symbol in self.symbols if symbol.is_code is is_code)
                      for is_code in (False, True)}
@@ -164,16 +172,26 @@ class Linked:
         wanted = [symbol for symbol in found if (symbol.rank is Rank.LOCAL) is is_local]
         return (wanted or found)[0].address if found else None
 
-    def references(self):
-        """What relocations name but those of branches: the address where each stands, and the address that it names."""
+    def relocations(self):
+        """The relocations of what is in memory: where each stands, its kind, the symbol, and what is added to that."""
         for header in self.elf.headers:
             if header.kind != elf.RELA or not self.elf.header(header.info, header.name).flags & elf.ALLOCATED:
                 continue
             symbols = self.elf.symbol_table(header.link)
             for offset, info, addend in self.elf.table_rows(header, elf.RELOCATION):
                 number, kind = info >> 32, info & 0xFFFFFFFF
-                if kind and kind not in elf.BRANCHES and number < len(symbols):
-                    yield offset, symbols[number].value + addend
+                if kind and number < len(symbols):
+                    yield offset, kind, symbols[number], addend
+
+    def references(self):
+        """What relocations name but those of branches: the address where each stands, and the address that it names."""
+        return ((at, symbol.value + addend) for at, kind, symbol, addend in self.relocations() if kind not in elf.BRANCHES)
+
+    def weak_branches(self):
+        """The branches to weak names that nothing defines: the address of the bundle, the slot, and the name."""
+        for at, kind, symbol, _ in self.relocations():
+            if kind in elf.BRANCHES and symbol.section == 0 and symbol.rank is Rank.WEAK:
+                yield (at & ~15, at & 15), symbol.name
 
 
 def symbols_of(file):
@@ -270,7 +288,7 @@ def said_by_linker(said, folder, labels):
 
 def fits(file, stack):
     """Whether an image has room for the code and the data that were linked."""
-    code, data = file.end(True, CODE_AT) - CODE_AT, file.end(False, DATA_AT) - DATA_AT
+    code, data = file.code_end - CODE_AT, file.end(False, DATA_AT) - DATA_AT
     if code > CODE_BYTES or any(header.address < CODE_AT for header in file.sections(True)):
         raise Fault(f"{code // 16:,} bundles of code with the caller, and an image has room for {CODE_BYTES // 16:,}")
     if data > DATA_BYTES:

@@ -617,6 +617,25 @@ class Calls(Case):
                      "away", status=3)
         self.assertIn("the place of 'there', which isn't there", self.call("outer")[1][0])
 
+    def test_missing_weak_functions(self):
+        """A call of one ends the run; its address is 0, so that a test for it passes by the call."""
+        call = "{ .mib\nnop.m 0\nnop.i 0\n%s br.call.sptk.many b0=weak# ;;\n}\n"
+        test = "addl r14=@ltoff(@fptr(weak#)),gp ;;\nld8 r14=[r14] ;;\ncmp.ne p6,p7=r0,r14 ;;\n(p7) br.ret.sptk.many b0\n"
+        self.made(".explicit\n.text\n.weak weak#\n.weak other#\n" + "".join(
+            f".global {name}#\n.proc {name}#\n{name}:\n{code}.endp {name}#\n" for name, code in (
+                ("plain", "alloc r34=ar.pfs,1,2,1,0\nmov r35=32 ;;\n" + call % "" + RETURN % 2),
+                ("under", "cmp.eq p6,p7=1,r32 ;;\n" + call % "(p6)" + RETURN % 3), ("tested", test + call % "" + RETURN % 4),
+                ("both", "cmp.eq p6,p7=1,r32 ;;\n(p6) br.call.sptk.many b0=other#\n;;\n" + call % "" + RETURN % 5))), "weak.o")
+        self.assertEqual(self.lines("call", "weak.o", "plain", 5)[:2], (3, [
+            "./made.s:13: stopped at plain+0x10: a call of 'weak', which isn't there", "out0 = 32 (0x20)",
+            "until then no data changed", "groups 5"]))
+        self.assertEqual(self.lines("call", "weak.o", "under", 5)[1][0], "ret0 = 3")
+        self.assertEqual(self.lines("call", "weak.o", "tested", 5)[0], 0)
+        for argument, name in ((0, "weak"), (1, "other")):
+            self.assertIn(f"a call of '{name}', which isn't there", self.lines("call", "weak.o", "both", argument)[1][0])
+        self.made(f".text\n.global weak#\n.proc weak#\nweak:\n{RETURN % 6}.endp weak#\n", "there.o")
+        self.assertNotIn("isn't there", self.lines("call", "weak.o", "plain", "--with", "there.o")[1][0])
+
     def test_more_files(self):
         self.made(f"{PRINTF}.global there#\n.data\nthere: data4 77\n.global elsewhere#\n.text\n.proc elsewhere#\nelsewhere:\n"
                   f"{RETURN % 5}.endp elsewhere#\n", "more.o")
