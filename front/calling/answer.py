@@ -320,14 +320,14 @@ class Lines:
 
     def change(self, change, answer):
         """The line of a change: of a number, of an address, or of bytes."""
-        name = f"{change.name}+{change.offset:#x}" + ", past its end" * change.is_past
+        name = f"{change.name}{change.offset:+#x}" + ", past its end" * change.is_past
         size = self.size_of(change)
         if size is not None:
             return f"{change.name}: {self.numbers(change.start - change.offset, size, answer)[0]}"
         word = change.start & ~7
         said, is_address = self.numbers(word, 8, answer)
         if is_address and word + 8 >= change.start + len(change.after):
-            return f"{change.name}+{change.offset - change.start + word:#x}{', past its end' * change.is_past}: {said}"
+            return f"{change.name}{change.offset - change.start + word:+#x}{', past its end' * change.is_past}: {said}"
         most = len(change.after) if self.every else MOST_BYTES
         old, new = (content[:most].hex() + ".." * (len(content) > most) for content in (change.before, change.after))
         shown = change.after.rstrip(b"\0")

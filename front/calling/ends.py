@@ -9,7 +9,7 @@ from typing import NamedTuple, Optional
 from front import gnu
 from front.bundle import branches, with_branch
 from front.calling.arguments import IN_REGISTERS
-from front.calling.image import GAP
+from front.calling.image import FRONT, GAP
 from front.calling.linking import CODE_AT, DATA_AT, GLOBAL_POINTER
 from front.faults import ProgramFault
 from front.ordering.states import lines_of
@@ -100,10 +100,13 @@ class Names:
         return re.sub(r"\+0x0$", "", self.code(bundle))
 
     def data(self, address):
-        """What a byte of the data is of, where that begins and ends, and the number of the block where it is one."""
+        """What a byte of the data is of, where that begins and ends, and the number of the block where it is one. What is in
+        front of a block ends where that begins, and is counted from there."""
         for block in self.made.blocks:
+            name = f"argument {block.number}" if block.number else "structure"
+            if block.start - FRONT <= address < block.start:
+                return f"before {name}", block.start, block.start, None
             if block.start <= address < block.start + block.size + GAP:
-                name = f"argument {block.number}" if block.number else "structure"
                 return name, block.start, block.start + block.size, block.number
         if self.made.stack[0] <= address < self.made.stack[1]:
             return "the stack", *self.made.stack, None
@@ -111,7 +114,7 @@ class Names:
         header = self.data_sections[at] if at >= 0 else None
         symbol = self.linked.symbol_at(address, False)
         if header is None or address >= header.address + header.size:
-            starts = [block.start for block in self.made.blocks if block.start > address]
+            starts = [block.start - FRONT for block in self.made.blocks if block.start > address]
             return "data", DATA_AT, min(starts, default=DATA_AT + len(self.made.data)), None
         end = header.address + header.size
         if symbol is None or symbol.address < header.address or symbol.size and address >= symbol.address + symbol.size:
@@ -131,7 +134,7 @@ class Names:
         if DATA_AT <= value < DATA_AT + len(self.made.data):
             name, start, _, _ = self.data(value)
             function = self.described(value)
-            return f"{function}, by its descriptor" if function else name if value == start else f"{name}+{value - start:#x}"
+            return f"{function}, by its descriptor" if function else name if value == start else f"{name}{value - start:+#x}"
         if value % 16 == 0 and 0 < value - CODE_AT < 16 * len(self.made.bundles):
             name = self.code((value - CODE_AT) // 16)
             return name[:-4] if name.endswith("+0x0") else None

@@ -27,8 +27,8 @@ from front.functions import MOST_ENTRIES
 from front.program import refusal_of
 from front.stand_ins import Kind, rows_of
 
-# Bytes at the top of the stack that a called function may use, and between what arguments point to.
-SCRATCH, GAP = 16, 16
+# Bytes at the top of the stack that a called function may use, and behind and in front of what each argument points to.
+SCRATCH, GAP, FRONT = 16, 16, 64
 # How many slots that no table knows the program is asked about, one after the other.
 MOST_UNKNOWN = 1000
 
@@ -142,7 +142,8 @@ class Layout:
         return DATA_AT + len(self.data) - len(content)
 
     def block(self, number, content):
-        """The address of what an argument points to, with zeros behind it."""
+        """The address of what an argument points to, with zeros in front of it and behind it."""
+        self.data += bytes(-len(self.data) % 16 + FRONT)
         self.blocks.append(Block(number, self.put(content), len(content)))
         self.data += bytes(GAP)
         return self.blocks[-1].start

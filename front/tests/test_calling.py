@@ -579,6 +579,20 @@ class Calls(Case):
         Path("bytes").write_bytes(b"\1\2\3")
         self.assertIn("argument 1+0x0: 010203 -> 050000", self.call("fill", "file:bytes", 5)[1])
 
+    def test_in_front(self):
+        """What is changed in front of an argument, or of a structure, is said of that, behind another argument and the stack."""
+        self.made(".explicit\n.text\n.global f#\n.proc f#\nf:\nadds r14=-8,r32\nadds r15=-16,r33\nadds r8=-64,r8 ;;\n"
+                  "st8 [r14]=r34\nst8 [r15]=r32\nst1 [r8]=r34 ;;\nbr.ret.sptk.many b0 ;;\n.endp f#\n", "front.o")
+        status, printed, _ = self.lines("call", "front.o", "f", "hex:01", "@3", 5, "--struct", 33)
+        self.assertEqual((status, len(printed)), (0, 5))
+        self.assertRegex(printed[0], r"ret0 = \d+ \(0x[0-9a-f]+\), address of before structure-0x40$")
+        self.assertEqual(printed[1], "before argument 1-0x8: 00 -> 05")
+        self.assertRegex(printed[2], r"before argument 2-0x10: 0 -> \d+ \(0x[0-9a-f]+\), address of argument 1$")
+        self.assertEqual(printed[3], "before structure-0x40: 00 -> 05")
+        rows = json.loads(self.ia64("call", "front.o", "f", "hex:01", "@3", 5, "--struct", 33, "--format", "json")[1])["changes"]
+        self.assertEqual([(row["name"], row["argument"], row["offset"], row["past"]) for row in rows], [
+            ("before argument 1", None, -8, False), ("before argument 2", None, -16, False), ("before structure", None, -64, False)])
+
     def test_neighbours(self):
         """What is changed of variables side by side, and between them, is said of each; there is no other data than these."""
         store = "{ .mmi\naddl r14=@gprel(%s#),gp ;;\nst%d [r14]=r32\nnop.i 0 ;;\n}\n"
