@@ -210,6 +210,12 @@ def text_at(data, at, most=MOST_CHARACTERS):
     return said_text(data[at:end], most)
 
 
+def is_all(text, was, before, after):
+    """Whether nothing is different but the text: up to the longer one's end zeros stand behind the shorter, and then the same."""
+    end = max(len(text), len(was))
+    return not any(before[len(was):end]) and not any(after[len(text):end]) and before[end:] == after[end:]
+
+
 def is_text(content):
     return all(32 <= byte < 127 or byte in b"\n\t\r" for byte in content)
 
@@ -302,7 +308,7 @@ class Lines:
         least = 1 if argument and argument.is_text else 2
         if not text or was is None or len(text) < least or not is_text(text) or not is_text(was):
             return None
-        if after[len(text):] not in (before[len(text):], bytes(block.size - len(text))):
+        if not is_all(text, was, before, after):
             return None
         name = f"argument {number}" if number else "structure"
         most = block.size if self.every else MOST_CHARACTERS

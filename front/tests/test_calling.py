@@ -579,6 +579,21 @@ class Calls(Case):
         Path("bytes").write_bytes(b"\1\2\3")
         self.assertIn("argument 1+0x0: 010203 -> 050000", self.call("fill", "file:bytes", 5)[1])
 
+    def test_text_and_more(self):
+        """The line of a text stands where it tells all that is different, and else one of bytes."""
+        self.made(".explicit\n.text\n.global f#\n.proc f#\nf:\nadds r14=4,r32 ;;\nst4 [r32]=r33\nst4 [r14]=r34 ;;\n"
+                  "br.ret.sptk.many b0 ;;\n.endp f#\n", "two.o")
+        for before, words, line in (
+                ("6161000063646566", (0x6362, 0), "+0x0: 6161000063646566 -> 6263000000000000"),
+                ("6161000000000000", (0x6362, 0), ': "bc", was "aa"'),
+                ("6161000063646566", (0x6362, 0x66656463), ': "bc", was "aa"'),
+                ("6161000000000000", (0x6362, 0x66656463), "+0x0: 6161000000000000 -> 6263000063646566"),
+                ("6161007a00000000", (0x65646362, 0), "+0x0: 6161007a -> 62636465"),
+                ("6161616161000000", (0x6362, 0), ': "bc", was "aaaaa"'),
+                ("6161616161006161", (0x6362, 0x61610000), ': "bc", was "aaaaa"')):
+            printed = self.lines("call", "two.o", "f", f"hex:{before}", *words)[1]
+            self.assertEqual(printed[1], f"argument 1{line}", before)
+
     def test_in_front(self):
         """What is changed in front of an argument, or of a structure, is said of that, behind another argument and the stack."""
         self.made(".explicit\n.text\n.global f#\n.proc f#\nf:\nadds r14=-8,r32\nadds r15=-16,r33\nadds r8=-64,r8 ;;\n"
