@@ -288,7 +288,8 @@ class Lines:
         for change in answer.changes:
             row = None if change.is_past or change.block is None else self.block(change.block, answer)
             if row is None:
-                yield from (self.change(piece, answer) for piece in self.pieces(change, answer))
+                more = ", in data that are only read" * change.is_kept
+                yield from (self.change(piece, answer) + more for piece in self.pieces(change, answer))
             elif change.block not in whole:
                 yield row
                 whole.add(change.block)
@@ -387,6 +388,7 @@ def document(answer, names, label, function):
         "place": answer.place or None, "source": answer.source and str(answer.source), "said": answer.said,
         "results": list(map(value, answer.results)), "outputs": list(map(value, answer.outputs)),
         "changes": [{"name": change.name, "argument": change.block, "offset": change.offset, "past": change.is_past,
-                     "before": change.before.hex(), "after": change.after.hex()} for change in answer.changes],
+                     "read_only": change.is_kept, "before": change.before.hex(), "after": change.after.hex()}
+                    for change in answer.changes],
         "violation_count": answer.total,
         "violations": [{**row, "source": row["source"] and str(row["source"])} for row in answer.violations]}, indent=1)

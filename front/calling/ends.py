@@ -6,7 +6,7 @@ from bisect import bisect_right
 from enum import Enum
 from typing import NamedTuple, Optional
 
-from front import gnu
+from front import elf, gnu
 from front.bundle import branches, with_branch
 from front.calling.arguments import IN_REGISTERS
 from front.calling.image import FRONT, GAP
@@ -73,6 +73,7 @@ class Change(NamedTuple):
     after: bytes
     block: Optional[int]
     is_past: bool                      # whether they are behind the end of what they are of
+    is_kept: bool = False              # whether they are in a section that a program may only read
 
 
 # ---- Names -----------------------------------------------------------------------------------------------
@@ -110,16 +111,25 @@ class Names:
                 return name, block.start, block.start + block.size, block.number
         if self.made.stack[0] <= address < self.made.stack[1]:
             return "the stack", *self.made.stack, None
-        at = bisect_right(self.data_starts, address) - 1
-        header = self.data_sections[at] if at >= 0 else None
-        symbol = self.linked.symbol_at(address, False)
-        if header is None or address >= header.address + header.size:
+        header, symbol = self.section(address), self.linked.symbol_at(address, False)
+        if header is None:
             starts = [block.start - FRONT for block in self.made.blocks if block.start > address]
             return "data", DATA_AT, min(starts, default=DATA_AT + len(self.made.data)), None
         end = header.address + header.size
         if symbol is None or symbol.address < header.address or symbol.size and address >= symbol.address + symbol.size:
             return header.name, header.address, self.next_symbol(address, end), None
         return symbol.name, symbol.address, symbol.address + symbol.size if symbol.size else self.next_symbol(address, end), None
+
+    def section(self, address):
+        """The section of data that an address is in, or None."""
+        at = bisect_right(self.data_starts, address) - 1
+        header = self.data_sections[at] if at >= 0 else None
+        return header if header and address < header.address + header.size else None
+
+    def is_kept(self, address):
+        """Whether an address is in a section that a program may only read."""
+        header = self.section(address)
+        return header is not None and not header.flags & elf.WRITABLE
 
     def next_symbol(self, address, end):
         """Where the next symbol of data stands behind an address, but before an end."""
@@ -161,7 +171,8 @@ def changes(made, after, names):
             name, first, last, block = names.data(DATA_AT + at)
             is_past = DATA_AT + at >= last
             stop = min(end, end if is_past else last - DATA_AT)
-            row = trimmed(Change(name, DATA_AT + at - first, at, made.data[at:stop], after[at:stop], block, is_past))
+            row = trimmed(Change(name, DATA_AT + at - first, at, made.data[at:stop], after[at:stop], block, is_past,
+                                 names.is_kept(DATA_AT + at)))
             found += [row] * bool(row.before)
             at = stop
     return found

@@ -41,7 +41,8 @@ SECTIONS {{
   .data : {{ *(.data .data.* .gnu.linkonce.d.*) }}
   .got : {{ *(.got.plt) *(.got) }}
   .opd : {{ *(.opd) }}
-  .sdata : {{ *(.srodata .srodata.* .sdata .sdata.* .gnu.linkonce.s.*) }}
+  .srodata : {{ *(.srodata .srodata.* .sdata2 .sdata2.* .gnu.linkonce.s2.*) }}
+  .sdata : {{ *(.sdata .sdata.* .gnu.linkonce.s.*) }}
   .sbss : {{ *(.sbss .sbss.* .gnu.linkonce.sb.*) *(.scommon) }}
   .bss : {{ *(.dynbss) *(.bss .bss.* .gnu.linkonce.b.*) *(COMMON) }}
   /DISCARD/ : {{ *(.IA_64.unwind* .gnu.linkonce.ia64unw* .eh_frame .gcc_except_table* .note* .comment) }}

@@ -588,11 +588,26 @@ class Calls(Case):
                 ("6161000000000000", (0x6362, 0), ': "bc", was "aa"'),
                 ("6161000063646566", (0x6362, 0x66656463), ': "bc", was "aa"'),
                 ("6161000000000000", (0x6362, 0x66656463), "+0x0: 6161000000000000 -> 6263000063646566"),
-                ("6161007a00000000", (0x65646362, 0), "+0x0: 6161007a -> 62636465"),
+                ("6161007a00000000", (0x65646362, 0), '+0x0: 6161007a -> 62636465 "bcde"'),
                 ("6161616161000000", (0x6362, 0), ': "bc", was "aaaaa"'),
                 ("6161616161006161", (0x6362, 0x61610000), ': "bc", was "aaaaa"')):
             printed = self.lines("call", "two.o", "f", f"hex:{before}", *words)[1]
             self.assertEqual(printed[1], f"argument 1{line}", before)
+
+    def test_data_that_are_only_read(self):
+        """A change of them, at which a machine has a fault, is marked."""
+        store = "addl r14=@gprel(%s#),gp ;;\nst%d [r14]=r32 ;;\n"
+        names = (("letters", 1, ".rodata"), ("number", 8, ".rodata"), ("small", 8, '.srodata,"as"'), ("free", 8, ".sdata"))
+        self.made(".explicit\n.text\n.global f#\n.proc f#\nf:\n" + "".join(store % row[:2] for row in names)
+                  + "mov r8=r0\nbr.ret.sptk.many b0 ;;\n.endp f#\n" + "".join(
+                      f".section {home}\n.align 8\n.type {name}#,@object\n.size {name}#,{7 + size % 8}\n{name}: data8 104\n"
+                      for name, size, home in names), "kept.o")
+        marked = ", in data that are only read"
+        self.assertEqual(self.lines("call", "kept.o", "f", 74)[1][:-1], [
+            "ret0 = 0", f"letters: 104 (0x68) -> 74 (0x4a){marked}", f"number+0x0: 68 -> 4a{marked}", f"small+0x0: 68 -> 4a{marked}",
+            "free+0x0: 68 -> 4a"])
+        rows = json.loads(self.ia64("call", "kept.o", "f", 74, "--format", "json")[1])["changes"]
+        self.assertEqual([row["read_only"] for row in rows], [True, True, True, False])
 
     def test_in_front(self):
         """What is changed in front of an argument, or of a structure, is said of that, behind another argument and the stack."""
@@ -722,8 +737,8 @@ class Calls(Case):
         status, printed, error = self.ia64("call", "x.o", "pick", 3, "--format", "json")
         document = json.loads(printed)
         self.assertEqual((status, error, document["end"], document["status"]), (0, "", "returned", 0))
-        self.assertEqual(document["changes"], [{"name": "counter", "argument": None, "offset": 0, "past": False, "before": "07",
-                                                "after": "03"}])
+        self.assertEqual(document["changes"], [{"name": "counter", "argument": None, "offset": 0, "past": False,
+                                                "read_only": False, "before": "07", "after": "03"}])
         self.assertEqual(document["results"][0]["address"], "counter")
         document = json.loads(self.ia64("call", "x.o", "wrong", "--format", "json")[1])
         self.assertEqual((document["end"], document["violation_count"]), ("violated", 2))
