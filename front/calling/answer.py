@@ -6,6 +6,7 @@ from typing import Dict, List, Optional, Tuple
 
 from front import gnu, usage
 from front.bundle import branches
+from front.calling import origins
 from front.calling.ends import Change, End, State, changes, slot_text, trimmed
 from front.calling.hints import is_hint
 from front.calling.image import IN_RESULTS, Stop
@@ -23,7 +24,7 @@ STATUSES = {End.RETURNED: 0, End.VIOLATED: 1, End.OUTSIDE: 3, End.MISSING: 3, En
 # How many lines of changes, and bytes, numbers and characters of one, are printed unless all are wanted.
 MOST_LINES, MOST_BYTES, MOST_NUMBERS, MOST_CHARACTERS = 40, 16, 16, 60
 
-# An address below this one is a null pointer, perhaps of a structure.
+# An address below this one is a null pointer, perhaps with an offset.
 NULL_PAGE = 4096
 
 # What the numbers of breaks mean by the conventions of compilers and systems.
@@ -130,13 +131,21 @@ class Teller:
         where = self.names.said_address(value)
         if value in self.linked.missing:
             where = f"the place of {said_name(self.linked.missing[value])}, which isn't there"
+        elif where is None and state.fault == "BadAddress" and self.is_of_thread(name, state.position):
+            where = "thread-local data, which aren't there"
         elif where is None and value < NULL_PAGE and state.fault == "BadAddress":
-            where = "a null pointer"
+            where = "perhaps a null pointer with an offset" if value else "a null pointer"
         elif where is None and 0 <= value - CODE_AT < CODE_BYTES:
             where = f"in the code, {self.names.code((value - CODE_AT) // 16)}"
         elif where is None and CODE_AT + CODE_BYTES <= value < DATA_AT:
             where = "below the stack, which may be too small (--stack)"
         return f", and {name} is {value:#x}" + (f", {where}" if where else "")
+
+    def is_of_thread(self, name, position):
+        """Whether the address in a register that a slot uses was made of the thread pointer."""
+        symbol = self.linked.symbol_at(CODE_AT + 16 * position[0], True)
+        first = (symbol.address - CODE_AT) // 16 if symbol else position[0]
+        return origins.is_of_thread(self.made.bundles, first, position, int(name[1:]))
 
     # ---- Violations
 

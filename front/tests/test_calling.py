@@ -710,6 +710,29 @@ class Calls(Case):
         self.assertIn("fault BadLanding: 'br.cond.sptk.few b6', and b6 is 0x10200, in the code",
                       self.call("jump", "0x10200")[1][0])
 
+    def test_small_addresses(self):
+        """An address that was made of the thread pointer is told from a null pointer."""
+        load, thread = "ld4 r8=[r14] ;;\n", "mov r2=r13 ;;\n"
+        end = "br.ret.sptk.many b0 ;;\n"
+        cases = {
+            "local": (thread + "addl r14=@tprel(var#),r2 ;;\n" + load + end, "r14 is 0x10, thread-local data, which aren't there"),
+            "more": (thread + "addl r14=@tprel(var#),r2 ;;\nshladd r15=r32,2,r14 ;;\nst4 [r15]=r14 ;;\n" + end,
+                     "r15 is 0x20, thread-local data, which aren't there"),
+            "right": ("ld4 r8=[r13]\n" + end, "r13 is 0x0, thread-local data, which aren't there"),
+            "far": (thread + "adds r14=-8,r2 ;;\ncmp.eq p14,p0=r0,r8\nst4 [sp]=r0,14 ;;\n" + load + end,
+                    "r14 is 0xfffffffffffffff8, thread-local data, which aren't there"),
+            "loaded": (thread + "addl r14=@gprel(null#),gp ;;\nadd r14=r14,r2 ;;\nld8 r14=[r14] ;;\n" + load + end,
+                       "r14 is 0x0, a null pointer"),
+            "added": ("adds r14=16,r32 ;;\n" + load + end, "r14 is 0x14, perhaps a null pointer with an offset"),
+            "other": ("cmp.eq p6,p7=4,r32 ;;\n(p6) br.cond.dptk .on\n;;\nadds r14=8,r13 ;;\nbr.cond.sptk .out ;;\n.on:\n" + load
+                      + ".out:\n" + end, "r14 is 0x0, a null pointer")}
+        self.made(".explicit\n.text\n" + "".join(f".global {name}#\n.proc {name}#\n{name}:\n{code}.endp {name}#\n"
+                                                for name, (code, _) in cases.items())
+                  + '.section .tdata,"awT"\n.align 4\nvar: data4 5\n.sdata\n.align 8\nnull: data8 0\n', "small.o")
+        for name, (_, said) in cases.items():
+            status, printed, _ = self.lines("call", "small.o", name, 4)
+            self.assertEqual((status, printed[0].split(" and ")[-1]), (9, said), name)
+
     def test_violations(self):
         line = self.line("adds r8=1,r8")
         place = f"./x.s:{line}: error: wrong+0x0"
