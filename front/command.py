@@ -63,7 +63,7 @@ def check_options(parser):
 
 def listing_options(parser):
     parser.add_argument("file", metavar="FILE", help="as of check, no archive")
-    parser.add_argument("functions", nargs="*", metavar="FUNCTION", help="these functions of it alone")
+    parser.add_argument("functions", nargs="*", default=[], metavar="FUNCTION", help="these functions of it alone")
     add_code_options(parser)
     parser.set_defaults(run=show)
 
@@ -82,7 +82,7 @@ def loosen_options(parser):
 
 def draw_options(parser):
     parser.add_argument("file", metavar="FILE", help="as of check, no archive")
-    parser.add_argument("functions", nargs="*", metavar="FUNCTION",
+    parser.add_argument("functions", nargs="*", default=[], metavar="FUNCTION",
                         help=f"these functions of it; without one all, of a file that has {MOST_FIGURES} at most")
     parser.add_argument("-o", "--output", metavar="PATH", type=picture_path,
                         help="where the picture goes: x.svg, or x.html, a page; by default an SVG on standard output")

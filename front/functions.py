@@ -195,8 +195,8 @@ def why_not(function, section, count):
 
 # ---- Names -----------------------------------------------------------------------------------------------
 
-# So many names are told of those that are near one, and where none is, of all.
-MOST_NEAR, MOST_NAMES = 3, 10
+# So many names are told of those that are near one; where none is, of all; and where none is wanted.
+MOST_NEAR, MOST_NAMES, MOST_LISTED = 3, 10, 100
 
 
 def chosen(functions, names):
@@ -207,10 +207,11 @@ def chosen(functions, names):
 
 
 def no_function(wanted, names):
-    """What is said where none of the functions with these names has the one that is wanted."""
+    """What is said where none of the functions with these names has the one that is wanted, or none is wanted."""
     from difflib import get_close_matches
-    near = get_close_matches(wanted, names, MOST_NEAR, 0.6)
-    shown = near or sorted(names)[:MOST_NAMES]
-    more = ", .." if not near and len(names) > MOST_NAMES else ""
+    most = MOST_NAMES if wanted else MOST_LISTED
+    near = get_close_matches(wanted or "", names, MOST_NEAR, 0.6)
+    shown = near or sorted(names)[:most]
+    more = ", .." if not near and len(names) > most else ""
     has = f"it has {', '.join(map(printable, shown))}{more}" if shown else "it has none"
-    return f"no function {printable(wanted)}; {has}"
+    return f"no function {printable(wanted)}; {has}" if wanted is not None else f"no FUNCTION is given; {has}"

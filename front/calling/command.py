@@ -28,8 +28,9 @@ def add_options(parser, number):
     parser.epilog = FORMS
     parser.add_argument("file", metavar="FILE",
                         help="an ELF object file of 64 bits, an archive of them, or a source for the GNU assembler")
-    parser.add_argument("function", metavar="FUNCTION", help="a function of it, a static one too")
-    parser.add_argument("arguments", nargs="*", metavar="ARG", help="what is passed, by the forms below")
+    parser.add_argument("function", nargs="?", metavar="FUNCTION",
+                        help="a function of it, a static one too; where none is given, it is said which there are")
+    parser.add_argument("arguments", nargs="*", default=[], metavar="[ARG..]", help="what is passed, by the forms below")
     parser.add_argument("--with", action="append", default=[], dest="more", metavar="FILE",
                         help="one more file of the kinds of FILE, with what the function needs; may stand several times")
     parser.add_argument("-n", type=number(1, usage.GROUP_LIMIT), default=GROUPS, dest="limit", metavar="N",

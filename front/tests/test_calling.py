@@ -797,6 +797,20 @@ class Calls(Case):
             Path("other.o").write_bytes(file.data())
             self.refuses(said, "other.o", "f")
 
+    def test_which_functions(self):
+        """Where no function is given, it is said which there are; an argument isn't missing."""
+        names = "add, apply, away, big, deep, fill, fill_both, jump, log_it, mul, outer, pair, pick, spin, tenth, upper, wrong, zero"
+        self.refuses(f"ia64: x.o: no FUNCTION is given; it has {names}\n", "x.o")
+        subprocess.run(["ia64-linux-gnu-ar", "rcs", "x.a", "x.o"], check=True)
+        self.refuses(f"ia64: x.a: no FUNCTION is given; it has {names}\n", "x.a", "-n", 3)
+        Path("many.s").write_text("\n".join(f"f{number:03}: nop.m 0" for number in range(101)))
+        self.refuses("f099, ..\n", "many.s")
+        Path("none.s").write_text(".data\ndata8 0\n")
+        self.refuses("no FUNCTION is given; it has none", "none.s")
+        self.refuses("ia64 call: error: the following arguments are required: FILE\n")
+        self.assertRegex(self.ia64("call", "--help")[1].decode(), r"FILE FUNCTION \[ARG\.\.\]\n(.*\n)*  \[ARG\.\.\]  ")
+        self.assertIn("are required: FILE\n", self.ia64("draw")[2])
+
     def test_a_long_run(self):
         nops = "{ .mii\nnop.m 0\nnop.i 0\nnop.i 0\n}\n" * 70
         self.made(f".explicit\n.text\n.proc f#\nf:\n{nops}{RETURN % 5}.endp f#\n", "long.o")
