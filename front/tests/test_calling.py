@@ -570,6 +570,9 @@ class Calls(Case):
 
     def test_arguments_on_the_stack(self):
         self.returns("ret0 = 123 (0x7b)", "tenth", *range(8), 100, 23)
+        # Under the arguments the stack has sixteen bytes at least.
+        self.returns("ret0 = 17 (0x11)", "tenth", *range(12), "--stack", 64)
+        self.refuses("a stack of 64 bytes has no room for the arguments", "x.o", "tenth", *range(13), "--stack", 64)
 
     def test_buffers(self):
         self.answers(["ret0 = 0", "argument 1: data8:5,0,5, was data8:0,0,0"], "fill", "data8:0,0,0", 5)
@@ -647,6 +650,12 @@ class Calls(Case):
         line = self.line("(p6) setf.sig f6")
         self.answers([f"./x.s:{line}: stopped at mul+0x10: '(p6) setf.sig f6=r32' is outside the profile"], "mul", 6, 7, status=3)
 
+        # Nothing is said then of what was changed before.
+        self.made(".explicit\n.text\n.global f#\n.proc f#\nf:\nst8 [r32]=r33 ;;\nsetf.sig f6=r33 ;;\n.endp f#\n", "stored.o")
+        status, printed, _ = self.lines("call", "stored.o", "f", "@8", 5)
+        self.assertEqual((status, len(printed), printed[1]), (3, 2, "groups 4"))
+        self.assertEqual(json.loads(self.ia64("call", "stored.o", "f", "@8", 5, "--format", "json")[1])["changes"], [])
+
     def line(self, text):
         return next(number for number, line in enumerate(SOURCE.splitlines(), 1) if text in line)
 
@@ -688,6 +697,13 @@ class Calls(Case):
         subprocess.run(["ia64-linux-gnu-ar", "rcs", "more.a", "more.o"], check=True)
         self.returns("ret0 = 5", "away", "--with", "more.a")
         self.returns("ret0 = 8", "add", 3, 5, "--with", "more.o", "--with", "more.a")
+
+    def test_one_name_twice(self):
+        """The function is the one of FILE, where another file has one of its name that is local, or where its own is."""
+        for name, number, head in (("local.o", 1, ""), ("global.o", 2, ".global f#\n")):
+            self.made(f".text\n{head}.type f#,@function\n.proc f#\nf:\n{RETURN % number}.endp f#\n", name)
+        for first, second, number in (("local.o", "global.o", 1), ("global.o", "local.o", 2)):
+            self.assertEqual(self.lines("call", first, "f", "--with", second)[1][0], f"ret0 = {number}")
 
     def test_archives(self):
         self.made(PRINTF, "p.o")
