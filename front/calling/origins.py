@@ -4,27 +4,40 @@ numbers, back to where the function begins or a branch always leaves. Of an addr
 from front.flow import turns_of
 
 THREAD_POINTER = 13
+# The registers that a called function leaves as they are: r4 to r7, r12 and r13, and those of the frame.
+KEPT = {4, 5, 6, 7, 12, THREAD_POINTER, *range(32, 128)}
 # The major opcodes of `addl`, of the other sums, and of loads and stores, and those of compares.
 ADDL, SUMS, MEMORY, COMPARES = 9, 8, (4, 5), (12, 13, 14)
 
 
 def is_of_thread(bundles, first, position, register):
     """Whether the register that a slot uses is the thread pointer or a sum with it, in a function that begins at a bundle."""
-    wanted, (index, slot) = {register}, position
-    for at in range(index, first - 1, -1):
-        if at < index and any(not turn.falls and not turn.calls for turn in turns_of(at, bundles[at])):
+    index, slot = position
+    wanted = in_front({register}, bundles[index], slot)
+    for at in range(index - 1, first - 1, -1):
+        turns = turns_of(at, bundles[at])
+        if any(not turn.falls and not turn.calls for turn in turns):
             break
-        for unit, word in reversed(list(zip(bundles[at].units, bundles[at].words))[:slot if at == index else None]):
-            target = word >> 6 & 127
-            if THREAD_POINTER not in wanted and unit in ("m", "i") and target in wanted and is_write(word):
-                wanted = wanted - {target} | summands(word)
+        if any(turn.calls for turn in turns):
+            wanted &= KEPT
+        wanted = in_front(wanted, bundles[at], 3)
     return THREAD_POINTER in wanted
 
 
-def is_write(word):
-    """Whether an instruction may write a register that stands where most have it: no compare and no store."""
+def in_front(wanted, bundle, slot):
+    """Of what registers, in front of a bundle, those are made that are wanted at a slot of it: the thread pointer stays one."""
+    for unit, word in reversed(list(zip(bundle.units, bundle.words))[:slot]):
+        target = word >> 6 & 127
+        if THREAD_POINTER not in wanted and target in wanted and is_write(unit, word):
+            wanted = wanted - {target} | summands(word)
+    return wanted
+
+
+def is_write(unit, word):
+    """Whether an instruction may write a register that stands where most have it: no branch, no compare and no store."""
     opcode = word >> 37
-    return opcode not in COMPARES and not (opcode in MEMORY and word >> 30 & 63 >= 0x30)
+    is_store = unit == "m" and opcode in MEMORY and word >> 30 & 63 >= 0x30
+    return unit in ("m", "i", "x") and opcode not in COMPARES and not is_store
 
 
 def summands(word):

@@ -563,10 +563,10 @@ class Calls(Case):
                 ("one", RETURN % 1), ("two", RETURN % 2), ("is_one", load % "ltoff(@fptr(one#))"),
                 ("in_table", load % "gprel(table#)")))
             + ".sdata\n.align 8\ntable: data8 @fptr(two#)\n", "fp.o")
-        for words, answer in ((("is_one", "&one"), 1), (("is_one", "&two"), 0), (("in_table", "&two"), 1), (("in_table", "&one"), 0),
-                              (("is_one", "&is_one"), 0)):
-            status, printed, _ = self.lines("call", "fp.o", *words)
-            self.assertEqual((status, printed[:-1]), (0, [f"ret0 = {answer}", "no data changed"]), words)
+        for function, taken, answer in (("is_one", "&one", 1), ("is_one", "&two", 0), ("in_table", "&two", 1),
+                                        ("in_table", "&one", 0), ("is_one", "&is_one", 0)):
+            status, printed, _ = self.lines("call", "fp.o", function, taken)
+            self.assertEqual((status, printed[:-1]), (0, [f"ret0 = {answer}", "no data changed"]), (function, taken))
 
     def test_arguments_on_the_stack(self):
         self.returns("ret0 = 123 (0x7b)", "tenth", *range(8), 100, 23)
@@ -607,8 +607,8 @@ class Calls(Case):
                       for name, size, home in names), "kept.o")
         marked = ", in data that are only read"
         self.assertEqual(self.lines("call", "kept.o", "f", 74)[1][:-1], [
-            "ret0 = 0", f"letters: 104 (0x68) -> 74 (0x4a){marked}", f"number+0x0: 68 -> 4a{marked}", f"small+0x0: 68 -> 4a{marked}",
-            "free+0x0: 68 -> 4a"])
+            "ret0 = 0", f"letters: 104 (0x68) -> 74 (0x4a){marked}", f"number+0x0: 68 -> 4a{marked}",
+            f"small+0x0: 68 -> 4a{marked}", "free+0x0: 68 -> 4a"])
         rows = json.loads(self.ia64("call", "kept.o", "f", 74, "--format", "json")[1])["changes"]
         self.assertEqual([row["read_only"] for row in rows], [True, True, True, False])
 
@@ -624,7 +624,8 @@ class Calls(Case):
         self.assertEqual(printed[3], "before structure-0x40: 00 -> 05")
         rows = json.loads(self.ia64("call", "front.o", "f", "hex:01", "@3", 5, "--struct", 33, "--format", "json")[1])["changes"]
         self.assertEqual([(row["name"], row["argument"], row["offset"], row["past"]) for row in rows], [
-            ("before argument 1", None, -8, False), ("before argument 2", None, -16, False), ("before structure", None, -64, False)])
+            ("before argument 1", None, -8, False), ("before argument 2", None, -16, False),
+            ("before structure", None, -64, False)])
 
     def test_neighbours(self):
         """What is changed of variables side by side, and between them, is said of each; there is no other data than these."""
@@ -731,20 +732,27 @@ class Calls(Case):
         load, thread = "ld4 r8=[r14] ;;\n", "mov r2=r13 ;;\n"
         end = "br.ret.sptk.many b0 ;;\n"
         cases = {
-            "local": (thread + "addl r14=@tprel(var#),r2 ;;\n" + load + end, "r14 is 0x10, thread-local data, which aren't there"),
+            "local": (thread + "addl r14=@tprel(var#),r2 ;;\n" + load + end,
+                      "r14 is 0x10, thread-local data, which aren't there"),
             "more": (thread + "addl r14=@tprel(var#),r2 ;;\nshladd r15=r32,2,r14 ;;\nst4 [r15]=r14 ;;\n" + end,
                      "r15 is 0x20, thread-local data, which aren't there"),
             "right": ("ld4 r8=[r13]\n" + end, "r13 is 0x0, thread-local data, which aren't there"),
-            "far": (thread + "adds r14=-8,r2 ;;\ncmp.eq p14,p0=r0,r8\nst4 [sp]=r0,14 ;;\n" + load + end,
+            "far": (thread + "addl r14=-8,r2 ;;\ncmp.eq p14,p0=r0,r8\nst4 [sp]=r0,14 ;;\n" + load + end,
                     "r14 is 0xfffffffffffffff8, thread-local data, which aren't there"),
             "loaded": (thread + "addl r14=@gprel(null#),gp ;;\nadd r14=r14,r2 ;;\nld8 r14=[r14] ;;\n" + load + end,
+                       "r14 is 0x0, a null pointer"),
+            "long": ("adds r14=8,r13 ;;\nmovl r14=0x18 ;;\n" + load + end, "r14 is 0x18, perhaps a null pointer with an offset"),
+            "cut": ("adds r14=8,r13 ;;\ndep r14=-1,r0,3,1 ;;\n" + load + end,
+                    "r14 is 0x8, perhaps a null pointer with an offset"),
+            "called": ("alloc r34=ar.pfs,1,2,0,0\nadds r14=8,r13 ;;\nbr.call.sptk.many b0=leaf# ;;\n" + load + end,
                        "r14 is 0x0, a null pointer"),
             "added": ("adds r14=16,r32 ;;\n" + load + end, "r14 is 0x14, perhaps a null pointer with an offset"),
             "other": ("cmp.eq p6,p7=4,r32 ;;\n(p6) br.cond.dptk .on\n;;\nadds r14=8,r13 ;;\nbr.cond.sptk .out ;;\n.on:\n" + load
                       + ".out:\n" + end, "r14 is 0x0, a null pointer")}
         self.made(".explicit\n.text\n" + "".join(f".global {name}#\n.proc {name}#\n{name}:\n{code}.endp {name}#\n"
                                                 for name, (code, _) in cases.items())
-                  + '.section .tdata,"awT"\n.align 4\nvar: data4 5\n.sdata\n.align 8\nnull: data8 0\n', "small.o")
+                  + f'.proc leaf#\nleaf:\nmov r14=r0 ;;\n{end}.endp leaf#\n.section .tdata,"awT"\n.align 4\nvar: data4 5\n'
+                  + ".sdata\n.align 8\nnull: data8 0\n", "small.o")
         for name, (_, said) in cases.items():
             status, printed, _ = self.lines("call", "small.o", name, 4)
             self.assertEqual((status, printed[0].split(" and ")[-1]), (9, said), name)
@@ -815,7 +823,8 @@ class Calls(Case):
 
     def test_which_functions(self):
         """Where no function is given, it is said which there are; an argument isn't missing."""
-        names = "add, apply, away, big, deep, fill, fill_both, jump, log_it, mul, outer, pair, pick, spin, tenth, upper, wrong, zero"
+        names = ("add, apply, away, big, deep, fill, fill_both, jump, log_it, mul, outer, pair, pick, spin, tenth, upper, wrong, "
+                 "zero")
         self.refuses(f"ia64: x.o: no FUNCTION is given; it has {names}\n", "x.o")
         subprocess.run(["ia64-linux-gnu-ar", "rcs", "x.a", "x.o"], check=True)
         self.refuses(f"ia64: x.a: no FUNCTION is given; it has {names}\n", "x.a", "-n", 3)
