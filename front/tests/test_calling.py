@@ -593,7 +593,8 @@ class Calls(Case):
                 ("6161000000000000", (0x6362, 0x66656463), "+0x0: 6161000000000000 -> 6263000063646566"),
                 ("6161007a00000000", (0x65646362, 0), '+0x0: 6161007a -> 62636465 "bcde"'),
                 ("6161616161000000", (0x6362, 0), ': "bc", was "aaaaa"'),
-                ("6161616161006161", (0x6362, 0x61610000), ': "bc", was "aaaaa"')):
+                ("6161616161006161", (0x6362, 0x61610000), ': "bc", was "aaaaa"'),
+                ("6161616161000000", (0x64006362, 0), "+0x0: 6161616161 -> 6263006400")):
             printed = self.lines("call", "two.o", "f", f"hex:{before}", *words)[1]
             self.assertEqual(printed[1], f"argument 1{line}", before)
 
@@ -685,6 +686,10 @@ class Calls(Case):
             "until then no data changed", "groups 5"]))
         self.assertEqual(self.lines("call", "weak.o", "under", 5)[1][0], "ret0 = 3")
         self.assertEqual(self.lines("call", "weak.o", "tested", 5)[0], 0)
+        self.made(".text\n.weak weak#\n.proc weak#\nweak:\nmov r8=7 ;;\nbr.ret.sptk.many b0 ;;\n.endp weak#\n"
+                  ".global f#\n.proc f#\nf:\nalloc r34=ar.pfs,0,3,0,0\nmov r33=b0 ;;\nbr.call.sptk.many b0=weak# ;;\n"
+                  "mov b0=r33\nmov.i ar.pfs=r34 ;;\nbr.ret.sptk.many b0 ;;\n.endp f#\n", "defined.o")
+        self.assertEqual(self.lines("call", "defined.o", "f")[1][0], "ret0 = 7")
         for argument, name in ((0, "weak"), (1, "other")):
             self.assertIn(f"a call of '{name}', which isn't there", self.lines("call", "weak.o", "both", argument)[1][0])
         self.made(f".text\n.global weak#\n.proc weak#\nweak:\n{RETURN % 6}.endp weak#\n", "there.o")
