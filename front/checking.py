@@ -210,4 +210,4 @@ def read_answer(file, refusal, options, program):
     try:
         return files.read_source(source, program, options.syscalls)
     except Unread as none:
-        return programs.unread(source, none) if refusal.is_at_directive else refusal.answer
+        return programs.unread(source, none) if refusal.knows_less(none) else refusal.answer

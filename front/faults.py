@@ -14,11 +14,12 @@ class Why(NamedTuple):
 
 
 class Unread(Exception):
-    """Why a source can't be read without the GNU assembler, and at which of its lines."""
+    """Why a source can't be read without the GNU assembler, and at which of its lines; and whether what stands there is known
+    to be something of that assembler."""
 
-    def __init__(self, line, why):
+    def __init__(self, line, why, is_known=True):
         super().__init__(f"line {line}: {why}")
-        self.line, self.why = line, why
+        self.line, self.why, self.is_known = line, why, is_known
 
 
 class ProgramFault(Exception):

@@ -19,9 +19,14 @@ class Refused(Exception):
     """A text or an image that the program refuses: the answer to it, and whether it is a directive that is refused, as those
     for the GNU assembler are."""
 
-    def __init__(self, answer, is_at_directive):
+    def __init__(self, answer, is_at_directive, line=0):
         super().__init__(answer.file.fault)
-        self.answer, self.is_at_directive = answer, is_at_directive
+        self.answer, self.is_at_directive, self.line = answer, is_at_directive, line
+
+    def knows_less(self, none):
+        """Whether the reason why a source isn't read tells more than this refusal: where the text is one of directives, or the
+        source is read further, or its reason at the line is of something that the assembler knows."""
+        return self.is_at_directive or (none.line, none.is_known) > (self.line, False)
 
 
 def checked(file, program, verbose=False):
@@ -53,7 +58,7 @@ def refused(file, said):
     else:
         finding = Finding(Severity.ERROR, None, file.label, "", f"refused, {said}", "refused")
     file.fault = said
-    return Refused(Answer(file, [], [finding], {}, {}), bool(directive_at(file.data, said)))
+    return Refused(Answer(file, [], [finding], {}, {}), bool(directive_at(file.data, said)), int(found[1]) if found else 0)
 
 
 REFUSAL_OF_TEXT = r"line (\d+): (.*)"

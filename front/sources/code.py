@@ -26,15 +26,19 @@ class SourceCode(CodeFile):
     def symbols(self):
         """Functions, by whatever names they have, and the labels that the linker sees."""
         program, reader = self.program, self.program.reader
-        for name, function in program.symbols.items():
-            place, is_function = program.places.get(function), name in reader.functions or function in reader.functions
-            rank = reader.ranks.get(name, Rank.LOCAL)
+        for name, (function, _) in program.symbols.items():
+            is_function, is_sized = reader.taken.get(name, (function in reader.functions, True))
+            place, is_function = program.place(name), is_function or name in reader.functions
+            rank = reader.ranks.get(function if name in reader.versions else name, Rank.LOCAL)
             if place and (is_function or rank is not Rank.LOCAL):
-                yield Symbol(name, rank, place, self.size(function, place), is_function)
+                yield Symbol(name, rank, place, self.size(name, function if is_sized else name), is_function)
 
-    def size(self, function, place):
-        """The size of a function whose end is known, or 0."""
-        end = self.program.ends.get(function)
+    def size(self, name, function):
+        """The size of a function that was given one or whose end is known, or 0."""
+        for given in (name, function):
+            if self.program.sizes.get(given) is not None:
+                return self.program.sizes[given]
+        end, place = self.program.ends.get(function), self.program.place(function)
         return end[1] - place[1] if end and end[0] == place[0] and end[1] > place[1] else 0
 
     def relocations(self):
@@ -44,10 +48,8 @@ class SourceCode(CodeFile):
                 if instruction.target:
                     place = self.program.place(instruction.target)
                     yield Relocation((section, 16 * number + slot), True, place, instruction.target.split(":")[0])
-        for name in self.program.reader.reached:
-            place = self.program.place(name)
-            if place:
-                yield Relocation(place, False, place, name)
+        for place, name in self.program.referred:
+            yield Relocation(place, False, place, name)
 
     def texts(self, function):
         """The texts of a function's slots outside the profile."""

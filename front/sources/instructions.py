@@ -79,3 +79,4 @@ class Alignment:
     size: int
     most: int                          # bytes; where more were wanted there are none
     is_plain: bool                     # the fill of `.align` gets stops before an `alloc`
+    labels: List[Tuple[str, int]] = field(default_factory=list)          # in front of its fill

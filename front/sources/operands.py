@@ -48,8 +48,34 @@ def number_of(token):
     raise ValueError(f"'{token}' as a number")
 
 
+class Named:
+    """A number, and names of which each counts so often with it."""
+
+    def __init__(self, number, counts):
+        self.number, self.counts = number, counts
+
+    def __neg__(self):
+        return Named(-self.number, {name: -count for name, count in self.counts.items()})
+
+    def __add__(self, other):
+        if not isinstance(other, Named):
+            return Named(self.number + other, self.counts)
+        names = dict.fromkeys([*self.counts, *other.counts])
+        return Named(self.number + other.number, {name: self.counts.get(name, 0) + other.counts.get(name, 0) for name in names})
+
+    __radd__ = __add__
+
+    def __sub__(self, other):
+        return self + -other
+
+    def __rsub__(self, other):
+        return -self + other
+
+
 def signed(value):
     """A sum within 64 bits, as the assembler has it."""
+    if isinstance(value, Named):
+        return Named(signed(value.number), value.counts)
     return value if -(1 << 63) <= value <= ALL_BITS else (value + (1 << 63) & ALL_BITS) - (1 << 63)
 
 
@@ -73,7 +99,17 @@ def applied(mark, values):
     values.append(signed(result))
 
 
-def value_of(tokens):
+def sum_of(tokens, value):
+    """The number and the names that an expression of numbers and names is, with what `value` says of each token of these, or
+    None where it is something else. What a linker makes of it, as in `@gprel(x)`, is left out."""
+    try:
+        found = value_of(tokens, value)
+    except (TypeError, ValueError):
+        return None
+    return found if isinstance(found, Named) else Named(found, {})
+
+
+def value_of(tokens, value=number_of):
     """The number that an expression of numbers has. What isn't one is a `ValueError` with its reason."""
     values, marks, depth, wants = [], [], 0, True
     for token in tokens:
@@ -82,8 +118,10 @@ def value_of(tokens):
         elif wants and token == "(":
             marks.append(token)
             depth += 1
+        elif wants and token[0] == "@" and value is not number_of:
+            continue
         elif wants:
-            values.append(number_of(token))
+            values.append(value(token))
             wants = False
         elif token == ")" and depth:
             while marks[-1] != "(":
@@ -106,11 +144,6 @@ def value_of(tokens):
 
 def is_name(token):
     return token[0] not in "@'" and not token[0].isdigit() and re.match(NAME, token) is not None
-
-
-def names_of(tokens):
-    """The names of an expression that count upwards in it. Those behind a minus are what it is counted from."""
-    return [token.rstrip("#") for before, token in zip([""] + tokens, tokens) if is_name(token) and before != "-"]
 
 
 def is_branch_register(operand):

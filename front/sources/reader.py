@@ -1,6 +1,7 @@
 """What a source says, statement by statement: names, sections, directives, instructions."""
 
 import re
+from typing import NamedTuple, Optional, Tuple
 
 from front.code import Rank
 from front.faults import Unread
@@ -8,7 +9,7 @@ from front.sources.forms import rewritten
 from front.sources.instructions import (FOLLOWED, OUTSIDE_TARGETED, PRECEDED, Alignment, Instruction, TARGETED, TEMPLATES,
                                         kind_of)
 from front.sources.operands import (LINKED, MOST_IN_FRAME, NAME, OTHER_REGISTERS, REGISTERS, SPELLED,
-                                    is_branch_register, is_name, names_of, parted, tokens_of, value_of)
+                                    Named, is_branch_register, is_name, number_of, parted, sum_of, tokens_of, value_of)
 from front.sources.outside import NUMBERED, outside, outside_register
 from front.sources.shown import shown
 
@@ -19,26 +20,29 @@ ASSIGNED = re.compile(rf"({NAME})#?\s*=\s*([^=].*)", re.A | re.S)
 GUARD = re.compile(r"\(\s*(p\d{1,2})\s*\)\s*", re.A)
 WORD = re.compile(r"([A-Za-z.][\w.]*)#?\s*", re.A)
 LOCAL = re.compile(r"(\d{1,9})([bf])", re.A)
+NUMBER = re.compile(r"0[xX][0-9a-fA-F]+|0[bB][01]+|\d+", re.A)
 
-QUOTED = re.compile(r'"[^"]*"\s*,?')
-NAMES, NAMED = re.compile(NAME, re.A), re.compile(rf"({NAME})#?", re.A)
-SECTION = re.compile(r'\s*("[^"]*"|[^\s,]+)\s*(?:,\s*"([^"]*)")?')
+VERSIONED = re.compile(rf"{NAME}@@?[\w.]+", re.A)
+NAMES, ONE_NAME = re.compile(NAME, re.A), re.compile(rf"({NAME})#?", re.A)
+SECTION = re.compile(r'\s*("[^"]*"|[^\s,]+)\s*(?:,\s*"([A-Za-z?]*)"\s*(,.*)?)?', re.S)
 FUNCTION = re.compile(rf'\s*({NAME})#?\s*,\s*(?:[@%"](?:gnu_indirect_)?function|STT_FUNC)', re.A)
 
-# Sections of code, by their names where nothing else says it, and those that say nothing of what is reached.
-OF_CODE = re.compile(r"\.(?:text|init|fini|gnu\.linkonce\.t)(?:\.|$)")
-NOT_LOADED = re.compile(r"\.(?:debug|zdebug|stab|comment|note|line|gnu\.linkonce\.wi)")
+# Sections that the assembler knows by their names: those of code, and others that are loaded. Flags come on top.
+OF_CODE = re.compile(r"\.(?:text(?:\.|$)|(?:init|fini|plt)$)")
+LOADED = re.compile(r"\.(?:(?:data|rodata|bss|tdata|tbss|init_array|fini_array|preinit_array|persistent|noinit|gnu\.linkonce\.[bnp])"
+                    r"(?:\.|$)|(?:data1|rodata1|got|hash|dynamic|dynsym|dynstr|gnu\.(?:hash|liblist|conflict))$|sdata|sbss)")
 OF_TABLES = (".IA_64.unwind", ".gnu.linkonce.ia64unw", ".gcc_except_table", ".eh_frame")
-OTHER_SECTIONS = ("data", "bss", "sdata", "sbss", "rodata", "init_array", "fini_array", "tdata", "tbss")
+OF_HANDLERS = ".IA_64.unwind_info"
+OTHER_SECTIONS = ("data", "bss", "sdata", "sbss", "rodata", "init_array", "fini_array")
 
 # Directives that say nothing of code.
 DROPPED = frozenset("""
-    .file .loc .loc_mark_labels .ln .size .version .hidden .internal .protected .local .extern .comm .common .lcomm
-    .symver .prologue .body .save .save.f .save.g .save.b .save.gf .savesp .savepsp .vframe .vframesp .vframepsp .fframe
+    .file .loc .loc_mark_labels .ln .version .hidden .internal .protected .local .extern .comm .common .lcomm
+    .prologue .body .save .save.f .save.g .save.b .save.gf .savesp .savepsp .vframe .vframesp .vframepsp .fframe
     .altrp .unwabi .unwentry .restore .restorereg .restorereg.p .spill .spillreg .spillreg.p .spillsp .spillsp.p
     .spillpsp .spillpsp.p .copy_state .label_state .personality .pred.safe_across_calls .pred.rel .pred.rel.clear
     .pred.rel.imply .pred.rel.mutex .mem.offset .reg.val .serialize.data .serialize.instruction .explicit .default .lsb .msb
-    .psr .alias .secalias .gnu_attribute .vtable_entry .vtable_inherit .stabs .stabn .stabd
+    .psr .gnu_attribute
     """.split())
 # Data. Names in those of the first table are addresses.
 ADDRESSES = frozenset("""
@@ -51,6 +55,14 @@ OTHER_DATA = frozenset("""
     """.split())
 
 
+class Reference(NamedTuple):
+    """What is named elsewhere than as a target: an expression's names, and what it is, or None where it is no sum."""
+    line: int
+    said: str
+    names: Tuple[str, ...]
+    value: Optional[Named]
+
+
 class Code:
     """A section of code: its instructions and alignments, and what waits for the next instruction."""
 
@@ -61,17 +73,26 @@ class Code:
     def last(self):
         return self.items[-1] if self.items and isinstance(self.items[-1], Instruction) else None
 
+    def waiting(self):
+        """The last instruction, where its bundle isn't ended yet. One that is gets no stop any more."""
+        last = self.last()
+        return last if last and not last.ends else None
+
     def stop(self):
         """A stop behind the last instruction."""
-        last = self.last()
+        last = self.waiting()
         if last:
             last.stops = True
 
-    def flush(self):
-        """What the assembler does before it turns to something else: it ends the bundle and the group."""
-        last = self.last()
+    def end_bundle(self):
+        last = self.waiting()
         if last:
-            last.stops = last.ends = True
+            last.ends = True
+
+    def flush(self):
+        """What the assembler does before it turns to something else: it ends the group and the bundle."""
+        self.stop()
+        self.end_bundle()
 
 
 class Reader:
@@ -81,13 +102,17 @@ class Reader:
         self.codes = {}                # sections of code by their names, in their order
         self.kinds = {}                # of each section that was declared its flags
         self.defined = {}              # names: the line where they are
-        self.numbers = {}              # names that were assigned a number
-        self.same = {}                 # names that were assigned another one
+        self.numbers = {}              # names that were assigned a number, or None where it isn't known
+        self.parts = {}                # of each of the latter the names that are in it
+        self.same = {}                 # names that were assigned another one and a number
+        self.taken = {}                # of some of these whether they name a function, and have its size
         self.used = set()              # names in expressions of instructions
-        self.reached = []              # names of which each, where it is one of code, names an entry
+        self.reached = []              # references, of which each, where it is one to code, makes an entry
+        self.sizes = {}                # of names: a number, or a reference, or a section and how many items end there
         self.functions = {}            # names of functions; where one has an end, its section and how many items end there
         self.begun = []                # those of the function that isn't ended
         self.ranks = {}                # names that the linker sees
+        self.versions = set()             # names with versions of others, whose ranks they have
         self.locals = {}               # how often a local label stood so far
         self.frame = None
         self.section = self.previous = ".text"
@@ -109,23 +134,25 @@ class Reader:
         else:
             self.statement(said)
 
-    def fail(self, why):
-        raise Unread(self.line, why)
+    def fail(self, why, is_known=True):
+        raise Unread(self.line, why, is_known)
 
     def settle_section(self):
         """Sets the section of code, or None in one of data."""
-        flags = self.kinds.get(self.section)
-        if OF_CODE.match(self.section) if flags is None else "x" in flags:
+        if self.is_of_code(self.section):
             self.code = self.codes.get(self.section) or Code()
             self.codes[self.section] = self.code
         else:
             self.code = None
 
-    def is_loaded(self):
-        """Whether names in the section say that what they name is reached."""
-        flags = self.kinds.get(self.section)
-        is_loaded = not NOT_LOADED.match(self.section) if flags is None else "a" in flags
-        return is_loaded and not self.section.startswith(OF_TABLES)
+    def is_of_code(self, section):
+        flags = self.kinds.get(section, "")
+        return OF_CODE.match(section) is not None or "a" in flags and "x" in flags
+
+    def is_loaded(self, section):
+        """Whether names in a section say that what they name is reached."""
+        is_loaded = LOADED.match(section) or OF_CODE.match(section) or "a" in self.kinds.get(section, "")
+        return bool(is_loaded) and not section.startswith(OF_TABLES)
 
     def open(self, code):
         if not code or code.is_open:
@@ -156,7 +183,7 @@ class Reader:
         guard = GUARD.match(said)
         word = WORD.match(said, guard.end() if guard else 0)
         if not word:
-            self.fail(f"'{shown(said)}' isn't known here")
+            self.fail(f"'{shown(said)}' isn't known here", False)
         rest, mnemonic = said[word.end():], word[1].lower()
         if guard or mnemonic[0] != "." and mnemonic not in ADDRESSES and mnemonic not in OTHER_DATA:
             self.instruction(guard[1] if guard else "", mnemonic, rest)
@@ -198,16 +225,46 @@ class Reader:
         """A name that gets a number, or is another name for something."""
         if name in self.defined or name in self.numbers or name in self.same:
             self.fail(f"'{shown(name)}' gets a value twice")
-        tokens = self.settled(tokens_of(said, self.line))
-        if len(tokens) == 1 and is_name(tokens[0]) and tokens[0] != ".":
-            self.same[name] = tokens[0].rstrip("#")
+        tokens = tokens_of(said, self.line)
+        value = sum_of(tokens, self.named)
+        names = [other for other, count in value.counts.items() if count] if value else []
+        if value and len(names) == 1 and value.counts[names[0]] == 1 and names[0] != ".":
+            if self.code and self.code.waiting() and any(names[0] == label for label, _ in self.code.labels):
+                self.fail(f"'{shown(name)}' gets the place of a label before the bundle in front of that is ended")
+            self.same[name] = (names[0], value.number)
+            if value.number or names[0] in self.defined or names[0] in self.taken:
+                self.taken[name] = self.known_of(names[0])
             return
         if name in self.used:
             self.fail(f"'{shown(name)}' gets a value after it was used")
-        try:
-            self.numbers[name] = value_of(tokens)
-        except ValueError:
-            self.numbers[name] = None
+        self.numbers[name] = value.number if value and not names else None
+        if self.numbers[name] is None:
+            self.parts[name] = tuple(other for other in self.names_in(tokens) if other != "." or self.code)
+
+    def known_of(self, name):
+        """What another name for a name takes of it, which is what is known so far: whether it is one of a function, and whether it
+        has a size, of a name that is there already."""
+        is_function, is_sized = self.taken.get(name, (False, False))
+        is_sized = is_sized or name in self.defined and (name in self.sizes or self.functions.get(name) is not None)
+        return is_function or name in self.functions, is_sized
+
+    def named(self, token):
+        """What a token of an expression is: a name or a number."""
+        name = self.meant(token)
+        if name is None:
+            return number_of(token)
+        number = self.numbers.get(name)
+        return Named(0, {name: 1}) if number is None else number
+
+    def names_in(self, tokens):
+        return tuple(name for name in map(self.meant, tokens) if name is not None)
+
+    def refer(self, tokens):
+        """Takes an expression that says how code is reached, where it names any."""
+        names = self.names_in(tokens)
+        if names:
+            value = Named(0, {names[0]: 1}) if len(tokens) == 1 else sum_of(tokens, self.named)
+            self.reached.append(Reference(self.line, "".join(tokens), names, value))
 
     def settled(self, tokens):
         """Tokens of an expression, with the numbers that names were assigned in their places."""
@@ -238,9 +295,18 @@ class Reader:
         is_elsewhere = word.startswith(".x")
         if self.code and not is_elsewhere:
             self.fail(f"'{shown(word)}' in a section of code")
-        if word in ADDRESSES and (is_elsewhere or self.is_loaded()):
-            quoted = QUOTED.match(rest)
-            self.reached += names_of(tokens_of(rest[quoted.end():] if quoted else rest, self.line))
+        section = self.section
+        if is_elsewhere:
+            section, _, rest = rest.partition(",")
+            section = section.strip().strip('"')
+            if self.is_of_code(section):
+                self.fail(f"'{shown(word)}' for a section of code")
+        if word in ADDRESSES and self.is_loaded(section):
+            for tokens in parted(tokens_of(rest, self.line), ","):
+                for token in tokens:
+                    if token[0].isdigit() and not NUMBER.fullmatch(token) and not LOCAL.fullmatch(token):
+                        self.fail(f"'{shown(token)}' as a number")
+                self.refer(tokens)
 
     def select(self, name):
         if not self.code:
@@ -250,8 +316,16 @@ class Reader:
     def turn(self, name, flags=None):
         """Turns to another section."""
         self.flush("")
-        if flags is not None:
-            self.kinds.setdefault(name, flags)
+        self.enter(name, flags)
+
+    def enter(self, name, flags=None):
+        """Turns to another section, which keeps its flags."""
+        before = name in self.kinds and (self.is_of_code(name), self.is_loaded(name))
+        self.kinds.setdefault(name, flags or "")
+        known, self.kinds[name] = self.kinds[name], flags or self.kinds[name]
+        if before and before != (self.is_of_code(name), self.is_loaded(name)):
+            self.fail(f"the section '{shown(name)}' with other flags than before")
+        self.kinds[name] = known
         self.previous, self.section = self.section, name
         self.settle_section()
 
@@ -261,10 +335,12 @@ class Reader:
         self.turn(".text")
 
     def named_section(self, rest):
-        found = SECTION.match(rest)
+        found = SECTION.fullmatch(rest)
         if not found:
-            self.fail("a section without a name")
+            self.fail("a section without a name, or with flags that aren't known here")
         self.turn(found[1].strip('"'), found[2])
+        if self.code and "nobits" in (found[3] or ""):
+            self.fail("a section of code without bytes")
 
     def push(self, rest):
         self.stack.append((self.section, self.previous))
@@ -281,14 +357,19 @@ class Reader:
         self.turn(self.previous)
 
     def handler_data(self, _):
-        self.turn(".gcc_except_table")
+        """Turns to the data of a function's handler, which ends a bundle and no group."""
+        if self.begun:
+            if self.code:
+                self.code.end_bundle()
+            self.enter(OF_HANDLERS)
 
     def flush(self, _):
         if self.code:
             self.code.flush()
 
     def reach(self, rest):
-        self.reached += NAMES.findall(rest)
+        for name in NAMES.findall(rest):
+            self.refer([name])
 
     def show(self, rest):
         self.ranks.update((name, Rank.GLOBAL) for name in NAMES.findall(rest) if name not in self.ranks)
@@ -313,9 +394,29 @@ class Reader:
         if found:
             self.functions.setdefault(found[1], None)
 
+    def size_of(self, rest):
+        """The size of a name, which is that of a function whatever its end is. Where a bundle isn't ended yet, the assembler
+        counts only those before it, which isn't followed."""
+        name, _, said = rest.partition(",")
+        name, tokens = name.strip().rstrip("#"), tokens_of(said, self.line)
+        names, is_settled = self.names_in(tokens), not self.code or not self.code.waiting()
+        if [token.rstrip("#") for token in tokens] == [".", "-", name] and self.code and is_settled:
+            self.sizes[name] = (self.section, len(self.code.items))
+        else:
+            value = sum_of(tokens, self.named) if is_settled or not names else None
+            self.sizes[name] = Reference(self.line, "".join(tokens), names, value)
+
+    def version(self, rest):
+        """One more name of a symbol, with a version."""
+        name, _, other = (part.strip() for part in rest.partition(","))
+        if not ONE_NAME.fullmatch(name) or not VERSIONED.fullmatch(other):
+            self.fail("a version that isn't known here")
+        self.same[other] = (name.rstrip("#"), 0)
+        self.versions.add(other)
+
     def set_to(self, rest):
         name, _, said = rest.partition(",")
-        found = NAMED.fullmatch(name.strip())
+        found = ONE_NAME.fullmatch(name.strip())
         if not found or not said.strip():
             self.fail("a value that isn't known here")
         self.assign(found[1], said)
@@ -342,7 +443,8 @@ class Reader:
     def aligned(self, size, most, is_plain):
         if self.code:
             self.code.flush()
-            self.code.items.append(Alignment(self.line, size, most, is_plain))
+            self.code.items.append(Alignment(self.line, size, most, is_plain, self.code.labels))
+            self.code.labels = []
 
     def registers(self, rest):
         """The frame whose registers `in0`, `loc0` and `out0` name."""
@@ -382,7 +484,7 @@ class Reader:
             if found:
                 return found
             if kind is None:
-                self.fail(f"'{shown(mnemonic)}' is outside the profile, or unknown")
+                self.fail(f"'{shown(mnemonic)}' is outside the profile, or unknown", False)
         made = Instruction(self.line, kind, mnemonic, "")
         if mnemonic == "alloc":
             self.set_frame([self.constant(self.settled(part)) for part in right[-4:]][:3])
@@ -469,7 +571,7 @@ class Reader:
         if "." in names or "[" in tokens:
             self.fail(f"'{shown(spelled)}' in an operand")
         self.used |= names
-        self.reached += names_of(tokens) + [name for name in names if ":" in name]
+        self.refer(tokens)
         return LINKED
 
     def constant(self, tokens):
@@ -482,8 +584,9 @@ class Reader:
 
 HANDLERS = {
     ".text": "text", ".section": "named_section", ".pushsection": "push", ".popsection": "pop", ".previous": "back",
-    ".handlerdata": "handler_data", ".ident": "flush", ".proc": "begin", ".endp": "end", ".global": "show",
-    ".globl": "show", ".weak": "weaken", ".entry": "reach", ".type": "type_of", ".set": "set_to", ".equ": "set_to",
+    ".handlerdata": "handler_data", ".ident": "flush", ".stabs": "flush", ".stabn": "flush", ".stabd": "flush",
+    ".proc": "begin", ".endp": "end", ".global": "show", ".globl": "show", ".weak": "weaken", ".entry": "reach", ".type": "type_of", ".size": "size_of",
+    ".symver": "version", ".set": "set_to", ".equ": "set_to",
     ".equiv": "set_to", ".weakref": "set_to", ".align": "align", ".balign": "align_to", ".p2align": "align_by_power",
     ".regstk": "registers",
 }

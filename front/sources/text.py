@@ -7,6 +7,9 @@ from front.code import Place
 from front.faults import Unread
 from front.functions import MOST_BUNDLES
 from front.sources.bundles import Bundle, laid_out, last_slot
+from front.sources.instructions import Alignment
+from front.sources.operands import Named
+from front.sources.reader import Reference
 from front.sources.shown import shown
 from front.texts import REASONS
 
@@ -32,7 +35,7 @@ class Program:
         self.reader, self.line = reader, max(reader.line, 1)
         self.codes: List[Code] = []
         self.places = {}               # of names of bundles
-        self.inside = set()            # names of slots inside bundles
+        self.inside = {}               # of names of slots inside bundles
         self.ends = {}                 # of functions by their names, where one is known: a place
         for name, code in reader.codes.items():
             if code.items:
@@ -40,6 +43,8 @@ class Program:
         if not self.codes:
             raise Unread(self.line, "no code stands in it")
         self.symbols = {name: self.own_name(name) for name in [*reader.functions, *reader.ranks, *reader.same]}
+        self.sizes = {name: self.size(name, said) for name, said in reader.sizes.items() if isinstance(said, Reference)}
+        self.referred = [found for found in map(self.meant, reader.reached) if found]
         self.text, self.lines = self.printed()
 
     def lay_out(self, name, code):
@@ -51,30 +56,84 @@ class Program:
         if len(bundles) + sum(len(other.bundles) for other in self.codes) > MOST:
             raise Unread(code.items[-1].line, f"more than {MOST:,} bundles")
         for number, bundle in enumerate(bundles):
-            for slot, instruction in enumerate(bundle.slots.values()):
-                names = [name for name, _ in instruction.labels]
-                self.inside.update(names if slot else ())
-                self.places.update((name, (index, 16 * number)) for name in names if slot == 0)
+            for count, (slot, instruction) in enumerate(bundle.slots.items()):
+                places, at = (self.inside, 16 * number + slot) if count else (self.places, 16 * number)
+                places.update((name, (index, at)) for name, _ in instruction.labels)
+        for number, item in enumerate(code.items):
+            if isinstance(item, Alignment):
+                self.places.update((name, (index, 16 * before[number])) for name, _ in item.labels)
         self.places.update((name, (index, 16 * len(bundles))) for name, _ in code.labels)
-        self.ends.update((function, (index, 16 * before[end[1]])) for function, end in self.reader.functions.items()
-                         if end and end[0] == name)
+        for ends in (self.reader.functions, self.reader.sizes):
+            self.ends.update((function, (index, 16 * before[end[1]])) for function, end in ends.items() if end and end[0] == name)
         self.codes.append(Code(name, bundles))
 
     def own_name(self, name):
-        """What a name was assigned, or itself."""
-        path, same = [], self.reader.same
+        """The name that a name was assigned, or itself, and how many bytes behind that it is."""
+        path, same, number = [], self.reader.same, 0
         while name in same and len(path) <= len(same):
-            path.append(name)
-            name = same[name]
+            path.append((name, number))
+            name, further = same[name]
+            number += further
         if name in same:
-            raise Unread(self.line, f"'{shown(path[0])}' is another name for itself")
-        for other in path:
-            same[other] = name
-        return name
+            raise Unread(self.line, f"'{shown(path[0][0])}' is another name for itself")
+        for other, before in path:
+            same[other] = (name, number - before)
+        return name, number
 
-    def place(self, name) -> Optional[Place]:
-        """The place that a name names, by whatever other name it was assigned, or None."""
-        return self.places.get(self.own_name(name))
+    def place(self, name, is_slot=False) -> Optional[Place]:
+        """The place that a name names, by whatever other name it was assigned, or None; of a slot inside a bundle only if that
+        is wanted."""
+        name, number = self.own_name(name)
+        place = self.places.get(name) or is_slot and self.inside.get(name)
+        return (place[0], place[1] + number) if place else None
+
+    def is_code(self, name):
+        """Whether a name names code, or something that isn't known and is made of a name of code."""
+        names, seen = [name], set()
+        while names:
+            name, _ = self.own_name(names.pop())
+            if name == "." or name in self.places or name in self.inside:
+                return True
+            names += [part for part in self.reader.parts.get(name, ()) if part not in seen]
+            seen.update(self.reader.parts.get(name, ()))
+        return False
+
+    def settled(self, value):
+        """An expression with the names and numbers in it that others were assigned."""
+        found = Named(value.number, {})
+        for name, count in value.counts.items():
+            own, number = self.own_name(name)
+            known = self.reader.numbers.get(own)
+            found += Named(number * count, {own: count}) if known is None else (number + known) * count
+        return found
+
+    def meant(self, reference):
+        """What a reference names, its place and its name, or None where that isn't code. A difference of two names names the
+        first one."""
+        lost = [name for name in reference.names if ":" in name and name not in self.reader.defined]
+        if lost:
+            raise Unread(reference.line, f"'{lost[0].split(':')[0]}' names nothing")
+        if not any(name != "." and self.is_code(name) for name in reference.names):
+            return None
+        value = self.settled(reference.value) if reference.value else Named(0, {})
+        up, down = ([name for name, count in value.counts.items() if count == sign] for sign in (1, -1))
+        is_known = sum(map(abs, value.counts.values())) == len(up + down) and not {*up} & {*self.reader.parts}
+        if is_known and not up and down:
+            return None
+        if not is_known or len(up) != 1 or len(down) > bool(value.number == 0):
+            raise Unread(reference.line, f"'{shown(reference.said)}', which names code")
+        place = self.place(up[0], True)
+        return ((place[0], place[1] + value.number), up[0].split(":")[0]) if place else None
+
+    def size(self, name, said):
+        """The size that a function was given, a number or the distance of two labels, or None for what is none."""
+        if not self.place(name):
+            return None
+        value = self.settled(said.value) if said.value else Named(0, {".": 1})
+        places = [self.place(label) if abs(count) == 1 else None for label, count in value.counts.items() if count]
+        if None in places or sum(value.counts.values()) or len({place[0] for place in places}) > 1:
+            raise Unread(said.line, f"'{shown(said.said)}' as the size of '{shown(name)}'")
+        return value.number + sum(count * self.place(label)[1] for label, count in value.counts.items() if count)
 
     def numbered(self):
         """Each bundle with its section and its number there."""
@@ -122,10 +181,10 @@ class Program:
         if not found:
             return Unread(self.line, f"refused, {said.strip()}")
         meaning = f": {REASONS[found[2]]}" if found[2] in REASONS else ""
-        return Unread(self.lines[int(found[1]) - 1] or self.line, f"refused, {found[2]}{meaning}")
+        return Unread(self.lines[int(found[1]) - 1] or self.line, f"refused, {found[2]}{meaning}", False)
 
     def require_bundle(self, instruction):
         """A target that the source lacks is outside of it, and one that it has is a bundle."""
-        name = instruction.target
-        if self.place(name) is None and (":" in name or name in self.inside):
+        name, place = instruction.target, self.place(instruction.target)
+        if place and place[1] % 16 or place is None and (":" in name or self.own_name(name)[0] in self.inside):
             raise Unread(instruction.line, f"'{shown(name.split(':')[0])}' names no bundle")

@@ -743,6 +743,67 @@ class AsTheAssemblerHasIt(unittest.TestCase):
                      f".proc f\nf:{bundle}.endp f\n.proc g\ng:{bundle}.mib;br.few f\n.mib;br.call.sptk b0=h\n.endp g"):
             self.same(text, text)
 
+    def test_names_in_expressions(self):
+        """An entry is at a name's place and what is added to it, in data that are loaded and in operands."""
+        bundle = ".mii;nop 1;nop 0;nop 0\n"
+        code = f".text\n.proc f#\nf:\n{bundle}1: {bundle}x: {bundle}.mii;nop 0\n[.Lt:] nop 0;nop 0\n1: {bundle}{{}}\n.endp f#\n.data\n"
+        for data in ("data8 1b", "data8 f+16", "data8 f+0x20,8+f,f+5", "data8 f-16", "data8 x - 0x10", "data8.ua x", "data4 f+32",
+                     ".xdata8 .data,f+48", "data16 @iplt(x)", "data8 @fptr(x)", "data8 @segrel(f+32),@pcrel(f)",
+                     "data8 @gprel(f)+16", "y = f + 16\n.data\ndata8 y", "y = f + 16\nz = y + 16\n.data\ndata8 z-16,z",
+                     "data8 f+c\nc = 16", "data8 .Lt", "data8 2f,1b\n2: data8 0", ".quad x", ".8byte f+(2*8)", "n: data8 x-n",
+                     "y = f+16\n.global y", "m: data8 0\nlen = .-m\ndata8 len"):
+            self.same(code.format("") + f"{data}\n", data)
+        for operand in ("f+16", "1b-16", "1b", "@gprel(f+32)", "x-0x10", "y\ny = f+32", "@gprel(f)+16"):
+            self.same(code.format(f".mlx;nop 0;movl r9={operand}"), operand)
+        for operand in ("@ltoff(f+32)", "@ltoff(@fptr(f))", "@pcrel(x)"):
+            self.same(code.format(f".mmi;nop 0;addl r9={operand},gp"), operand)
+        self.same(f".section .rodata\ndata8 1f\n{code.format('')}", "1f")
+
+    def test_loaded_sections(self):
+        """By the flags of a section, and where it has none by its name."""
+        code = ".text\n.proc f\nf: .mii;nop 0\nx: .mii;nop 0\n.endp f\n.section {}\ndata8.ua x\n"
+        for section in (*(f".{name}" for name in """
+                ctors ctors.5 dtors foo data datax data.rel.ro data1 data1.x rodata rodata1 rodatax sdata sdata2 tdata tdata1 init_array
+                init_array.5 fini_array preinit_array jcr got opd lit8 srdata ldata eh_frame gcc_except_table comment note note.x
+                persistent gnu.linkonce.d.x gnu.linkonce.r.x gnu.linkonce.p.x gnu.linkonce.s.x debug_info IA_64.unwind_info
+                """.split()), '.foo,"a"', '.ctors,"aw"', '.comment.x,"a"', '.rodata.x,""', '.debug_x,"a"', '.foo,"w"', '.foo,"?a"',
+                        '.foo,"awG",@progbits,g,comdat', '.foo,"aMS",@progbits,1', '.x.gcc_except_table,"a"',
+                        '.foo,"a"\n.text\n.section .foo'):
+            self.same(code.format(section), section)
+
+    def test_ends_of_groups(self):
+        """Where a directive ends a group and a bundle, and where it ends a bundle alone."""
+        forms = (".proc f#\nf:\n{{ .mii;nop 0;nop 0;add r8=r9,r10 }}\n{}\n{{ .mib;add r9=r8,r0;nop 0;br.ret.sptk b0;; }}\n.endp f#",
+                 ".proc f#\nf: .mii;nop 0;add r8=r9,r10\n{}\nadd r9=r8,r0\n.mib;nop 0;nop 0;br.ret.sptk b0;;\n.endp f#")
+        for directive in ('.stabs "x",1,2,3,4', ".stabn 68,0,3,0", ".stabd 68,0,3", ".handlerdata\ndata8 0\n.text", '.ident "x"',
+                          ".handlerdata\n.text\n;;", ".handlerdata\n.text\n.ident \"x\"", ".xdata8 .data,5", ".text", ".align 16",
+                          ".section .text", ".pushsection .data\n.popsection", ".data\n.previous", ".size f,32", ".size q,.-f",
+                          ".symver f,f@V1", ".prologue", ".body", ".save rp,r34", ".personality p#", ".comm x,8,8", ".lcomm x,8,8",
+                          ".regstk 1,2,3,0", "x = 5", "x:", "[x:]", ".global f", ".weak f", ".entry f", ".mem.offset 8,0",
+                          ".reg.val r9,5", ".serialize.data", ".gnu_attribute 4,1", ".type f,@function", ".extern q", ".version \"x\""):
+            for form in forms:
+                self.same(form.format(directive), directive)
+
+    def test_labels_before_alignments(self):
+        """They stand before what fills the room."""
+        bundle = ".mii;nop 1;nop 0;nop 0\n"
+        for label in ("x:", "x:\n.data\n.text", "[x:]"):
+            for align in (".align 64", ".p2align 6", ".p2align 6,,16"):
+                self.same(f".proc f\nf: {bundle}{label}\n{align}\n{bundle}.mib;br.few x\n.endp f\n.data\ndata8 x", label + align)
+
+    def test_sizes_and_versions(self):
+        bundle = ".mii;nop 1;nop 0;nop 0\n"
+        names = "y = f + 16\nz = f\n"
+        for text in (f".proc f\nf: {bundle}{bundle}{names}.endp f", f"{names}.proc f\nf: {bundle}{bundle}.endp f", f".proc f\n{names}"
+                     f"f: {bundle}{bundle}.endp f", f".type f,@function\nf: {bundle}{bundle}{names}.size f,16",
+                     f".proc f\nf: {bundle}{bundle}.endp f\n{names}", f"f: {bundle}{bundle}{names}.type f,@function\n.size f,16",
+                     f".proc f\nf: {bundle}{bundle}.size f,16\n.endp f", f".proc f\nf: {bundle}{bundle}.endp f\n.size f,16\n{bundle}",
+                     f".size f,.Le-f\n.type f,@function\nf: {bundle}{bundle}.Le: {bundle}", f".type f,@function\nf: {bundle}.ident \"x\"\n"
+                     f".size f,.-f\n{bundle}", f".proc f\nf: {bundle}{bundle}.endp f\ny = f+16\n.type y,@function\n.size y,16",
+                     f".global f\n.proc f\nf: {bundle}.endp f\n.symver f,f@@V1", f".proc f\nf: {bundle}.endp f\n.symver f,f@V1",
+                     f".proc f\nf: {bundle}.data\nd: data8 0\n.size d,.-d\n.text\n{bundle}.endp f"):
+            self.same(text + "\n", text)
+
     def test_examples(self):
         self.same((ROOT / "examples" / "functions.s").read_text(), "functions.s")
 
@@ -906,13 +967,14 @@ class Reading(unittest.TestCase):
         start, middle = f"{bundle}{bundle}", f"x: {bundle}"
         self.assertEqual(self.entries(start + middle), [])
         for line in (".proc x#", ".type x#, @function", ".global x#", ".globl y, x", ".weak x", ".entry x", ".data\ndata8 x",
-                     ".section .rodata\ndata8 x-y", ".data\ndata8 @fptr(x#), 5", '.xdata8 ".ctors", x',
+                     ".section .rodata\ndata8 x-y", ".data\ndata8 @fptr(x#), 5", '.xdata8 ".data", x', ".xdata8 .rodata,5,x",
                      ".section .t,\"a\"\ndata4 x-y"):
             self.assertEqual(self.entries(f"{line}\n.text\n{start}{middle}"), [(0, 2)], line)
         for line in (".data\ndata8 y-x", ".section .debug_info,\"\",@progbits\ndata8.ua x",
                      ".section .gcc_except_table,\"a\"\ndata8 x",
-                     ".handlerdata\n.uleb128 x-y\ndata8 x\n.text", ".type x,@object", ".section .rodata\n.uleb128 x-y",
-                     ".section .comment\ndata8 x"):
+                     ".proc z\n.handlerdata\n.uleb128 x-y\ndata8 x\n.text", ".type x,@object", ".section .rodata\n.uleb128 x-y",
+                     ".section .comment\ndata8 x", '.xdata8 ".ctors", x', ".section .foo\ndata8 x", ".section .ctors\ndata8.ua x",
+                     ".data\nx1: data8 x1-x"):
             self.assertEqual(self.entries(f"{line}\n.text\n{start}{middle}"), [], line)
         for line in ("addl r8=@gprel(x),gp", "addl r8=@ltoff(x#), r1", "mov r8=x", "addl r8=@ltoff(@fptr(z)),r1\n.set z, x"):
             self.assertEqual(self.entries(f"{start}{middle}.mmi\n{line}\nnop 0\nnop 0"), [(0, 2)], line)
@@ -982,12 +1044,28 @@ class Reading(unittest.TestCase):
                 (".mii\nadds r8=08,r9", 2, "'08' as a number"), (".mii\nadds r8=5 5,r9", 2, "'5' in a number"),
                 (".mii\nadd r8=,r9", 2, "an operand is missing"), (".mii\nadds r8=?,r9", 2, "'?' in an operand"),
                 (".mii\nadds r8=x,r9\nx = 5", 3, "'x' gets a value after it was used"), ("x = 5\nx = 6", 2, "'x' gets a value twice"),
-                ("x = 1+y\n.mii;adds r8=x,r9", 2, "'x' has a value that isn't known here"),
+                ("x = 2*y\n.mii;adds r8=x,r9", 2, "'x' has a value that isn't known here"),
                 (".mii\n(p64) nop 0", 2, "the predicate 'p64'"), ("(r6) nop 0", 1, "'(r6) nop 0' isn't known here"),
                 ("*\n", 1, "'*' isn't known here"), (".data\ndata8 5", 2, "no code stands in it"), ("", 1, "no code stands in it"),
                 (".mib\nbr.few r8", 2, "'r8' as a target"), (".mib;br.few 0x10", 1, "a target that is no label"),
                 (".mii\nnop 0\nmov b6=r8,y", 3, "the tag 'y' is no bundle near here"), (".align 24", 1, "an alignment that isn't known here"),
-                (".popsection", 1, "no section to come back to"), (".section", 1, "a section without a name"),
+                (".popsection", 1, "no section to come back to"), (".section", 1, "a section without a name, or with flags that aren't known here"),
+                (".section .x,\"2\"", 1, "a section without a name, or with flags that aren't known here"),
+                (".section .x,#alloc", 1, "a section without a name, or with flags that aren't known here"),
+                (".section .x\n.text\n.section .x,\"a\"", 3, "the section '.x' with other flags than before"),
+                (".section .x,\"ax\",@nobits", 1, "a section of code without bytes"),
+                (".xdata8 .text,5", 1, "'.xdata8' for a section of code"), (".data\ndata8 1$", 2, "'1$' as a number"),
+                (".alias f,\"g\"", 1, "the directive '.alias' isn't known here"), (".symver f,f", 1, "a version that isn't known here"),
+                ("f: .mii;nop 0\n.data\ndata8 f&-16", 3, "'f&-16', which names code"),
+                ("f: .mii;nop 0\n.data\ndata8 f+f", 3, "'f+f', which names code"),
+                ("f: .mii;nop 0\n.data\ndata8 2*f", 3, "'2*f', which names code"),
+                ("f: .mii;nop 0\n.data\nx: data8 f-x+8", 3, "'f-x+8', which names code"),
+                ("f: .mlx;nop 0;movl r9=~f", 1, "'~f', which names code"),
+                ("f: .mii;nop 0\nx = 2*f\n.data\ndata8 x", 4, "'x', which names code"),
+                ("f: .mii;nop 0\nx = .\n.data\ndata8 x", 4, "'x', which names code"),
+                (".mii;nop 0\n.data\ndata8 1f", 3, "'1' names nothing"),
+                (".mii;nop 0\nf: x = f", 2, "'x' gets the place of a label before the bundle in front of that is ended"),
+                (".proc f\nf: .mii;nop 0\n.size f,.-f\n.endp f", 3, "'.-f' as the size of 'f'"),
                 (".mii\nalloc r32=ar.pfs,90,9,0,0", 2, "a frame that isn't known here"), (".mii\nnop 0\nmov pr=r8,x", 3, "a number that the linker puts in"),
                 (".mmi\ncmp.leu p6,p7=0,r9", 2, "no number is below 0 without a sign")):
             with self.subTest(text):
@@ -1117,6 +1195,29 @@ class Verdicts(Case):
         self.assertEqual(self.check(".prologue\n.mii\nadds r8=9000,r9\n")[:2], (2, [
             "x.s:3: error: not read without the GNU assembler: refused, range: a number outside its field",
             "0 accepted, 0 violated, 0 not judged"]))
+
+    def test_the_reason(self):
+        """What stops the reading is told, and the refusal of the text alone where the line is none of that assembler."""
+        bundle = "{ .mii\n nop.m 0\n nop.i 0\n nop.i 0 ;;\n}\n"
+        for text, said in (
+                (f"{bundle}x: .skip 16\n", "6: error: not read without the GNU assembler: '.skip' in a section of code"),
+                (f"{bundle}x:\n.if 1\n", "7: error: not read without the GNU assembler: the directive '.if' isn't known here"),
+                ("x: .mii; nop 0\n.rotr A[4]", "2: error: not read without the GNU assembler: the directive '.rotr' isn't known here"),
+                ("{ .mii\n nop.m 0\n mov r8=psr\n nop.i 0\n}\n", "3: error: not read without the GNU assembler: the register 'psr' "
+                 "is outside the profile, or isn't there"),
+                ("hello world\n", "1: error: refused, name: the leading word begins no line"),
+                ("{ .mii\n nop.m 0\n frob r1\n", "3: error: refused, name: the leading word begins no line"),
+                ("{ .mii\n nop.m 0\n adds r8=9000,r9\n nop.i 0\n}\n", "3: error: refused, range: a number outside its field")):
+            self.assertEqual(self.check(text)[:2], (2, [f"x.s:{said}", "0 accepted, 0 violated, 0 not judged"]))
+
+    def test_names_in_expressions(self):
+        """An entry behind a predicate's compare: what stands behind it shares no knowledge of predicates."""
+        code = (".text\n.proc f#\nf:\n.mib;cmp.eq p6,p7=r9,r10;nop 0;(p6) br.cond.sptk 1f;;\n"
+                "1: .mii;(p6) add r8=r9,r10;(p7) add r8=r9,r11;nop 0;;\n.mib;nop 0;nop 0;br.ret.sptk b0;;\n.endp f#\n")
+        self.assertEqual(self.check(code)[0], 0)
+        for data in (".section .rodata\ndata8 1b", ".data\ndata8 f+16", "y = f + 16\n.data\ndata8 y"):
+            self.assertEqual(self.check(f"{code}{data}\n")[0], 1, data)
+        self.assertEqual(self.check(f"{code}.section .ctors\ndata8.ua 1b\n")[0], 0)
 
     def test_a_program_without_answers(self):
         """It is told as such, and not as a fault of the source."""
