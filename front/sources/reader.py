@@ -29,8 +29,9 @@ FUNCTION = re.compile(rf'\s*({NAME})#?\s*,\s*(?:[@%"](?:gnu_indirect_)?function|
 
 # Sections that the assembler knows by their names: those of code, and others that are loaded. Flags come on top.
 OF_CODE = re.compile(r"\.(?:text(?:\.|$)|(?:init|fini|plt)$)")
-LOADED = re.compile(r"\.(?:(?:data|rodata|bss|tdata|tbss|init_array|fini_array|preinit_array|persistent|noinit|gnu\.linkonce\.[bnp])"
-                    r"(?:\.|$)|(?:data1|rodata1|got|hash|dynamic|dynsym|dynstr|gnu\.(?:hash|liblist|conflict))$|sdata|sbss)")
+LOADED = re.compile(r"\.(?:(?:data|rodata|bss|tdata|tbss|init_array|fini_array|preinit_array|persistent|noinit"
+                    r"|gnu\.linkonce\.[bnp])(?:\.|$)|(?:data1|rodata1|got|hash|dynamic|dynsym|dynstr"
+                    r"|gnu\.(?:hash|liblist|conflict))$|sdata|sbss)")
 OF_TABLES = (".IA_64.unwind", ".gnu.linkonce.ia64unw", ".gcc_except_table", ".eh_frame")
 OF_HANDLERS = ".IA_64.unwind_info"
 OTHER_SECTIONS = ("data", "bss", "sdata", "sbss", "rodata", "init_array", "fini_array")
@@ -110,6 +111,7 @@ class Reader:
         self.reached = []              # references, of which each, where it is one to code, makes an entry
         self.sizes = {}                # of names: a number, or a reference, or a section and how many items end there
         self.functions = {}            # names of functions; where one has an end, its section and how many items end there
+        self.handled = None            # the section of the function that has data of a handler
         self.begun = []                # those of the function that isn't ended
         self.ranks = {}                # names that the linker sees
         self.versions = set()             # names with versions of others, whose ranks they have
@@ -242,8 +244,8 @@ class Reader:
             self.parts[name] = tuple(other for other in self.names_in(tokens) if other != "." or self.code)
 
     def known_of(self, name):
-        """What another name for a name takes of it, which is what is known so far: whether it is one of a function, and whether it
-        has a size, of a name that is there already."""
+        """What another name for a name takes of it, as far as that is known so far: whether it is one of a function, and whether
+        it has a size, which only a name has that is there already."""
         is_function, is_sized = self.taken.get(name, (False, False))
         is_sized = is_sized or name in self.defined and (name in self.sizes or self.functions.get(name) is not None)
         return is_function or name in self.functions, is_sized
@@ -361,6 +363,7 @@ class Reader:
         if self.begun:
             if self.code:
                 self.code.end_bundle()
+            self.handled = self.section
             self.enter(OF_HANDLERS)
 
     def flush(self, _):
@@ -383,7 +386,10 @@ class Reader:
         self.aligned(16, 0, False)
 
     def end(self, _):
-        """The end of a function: of all names that its beginning has."""
+        """The end of a function: of all names that its beginning has. It stands in the section that `.handlerdata` left."""
+        if self.handled:
+            self.section, self.handled = self.handled, None
+            self.settle_section()
         self.flush("")
         if self.code:
             self.functions.update((name, (self.section, len(self.code.items))) for name in self.begun)
@@ -585,8 +591,8 @@ class Reader:
 HANDLERS = {
     ".text": "text", ".section": "named_section", ".pushsection": "push", ".popsection": "pop", ".previous": "back",
     ".handlerdata": "handler_data", ".ident": "flush", ".stabs": "flush", ".stabn": "flush", ".stabd": "flush",
-    ".proc": "begin", ".endp": "end", ".global": "show", ".globl": "show", ".weak": "weaken", ".entry": "reach", ".type": "type_of", ".size": "size_of",
-    ".symver": "version", ".set": "set_to", ".equ": "set_to",
+    ".proc": "begin", ".endp": "end", ".global": "show", ".globl": "show", ".weak": "weaken", ".entry": "reach",
+    ".type": "type_of", ".size": "size_of", ".symver": "version", ".set": "set_to", ".equ": "set_to",
     ".equiv": "set_to", ".weakref": "set_to", ".align": "align", ".balign": "align_to", ".p2align": "align_by_power",
     ".regstk": "registers",
 }

@@ -746,7 +746,8 @@ class AsTheAssemblerHasIt(unittest.TestCase):
     def test_names_in_expressions(self):
         """An entry is at a name's place and what is added to it, in data that are loaded and in operands."""
         bundle = ".mii;nop 1;nop 0;nop 0\n"
-        code = f".text\n.proc f#\nf:\n{bundle}1: {bundle}x: {bundle}.mii;nop 0\n[.Lt:] nop 0;nop 0\n1: {bundle}{{}}\n.endp f#\n.data\n"
+        code = (f".text\n.proc f#\nf:\n{bundle}1: {bundle}x: {bundle}.mii;nop 0\n[.Lt:] nop 0;nop 0\n1: {bundle}{{}}\n.endp f#\n"
+                ".data\n")
         for data in ("data8 1b", "data8 f+16", "data8 f+0x20,8+f,f+5", "data8 f-16", "data8 x - 0x10", "data8.ua x", "data4 f+32",
                      ".xdata8 .data,f+48", "data16 @iplt(x)", "data8 @fptr(x)", "data8 @segrel(f+32),@pcrel(f)",
                      "data8 @gprel(f)+16", "y = f + 16\n.data\ndata8 y", "y = f + 16\nz = y + 16\n.data\ndata8 z-16,z",
@@ -763,26 +764,30 @@ class AsTheAssemblerHasIt(unittest.TestCase):
         """By the flags of a section, and where it has none by its name."""
         code = ".text\n.proc f\nf: .mii;nop 0\nx: .mii;nop 0\n.endp f\n.section {}\ndata8.ua x\n"
         for section in (*(f".{name}" for name in """
-                ctors ctors.5 dtors foo data datax data.rel.ro data1 data1.x rodata rodata1 rodatax sdata sdata2 tdata tdata1 init_array
-                init_array.5 fini_array preinit_array jcr got opd lit8 srdata ldata eh_frame gcc_except_table comment note note.x
-                persistent gnu.linkonce.d.x gnu.linkonce.r.x gnu.linkonce.p.x gnu.linkonce.s.x debug_info IA_64.unwind_info
-                """.split()), '.foo,"a"', '.ctors,"aw"', '.comment.x,"a"', '.rodata.x,""', '.debug_x,"a"', '.foo,"w"', '.foo,"?a"',
-                        '.foo,"awG",@progbits,g,comdat', '.foo,"aMS",@progbits,1', '.x.gcc_except_table,"a"',
+                ctors ctors.5 dtors foo data datax data.rel.ro data1 data1.x rodata rodata1 rodatax sdata sdata2 tdata tdata1
+                init_array init_array.5 fini_array preinit_array jcr got opd lit8 srdata ldata eh_frame gcc_except_table comment note
+                note.x persistent gnu.linkonce.d.x gnu.linkonce.r.x gnu.linkonce.p.x gnu.linkonce.s.x debug_info IA_64.unwind_info
+                """.split()), '.foo,"a"', '.ctors,"aw"', '.comment.x,"a"', '.rodata.x,""', '.debug_x,"a"', '.foo,"w"',
+                        '.foo,"?a"', '.foo,"awG",@progbits,g,comdat', '.foo,"aMS",@progbits,1', '.x.gcc_except_table,"a"',
                         '.foo,"a"\n.text\n.section .foo'):
             self.same(code.format(section), section)
 
     def test_ends_of_groups(self):
         """Where a directive ends a group and a bundle, and where it ends a bundle alone."""
-        forms = (".proc f#\nf:\n{{ .mii;nop 0;nop 0;add r8=r9,r10 }}\n{}\n{{ .mib;add r9=r8,r0;nop 0;br.ret.sptk b0;; }}\n.endp f#",
+        forms = (".proc f#\nf:\n{{ .mii;nop 0;nop 0;add r8=r9,r10 }}\n{}\n"
+                 "{{ .mib;add r9=r8,r0;nop 0;br.ret.sptk b0;; }}\n.endp f#",
                  ".proc f#\nf: .mii;nop 0;add r8=r9,r10\n{}\nadd r9=r8,r0\n.mib;nop 0;nop 0;br.ret.sptk b0;;\n.endp f#")
         for directive in ('.stabs "x",1,2,3,4', ".stabn 68,0,3,0", ".stabd 68,0,3", ".handlerdata\ndata8 0\n.text", '.ident "x"',
                           ".handlerdata\n.text\n;;", ".handlerdata\n.text\n.ident \"x\"", ".xdata8 .data,5", ".text", ".align 16",
                           ".section .text", ".pushsection .data\n.popsection", ".data\n.previous", ".size f,32", ".size q,.-f",
-                          ".symver f,f@V1", ".prologue", ".body", ".save rp,r34", ".personality p#", ".comm x,8,8", ".lcomm x,8,8",
+                          ".symver f,f@V1", ".prologue", ".body", ".save rp,r34", ".personality p#", ".comm x,8,8",
+                          ".lcomm x,8,8", ".endp f#", ".handlerdata\ndata8 0\n.endp f#",
                           ".regstk 1,2,3,0", "x = 5", "x:", "[x:]", ".global f", ".weak f", ".entry f", ".mem.offset 8,0",
-                          ".reg.val r9,5", ".serialize.data", ".gnu_attribute 4,1", ".type f,@function", ".extern q", ".version \"x\""):
+                          ".reg.val r9,5", ".serialize.data", ".gnu_attribute 4,1", ".type f,@function", ".extern q",
+                          ".version \"x\""):
             for form in forms:
-                self.same(form.format(directive), directive)
+                text = form.format(directive)
+                self.same(text if ".endp" not in directive else text.rpartition("\n")[0] + "\n", directive)
 
     def test_labels_before_alignments(self):
         """They stand before what fills the room."""
@@ -794,12 +799,14 @@ class AsTheAssemblerHasIt(unittest.TestCase):
     def test_sizes_and_versions(self):
         bundle = ".mii;nop 1;nop 0;nop 0\n"
         names = "y = f + 16\nz = f\n"
-        for text in (f".proc f\nf: {bundle}{bundle}{names}.endp f", f"{names}.proc f\nf: {bundle}{bundle}.endp f", f".proc f\n{names}"
-                     f"f: {bundle}{bundle}.endp f", f".type f,@function\nf: {bundle}{bundle}{names}.size f,16",
+        for text in (f".proc f\nf: {bundle}{bundle}{names}.endp f", f"{names}.proc f\nf: {bundle}{bundle}.endp f",
+                     f".proc f\n{names}f: {bundle}{bundle}.endp f", f".type f,@function\nf: {bundle}{bundle}{names}.size f,16",
                      f".proc f\nf: {bundle}{bundle}.endp f\n{names}", f"f: {bundle}{bundle}{names}.type f,@function\n.size f,16",
-                     f".proc f\nf: {bundle}{bundle}.size f,16\n.endp f", f".proc f\nf: {bundle}{bundle}.endp f\n.size f,16\n{bundle}",
-                     f".size f,.Le-f\n.type f,@function\nf: {bundle}{bundle}.Le: {bundle}", f".type f,@function\nf: {bundle}.ident \"x\"\n"
-                     f".size f,.-f\n{bundle}", f".proc f\nf: {bundle}{bundle}.endp f\ny = f+16\n.type y,@function\n.size y,16",
+                     f".proc f\nf: {bundle}{bundle}.size f,16\n.endp f",
+                     f".proc f\nf: {bundle}{bundle}.endp f\n.size f,16\n{bundle}",
+                     f".size f,.Le-f\n.type f,@function\nf: {bundle}{bundle}.Le: {bundle}",
+                     f".type f,@function\nf: {bundle}.ident \"x\"\n.size f,.-f\n{bundle}",
+                     f".proc f\nf: {bundle}{bundle}.endp f\ny = f+16\n.type y,@function\n.size y,16",
                      f".global f\n.proc f\nf: {bundle}.endp f\n.symver f,f@@V1", f".proc f\nf: {bundle}.endp f\n.symver f,f@V1",
                      f".proc f\nf: {bundle}.data\nd: data8 0\n.size d,.-d\n.text\n{bundle}.endp f"):
             self.same(text + "\n", text)
@@ -1049,13 +1056,15 @@ class Reading(unittest.TestCase):
                 ("*\n", 1, "'*' isn't known here"), (".data\ndata8 5", 2, "no code stands in it"), ("", 1, "no code stands in it"),
                 (".mib\nbr.few r8", 2, "'r8' as a target"), (".mib;br.few 0x10", 1, "a target that is no label"),
                 (".mii\nnop 0\nmov b6=r8,y", 3, "the tag 'y' is no bundle near here"), (".align 24", 1, "an alignment that isn't known here"),
-                (".popsection", 1, "no section to come back to"), (".section", 1, "a section without a name, or with flags that aren't known here"),
+                (".popsection", 1, "no section to come back to"),
+                (".section", 1, "a section without a name, or with flags that aren't known here"),
                 (".section .x,\"2\"", 1, "a section without a name, or with flags that aren't known here"),
                 (".section .x,#alloc", 1, "a section without a name, or with flags that aren't known here"),
                 (".section .x\n.text\n.section .x,\"a\"", 3, "the section '.x' with other flags than before"),
                 (".section .x,\"ax\",@nobits", 1, "a section of code without bytes"),
                 (".xdata8 .text,5", 1, "'.xdata8' for a section of code"), (".data\ndata8 1$", 2, "'1$' as a number"),
-                (".alias f,\"g\"", 1, "the directive '.alias' isn't known here"), (".symver f,f", 1, "a version that isn't known here"),
+                (".alias f,\"g\"", 1, "the directive '.alias' isn't known here"),
+                (".symver f,f", 1, "a version that isn't known here"),
                 ("f: .mii;nop 0\n.data\ndata8 f&-16", 3, "'f&-16', which names code"),
                 ("f: .mii;nop 0\n.data\ndata8 f+f", 3, "'f+f', which names code"),
                 ("f: .mii;nop 0\n.data\ndata8 2*f", 3, "'2*f', which names code"),
@@ -1202,9 +1211,10 @@ class Verdicts(Case):
         for text, said in (
                 (f"{bundle}x: .skip 16\n", "6: error: not read without the GNU assembler: '.skip' in a section of code"),
                 (f"{bundle}x:\n.if 1\n", "7: error: not read without the GNU assembler: the directive '.if' isn't known here"),
-                ("x: .mii; nop 0\n.rotr A[4]", "2: error: not read without the GNU assembler: the directive '.rotr' isn't known here"),
-                ("{ .mii\n nop.m 0\n mov r8=psr\n nop.i 0\n}\n", "3: error: not read without the GNU assembler: the register 'psr' "
-                 "is outside the profile, or isn't there"),
+                ("x: .mii; nop 0\n.rotr A[4]",
+                 "2: error: not read without the GNU assembler: the directive '.rotr' isn't known here"),
+                ("{ .mii\n nop.m 0\n mov r8=psr\n nop.i 0\n}\n",
+                 "3: error: not read without the GNU assembler: the register 'psr' is outside the profile, or isn't there"),
                 ("hello world\n", "1: error: refused, name: the leading word begins no line"),
                 ("{ .mii\n nop.m 0\n frob r1\n", "3: error: refused, name: the leading word begins no line"),
                 ("{ .mii\n nop.m 0\n adds r8=9000,r9\n nop.i 0\n}\n", "3: error: refused, range: a number outside its field")):
