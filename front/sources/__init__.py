@@ -3,8 +3,9 @@
 The instructions of the source stand in the bundles and with the stops that the assembler gives them with `-xexplicit`: each goes
 into the next slot of its bundle that is of its unit, and a `nop` into those that are left. The assembler ends a group of itself
 before an `alloc`, behind a `clrrrb`, where a section, a function or a directive of alignment ends or begins, and at `.ident` and
-`.stabs`, and so is it here. `.handlerdata` ends a bundle alone. What pads code up to an alignment is there too. The bytes of the bundles are those that the proved program makes of a text
-(`text`), and what stands around them is as an object file has it (`code`):
+`.stabs`, and so is it here. `.handlerdata` ends a bundle alone. What pads code up to an alignment is there too. The bytes of the
+bundles are those that the proved program makes of a text (`text`), and what stands around them is as an object file has it
+(`code`):
 
 - Each section that holds code is one. Data are left out, and what is said of unwinding, of debugging and of the linker's symbols.
 - A number that the linker puts in is 0. A check looks at no number of an instruction that can be one.
@@ -18,8 +19,8 @@ before an `alloc`, behind a `clrrrb`, where a section, a function or a directive
 - An instruction outside the profile is that of a row of the table of stand-ins (`outside`), by its mnemonic and its operands.
 
 `Unread` says of the other sources what can't be read. Those are sources with system registers and what else no row has by its
-name and operands, code that the assembler packs by itself, macros, conditions, other expressions with labels of code, and whatever isn't known
-here.
+name and operands, code that the assembler packs by itself, macros, conditions, other expressions with labels of code, and
+whatever isn't known here.
 """
 
 from front.faults import Unread
