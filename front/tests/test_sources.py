@@ -766,7 +766,8 @@ class AsTheAssemblerHasIt(unittest.TestCase):
         for section in (*(f".{name}" for name in """
                 ctors ctors.5 dtors foo data datax data.rel.ro data1 data1.x rodata rodata1 rodatax sdata sdata2 tdata tdata1
                 init_array init_array.5 fini_array preinit_array jcr got opd lit8 srdata ldata eh_frame gcc_except_table
-                comment note note.x persistent gnu.linkonce.d.x gnu.linkonce.r.x gnu.linkonce.p.x gnu.linkonce.s.x debug_info IA_64.unwind_info
+                comment note note.x persistent gnu.linkonce.d.x gnu.linkonce.r.x gnu.linkonce.p.x gnu.linkonce.s.x debug_info
+                IA_64.unwind_info
                 """.split()), '.foo,"a"', '.ctors,"aw"', '.comment.x,"a"', '.rodata.x,""', '.debug_x,"a"', '.foo,"w"',
                         '.foo,"?a"', '.foo,"awG",@progbits,g,comdat', '.foo,"aMS",@progbits,1', '.x.gcc_except_table,"a"',
                         '.foo,"a"\n.text\n.section .foo'):
