@@ -467,7 +467,7 @@ class Reader:
     def instruction(self, guard, mnemonic, rest):
         code = self.code
         if not code:
-            self.fail("an instruction in a section of data")
+            self.fail("an instruction in a section of data", kind_of(mnemonic) is not None)
         if guard and guard not in REGISTERS:
             self.fail(f"the predicate '{guard}'")
         made = self.made(guard, mnemonic, rest)
