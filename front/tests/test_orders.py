@@ -260,19 +260,20 @@ class Calls(Compared):
 class Processes(Compared):
     """How often the program is called, by a wrapper that keeps the words and the input of each call."""
 
-    WRAPPER = """#!/bin/sh
-input=$(mktemp "{0}/input.XXXXXX")
-cat > "$input"
-echo "$* $(cksum < "$input")" >> "{0}/called"
-exec "{1}" "$@" < "$input"
+    WRAPPER = """#!{}
+import hashlib, subprocess, sys
+data = sys.stdin.buffer.read()
+with open({!r}, "a") as log:
+    print(*sys.argv[1:], hashlib.sha256(data).hexdigest(), file=log)
+sys.exit(subprocess.run([{!r}, *sys.argv[1:]], input=data).returncode)
 """
 
     def called(self, *words):
         """The calls of one call of the front, as they were made."""
         self.program = str(self.folder / "wrapper")
-        Path(self.program).write_text(self.WRAPPER.format(self.folder, PROGRAM))
-        Path(self.program).chmod(0o755)
         log = self.folder / "called"
+        Path(self.program).write_text(self.WRAPPER.format(sys.executable, str(log), PROGRAM))
+        Path(self.program).chmod(0o755)
         log.write_text("")
         self.assertIn(self.call(*words)[0], (0, 1, 3))
         return log.read_text().splitlines()
