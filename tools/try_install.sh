@@ -13,7 +13,7 @@ mkdir "$folder/bin" "$folder/more"
 python=$(python3 -c 'import sys; print(sys.executable)')
 ln -s "$python" "$folder/bin/python3"
 for tool in bash cat dirname grep head readlink sh; do ln -s "$(type -P $tool)" "$folder/bin/$tool"; done
-for tool in cmp cp diff mkdir sed seq tail ia64-linux-gnu-{addr2line,as,ld,objcopy,objdump}; do
+for tool in cmp cp diff ls mkdir sed seq tail ia64-linux-gnu-{addr2line,as,ld,objcopy,objdump}; do
   if type -P "$tool" > /dev/null; then ln -s "$(type -P "$tool")" "$folder/more/$tool"; fi
 done
 
