@@ -1,5 +1,6 @@
 """Pictures: what stands in them, and that it is what the program says."""
 
+import os
 import re
 import subprocess
 import sys
@@ -236,6 +237,16 @@ class Pictures(Draw):
         root = self.svg(self.put(END + END))
         self.assertIn("on no walk", [text_of(part) for part in classes(root, "quiet")])
         self.assertTrue(any(text_of(note).startswith("1 of 2 bundles are on a walk.") for note in classes(root, "note")))
+
+    def test_a_terminal(self):
+        """A picture isn't printed to a terminal."""
+        own, its = os.openpty()
+        done = subprocess.run([sys.executable, FRONT, "draw", example("count.s")], stdout=its, stderr=subprocess.PIPE,
+                              check=False)
+        os.close(own)
+        os.close(its)
+        self.assertEqual(done.returncode, 2)
+        self.assertIn(b"a picture is no text for a terminal", done.stderr)
 
     def test_what_is_proved(self):
         """The head says what is proved, and what isn't, by the program that was asked."""
