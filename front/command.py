@@ -86,8 +86,11 @@ def draw_options(parser):
                         help=f"these functions of it; without one all, of a file that has {MOST_FIGURES} at most")
     parser.add_argument("-o", "--output", metavar="PATH", type=picture_path,
                         help="where the picture goes: x.svg, or x.html, a page; by default an SVG on standard output")
+    parser.add_argument("--trace", type=between(0, usage.TRACE_LIMIT), metavar="N",
+                        help=f"in a page of a program that runs, at most N groups of its run, which can be stepped through: by "
+                             f"default {usage.TRACE_LIMIT}, which is the most, and 0 leaves the run out")
     add_code_options(parser)
-    parser.set_defaults(run=draw)
+    parser.set_defaults(run=draw, misused=parser.error)
 
 
 def picture_path(text):
@@ -121,6 +124,12 @@ def orders_options(parser):
                         help="of the random orders, by default 1")
     parser.add_argument("--all", action="store_true", help=f"all lines that differ, and not the first {lines.LINES} alone")
     parser.set_defaults(run=run_orders, misused=parser.error)
+
+
+def trace_options(parser):
+    from front.tracing import command
+    command.add_options(parser, between)
+    parser.set_defaults(run=run_trace, misused=parser.error)
 
 
 def call_options(parser):
@@ -253,6 +262,21 @@ def run_orders(options, program):
         raise Fault(f"{fault}: {said}" if said else str(fault)) from None
 
 
+def run_trace(options, program):
+    """A run, group by group. What isn't accepted is answered as by `run`."""
+    from front.tracing import command
+    misuse = command.misuse_of(options)
+    if misuse:
+        options.misused(misuse)
+    data = read_program(options.file)
+    status = program.raw(["check"], data)[0]
+    if status == DONE:
+        return command.trace(options, program, data)
+    if status == 1:
+        complain(f"a program with violations isn't run: ia64 orders {options.file} shows what its groups may do")
+    return plain_answer(program, ["trace", "0", "1"], data, path=options.file)
+
+
 def print_orders(options, program, data):
     """The status of a comparison of states, which is printed."""
     from front.ordering import lines, one_group, orders
@@ -271,23 +295,41 @@ def draw(options, program):
     """The picture of a program, or of functions of a file of code."""
     if not options.output and sys.stdout.isatty():
         raise Fault("a picture is no text for a terminal: -o x.svg or -o x.html says where it goes")
+    if options.trace is not None and form_of(options) != ".html":
+        options.misused("--trace tells a run in a page: -o x.html makes one")
     source = one_file(options.file, options.syscalls)
     file = built(source, options, program) if source.kind is Kind.TEXT else source
-    drawing = pictures()
-    if file.kind is Kind.CODE:
-        figures = drawing.of_code(file, chosen_functions(file, options.functions), Judge(program, verbose=True), is_proved())
-    elif options.functions:
-        raise Fault("a program, which has no functions with names")
-    else:
-        figures = [drawing.of_program(file, source, program, is_proved())]
-    form = drawing.FORMS[os.path.splitext(options.output)[1] if options.output else ".svg"]
-    picture = form(figures).encode()
+    picture = drawn_code(file, options, program) if file.kind is Kind.CODE else drawn_program(file, source, options, program)
     if options.output:
-        write_file(options.output, picture)
+        write_file(options.output, picture.encode())
     else:
         sys.stdout.flush()
-        sys.stdout.buffer.write(picture)
+        sys.stdout.buffer.write(picture.encode())
     return DONE
+
+
+def form_of(options):
+    """The suffix of the form that is drawn."""
+    return os.path.splitext(options.output)[1] if options.output else ".svg"
+
+
+def drawn_code(file, options, program):
+    """The picture of functions of a file of code."""
+    if options.trace is not None:
+        raise Fault(f"--trace tells a program's run, and functions aren't run; {OF_A_CALL}")
+    functions, drawing = chosen_functions(file, options.functions), pictures()
+    return drawing.FORMS[form_of(options)](drawing.of_code(file, functions, Judge(program, verbose=True), is_proved()))
+
+
+def drawn_program(file, source, options, program):
+    """The picture of a program."""
+    if options.functions:
+        raise Fault("a program, which has no functions with names")
+    drawing, groups = pictures(), usage.TRACE_LIMIT if options.trace is None else options.trace
+    figure = drawing.of_program(file, source, program, is_proved())
+    if form_of(options) == ".html":
+        return drawing.page_of_program(figure, file, source, program, groups)
+    return drawing.FORMS[form_of(options)]([figure])
 
 
 def chosen_functions(file, names):
@@ -329,7 +371,7 @@ def plain_answer(program, arguments, data, output=None, path=""):
         sys.stdout.buffer.write(printed)
     if status in SAID:
         complain(SAID[status].format(arguments[0]))
-    if status == 3 and arguments[0] in usage.LIMITS:
+    if status == 3 and arguments[0] in (*usage.LIMITS, "trace"):
         said = said_of_source(path, data, printed.decode("latin-1").strip())
         if said:
             complain(f"{path}: {said}")
@@ -340,7 +382,7 @@ def plain_answer(program, arguments, data, output=None, path=""):
 MOST_FIGURES, MOST_NAMES = 10, 20
 
 # How what isn't run by itself is run.
-OF_A_CALL = "`ia64 call FILE FUNCTION --image PATH` makes an image of a call, which run, watch, groups and orders take"
+OF_A_CALL = "`ia64 call FILE FUNCTION --image PATH` makes an image of a call, which run, watch, groups, trace and orders take"
 
 # What a status of the program means that prints nothing, or not all.
 SAID = {3: "'{}' refused its input; the reason went to standard output",
@@ -358,6 +400,7 @@ COMMANDS = {
     "loosen": (loosen_options, "the instructions of a text, without bundles and stops"),
     "draw": (draw_options, "a picture of a program or of functions: bundles, groups, branches, and pairs that clash"),
     "orders": (orders_options, "which states the orders of a group's writes leave, and in what they differ"),
+    "trace": (trace_options, "a run, group by group, with what each of them changed"),
     "call": (call_options, "what a compiled function answers to a call, and what data it changes"),
     "run": (plain_options, "the state after at most N groups of an accepted program"),
     "watch": (plain_options, "as run, behind its first eight groups"),

@@ -5,6 +5,9 @@ import re
 
 GROUP_LIMIT, NUMBER_LIMIT = 10**7, 2**64 - 1
 
+# How many groups the program tells in one answer of `trace`.
+TRACE_LIMIT = 100
+
 USAGE = """\
 usage: ia64 COMMAND [OPTION..] FILE..
        ia64 COMMAND < INPUT
@@ -20,10 +23,12 @@ assembler.
   stops FILE      the text of the program into which the instructions of a text are packed, with the stops that they need
   loosen FILE     the instructions of a text, without its bundles and stops
   draw FILE [FUNCTION..] -o x.svg
-                  a picture of a program or of functions, or, with -o x.html, a page: bundles, groups, branches, pairs that clash
+                  a picture of a program or of functions, or, with -o x.html, a page: bundles, groups, branches, pairs that
+                  clash, and the run of a program, to be stepped through
   orders FILE [GROUP]
                   which states the orders of a group's writes leave, and in what they differ: those of all groups of a run, or
                   of the one with this number
+  trace FILE [N]  a run, group by group: the instructions of each of its first N groups, how it ended and what it changed
   call FILE FUNCTION [ARG..]
                   what a function of an object file answers to a call with numbers, texts and buffers, and what data it changes;
                   with GNU ld for ia64
@@ -35,6 +40,8 @@ Programs, texts or images, from a FILE or from standard input:
   watch N         as run N, and before the state a line for each of the first 8 groups, and how many groups and slots there were
   groups N K      the state after at most N groups of a program, accepted or not, each group all at once and its writes in the
                   order with the number K, below 2^64; K 0 is program order
+  trace FIRST COUNT
+                  the state after FIRST groups, 0 to 10000000, and that behind each of the next COUNT, 1 to 100
   build           the image of a text
   stops           the text of the program into which loose instructions are packed, with the stops that they need
   show            the text of an image

@@ -16,7 +16,7 @@ DONE, VIOLATED, REFUSED = 0, 1, 3
 
 # Numbers that commands take: of groups, of bundles, and of 64 bits, as an order and a seed.
 NUMBER = re.compile(rb"0|[1-9][0-9]*")
-GROUPS, BUNDLES, WIDE = range(1, 10**7 + 1), range(1, 4097), range(2**64)
+GROUPS, PASSED, TRACED, BUNDLES, WIDE = range(1, 10**7 + 1), range(10**7 + 1), range(1, 101), range(1, 4097), range(2**64)
 
 
 class Command(NamedTuple):
@@ -40,6 +40,7 @@ COMMANDS = {
     "check": Command((), None, 200_000, 0),
     "run": Command((GROUPS,), 0, 200_000, 20_000),
     "watch": Command((GROUPS,), 0, 200_000, 20_000),
+    "trace": Command((PASSED, TRACED), 0, 200_000, 20_000),
     "groups": Command((GROUPS, WIDE), 0, 4000, 250_000),
     "trial": Command((WIDE, BUNDLES), 1, 0, 100_000),
 }
@@ -169,6 +170,8 @@ class Calls:
             return printed_forms.violations_oddity(output, int(words[2]) if word == "trial" else bundles_of(data))
         if word == "stops" and status == DONE:
             return packed_oddity(output)
+        if word == "trace" and output:
+            return printed_forms.state_oddity(output[output.rfind(b"\nend ") + 1:], bundles_of(data), sum(map(int, words[1:])))
         if word not in ("run", "watch", "groups") or not output:
             is_shown = is_image and word != "wrap" and output
             return printed_forms.head_fault(data) or printed_forms.relation_fault(data) if is_shown else None
@@ -181,17 +184,21 @@ class Calls:
             self.note([word], f"{difference(answer, wanted)}, as {like}")
 
     def verdicts(self, data):
-        """The answers of `check`, `run N`, `watch N` and `groups N K`, which are held to each other."""
+        """The answers of `check`, `run N`, `watch N` and `groups N K`, which are held to each other, and `trace` to them."""
         checked = self.call("check", data=data)
         ran, watched = (self.call(word, self.groups, data=data) for word in ("run", "watch"))
         at_once = self.call("groups", self.groups, self.order, data=data)
+        traced = self.call("trace", str(int(self.groups) - 1), "1", data=data)
         if checked.status != DONE:
             self.same("run", ran, checked, "check says")
             self.same("watch", watched, checked, "check says")
+            self.same("trace", traced, checked, "check says")
         elif ran.status in (VIOLATED, REFUSED):
             self.note(["run", self.groups], f"status {ran.status} where check accepts")
         elif watched.status != ran.status or not watched.output.endswith(b"\n" + ran.output):
             self.note(["watch", self.groups], "another state or status than that of run")
+        elif traced.status != ran.status or not (b"\n" + traced.output).endswith(b"\n" + ran.output):
+            self.note(["trace", str(int(self.groups) - 1), "1"], "another last state or status than that of run")
         if checked.status != VIOLATED:
             self.same("groups", at_once, ran, "run says")
         return checked, ran, watched, at_once

@@ -18,9 +18,9 @@ a refusal names a place of the input, and at the processor time (`COMMANDS` of c
 - `check`, `run N`, `watch N` and `groups N K` answer the same of a text, its image and the image's text,
   and refuse what `build`, or of an image `show`, refuses, in the same way. An image whose relation is refused
   is read without its relations;
-- `run N` and `watch N` print what `check` does exactly where that isn't `accepted`; `watch N` ends with
-  what `run N` prints, and its reports and the state are of one run; `groups N K` prints what `run N` does
-  where `check` says `accepted`, and a state where it doesn't;
+- `run N`, `watch N` and `trace` print what `check` does exactly where that isn't `accepted`; `watch N` and a
+  trace of the N-th group end with what `run N` prints, and its reports and the state are of one run;
+  `groups N K` prints what `run N` does where `check` says `accepted`, and a state where it doesn't;
 - what `stops` prints has a line for each of its stops, each with a violation round it; `check` accepts it, and
   `build` of it and then `show` gives its canonical text. A right loose text is packed, unless it is too long.
 
@@ -174,6 +174,8 @@ def words(calls, random):
     if given[0] in (b"run", b"watch", b"groups"):
         given += [b"%d" % random.choice(GROUPS)]
         given += [b"%d" % wide_number(random)] if given[0] == b"groups" else []
+    elif given[0] == b"trace":
+        given += [b"%d" % random.choice((0, *GROUPS)), b"%d" % random.choice((1, 2, 100, random.randrange(1, 101)))]
     elif given[0] == b"trial":
         given += [b"%d" % wide_number(random)]
         given += [b"%d" % random.choice((*BUNDLES, random.randrange(1, 99)))]

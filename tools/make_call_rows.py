@@ -529,6 +529,59 @@ def groups():
     yield Row("groups 1000 18446744073709551615", SUM_TEXT, 0, SUM)
 
 
+# A loop without an end, of a group a turn.
+ENDLESS_TEXT = "loop:\n{ .mib\nadds r8=1,r8\nnop 0\nbr.cond.sptk.few loop ;;\n}\n"
+
+
+def turn(number):
+    """The state after so many turns of it."""
+    return state("limit at 0.0", number, *[f"r8 {number:016x}"] * (number > 0))
+
+
+def turns(first, count):
+    """What `trace` prints of these turns of it."""
+    return turn(first) + "".join(f"{number} 0.0 0.2 taken\n{turn(number)}" for number in range(first + 1, first + count + 1))
+
+
+def stage(groups, *lines, bases, pr, counts):
+    """A state of the pipelined loop, before one of its turns."""
+    counters = [f"ar.{name} {value:016x}" for name, value in zip(("lc", "ec"), counts)]
+    return state("limit at 2.0", groups, *lines, frame=f"0 sof 8 sol 8 sor 1 rrb {bases}", rse="0 8 0 0", pr=pr, below=counters)
+
+
+def traces():
+    """Groups of a run, and the states round them."""
+    # A group that falls through a stop, and one that ends the run. Where the run has no group behind those that are passed over,
+    # its end alone is printed.
+    begin, between = state("limit at 0.0", 0), state("limit at 0.2", 1, "r8 ffffffffffffffff")
+    yield Row("trace 0 1", BREAK_TEXT, 8, f"{begin}1 0.0 0.1 falls\n{between}")
+    yield Row("trace 0 2", BREAK_TEXT, 0, f"{begin}1 0.0 0.1 falls\n{between}2 0.2 0.2 ends\n{AT_BREAK}")
+    yield Row("trace 0 100", BREAK_TEXT, 0, f"{begin}1 0.0 0.1 falls\n{between}2 0.2 0.2 ends\n{AT_BREAK}")
+    yield Row("trace 1 1", BREAK_TEXT, 0, f"{between}2 0.2 0.2 ends\n{AT_BREAK}")
+    yield Row("trace 2 1", BREAK_TEXT, 0, AT_BREAK)
+    yield Row("trace 10000000 100", BREAK_TEXT, 0, AT_BREAK)
+    # The same of a fault, and the data of the state in which a run begins.
+    middle = state("limit at 1.0", 1, "r9 0000000000000081")
+    yield Row("trace 0 9", RETURN_TEXT, 9, f"{begin}1 0.0 0.2 falls\n{middle}2 1.0 1.2 ends\n{UNDERFLOW}")
+    yield Row("trace 2 1", RETURN_TEXT, 9, UNDERFLOW)
+    data = state("limit at 0.0", 0, below=["m 0000000000100000 0000000000000001"])
+    yield Row("trace 0 1", DATA_TEXT, 9, f"{data}1 0.0 0.2 ends\n{FELL_OFF_WITH_DATA}")
+    # Branches that are taken, as many as a trace may have, from the start and from later on; and a rotation.
+    for first, count in ((0, 1), (0, 100), (1, 100), (1000, 2)):
+        yield Row(f"trace {first} {count}", ENDLESS_TEXT, 8, turns(first, count))
+    yield Row("trace 2 2", PIPELINED_TEXT, 8, "".join([
+        stage(2, bases="0 0 0", pr=0x10001, counts=(3, 2)), "3 2.0 2.2 taken\n",
+        stage(3, "r33 0000000000000001", bases="7 95 47", pr=0x8000000000010001, counts=(2, 2)), "4 2.0 2.2 taken\n",
+        stage(4, "r10 0000000000000001", "r33 0000000000000002", "r34 0000000000000001", bases="6 94 46",
+              pr=0xC000000000010001, counts=(1, 2))]))
+    yield Row("trace 15 100", SUM_TEXT, 0, f"{SUM.replace('break 0x0 at 2.2', 'limit at 2.0').replace('groups 16', 'groups 15')}"
+                                           f"16 2.0 2.2 ends\n{SUM}")
+    # What isn't accepted isn't run.
+    yield Row("trace 0 1", TWO_WRITES_TEXT, 1, TWO_WRITES)
+    yield Row("trace 0 1", image(1, 1, CLASH), 1, CLASH_VERDICT)
+    yield Row("trace 0 1", "", 3, "line 1: empty\n")
+
+
 def relations():
     """Relations of an image: where they count, and how they are refused."""
     clash = "violations 1\nWAW r8 1.1 1.2\n"
@@ -703,11 +756,14 @@ def other_words():
     slow = {"source": Source(16), "sink": Sink(100, 16)}
     for words in ("run", "run 0", "run 01", "run +5", "run 5x", "run 10000001", "run 5 6", "watch", "watch 0", "watch 10000001",
                   "groups 5", "groups 0 0", "groups 10000001 0", "groups 5 00", "groups 5 18446744073709551616",
-                  "groups 5 0 0", "trial 1 4097", "check now", "Check", "", 1000 * "w", "wrap " + 1000 * "w"):
+                  "groups 5 0 0", "trace", "trace 0", "trace 0 0", "trace 0 101", "trace 01 1", "trace 10000001 1",
+                  "trial 1 4097", "check now", "Check", "", 1000 * "w", "wrap " + 1000 * "w"):
         yield Row(words, image(1, 1, NOPS), 2, "", **slow)
     for words in ("run -5", "run 99999999999999999999", "watch 01", "watch +5", "watch 5 6", "Watch 5", "groups", "groups 5 01",
-                  "groups 5 +1", "groups 5 -1", "groups 5 1x", "groups 01 0", "trial", "trial 1", "trial 1 0", "trial 1 01",
-                  "trial -1 1", "trial 01 1", "trial 18446744073709551616 1", "trial 1 1 1", "build 1", "stops now", "show 1",
+                  "groups 5 +1", "groups 5 -1", "groups 5 1x", "groups 01 0", "trace 1", "trace 00 1", "trace 0 01", "trace -1 1",
+                  "trace 0 -1", "trace +0 1", "trace 0 1x", "trace 0 1 1", "Trace 0 1", "trial", "trial 1", "trial 1 0",
+                  "trial 1 01", "trial -1 1", "trial 01 1", "trial 18446744073709551616 1", "trial 1 1 1", "build 1",
+                  "stops now", "show 1",
                   "list 1", "lift 1", "wrap wrap", "check check", "ia64 check"):
         yield Row(words, image(1, 1, NOPS), 2, "", Source(16, 0, FAILS), Sink(0))
 
@@ -756,6 +812,7 @@ PLAIN = [
     Row("run 10", RETURN_TEXT, 9, UNDERFLOW),
     Row("watch 10", RETURN_TEXT, 9, UNDERFLOW),
     Row("groups 5 1", TWO_WRITES_TEXT, 9, FIRST_WRITE),
+    Row("trace 2 5", RETURN_TEXT, 9, UNDERFLOW),
     Row("trial 1 1", "not read", 0, TRIAL),
 ]
 
@@ -794,11 +851,12 @@ def examples():
         yield Row("check", text, 0, "accepted\n")
         yield Row("build | check", text, 0, "accepted\n", **SLOWLY)
         yield Row("build | run 1000", text, 0, said(text))
+        yield Row("trace 1000 1", text, 0, said(text))
         for order in ORDERS:
             yield Row(f"groups 1000 {order}", text, 0, said(text))
     for name in ("loop_edge", "swap", "override", "late_alloc"):
         text = file(f"examples/{name}.s")
-        for command in ("check", "run 100", "watch 100"):
+        for command in ("check", "run 100", "watch 100", "trace 0 100"):
             yield Row(command, text, 1, said(text))
     for name, verdict in (("three_nops", (0, "accepted\n")), ("read_after_write", (1, CLASH_VERDICT))):
         text, whole = file(f"examples/{name}.s"), (ROOT / f"examples/{name}.image").read_bytes()
@@ -819,6 +877,8 @@ def tries():
         yield Row(f"run {groups}", text, status, ended)
         yield Row(f"build | run {groups}", text, status, ended, **SLOWLY)
         yield Row("check", text, 0, "accepted\n")
+        if status != 8:
+            yield Row(f"trace {groups} 1", text, status, ended)
         for order in ORDERS:
             yield Row(f"groups {groups} {order}", text, status, ended)
     for path in sorted((ROOT / "tries/check").glob("*.s")):
@@ -841,7 +901,7 @@ def refused_texts():
             (4, "no label", "{ .mib\nnop 0\nnop 0\nbr.cond.sptk.few x\n}\n"),
             (3, "limit", ".data\n.skip 1048576\ndata1 0\n"), (1, "misplaced", "nop.i 0\n"), (2, "misplaced", "{ .mii\n"),
             (1, "empty", ""), (322, "long run", 65 * "{ .mii\nnop 0\nnop 0\nnop 0\n}\n")):
-        for command in ("build", "check", "run 1", "groups 1 0"):
+        for command in ("build", "check", "run 1", "groups 1 0", "trace 0 1"):
             yield Row(command, text, 3, f"line {line_number}: {reason}\n")
 
 
@@ -858,7 +918,7 @@ def wrong():
     yield Row("check now", CLASH_TEXT, 2, "", Source(left=0))
 
 
-SECTIONS = (commands, refused_images, wraps, runs, groups, relations, lifts, stops, texts_that_come_back, computations,
+SECTIONS = (commands, refused_images, wraps, runs, groups, traces, relations, lifts, stops, texts_that_come_back, computations,
             pairs, loops, many_violations,
             other_words, failing_streams, cut_inputs, slow_streams, examples, tries, refused_texts)
 

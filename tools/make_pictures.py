@@ -13,8 +13,9 @@ from pathlib import Path
 ROOT = Path(__file__).resolve().parent.parent
 FOLDER = ROOT / "docs" / "pictures"
 
-# Which examples are shown.
-EXAMPLES = ("swap", "override", "late_alloc", "loop_edge", "predicated")
+# Which examples are shown, by their paths in examples/. A picture has the last part of that for its name.
+EXAMPLES = ("swap", "override", "late_alloc", "loop_edge", "predicated", "count", "call", "pipelined_loop",
+            "lessons/01_group", "lessons/05_loop_edge", "lessons/06_pipelined_loop")
 
 
 def drawn(name):
@@ -32,12 +33,12 @@ def main():
         sys.exit("usage: make_pictures.py [--check]")
     stale = 0
     for name in EXAMPLES:
-        path, picture = FOLDER / f"{name}.svg", drawn(name)
+        path, picture = FOLDER / f"{Path(name).name}.svg", drawn(name)
         if not sys.argv[1:]:
             FOLDER.mkdir(exist_ok=True)
             path.write_bytes(picture)
         elif not path.exists() or path.read_bytes() != picture:
-            print(f"docs/pictures/{name}.svg isn't what tools/make_pictures.py draws")
+            print(f"docs/pictures/{path.name} isn't what tools/make_pictures.py draws")
             stale = 1
     sys.exit(stale)
 

@@ -55,6 +55,9 @@ REST = (rf"{GROUPS}frame {N} sof {N} sol {N} sor {N} rrb {N} {N} {N}\nrse {N} {N
 # The reports.
 REPORTS = rf"watch 0\n(?:[1-8] {PLACE} {PLACE} (?:falls|taken|ends)\n){{1,8}}watch 1\ngroups {N} slots {N} taken {N}\n"
 
+# The states of a trace but for the last, each with the line of the group behind it. Before the first group there are 0.
+TRACED = rf"(?:{LIMITED}{REST.replace(GROUPS, f'groups {N}{chr(92)}n', 1)}{N} {PLACE} {PLACE} (?:falls|taken|ends)\n)*"
+
 # The canonical text and the listing.
 SHAPES = sorted({names for names, _ in TEMPLATES.values()} - {"mlx"})
 TOKEN = rf"(?:r{GENERAL}|p{PREDICATE}|b[0-7]|ar\.(?:unat|pfs|lc|ec)|pr|pr\.rot|ip|L{N}|-?{N}|{HEX})"
@@ -85,6 +88,7 @@ FORMS = {
     "check": {0: ACCEPTED, 1: VIOLATIONS},
     "run": {0: BROKEN + REST, 1: VIOLATIONS, 8: LIMITED + REST, 9: FAULTED + REST},
     "watch": {0: REPORTS + BROKEN + REST, 1: VIOLATIONS, 8: REPORTS + LIMITED + REST, 9: REPORTS + FAULTED + REST},
+    "trace": {0: TRACED + BROKEN + REST, 1: VIOLATIONS, 8: TRACED + LIMITED + REST, 9: TRACED + FAULTED + REST},
     "groups": {0: BROKEN + REST, 8: LIMITED + REST, 9: FAULTED + REST},
     "trial": {0: TRIAL, 1: VIOLATIONS},
 }

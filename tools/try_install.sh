@@ -37,6 +37,8 @@ tries() {
   note $? "$2: the version"
   PATH=$folder/bin "$ia64" --help 2>&1 | grep -q '^  check FILE'
   note $? "$2: help"
+  cmp -s "$1/share/doc/ia64/docs/page/index.html" "$here/docs/page/index.html"
+  note $? "$2: the page for a browser"
   [ "$(head -c 4 "$1/share/man/man1/ia64.1")" = '.TH ' ] && bash -n "$1/share/bash-completion/completions/ia64"
   note $? "$2: the manual page, or the completions"
   cd "$here" || exit 1

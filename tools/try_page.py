@@ -42,8 +42,8 @@ ANSWERS = (0, 1, 8, 9)
 
 # `./ia64` of a page: the program, or the front.
 CALL = """#!/bin/sh
-case $#:$1 in
-  1:* | 2:run | 2:watch | 3:groups | 3:trial) exec {program} "$@" ;;
+case $#:$1:$2 in
+  1:* | 2:run:* | 2:watch:* | 3:groups:* | 3:trace:[0-9]* | 3:trial:*) exec {program} "$@" ;;
   *) IA64_PROGRAM={program} exec {python} -E {front} "$@" ;;
 esac
 """

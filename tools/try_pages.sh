@@ -7,7 +7,7 @@ if [ $# != 0 ]; then standing=(--root "$1"); fi
 try() { python3 -B "$here/tools/try_page.py" "${standing[@]}" "$@" || status=1; }
 try "$root/docs/WRONG_GROUPS.md" "$root/examples/lessons/README.md"
 try --section 'From a text' --section 'See it' --section 'Let the tool set the stops' --section 'Running a program' \
-  --section 'What may a wrong group do?' --section 'Where does a program spend its groups?' --section 'Where a text is refused' \
+  --section 'Following a run' --section 'What may a wrong group do?' --section 'Where does a program spend its groups?' --section 'Where a text is refused' \
   --section 'Where an image is refused' --section 'Exit statuses' "$root/docs/MANUAL.md"
 try --answers --section 'Programs of a stated size' "$root/docs/MANUAL.md"
 try --answers --section 'Run it' "$root/README.md"

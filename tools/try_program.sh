@@ -98,6 +98,19 @@ try_groups() {
   for number in 0 1 7 18446744073709551615; do try "$1, order $number" "$2" "$3" "$4" groups "$5" "$number"; done
 }
 
+# NAME STATUS INPUT LAST: `trace` of the groups from 2 to the last, at most the eighth, ends with the status and prints the states
+# of `run 1` and on, and of each group the line that `watch` prints.
+try_trace() {
+  local name=$1 status=$2 input=$3 last=$4 number got
+  "$program" trace 1 $((last - 1)) < "$input" > "$dir/out" 2> "$dir/err"
+  got=$?
+  for number in $(seq "$last"); do "$program" run "$number" < "$input"; done > "$dir/states"
+  "$program" watch "$last" < "$input" | sed -n "3,$((last + 1))p" > "$dir/lines"
+  [ "$got" = "$status" ] && [ ! -s "$dir/err" ] && grep -v '^[0-9]' "$dir/out" | cmp -s - "$dir/states" &&
+    grep '^[0-9]' "$dir/out" | cmp -s - "$dir/lines"
+  note $? "$name, traced: status $got in place of $status, or other bytes"
+}
+
 # What the comment of an example says that `run` prints.
 for name in count counted_loop pipelined_loop predicated behind_a_call call speculation equal_bytes lock counter; do
   sed -n 's|^//   ||p' "examples/$name.s" > "$dir/$name"
@@ -131,10 +144,23 @@ watched call 6 18 2 '0.0 0.2 falls' '1.0 1.2 taken' '3.0 3.2 falls' '4.0 4.2 fal
 watched speculation 14 41 3 '0.0 0.1 falls' '1.0 1.2 falls' '2.0 2.2 falls' '3.0 3.2 falls' '4.0 4.2 falls' '5.0 5.2 taken' \
   '1.0 1.2 falls' '2.0 2.2 falls'
 
+try_trace count 8 examples/count.s 8
+try_trace pipelined_loop 0 examples/pipelined_loop.s 8
+try_trace call 0 examples/call.s 6
+try_trace speculation 8 examples/speculation.s 8
+try_trace deep_recursion 8 examples/deep_recursion.s 8
+for words in '22 1' '10000000 100'; do
+  # shellcheck disable=SC2086
+  try "count, traced from its end: $words" 0 "$dir/count" examples/count.s trace $words
+done
+
 for name in loop_edge swap override late_alloc; do
   sed -n 's|^//   ||p' "examples/$name.s" > "$dir/$name"
   try "$name, as it says" 1 "$dir/$name" "examples/$name.s" check
-  for command in run watch; do try "$name, $command, as it says" 1 "$dir/$name" "examples/$name.s" "$command" 100; done
+  for command in run watch 'trace 0'; do
+    # shellcheck disable=SC2086
+    try "$name, $command, as it says" 1 "$dir/$name" "examples/$name.s" $command 100
+  done
 done
 
 # A text of tries/ says in its first line for how many groups it is run and with which status that ends. All are accepted.
@@ -232,6 +258,16 @@ try 'groups of a folder' 5 "$dir/nothing" "$dir" groups 1 0
 for words in '' 5 '5 00' '5 01' '5 +1' '5 -1' '5 1x' '5 18446744073709551616' '0 0' '01 0' '10000001 0' '5 0 0'; do
   # shellcheck disable=SC2086
   try "groups $words" 2 "$dir/nothing" examples/count.s groups $words
+done
+
+try 'trace of nothing' 3 "$dir/empty" /dev/null trace 0 1
+try 'trace of no text' 3 "$dir/char" "$dir/no_image" trace 0 1
+try 'trace of a cut image' 3 "$dir/length" "$dir/cut" trace 0 1
+try 'trace of a long input' 4 "$dir/nothing" "$dir/too_long" trace 0 1
+try 'trace of a folder' 5 "$dir/nothing" "$dir" trace 0 1
+for words in '' 5 '0 0' '0 01' '00 1' '01 1' '0 101' '10000001 1' '-1 1' '+1 1' '0 1x' '0 1 1'; do
+  # shellcheck disable=SC2086
+  try "trace $words" 2 "$dir/nothing" examples/count.s trace $words
 done
 
 # Trials, which read nothing, not even a folder. Every program of these seeds is accepted.

@@ -68,7 +68,8 @@ IMAGE = b"IA64IMG1" + struct.pack("<4I", 4096, 0, 0, 0) + BUNDLES
 
 # Each command that reads, and an input for which it gives an answer.
 READERS = ((("build",), TEXT), (("stops",), LOOSE), (("show",), IMAGE), (("list",), IMAGE), (("wrap",), BUNDLES), (("lift",), IMAGE),
-           (("check",), TEXT), (("run", "1"), TEXT), (("watch", "1"), TEXT), (("groups", "1", "0"), TEXT))
+           (("check",), TEXT), (("run", "1"), TEXT), (("watch", "1"), TEXT), (("trace", "0", "1"), TEXT),
+           (("groups", "1", "0"), TEXT))
 
 # ---- Streams and calls -----------------------------------------------------------------------------------
 
@@ -303,6 +304,8 @@ class Inputs(Streams):
                 (["wrap"], BUNDLES + b"x", 3, len(BUNDLES) + 1),
                 (["run", "1"], LOOP, 8, len(LOOP)),
                 (["watch", "1"], TEXT, 9, len(TEXT)),
+                (["trace", "0", "100"], TEXT, 9, len(TEXT)),
+                (["trace", "0", "101"], TEXT, 2, 0),
                 (["groups", "1", "7"], LOOP, 8, len(LOOP)),
                 (["groups", "1"], LOOP, 2, 0),
                 (["trial", "1", "1"], TEXT, 0, 0),
@@ -694,7 +697,8 @@ class Surroundings(Streams):
         """256 kibibytes are enough."""
         for words, content, status in (
                 (["check"], 4096 * TEXT, 0), (["build"], 4096 * TEXT, 0), (["show"], IMAGE, 0), (["list"], IMAGE, 0), (["wrap"], BUNDLES, 0),
-                (["run", "9"], LOOP, 8), (["watch", "9"], LOOP, 8), (["groups", "9", "1"], LOOP, 8), (["trial", "1", "4096"], b"", 0)):
+                (["run", "9"], LOOP, 8), (["watch", "9"], LOOP, 8), (["trace", "9", "9"], LOOP, 8), (["groups", "9", "1"], LOOP, 8),
+                (["trial", "1", "4096"], b"", 0)):
             with self.subTest(words):
                 got, _, said = self.outcome(*words, stdin=self.file(content), limits=[(resource.RLIMIT_STACK, 1 << 18)], environment={})
                 self.assertEqual((got, said), (status, b""))
@@ -732,7 +736,7 @@ cat "$OUTLINE/output" 2> /dev/null
         self.sources_sum, kept = self.outline / "tools" / "sources_sum", self.outline / "out" / "unproved"
         for folder in self.sources_sum.parent, kept:
             folder.mkdir(parents=True)
-        for name in "tools/sources_sum", "tools/compile_unproved", "crates.txt":
+        for name in "tools/sources_sum", "tools/kit_mirror", "tools/compile_unproved", "crates.txt":
             shutil.copy(HERE / name, self.outline / name)
         shutil.copytree(HERE / "front", self.outline / "front", ignore=shutil.ignore_patterns("tests", "__pycache__"))
         self.standing_in("rt", self.RT)
@@ -816,6 +820,7 @@ cat "$OUTLINE/output" 2> /dev/null
         for before in self.built_or_not():
             for words, status in (
                     ([], 2), (["run"], 2), (["watch", "0"], 2), (["run", "10000001"], 2), (["check", "x"], 2), (["Check"], 2), (["--help"], 0),
+                    (["trace", "0", "0"], 2), (["trace", "0", "101"], 2), (["trace", "01", "1"], 2), (["trace", "10000001", "1"], 2),
                     (["groups", "5"], 2), (["groups", "10000001", "0"], 2), (["groups", "5", "00"], 2), (["groups", "5", "18446744073709551616"], 2),
                     (["trial", "1", "4097"], 2), (["trial", "18446744073709551616", "1"], 2), (["trial", "18446744073709551615", "1"], 0)):
                 with self.subTest(words, before=before):

@@ -35,6 +35,12 @@ for name in count call pipelined_loop equal_bytes lock counter loop_edge; do sed
   cat "$dir/count"
 } > "$dir/watched"
 
+{
+  sed 's/^end .*/end limit at 3.0/; s/^groups .*/groups 21/' "$dir/count"
+  echo '22 3.0 3.2 ends'
+  cat "$dir/count"
+} > "$dir/traced"
+
 # The calls of the README, on the proved program: nothing is said beside the answer.
 try 'a hazard' 1 "$dir/raw" '' examples/read_after_write.s ./ia64 check
 try 'a hazard of an image' 1 "$dir/raw" '' examples/read_after_write.image ./ia64 check
@@ -44,6 +50,9 @@ try 'a run' 0 "$dir/count" '' examples/count.s ./ia64 run 100
 try 'a run that is watched' 0 "$dir/watched" '' examples/count.s ./ia64 watch 100
 try 'a hazard that is watched' 1 "$dir/raw" '' examples/read_after_write.s ./ia64 watch 100
 try 'a run all at once' 0 "$dir/count" '' examples/count.s ./ia64 groups 100 1
+try 'a run group by group' 0 "$dir/traced" '' examples/count.s ./ia64 trace 21 100
+try 'a run group by group, behind its end' 0 "$dir/count" '' examples/count.s ./ia64 trace 10000000 1
+try 'a hazard group by group' 1 "$dir/raw" '' examples/read_after_write.s ./ia64 trace 0 1
 try 'two predicates' 0 "$dir/accepted" '' examples/predicated.s ./ia64 check
 try 'two predicates behind a call' 0 "$dir/accepted" '' examples/behind_a_call.s ./ia64 check
 try 'a run of a pipelined loop' 0 "$dir/pipelined_loop" '' examples/pipelined_loop.s ./ia64 run 100
@@ -74,6 +83,9 @@ printf '%s\n' 'examples/read_after_write.s:12:3: error: RAW r8: '"'add r11=r8,r9
   "examples/read_after_write.s:11:3: note: 'add r8=r9,r10' is here" '1 accepted, 1 violated, 0 not judged' > "$dir/files"
 try 'two texts' 1 "$dir/files" '' /dev/null ./ia64 check examples/read_after_write.s examples/count.s
 try 'standard input as a file' 1 "$dir/raw" '' examples/read_after_write.s ./ia64 run 100 -
+printf '%s\n' 'group 22: 3.0 to 3.2, then break 0x0' '  3.2  line 40  break.b 0' '    nothing changes' \
+  'the run ended at 3.2 with break 0x0, after 22 groups' > "$dir/told"
+try 'the groups of a file' 0 "$dir/told" '' /dev/null ./ia64 trace examples/count.s --from 22
 try 'no such file' 2 "$dir/nothing" 'ia64: nowhere: No such file or directory' /dev/null ./ia64 run 100 nowhere
 ./ia64 stops < examples/loose.s > "$dir/answer"
 try 'stops of a file' $? "$dir/answer" '' /dev/null ./ia64 stops examples/loose.s
@@ -97,6 +109,7 @@ try 'groups with too large an order' 2 "$dir/nothing" ': ia64 groups 100 0 FILE'
 try 'too many groups, with the last order' 2 "$dir/nothing" 'ia64 groups 10000000 18446744073709551615 FILE' /dev/null ./ia64 groups 10000001 18446744073709551615
 try 'no groups, with an order' 2 "$dir/nothing" 'ia64 groups 100 7 FILE' /dev/null ./ia64 groups 0 7
 try 'a third number' 2 "$dir/nothing" 'ia64 groups 5 6 FILE' /dev/null ./ia64 groups 5 6 7
+try 'too many groups to trace' 2 "$dir/nothing" "'trace' takes a file.*: ia64 trace FILE 20, or ia64 trace 0 20 < FILE" /dev/null ./ia64 trace 0 101
 try 'upper case' 2 "$dir/nothing" 'perhaps: ia64 check examples/count.s' /dev/null ./ia64 Check examples/count.s
 try 'stops in upper case' 2 "$dir/nothing" 'perhaps: ia64 stops FILE' /dev/null ./ia64 Stops
 try 'upper case before a number' 2 "$dir/nothing" 'perhaps: ia64 watch 7 examples/count.s' /dev/null ./ia64 --Watch 7 examples/count.s
@@ -105,7 +118,7 @@ try 'upper case before a seed' 2 "$dir/nothing" 'perhaps: ia64 trial 1 100$' /de
 try 'an unknown word' 2 "$dir/nothing" "no command 'assemble'" /dev/null ./ia64 assemble
 ./ia64 --help > "$dir/help"
 try 'help' 0 "$dir/help" '' /dev/null ./ia64 --help
-for command in 'check FILE..' 'list FILE' 'show FILE' 'stops FILE' 'loosen FILE' 'orders FILE' check 'run N' 'watch N' 'groups N' build stops show list wrap lift 'trial SEED'; do grep -q "^  $command " "$dir/help"; note $? "--help has no $command"; done
+for command in 'check FILE..' 'list FILE' 'show FILE' 'stops FILE' 'loosen FILE' 'orders FILE' 'trace FILE' check 'run N' 'watch N' 'groups N' 'trace FIRST' build stops show list wrap lift 'trial SEED'; do grep -q "^  $command " "$dir/help"; note $? "--help has no $command"; done
 try 'a refusal' 3 "$dir/magic" "'list' refused its input; the reason went to standard output" examples/call.s ./ia64 list
 head -c 16777217 /dev/zero > "$dir/too_long"
 try 'a long input' 4 "$dir/nothing" 'longer than 16,777,216 bytes' "$dir/too_long" ./ia64 check
@@ -123,7 +136,7 @@ outline="$dir/it's an outline" kit=$dir/kit
 export CALLS=$dir/calls BUILT=$program FAILS='' ANSWERS=ended NAP=0 REFUSED=''
 mkdir -p "$outline/tools" "$outline/docs" "$dir/bin" "$kit/bin" "$kit/toolchain/bin"
 cp -r ia64 build crates.txt examples front "$outline"
-cp tools/sources_sum tools/compile_unproved "$outline/tools"
+cp tools/sources_sum tools/kit_mirror tools/compile_unproved "$outline/tools"
 cp docs/ARCHITECTURE.md "$outline/docs"
 for crate in crates/*/; do mkdir -p "$outline/${crate}src" && : > "$outline/${crate}src/lib.rt"; done
 cat > "$kit/bin/rt" <<'END'

@@ -381,8 +381,8 @@ def said_numbers(rows, unit):
 
 # ---- JSON ------------------------------------------------------------------------------------------------
 
-def document(answer, names, label, function):
-    """The answer as one JSON document."""
+def document(answer, names, label, function, steps=None):
+    """The answer as one JSON document, with the groups that are told of the run."""
     def value(row):
         name, number = row
         if number is None:
@@ -400,4 +400,5 @@ def document(answer, names, label, function):
                      "read_only": change.is_kept, "before": change.before.hex(), "after": change.after.hex()}
                     for change in answer.changes],
         "violation_count": answer.total,
-        "violations": [{**row, "source": row["source"] and str(row["source"])} for row in answer.violations]}, indent=1)
+        "violations": [{**row, "source": row["source"] and str(row["source"])} for row in answer.violations],
+        **({} if steps is None else {"steps": steps})}, indent=1)

@@ -9,10 +9,12 @@ from front.calling import answer as answers
 from front.calling import image, linking
 from front.calling.arguments import FORMS, arguments_of
 from front.calling.ends import Names
+from front.calling.followed import Followed
 from front.checking import WRONG, complain
 from front.content import write_file
 from front.faults import Fault, ProgramFault, printable
 from front.program import refusal_of
+from front.tracing.command import SHOWN
 
 # The status where the program refuses the image, beside those of `answer`.
 REFUSED = 3
@@ -45,11 +47,15 @@ def add_options(parser, number):
     parser.add_argument("--skip-hints", action="store_true",
                         help="leave prefetches (lfetch), predictions (brp) and hints of loads and stores out, which the profile "
                              "doesn't have and which change no result; else the run ends there")
+    parser.add_argument("--trace", type=number(1, usage.GROUP_LIMIT), nargs="?", const=SHOWN, metavar="N",
+                        help=f"before the answer tell the first N groups of the run, by default {SHOWN}, with what each changed, "
+                             "as `ia64 trace` does; N stands directly behind the word")
     parser.add_argument("--all", action="store_true", help="all that changed, and each change as a whole")
     parser.add_argument("--format", choices=("lines", "json"), default="lines", help="lines, or one JSON document")
-    parser.add_argument("--image", metavar="PATH", help="put the image that is run into a file, for run, watch and orders")
+    parser.add_argument("--image", metavar="PATH",
+                        help="put the image that is run into a file, for run, watch, groups, trace and orders")
     parser.add_argument("--as-flags", default=[], type=str.split, metavar="FLAGS", help="more words for the GNU assembler")
-    parser._negative_number_matcher = re.compile(r"-(\d+|0[xX][0-9a-fA-F]+)$")
+    parser._negative_number_matcher = re.compile(r"-([0-9]+|0[xX][0-9a-fA-F]+)$")
     parser.parse_args = parser.parse_intermixed_args
     parser.set_defaults(run=call)
 
@@ -60,6 +66,8 @@ def call(options, program):
         arguments = arguments_of(options.arguments)
         if options.stack % 16:
             raise Fault(f"--stack {options.stack}: no multiple of 16")
+        if options.trace and options.groups is not None:
+            raise Fault("--trace tells a run slot by slot, and with --groups there is none")
     except Fault as fault:
         complain(str(fault))
         return WRONG
@@ -78,11 +86,13 @@ def answer_of(options, program, arguments):
     status, printed = image.run(program, made, run_words(options))
     if options.image is not None:
         write_file(options.image, made.image())
-    found = answered(program, linked, made, names, options, status, printed)
+    teller = answers.Teller(program, linked, made, names)
+    found = answered(teller, options, status, printed)
+    followed = Followed(program, teller, min(options.trace, options.limit)) if options.trace and found.groups else None
     if options.format == "json":
-        print(answers.document(found, names, printable(options.file), options.function))
+        print(answers.document(found, names, printable(options.file), options.function, followed and followed.rows()))
     else:
-        print(*answers.Lines(names, arguments, options.all).of(found), sep="\n")
+        print(*(followed.lines() if followed else ()), *answers.Lines(names, arguments, options.all).of(found), sep="\n")
     return found.status
 
 
@@ -92,18 +102,17 @@ def run_words(options):
     return ["groups", str(options.limit), str(options.groups)]
 
 
-def answered(program, linked, made, names, options, status, printed):
+def answered(teller, options, status, printed):
     """What is said of what the program printed."""
-    teller = answers.Teller(program, linked, made, names)
     if status == 1:
         return teller.verdict(printed)
     if status in (0, 8, 9):
         return teller.state(printed, options.groups is not None, options.limit, options.struct)
     refusal = refusal_of(printed) if status == 3 else None
     if refusal is None:
-        raise ProgramFault(f"`{program.path} run` ended with status {status}: {printed[:100]!r}")
+        raise ProgramFault(f"`{teller.program.path} run` ended with status {status}: {printed[:100]!r}")
     why = "more than 192 slots without a stop" if refusal.why == "long run" else refusal.why
-    raise image.Refused(f"the program refuses {names.code(refusal.bundle)}: {why}")
+    raise image.Refused(f"the program refuses {teller.names.code(refusal.bundle)}: {why}")
 
 
 def linked_files(options):

@@ -2,7 +2,7 @@
 
 from typing import Dict, List, NamedTuple, Optional, Tuple
 
-from front.drawing.accesses import Accesses
+from front.drawing.accesses import Accesses, in_order
 
 Place = Tuple[int, int]                # a bundle and a slot, from 0
 
@@ -110,3 +110,12 @@ def ranges(names):
 def is_next(name, following):
     numbers = name[1:], following[1:]
     return name[0] == following[0] and all(map(str.isdigit, numbers)) and int(numbers[1]) == int(numbers[0]) + 1
+
+
+def as_data(part):
+    """A figure, or a part of one, as JSON can say it: named parts as objects, tuples as lists, and sets as lists in order."""
+    if hasattr(part, "_asdict"):
+        return {name: as_data(value) for name, value in part._asdict().items()}
+    if isinstance(part, frozenset):
+        return in_order(part)
+    return list(map(as_data, part)) if isinstance(part, (tuple, list)) else part

@@ -3,7 +3,7 @@
 from typing import List, NamedTuple
 
 from front.drawing.figure import STOOD_IN, UNKNOWN, Figure
-from front.drawing.markup import Drawn, element, text_element
+from front.drawing.markup import Drawn, element, number, text_element
 from front.drawing.measures import MARGIN
 
 UNITS = {"M": "memory, integers", "I": "integers", "F": "floating point", "B": "branches", "X": "long"}
@@ -22,7 +22,7 @@ def samples(figure: Figure) -> List[Sample]:
         if any(slot.unit == unit for slot in slots):
             found.append(Sample(element("rect", x=4, width=17, height=13, rx=2, class_=f"unit-{unit.lower()}") +
                                 text_element("text", unit, x=12.5, y=11, text_anchor="middle", class_="letter"), said))
-    tints = "".join(element("rect", x=13 * number, width=12, height=13, class_=f"tint{number} box") for number in (0, 1))
+    tints = "".join(element("rect", x=13 * at, width=12, height=13, class_=f"tint{at} box") for at in (0, 1))
     found.append(Sample(tints, "groups, in turn"))
     found.append(Sample(element("rect", x=11, y=-1, width=5, height=15, class_="stop"), "a stop: the group ends"))
     if any(row.entry for row in figure.rows):
@@ -57,6 +57,6 @@ def legend(figure, width):
         if x > MARGIN and x + wide > width - MARGIN:
             x, y = float(MARGIN), y + LINE
         parts.append(element("g", sample.markup, text_element("text", sample.said, x=SAMPLE + 6, y=10.5, class_="legend"),
-                             transform=f"translate({x:g} {y:g})"))
+                             transform=f"translate({number(x)} {number(y)})"))
         x += wide + BETWEEN
     return Drawn(element("g", *parts, class_="legends", role="graphics-object group", aria_label="legend"), width, y + LINE + 4)

@@ -20,8 +20,9 @@ def escaped(text):
 
 
 def number(value):
-    """A number of pixels, as short as it can be told."""
-    return f"{round(value, 1):g}" if isinstance(value, float) else str(value)
+    """A number of pixels, to a tenth and as short as it can be told."""
+    told = f"{value:.1f}"
+    return told[:-2] if told.endswith(".0") else told
 
 
 def opening(name, attributes):

@@ -800,11 +800,16 @@ class Calls(Case):
         self.call("add", 3, 4, "--image", "made.image")
         self.assertIn("r8 0000000000000007", self.lines("run", 100, "made.image")[1])
         self.assertEqual(self.lines("check", "made.image")[0], 0)
+        helped = " ".join(" ".join(self.lines("call", "--help")[1]).split())
+        self.assertIn("put the image that is run into a file, for run, watch, groups, trace and orders", helped)
+        for words in (("run", 100), ("watch", 100), ("groups", 100, 0), ("trace",), ("orders",)):
+            self.assertEqual(self.lines(*words, "made.image")[0], 0, words)
         self.assertIn("can't be written", self.call("add", "--image", "/nowhere/x")[2])
 
     def test_refusals(self):
         self.refuses("x.o: no function ad; it has add", "x.o", "ad")
         self.refuses("argument 1, hello: neither a number", "x.o", "upper", "hello")
+        self.refuses("unrecognized arguments: -\u0663", "x.o", "upper", "-\u0663")
         self.refuses("--stack 72: no multiple of 16", "x.o", "add", "--stack", 72)
         self.refuses("has no room for the arguments", "x.o", "add", *range(60), "--stack", 64)
         self.refuses("of stack (--stack), and an image has room for", "x.o", "add", "@1000000")
@@ -849,6 +854,106 @@ class Calls(Case):
     def test_words_in_any_order(self):
         self.assertEqual(self.lines("call", "--groups", 0, "x.o", "add", "-n", 50, -3, "--all", "-0x1")[1][0],
                          "ret0 = -4 (unsigned 18446744073709551612, 0xfffffffffffffffc)")
+
+
+    # ---- Group by group
+
+    def test_trace(self):
+        """The groups of the run, by functions and with lines of the source, and then the answer as without them."""
+        answer = self.lines("call", FUNCTIONS, "sum", "data8:30,12", "--skip-hints")
+        status, printed, error = self.lines("call", FUNCTIONS, "sum", "data8:30,12", "--skip-hints", "--trace")
+        self.assertEqual((status, printed[-3:], error), answer)
+        self.assertEqual(printed[:-3], [
+            "group 1: the caller to the caller+0x0 slot 2, then a stop",
+            "  the caller+0x0 slot 0  alloc r32=ar.pfs,0,1,8,0",
+            "    frame  sof 0, sol 0 -> sof 9, sol 1",
+            "group 2: the caller+0x10 to the caller+0x40 slot 2, then a call of sum",
+            "  the caller+0x10 slot 1  movl r12=0x11fff0",
+            "  the caller+0x20 slot 1  movl r1=0x180000",
+            "  the caller+0x30 slot 1  movl r33=0x120040",
+            "  the caller+0x40 slot 2  br.call.sptk.many b0=sum",
+            "    frame             cell 0, sof 9, sol 1 -> cell 1, sof 8, sol 0",
+            "    r32               in the frame -> below it",
+            "    renamed           r33 to r40 -> r32 to r39",
+            "    r1 (gp)           0x0 -> 0x180000",
+            "    r12 (sp)          0x0 -> 0x11fff0 (the stack+0x1fff0)",
+            "    r32 (r33 before)  0x0 -> 0x120040 (argument 1)",
+            "    b0 (rp)           0x0 -> 0x10050 (the caller+0x50)",
+            "    ar.pfs            0x0 -> 0xc000000000000089 (sof 9, sol 1)",
+            "group 3: sum to sum+0x0 slot 2, then a stop",
+            "  sum+0x0 slot 1  ./examples/functions.s:57  ld8 r8=[r32],8",
+            "    r8 (ret0)  0x0 -> 0x1e (30)",
+            "    r32        0x120040 (argument 1) -> 0x120048 (argument 1+0x8)",
+            "group 4: sum+0x10 to sum+0x10 slot 2, then a stop",
+            "  sum+0x10 slot 0  ./examples/functions.s:61  ld8 r9=[r32]",
+            "    r9 (ret1)  0x0 -> 0xc (12)",
+            "group 5: sum+0x20 to sum+0x20 slot 2, then a return to the caller+0x50",
+            "  sum+0x20 slot 0  ./examples/functions.s:66  add r8=r8,r9",
+            "  sum+0x20 slot 2  ./examples/functions.s:68  br.ret.sptk.many b0",
+            "    frame      cell 1, sof 8, sol 0 -> cell 0, sof 9, sol 1",
+            "    r32        below the frame -> in it again",
+            "    renamed    r32 to r39 -> r33 to r40",
+            "    r8 (ret0)  0x1e (30) -> 0x2a (42)",
+            "group 6: the caller+0x50, then the end of the run",
+            "  the caller+0x50 slot 0  break.m 0x0",
+            "    nothing changes"])
+
+    def test_limits_of_a_trace(self):
+        for words, groups in ((("--trace", 3), 3), (("--trace=3",), 3), (("--trace", "-n", 5), 5), (("-n", 5, "--trace", 9), 5),
+                              (("--trace",), 20)):
+            status, printed, _ = self.call("spin", "-n", 100, *words)
+            self.assertEqual((status, len([row for row in printed if row.startswith("group ")])), (8, groups), words)
+            self.assertIn(f"{groups} groups told, and the run goes on at spin: --trace N tells more", printed)
+
+    def test_data_in_a_trace(self):
+        """A word of what an argument points to, and what stands in the place of what isn't there."""
+        status, printed, _ = self.call("upper", '"a"', "--trace", 100)
+        self.assertEqual(status, 0)
+        self.assertTrue(any(re.fullmatch(r" +\[0x12\w+\] \(argument 1\) +0x61 \(97\) -> 0x41 \(65\)", row) for row in printed))
+        status, printed, _ = self.call("log_it", 5, "--trace", 100)
+        self.assertEqual(status, 3)
+        called = printed.index("group 4: log_it+0x10 to log_it+0x20 slot 2, then a call of printf")
+        self.assertIn("    renamed           r37 to r38 -> r32 to r33", printed[called:])
+        self.assertIn("group 5: printf, then the end of the run", printed[called:])
+
+    def test_predicates_in_a_trace(self):
+        """Slots whose predicate is 0 are told, also where a break was put in; branches aren't."""
+        printed = self.call("mul", 0, 7, "--trace", 100)[1]
+        lines = [self.line(f"(p6) {word}") for word in ("setf.sig f6", "setf.sig f7", "xma", "getf")]
+        self.assertEqual([row for row in printed if "//" in row], [
+            f"  mul+0x10 slot 0  ./x.s:{lines[0]}  (p6) setf.sig f6=r32  // p6 is 0",
+            f"  mul+0x10 slot 1  ./x.s:{lines[1]}  (p6) setf.sig f7=r33  // p6 is 0",
+            f"  mul+0x20 slot 1  ./x.s:{lines[2]}  (p6) xmpy.l f6=f6,f7  // p6 is 0",
+            f"  mul+0x30 slot 0  ./x.s:{lines[3]}  (p6) getf.sig r8=f6  // p6 is 0"])
+        printed = self.call("upper", '"aB"', "--trace", 100)[1]
+        self.assertEqual([row.split("  ")[-1] for row in printed if "(p8)" in row], ["(p8) adds r14=-32,r14", "// p8 is 0"])
+        self.assertEqual([row for row in printed if "(p6)" in row and "//" in row], [])
+        steps = json.loads(self.ia64("call", "x.o", "mul", 0, 7, "--trace", 100, "--format", "json")[1])["steps"]
+        self.assertEqual([slot["place"] for step in steps for slot in step["slots"] if slot["off"] == "p6"],
+                         ["mul+0x10 slot 0", "mul+0x10 slot 1", "mul+0x20 slot 1", "mul+0x30 slot 0"])
+
+    def test_end_of_a_trace(self):
+        """What ends a run is told as it stood there; of a fault the kind is told too."""
+        status, printed, _ = self.lines("call", FUNCTIONS, "sum", "data8:5,7", "--trace")
+        self.assertEqual((status, printed[-5:-2]), (3, ["group 3: sum, then the end of the run",
+                                                        "  sum+0x0 slot 0  ./examples/functions.s:56  lfetch.nta [r33]",
+                                                        "    nothing changes"]))
+        self.assertIn("group 4: upper+0x10, then fault BadAddress", self.call("upper", "--trace")[1])
+
+    def test_no_trace(self):
+        self.assertEqual(self.call("wrong", 1, "--trace"), self.call("wrong", 1))
+        self.assertNotIn("steps", json.loads(self.ia64("call", "x.o", "wrong", "--trace", "--format", "json")[1]))
+        self.refuses("--trace tells a run slot by slot, and with --groups there is none", "x.o", "add", "--trace", "--groups", 0)
+        self.refuses("x is no number from 1 to 10000000", "x.o", "add", "--trace", "x")
+        self.refuses("0 is no number from 1 to 10000000", "x.o", "add", "--trace", 0)
+
+    def test_a_trace_in_json(self):
+        plain, document = (json.loads(self.ia64("call", "x.o", "pick", 3, "--format", "json", *words)[1])
+                           for words in ((), ("--trace", 2)))
+        found = document.pop("steps")
+        self.assertEqual((plain, len(found)), (document, 2))
+        self.assertEqual((found[1]["number"], found[1]["how"], found[1]["next"]), (2, "taken", "pick+0x0 slot 0"))
+        self.assertIn({"name": "r1 (gp)", "old": "0x0", "new": "0x180000"}, found[1]["changes"])
 
 
 class WithoutTools(Case):

@@ -238,6 +238,12 @@ class Pictures(Draw):
         self.assertIn("on no walk", [text_of(part) for part in classes(root, "quiet")])
         self.assertTrue(any(text_of(note).startswith("1 of 2 bundles are on a walk.") for note in classes(root, "note")))
 
+    def test_a_pair_behind_the_end(self):
+        """A last slot that would clash only with a slot behind it is in no excused pair."""
+        path = self.put("{ .mib\n(p6) adds r8=1,r0\nnop.i 0\nclrrrb\n}\n")
+        self.assertEqual(classes(self.svg(path), "pair"), [])
+        self.assertEqual(self.ia64("check", "-v", path), (0, b"x.s: note: accepted\n1 accepted, 0 violated, 0 not judged\n", ""))
+
     def test_a_terminal(self):
         """A picture isn't printed to a terminal."""
         own, its = os.openpty()

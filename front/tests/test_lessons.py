@@ -13,11 +13,12 @@ def questions(lines):
     """The numbered questions among lines, each as one line."""
     found, is_open = [], False
     for line in lines:
-        if re.match(r"\d\. ", line):
-            found.append(line)
-        elif is_open and line.startswith("   "):
+        is_more = is_open and line.startswith("   ")
+        is_open = is_more or re.match(r"\d\. ", line) is not None
+        if is_more:
             found[-1] += " " + line.strip()
-        is_open = bool(re.match(r"\d\. |   ", line))
+        elif is_open:
+            found.append(line)
     return found
 
 

@@ -114,7 +114,7 @@ class Examples(Compared):
 class Code(Compared):
     """Files that are no programs are refused by what they are, and how one is made of them is said."""
 
-    HINT = "`ia64 call FILE FUNCTION --image PATH` makes an image of a call, which run, watch, groups and orders take\n"
+    HINT = "`ia64 call FILE FUNCTION --image PATH` makes an image of a call, which run, watch, groups, trace and orders take\n"
     COMMANDS = (("orders",), ("run", 5), ("watch", 5), ("groups", 5, 0))
 
     def test_an_object_file(self):
@@ -511,11 +511,15 @@ class Writes(Compared):
         done = subprocess.run([PROGRAM, *map(str, words)], input=text, stdout=subprocess.PIPE, check=False)
         return done.stdout
 
+    @classmethod
+    def text_of(cls, units, first, second, counters=(0, 0), set_up=SET_UP):
+        """The program with a group that has these two slots behind one that writes r31."""
+        text = set_up.replace("LC", str(counters[0])).replace("EC", str(counters[1]))
+        return text + cls.GROUP.replace("UNITS", units).replace("FIRST", first).replace("SECOND", second) + cls.END
+
     def told(self, units, first, second, counters=(0, 0), set_up=SET_UP):
         """The program with a group that writes r31 twice, and the writes of that group as they are told."""
-        text = set_up.replace("LC", str(counters[0])).replace("EC", str(counters[1]))
-        text += self.GROUP.replace("UNITS", units).replace("FIRST", first).replace("SECOND", second)
-        text = (text + self.END).encode()
+        text = self.text_of(units, first, second, counters, set_up).encode()
         before, after = (states.State(self.ask(text, "groups", number, 0).decode()) for number in (2, 3))
         rows = writes.read_listing(self.ask(self.ask(text, "build"), "list").decode())
         return text, writes.writes_of(writes.group_between(rows, before, after), before)

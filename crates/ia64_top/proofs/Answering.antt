@@ -8,7 +8,7 @@ use Rattle.ia64_top.specs.declared.limits.TheConstants.{INPUT_LIMIT}
 use Rattle.io_seam.specs.Bytes.{LosesFirst}
 use Rattle.ia64_top.specs.declared.words.Command.{Command}
 use Rattle.ia64_top.specs.declared.words.Command.TheVariants as command
-use Rattle.ia64_top.specs.declared.words.Command.TheVariants.{Check, Run, Watch, Groups, Trial}
+use Rattle.ia64_top.specs.declared.words.Command.TheVariants.{Check, Run, Watch, Trace, Groups, Trial}
 use Rattle.ia64_top.specs.declared.status.Status.{Status}
 use Rattle.ia64_top.specs.declared.status.Status.TheVariants.{Words, Done, Violated, Refused, TooLong, Limit, Faulted}
 use Rattle.ia64_top.specs.Words.{command_of, Judges, groups_of, IsTrial, IsWatch}
@@ -16,12 +16,11 @@ use Rattle.ia64_top.specs.Inputs.{IsReadOf}
 use Rattle.ia64_top.specs.Watching.{RanNothing, IsNotRun, HaveWatched, HaveWatchedPart}
 use Rattle.watch_seam.specs.Watchers.{WatchState}
 use Rattle.watch_seam.specs.Watching.{staying}
-use Rattle.ia_meaning.specs.Steps.{Run as WholeRun}
 use Rattle.ia_insn.specs.Programs.{Program}
 use Rattle.image_form.specs.Images.{Spells, BeginsAsImage}
 use Rattle.image_form.specs.Laws.{ImageSize}
 use Rattle.group_checker.specs.Reports.{IsFree}
-use Rattle.ia64_top.specs.Runs.{run_of, end_status, watch_text}
+use Rattle.ia64_top.specs.Runs.{Printing, run_of, end_status, watch_text}
 use Rattle.ia64_top.specs.Readings.{as_either}
 use Rattle.ia64_top.specs.Output.{is_too_long, IsSilent, IsRunAs, IsCommandOutput, IsOutput, GivesOutput, GivesPart}
 
@@ -116,6 +115,7 @@ judged_whole : (command : Command) (input l : List ℕ) → Judges command → I
 judged_whole Check input l judges is = is
 judged_whole (Run groups) input l judges is = is
 judged_whole (Watch groups) input l judges is = is
+judged_whole (Trace first count) input l judges is = is
 judged_whole command input l judges is = absurd judges
 
 pub judged_within : (words : List (List ℕ)) (command : Command) (left : Option (List ℕ)) (input : List ℕ) (status : Status) → command_of words ≡ Some command → IfSome left (IsReadOf command input)
@@ -139,6 +139,7 @@ ended_beyond size words (Some input) h = λ command groups e runs. none_beyond s
 pub run_whole : (command : Command) (groups : ℕ) (input l : List ℕ) → groups_of command ≡ Some groups → IsReadOf command input l → input ≡ l
 run_whole (Run n) groups input l runs read = read
 run_whole (Watch n) groups input l runs read = read
+run_whole (Trace first count) groups input l runs read = read
 run_whole command groups input l runs read = cc
 
 pub ended_within : (words : List (List ℕ)) (command : Command) (left : Option (List ℕ)) (input : List ℕ) (status : Status) → command_of words ≡ Some command → IfSome left (IsReadOf command input)
@@ -194,7 +195,7 @@ groups_within words command Tells (Some l) input e whole h =
     of_whole (Tells l groups number) l input read (subst (λ i. (p : Program) → as_either.Gives input p → Tells i groups number p) read (h groups number is))
 
 -- Where no accepted program was read nothing was run.
-ran_nothing : (text : WholeRun → List ℕ) (groups : ℕ) (input bytes : List ℕ) (status : Status) → IsRunAs text groups as_either input bytes status → IsNotRun input → RanNothing status
+ran_nothing : (text : Printing) (groups : ℕ) (input bytes : List ℕ) (status : Status) → IsRunAs text groups as_either input bytes status → IsNotRun input → RanNothing status
 ran_nothing text groups input bytes Done o none = absurd (none o.0 o.1 (o.2).free)
 ran_nothing text groups input bytes Violated o none = tt
 ran_nothing text groups input bytes Limit o none = absurd (none o.0 o.1 (o.2).free)
@@ -231,6 +232,7 @@ not_too_long command.Lift ws input bytes o = o
 not_too_long Check ws input bytes o = o
 not_too_long (Run groups) ws input bytes o = o
 not_too_long (Watch groups) ws input bytes o = o
+not_too_long (Trace first count) ws input bytes o = o
 not_too_long (Groups groups number) ws input bytes o = o
 not_too_long (Trial seed bundles) ws input bytes o = o
 

@@ -1,6 +1,6 @@
 -- Why an input is refused, what else is answered, and what is printed of violations.
 use Rattle.std.proofs.Common.{◌≡◌, inl, inr, ℕ, ◌<◌, List, length, Option, Some, None, refl, sym, subst}
-use Rattle.std.specs.Prelude.{◌↔◌, ◌⊎◌, IfSome, false}
+use Rattle.std.specs.Prelude.{◌↔◌, ◌⊎◌, ◌+◌, IfSome, false}
 use Rattle.std.specs.Io.KnownBytes.{Appends}
 use Rattle.std.proofs.lemmas.Bool.{lt-ltb}
 use Rattle.ia_insn.specs.Programs.{Program}
@@ -14,12 +14,10 @@ use Rattle.group_checker.specs.declared.report.Verdict.{Verdict}
 use Rattle.group_checker.specs.declared.report.Verdict.TheVariants.{Accepted, Violations}
 use Rattle.group_checker.specs.Reports.{IsVerdict}
 use Rattle.trial_maker.specs.Trials.{trial_program}
-use Rattle.ia_meaning.specs.Steps.{Run as WholeRun}
-use Rattle.ia_meaning.specs.Runs.{run_text}
 use Rattle.watch_seam.specs.Watchers.{WatchState}
 use Rattle.ia64_top.specs.declared.limits.TheConstants.{INPUT_LIMIT}
 use Rattle.ia64_top.specs.declared.words.Command.{Command}
-use Rattle.ia64_top.specs.declared.words.Command.TheVariants.{Build, Stops, Show, List as Listing, Wrap, Lift, Check, Run, Watch, Groups, Trial}
+use Rattle.ia64_top.specs.declared.words.Command.TheVariants.{Build, Stops, Show, List as Listing, Wrap, Lift, Check, Run, Watch, Trace, Groups, Trial}
 use Rattle.ia64_top.specs.declared.status.Status.{Status}
 use Rattle.ia64_top.specs.declared.status.Status.TheVariants.{Done, Violated, Refused, NoMemory, Limit, Faulted}
 use Rattle.ia64_top.specs.Words.{command_of, IsTrial}
@@ -27,7 +25,7 @@ use Rattle.ia64_top.specs.Statuses.{TellsOfProgram}
 use Rattle.ia64_top.specs.Inputs.{IsReadOf}
 use Rattle.ia64_top.specs.Texts.{verdict_text}
 use Rattle.ia64_top.specs.Judgements.{verdict_status, IsJudgement, PrintsClashes}
-use Rattle.ia64_top.specs.Runs.{watch_text}
+use Rattle.ia64_top.specs.Runs.{Printing, state_after, watch_text, trace_text}
 use Rattle.ia64_top.specs.Trials.{IsTrialOutput}
 use Rattle.ia64_top.specs.Readings.{InputReading, as_image, as_bundles, as_text, as_loose, as_either}
 use Rattle.ia64_top.specs.Output.{IsCanonical, IsPackedText, IsMadeOutput, IsCheckedAs, IsRunAs, IsNumberedRunAs, IsCommandOutput, IsProgramOf, IsUnreadable, is_too_long, GivesClashes}
@@ -50,7 +48,7 @@ checked_so r input bytes Violated o = inl (o.0, o.1, tt)
 checked_so r input bytes Refused o = inr (bytes, o, refl)
 checked_so r input bytes status o = absurd o
 
-run_so : (text : WholeRun → List ℕ) (groups : ℕ) (r : InputReading) (input bytes : List ℕ) (status : Status) → IsRunAs text groups r input bytes status → IsAnsweredAs r input status
+run_so : (text : Printing) (groups : ℕ) (r : InputReading) (input bytes : List ℕ) (status : Status) → IsRunAs text groups r input bytes status → IsAnsweredAs r input status
 run_so text groups r input bytes Done o = inl (o.0, o.1, tt)
 run_so text groups r input bytes Violated o = inl (o.0, o.1, tt)
 run_so text groups r input bytes Limit o = inl (o.0, o.1, tt)
@@ -88,8 +86,9 @@ cause spelled raw read placed Listing ws input bytes status o = cause_of as_imag
 cause spelled raw read placed Wrap ws input bytes status o = cause_of as_bundles (bundles_refuse_none raw) input status (made_so as_bundles Written input bytes status o)
 cause spelled raw read placed Lift ws input bytes status o = cause_of as_image (image_refuses_none spelled) input status (made_so as_image (IsImage Two) input bytes status o)
 cause spelled raw read placed Check ws input bytes status o = cause_of as_either (either_refuses_none spelled read) input status (checked_so as_either input bytes status o)
-cause spelled raw read placed (Run groups) ws input bytes status o = cause_of as_either (either_refuses_none spelled read) input status (run_so run_text groups as_either input bytes status o)
+cause spelled raw read placed (Run groups) ws input bytes status o = cause_of as_either (either_refuses_none spelled read) input status (run_so state_after groups as_either input bytes status o)
 cause spelled raw read placed (Watch groups) ws input bytes status o = cause_of as_either (either_refuses_none spelled read) input status (run_so (watch_text ws) groups as_either input bytes status o)
+cause spelled raw read placed (Trace first count) ws input bytes status o = cause_of as_either (either_refuses_none spelled read) input status (run_so (trace_text first count) (first + count) as_either input bytes status o)
 cause spelled raw read placed (Groups groups number) ws input bytes status o = cause_of as_either (either_refuses_none spelled read) input status (numbered_run_so groups number as_either input bytes status o)
 cause spelled raw read placed (Trial seed bundles) ws input bytes status o =
     let of = of_trial seed bundles bytes status o in
@@ -142,6 +141,7 @@ clashes_of one c ws input bytes status is o p g = violated c (subst (IsCommandOu
     violated Check o g = of_judgement p o.0 bytes (one input o.0 p o.1 g) o.2
     violated (Run groups) o g = of_judgement p o.0 bytes (one input o.0 p o.1 g) o.2
     violated (Watch groups) o g = of_judgement p o.0 bytes (one input o.0 p o.1 g) o.2
+    violated (Trace first count) o g = of_judgement p o.0 bytes (one input o.0 p o.1 g) o.2
     violated (Trial seed bundles) o g = of_judgement p (trial_program seed bundles) bytes (sym g) o
     violated k o g = absurd o
 

@@ -12,3 +12,4 @@ mod Trying
 mod Sums
 mod Ordering
 mod WatchedRuns
+mod TracedRuns

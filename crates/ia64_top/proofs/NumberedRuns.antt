@@ -22,7 +22,7 @@ use Rattle.ia64_top.specs.declared.status.Status.{Status}
 use Rattle.ia64_top.specs.declared.status.Status.TheVariants.{Done, TooLong, Limit, Faulted, Refused}
 use Rattle.ia64_top.specs.Words.{command_of, run_words}
 use Rattle.ia64_top.specs.Inputs.{IsReadOf}
-use Rattle.ia64_top.specs.Runs.{run_of, numbered_run_of, end_status, IsRunOf, IsNumberedRunOf}
+use Rattle.ia64_top.specs.Runs.{run_of, numbered_run_of, end_status, state_after, IsRunOf, IsNumberedRunOf}
 use Rattle.ia64_top.specs.Readings.{InputReading, as_either}
 use Rattle.ia64_top.specs.Output.{IsNumberedRunAs, IsCommandOutput, GivesOutput}
 use Rattle.ia64_top.proofs.Numerals.{number_of_numeral}
@@ -84,7 +84,7 @@ same_run law zero parallel groups number p program free =
     parallel p groups number (zero_state p)
     ∙ law p program free groups (numbered_codes groups number p (zero_state p)) (zero_state p) (zero p program)
 
-run_given : FreeIsRobust → ZeroIsStart → NumberedRunIsParallel → (groups number : ℕ) (p : Program) (bytes : List ℕ) (status : Status) → IsNumberedRunOf p groups number bytes status → IsFree p → IsRunOf run_text p groups bytes status
+run_given : FreeIsRobust → ZeroIsStart → NumberedRunIsParallel → (groups number : ℕ) (p : Program) (bytes : List ℕ) (status : Status) → IsNumberedRunOf p groups number bytes status → IsFree p → IsRunOf state_after p groups bytes status
 run_given law zero parallel groups number p bytes status o free =
     let same = same_run law zero parallel groups number p o.program free in
     record {
@@ -115,7 +115,7 @@ same_as_run_within law zero parallel one none words c ws left old new input byte
     (λ groups number is p g free.
     let range = in_range words (Groups groups number) (e ∙ ap Some is) in
     let run = run_given law zero parallel groups number p bytes status (numbered_run_given one none c ws input bytes status o groups number is p g) free in
-    (bytes, output_of (run_words groups) (Run groups) ws input input bytes status (run_command groups range.0 range.1) refl within (run_is run_text groups as_either input p bytes status (g, free) run), appended))
+    (bytes, output_of (run_words groups) (Run groups) ws input input bytes status (run_command groups range.0 range.1) refl within (run_is state_after groups as_either input p bytes status (g, free) run), appended))
 
 without_start : (groups : ℕ) → 0 + groups ≡ groups
 without_start groups = omega arith

@@ -1,6 +1,6 @@
 -- One output is stated for words, watchers and an input.
 use Rattle.std.proofs.Common.{◌≡◌, ℕ, ◌+◌, inl, inr, List, [], ◌∷◌, ◌++◌, Option, None, Some, Bool, true, false, refl, sym, ap, ◌∙◌, subst}
-use Rattle.std.specs.Prelude.{IfSome, MatchOption, MatchBool}
+use Rattle.std.specs.Prelude.{◌+◌, IfSome, MatchOption, MatchBool}
 use Rattle.std.specs.Io.KnownBytes.{Appends}
 use Rattle.ia_insn.specs.Bundles.{Bundle}
 use Rattle.ia_insn.specs.Programs.{Program}
@@ -13,8 +13,6 @@ use Rattle.asm_build.specs.Laws.{OneTextProgram, OneTextFault, NoFaultWhereRead}
 use Rattle.stop_placer.specs.Laws.{OnePlaced, OnePlacingFault, NoFaultWherePlaced}
 use Rattle.asm_build.specs.Listing.{head_listed, IsBundleListing, AreBundleListings, IsListing}
 use Rattle.group_checker.specs.Reports.{OneVerdict}
-use Rattle.ia_meaning.specs.Steps.{Run as WholeRun}
-use Rattle.ia_meaning.specs.Runs.{run_text}
 use Rattle.trial_maker.specs.Trials.{trial_program}
 use Rattle.watch_seam.specs.Watchers.{WatchState}
 use Rattle.ia64_top.specs.declared.words.Command.{Command}
@@ -25,7 +23,7 @@ use Rattle.ia64_top.specs.Words.{command_of}
 use Rattle.ia64_top.specs.Texts.{refusal_text, text_refusal_text, verdict_text, packed_text}
 use Rattle.ia64_top.specs.Readings.{InputReading, as_image, as_bundles, as_text, as_loose, as_either}
 use Rattle.ia64_top.specs.Judgements.{IsJudgement, verdict_status}
-use Rattle.ia64_top.specs.Runs.{watch_text}
+use Rattle.ia64_top.specs.Runs.{Printing, state_after, watch_text, trace_text}
 use Rattle.ia64_top.specs.Trials.{IsTrialOutput}
 use Rattle.ia64_top.specs.Output.{IsCanonical, IsPackedText, IsMadeOutput, IsSilent, IsCommandOutput, IsOutput, OneOutput, GivesOutput, is_too_long}
 use Rattle.ia64_top.proofs.Outputs.{GivesOne, RefusesNone, IsTold, either_gives_one, either_refuses_none, image_refuses_none, bundles_refuse_none, text_refuses_none, loose_gives_one, loose_refuses_none}
@@ -122,7 +120,7 @@ one_judgement one p mine bytes status other m o =
     let same = one p o.verdict m.verdict o.exact m.exact in
     (o.printed ∙ ap verdict_text same ∙ sym m.printed, o.tells ∙ ap verdict_status same ∙ sym m.tells)
 
-one_run : OneVerdict → (text : WholeRun → List ℕ) (groups : ℕ) → TellsOne (IsRunAnswer text groups)
+one_run : OneVerdict → (text : Printing) (groups : ℕ) → TellsOne (IsRunAnswer text groups)
 one_run one text groups p mine bytes status other (inl m) (inl o) = (o.printed ∙ sym m.printed, o.ends ∙ sym m.ends)
 one_run one text groups p mine bytes status other (inl m) (inr o) = absurd ((violated_of_judgement p bytes other o.0).0 o.1 m.free)
 one_run one text groups p mine bytes status other (inr m) (inl o) = absurd ((violated_of_judgement p mine status m.0).0 m.1 o.free)
@@ -183,11 +181,14 @@ one_command_output one command.Lift ws input mine bytes status other m o = one_m
 one_command_output one command.Check ws input mine bytes status other m o =
     one_told as_either IsJudgement (one_judgement one.judged) one.either input mine bytes status other (told_of_check as_either input mine status m) (told_of_check as_either input bytes other o)
 one_command_output one (command.Run groups) ws input mine bytes status other m o =
-    one_told as_either (IsRunAnswer run_text groups) (one_run one.judged run_text groups) one.either input mine bytes status other
-    (told_of_run run_text groups as_either input mine status m) (told_of_run run_text groups as_either input bytes other o)
+    one_told as_either (IsRunAnswer state_after groups) (one_run one.judged state_after groups) one.either input mine bytes status other
+    (told_of_run state_after groups as_either input mine status m) (told_of_run state_after groups as_either input bytes other o)
 one_command_output one (command.Watch groups) ws input mine bytes status other m o =
     one_told as_either (IsRunAnswer (watch_text ws) groups) (one_run one.judged (watch_text ws) groups) one.either input mine bytes status other
     (told_of_run (watch_text ws) groups as_either input mine status m) (told_of_run (watch_text ws) groups as_either input bytes other o)
+one_command_output one (command.Trace first count) ws input mine bytes status other m o =
+    one_told as_either (IsRunAnswer (trace_text first count) (first + count)) (one_run one.judged (trace_text first count) (first + count)) one.either input mine bytes status other
+    (told_of_run (trace_text first count) (first + count) as_either input mine status m) (told_of_run (trace_text first count) (first + count) as_either input bytes other o)
 one_command_output one (command.Groups groups number) ws input mine bytes status other m o =
     one_told as_either (IsNumberedRunAnswer groups number) (one_numbered_run groups number) one.either input mine bytes status other
     (told_of_numbered_run groups number as_either input mine status m) (told_of_numbered_run groups number as_either input bytes other o)

@@ -1,24 +1,23 @@
 -- What is promised of the orders of writes.
 use Rattle.std.proofs.Common.{◌≡◌, ℕ, List, Option, Some, None, refl, sym, ap, ◌∙◌, subst}
-use Rattle.std.specs.Prelude.{IfSome}
+use Rattle.std.specs.Prelude.{◌+◌, IfSome}
 use Rattle.std.specs.Io.KnownBytes.{Appends}
 use Rattle.ia_insn.specs.Programs.{Program, IsProgram}
 use Rattle.ia_meaning.specs.State.{zero_state, ZeroIsStart}
 use Rattle.ia_meaning.specs.Steps.{Run as WholeRun}
-use Rattle.ia_meaning.specs.Runs.{run_text}
 use Rattle.ia_meaning.specs.OrderIndependence.{IsRobust}
 use Rattle.group_checker.specs.Reports.{IsFree}
 use Rattle.group_checker.specs.OrderLaws.{FreeIsRobust}
 use Rattle.stop_placer.specs.Laws.{OnePlaced}
 use Rattle.ia64_top.specs.declared.words.Command.{Command}
-use Rattle.ia64_top.specs.declared.words.Command.TheVariants.{Stops, Check, Run, Watch, Trial}
+use Rattle.ia64_top.specs.declared.words.Command.TheVariants.{Stops, Check, Run, Watch, Trace, Trial}
 use Rattle.ia64_top.specs.declared.status.Status.{Status}
 use Rattle.ia64_top.specs.declared.status.Status.TheVariants.{Done, TooLong, Limit, Faulted}
 use Rattle.ia64_top.specs.Words.{command_of, groups_of}
 use Rattle.ia64_top.specs.Statuses.{TellsAccepted}
-use Rattle.ia64_top.specs.Runs.{run_of, end_status, watch_text, IsRunOf, ordered_run_of, IsRunOfEveryOrder}
+use Rattle.ia64_top.specs.Runs.{Printing, run_of, end_status, state_after, watch_text, trace_text, IsRunOf, ordered_run_of, IsRunOfEveryOrder}
 use Rattle.ia64_top.specs.Readings.{as_loose, as_either}
-use Rattle.ia64_top.specs.Output.{IsProgramOf, IsRunAs, printed_run, IsCommandOutput, GivesRunOfEveryOrder}
+use Rattle.ia64_top.specs.Output.{IsProgramOf, IsRunAs, printing_of, IsCommandOutput, GivesRunOfEveryOrder}
 use Rattle.watch_seam.specs.Watchers.{WatchState}
 use Rattle.ia64_top.proofs.Outputs.{GivesOne, loose_gives_one}
 use Rattle.ia64_top.proofs.Answering.{same_command, run_whole}
@@ -32,11 +31,11 @@ record Accepts (input : List ℕ) (p : Program) : Type 0 where
   free : IsFree p
 
 -- what a run answers of an accepted program
-record RunsAccepted (text : WholeRun → List ℕ) (groups : ℕ) (input bytes : List ℕ) (status : Status) (p : Program) : Type 0 where
+record RunsAccepted (text : Printing) (groups : ℕ) (input bytes : List ℕ) (status : Status) (p : Program) : Type 0 where
   accepts : Accepts input p
   runs : IsRunOf text p groups bytes status
 
-of_run : (text : WholeRun → List ℕ) (groups : ℕ) (input bytes : List ℕ) (status : Status) (p : Program) → as_either.Gives input p → IsRunOf text p groups bytes status → RunsAccepted text groups input bytes status p
+of_run : (text : Printing) (groups : ℕ) (input bytes : List ℕ) (status : Status) (p : Program) → as_either.Gives input p → IsRunOf text p groups bytes status → RunsAccepted text groups input bytes status p
 of_run text groups input bytes status p g o = record { accepts = record { gives = g; program = o.program; free = o.free }; runs = o }
 
 -- a state was printed
@@ -46,30 +45,24 @@ Ran Limit = Unit {0}
 Ran Faulted = Unit {0}
 Ran status = ⊥
 
-accepted_run : (text : WholeRun → List ℕ) (groups : ℕ) (input bytes : List ℕ) (status : Status) → Ran status → IsRunAs text groups as_either input bytes status → (p : Program) × RunsAccepted text groups input bytes status p
+accepted_run : (text : Printing) (groups : ℕ) (input bytes : List ℕ) (status : Status) → Ran status → IsRunAs text groups as_either input bytes status → (p : Program) × RunsAccepted text groups input bytes status p
 accepted_run text groups input bytes Done t o = (o.0, of_run text groups input bytes Done o.0 o.1 o.2)
 accepted_run text groups input bytes Limit t o = (o.0, of_run text groups input bytes Limit o.0 o.1 o.2)
 accepted_run text groups input bytes Faulted t o = (o.0, of_run text groups input bytes Faulted o.0 o.1 o.2)
 accepted_run text groups input bytes status t o = absurd t
 
--- where `run` or `watch` tells that the program is accepted
-run_ran : (groups : ℕ) (status : Status) → TellsAccepted status (Run groups) → Ran status
-run_ran groups Done t = t
-run_ran groups Limit t = t
-run_ran groups Faulted t = t
-run_ran groups status t = absurd t
-
-watch_ran : (groups : ℕ) (status : Status) → TellsAccepted status (Watch groups) → Ran status
-watch_ran groups Done t = t
-watch_ran groups Limit t = t
-watch_ran groups Faulted t = t
-watch_ran groups status t = absurd t
+-- Where a command tells that the program is accepted it is done, or has printed a state.
+ran : (status : Status) (c : Command) → TellsAccepted status c → Ran status
+ran Done c t = tt
+ran Limit c t = tt
+ran Faulted c t = tt
+ran status c t = absurd t
 
 -- a program that is free is order independent, and what is read is one program
 robust_given : FreeIsRobust → GivesOne as_either → (input : List ℕ) (q : Program) → as_either.Gives input q → IsProgram q → IsFree q → (p : Program) → as_either.Gives input p → IsRobust p
 robust_given law one input q gives program free p g = subst IsRobust (one input q p gives g) (law q program free)
 
-robust_run : FreeIsRobust → GivesOne as_either → (text : WholeRun → List ℕ) (groups : ℕ) (input bytes : List ℕ) (status : Status) → Ran status → IsRunAs text groups as_either input bytes status → (p : Program) → as_either.Gives input p → IsRobust p
+robust_run : FreeIsRobust → GivesOne as_either → (text : Printing) (groups : ℕ) (input bytes : List ℕ) (status : Status) → Ran status → IsRunAs text groups as_either input bytes status → (p : Program) → as_either.Gives input p → IsRobust p
 robust_run law one text groups input bytes status ran o p g =
     let a = accepted_run text groups input bytes status ran o in
     let at = a.1.accepts in
@@ -85,33 +78,38 @@ robust_program law one placed Done Stops ws all input bytes t is o p g =
     let text = o.2 in
     subst IsRobust (loose_gives_one placed input o.0 p o.1 (subst (λ i. as_loose.Gives i p) (sym is) g)) (law o.0 text.valid text.free)
 robust_program law one placed Done (Trial seed bundles) ws all input bytes t is o p g = subst IsRobust (sym g) o.robust
-robust_program law one placed status (Run groups) ws all input bytes t is o p g = robust_run law one run_text groups input bytes status (run_ran groups status t) o p (subst (λ i. as_either.Gives i p) (sym is) g)
-robust_program law one placed status (Watch groups) ws all input bytes t is o p g = robust_run law one (watch_text ws) groups input bytes status (watch_ran groups status t) o p (subst (λ i. as_either.Gives i p) (sym is) g)
+robust_program law one placed status (Run groups) ws all input bytes t is o p g = robust_run law one state_after groups input bytes status (ran status (Run groups) t) o p (subst (λ i. as_either.Gives i p) (sym is) g)
+robust_program law one placed status (Watch groups) ws all input bytes t is o p g = robust_run law one (watch_text ws) groups input bytes status (ran status (Watch groups) t) o p (subst (λ i. as_either.Gives i p) (sym is) g)
+robust_program law one placed status (Trace first count) ws all input bytes t is o p g = robust_run law one (trace_text first count) (first + count) input bytes status (ran status (Trace first count) t) o p (subst (λ i. as_either.Gives i p) (sym is) g)
 robust_program law one placed status c ws all input bytes t is o p g = absurd t
 
-same_run : (text : WholeRun → List ℕ) (groups : ℕ) (p : Program) (codes : List (List ℕ)) → ordered_run_of p groups codes ≡ run_of p groups → (bytes : List ℕ) (status : Status) → IsRunOf text p groups bytes status
-    → (bytes ≡ text (ordered_run_of p groups codes)) × (status ≡ end_status (ordered_run_of p groups codes).end)
+same_run : (text : Printing) (groups : ℕ) (p : Program) (codes : List (List ℕ)) → ((n : ℕ) → ordered_run_of p codes n ≡ run_of p n) → (bytes : List ℕ) (status : Status) → IsRunOf text p groups bytes status
+    → (bytes ≡ text (ordered_run_of p codes) groups) × (status ≡ end_status (ordered_run_of p codes groups).end)
 same_run text groups p codes same bytes status o =
-    (o.printed ∙ sym (ap text same), o.ends ∙ sym (ap (λ (r : WholeRun). end_status r.end) same))
+    let all : ordered_run_of p codes ≡ run_of p = λ i n. same n i in
+    (o.printed ∙ sym (ap (λ runs. text runs groups) all), o.ends ∙ sym (ap (λ (r : WholeRun). end_status r.end) (same groups)))
 
-each_order : FreeIsRobust → ZeroIsStart → GivesOne as_either → (text : WholeRun → List ℕ) (groups : ℕ) (input bytes : List ℕ) (status : Status) → Ran status → IsRunAs text groups as_either input bytes status
+each_order : FreeIsRobust → ZeroIsStart → GivesOne as_either → (text : Printing) (groups : ℕ) (input bytes : List ℕ) (status : Status) → Ran status → IsRunAs text groups as_either input bytes status
     → (p : Program) → as_either.Gives input p → IsRunOfEveryOrder text p groups bytes status
 each_order law zero one text groups input bytes status ran o p g =
     let a = accepted_run text groups input bytes status ran o in
     let k = a.1 in
     let at = k.accepts in
     subst (λ q. IsRunOfEveryOrder text q groups bytes status) (one input a.0 p at.gives g)
-    (λ codes. same_run text groups a.0 codes (law a.0 at.program at.free groups codes (zero_state a.0) (zero a.0 at.program)) bytes status k.runs)
+    (λ codes. same_run text groups a.0 codes (λ n. law a.0 at.program at.free n codes (zero_state a.0) (zero a.0 at.program)) bytes status k.runs)
 
 -- The command runs so many groups of what it reads.
 each_order_of : FreeIsRobust → ZeroIsStart → GivesOne as_either → (c : Command) (groups : ℕ) (ws : List WatchState) (input bytes : List ℕ) (status : Status) → groups_of c ≡ Some groups → TellsAccepted status c → IsCommandOutput c ws input bytes status
-    → (p : Program) → as_either.Gives input p → IsRunOfEveryOrder (printed_run c ws) p groups bytes status
+    → (p : Program) → as_either.Gives input p → IsRunOfEveryOrder (printing_of c ws) p groups bytes status
 each_order_of law zero one (Run n) groups ws input bytes status is t o p g =
     let same : n ≡ groups = cc in
-    subst (λ k. IsRunOfEveryOrder run_text p k bytes status) same (each_order law zero one run_text n input bytes status (run_ran n status t) o p g)
+    subst (λ k. IsRunOfEveryOrder state_after p k bytes status) same (each_order law zero one state_after n input bytes status (ran status (Run n) t) o p g)
 each_order_of law zero one (Watch n) groups ws input bytes status is t o p g =
     let same : n ≡ groups = cc in
-    subst (λ k. IsRunOfEveryOrder (watch_text ws) p k bytes status) same (each_order law zero one (watch_text ws) n input bytes status (watch_ran n status t) o p g)
+    subst (λ k. IsRunOfEveryOrder (watch_text ws) p k bytes status) same (each_order law zero one (watch_text ws) n input bytes status (ran status (Watch n) t) o p g)
+each_order_of law zero one (Trace first count) groups ws input bytes status is t o p g =
+    let same : first + count ≡ groups = cc in
+    subst (λ k. IsRunOfEveryOrder (trace_text first count) p k bytes status) same (each_order law zero one (trace_text first count) (first + count) input bytes status (ran status (Trace first count) t) o p g)
 each_order_of law zero one c groups ws input bytes status is t o p g = cc
 
 -- The promise, of words and an input.
@@ -121,7 +119,7 @@ Promises words status input =
 
 abbrev pub RunsInEachOrder : List (List ℕ) → List WatchState → Option (List ℕ) → Option (List ℕ) → Status → List ℕ → Type 0
 RunsInEachOrder words ws old new status input =
-    (c : Command) (groups : ℕ) → command_of words ≡ Some c → groups_of c ≡ Some groups → TellsAccepted status c → (p : Program) → as_either.Gives input p → GivesRunOfEveryOrder (printed_run c ws) p groups old new status
+    (c : Command) (groups : ℕ) → command_of words ≡ Some c → groups_of c ≡ Some groups → TellsAccepted status c → (p : Program) → as_either.Gives input p → GivesRunOfEveryOrder (printing_of c ws) p groups old new status
 
 pub promised : FreeIsRobust → GivesOne as_either → OnePlaced → (words : List (List ℕ)) (c : Command) (ws : List WatchState) (left : Option (List ℕ)) (input bytes : List ℕ) (status : Status) → command_of words ≡ Some c → IfSome left (IsReadOf c input)
     → IsCommandOutput c ws input bytes status → IfSome left (Promises words status)

@@ -1,11 +1,11 @@
 -- The numbers of a command are in range.
 use Rattle.std.proofs.Common.{◌≡◌, ℕ, Bool, true, false, List, [], ◌∷◌, Option, Some, None, refl, subst, ◌^◌, ◌-◌}
 use Rattle.std.specs.Prelude.{if◌then◌else◌, codes, bytes_eq, option_map, IfSome}
-use Rattle.ia64_top.specs.declared.limits.TheConstants.{GROUP_LIMIT, TRIAL_LIMIT}
+use Rattle.ia64_top.specs.declared.limits.TheConstants.{GROUP_LIMIT, TRACE_LIMIT, TRIAL_LIMIT}
 use Rattle.ia64_top.specs.declared.words.Command.{Command}
 use Rattle.ia64_top.specs.declared.words.Command.TheVariants.{Build, Stops, Show, List as Listing, Wrap, Lift, Check, Run, Watch}
 use Rattle.ia64_top.specs.Numbers.{number_between}
-use Rattle.ia64_top.specs.Words.{groups_command, trial_command, command_of, HasNumbersInRange}
+use Rattle.ia64_top.specs.Words.{trace_command, groups_command, trial_command, command_of, HasNumbersInRange}
 use Rattle.ia64_top.proofs.Numerals.{IsNumeralOf, numeral_of_number}
 
 -- what a number that was found in a range is
@@ -44,6 +44,11 @@ run_if true watch groups = run_of groups (number_between 1 GROUP_LIMIT groups) (
 run_if false true groups = watch_of groups (number_between 1 GROUP_LIMIT groups) (found_is 1 GROUP_LIMIT groups _ refl)
 run_if false false groups = tt
 
+trace_of : (before traced : List ℕ) (first count : Option ℕ) → IsFound 0 GROUP_LIMIT before first → IsFound 1 TRACE_LIMIT traced count → InRange (trace_command first count)
+trace_of before traced None count is are = tt
+trace_of before traced (Some n) None is are = tt
+trace_of before traced (Some n) (Some k) is are = (is.1, are.0, are.1)
+
 groups_of : (groups : List ℕ) (found number : Option ℕ) → IsFound 1 GROUP_LIMIT groups found → InRange (groups_command found number)
 groups_of groups None number is = tt
 groups_of groups (Some n) None is = tt
@@ -54,19 +59,21 @@ trial_of bundles None found is = tt
 trial_of bundles (Some s) None is = tt
 trial_of bundles (Some s) (Some n) is = (is.0, is.1)
 
-groups_if : (groups trial : Bool) (first second : List ℕ)
-    → InRange (if groups then groups_command (number_between 1 GROUP_LIMIT first) (number_between 0 (2 ^ 64 - 1) second) else if trial then trial_command (number_between 0 (2 ^ 64 - 1) first) (number_between 1 TRIAL_LIMIT second) else None)
-groups_if true trial first second =
+two_numbers : (trace groups trial : Bool) (first second : List ℕ)
+    → InRange (if trace then trace_command (number_between 0 GROUP_LIMIT first) (number_between 1 TRACE_LIMIT second) else if groups then groups_command (number_between 1 GROUP_LIMIT first) (number_between 0 (2 ^ 64 - 1) second) else if trial then trial_command (number_between 0 (2 ^ 64 - 1) first) (number_between 1 TRIAL_LIMIT second) else None)
+two_numbers true groups trial first second =
+    trace_of first second (number_between 0 GROUP_LIMIT first) (number_between 1 TRACE_LIMIT second) (found_is 0 GROUP_LIMIT first _ refl) (found_is 1 TRACE_LIMIT second _ refl)
+two_numbers false true trial first second =
     groups_of first (number_between 1 GROUP_LIMIT first) (number_between 0 (2 ^ 64 - 1) second) (found_is 1 GROUP_LIMIT first _ refl)
-groups_if false true first second =
+two_numbers false false true first second =
     trial_of second (number_between 0 (2 ^ 64 - 1) first) (number_between 1 TRIAL_LIMIT second) (found_is 1 TRIAL_LIMIT second _ refl)
-groups_if false false first second = tt
+two_numbers false false false first second = tt
 
 words_in_range : (words : List (List ℕ)) → InRange (command_of words)
 words_in_range [] = tt
 words_in_range (word ∷ []) = word_alone (bytes_eq word (codes "build")) (bytes_eq word (codes "stops")) (bytes_eq word (codes "show")) (bytes_eq word (codes "list")) (bytes_eq word (codes "wrap")) (bytes_eq word (codes "lift")) (bytes_eq word (codes "check"))
 words_in_range (word ∷ groups ∷ []) = run_if (bytes_eq word (codes "run")) (bytes_eq word (codes "watch")) groups
-words_in_range (word ∷ first ∷ second ∷ []) = groups_if (bytes_eq word (codes "groups")) (bytes_eq word (codes "trial")) first second
+words_in_range (word ∷ first ∷ second ∷ []) = two_numbers (bytes_eq word (codes "trace")) (bytes_eq word (codes "groups")) (bytes_eq word (codes "trial")) first second
 words_in_range (word ∷ first ∷ second ∷ other ∷ words) = tt
 
 pub in_range : (words : List (List ℕ)) (command : Command) → command_of words ≡ Some command → HasNumbersInRange command

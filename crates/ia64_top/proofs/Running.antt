@@ -1,6 +1,6 @@
--- What is stated of `run` and `watch`.
+-- What is stated of `run`, `watch` and `trace`.
 use Rattle.std.proofs.Common.{◌≡◌, ℕ, inl, inr, List, refl, sym, ap, ◌∙◌, subst}
-use Rattle.std.specs.Prelude.{◌↔◌, ◌⊎◌}
+use Rattle.std.specs.Prelude.{◌↔◌, ◌⊎◌, ◌+◌}
 use Rattle.std.proofs.lemmas.Option.{same_Some}
 use Rattle.ia_insn.specs.Programs.{Program}
 use Rattle.ia_insn.specs.declared.ending.End.{End}
@@ -9,7 +9,6 @@ use Rattle.ia_insn.specs.Programs.{IsProgram}
 use Rattle.ia_meaning.specs.declared.state.Rse.{Rse}
 use Rattle.ia_meaning.specs.State.{State, zero_state}
 use Rattle.ia_meaning.specs.Progress.{Progress, begun, groups_further, end_of}
-use Rattle.ia_meaning.specs.Steps.{Run}
 use Rattle.ia_meaning.specs.Runs.{HasRun, ProgressIsRun, run_text}
 use Rattle.ia_meaning.specs.StateText.{state_text}
 use Rattle.ia_meaning.proofs.GroupEnds.{zero_is_place}
@@ -18,7 +17,7 @@ use Rattle.group_checker.specs.OrderLaws.{FreeIsRobust}
 use Rattle.ia64_top.specs.declared.status.Status.{Status}
 use Rattle.ia64_top.specs.declared.status.Status.TheVariants.{Done, Violated, Limit, Faulted, Refused}
 use Rattle.ia64_top.specs.Judgements.{IsJudgement, IsJudgedViolated}
-use Rattle.ia64_top.specs.Runs.{run_of, end_status, watch_text, IsRunOf}
+use Rattle.ia64_top.specs.Runs.{Printing, run_of, end_status, state_after, watch_text, trace_text, IsRunOf}
 use Rattle.watch_seam.specs.Watchers.{WatchState}
 use Rattle.watch_seam.specs.Watching.{staying}
 use Rattle.ia64_top.specs.Watching.{IsNotRun, HaveWatched}
@@ -32,22 +31,22 @@ use Rattle.ia64_top.proofs.Outputs.{GivesOne, RefusesNone, IsTold, holds_where_t
 use Rattle.ia64_top.proofs.Judging.{violated_of_judgement, done_where_free, violated_where_not_free}
 
 -- What is answered of a program: its run, or its verdict where it has violations.
-abbrev pub IsRunAnswer : (Run → List ℕ) → ℕ → Program → List ℕ → Status → Type 0
+abbrev pub IsRunAnswer : Printing → ℕ → Program → List ℕ → Status → Type 0
 IsRunAnswer text groups p bytes status = IsRunOf text p groups bytes status ⊎ IsJudgedViolated p bytes status
 
 -- the end of the run tells the row of its status
-by_end : (text : Run → List ℕ) (groups : ℕ) (r : InputReading) (input : List ℕ) (p : Program) (bytes : List ℕ) (status : Status) (e : End) → r.Gives input p → status ≡ end_status e → IsRunOf text p groups bytes status → IsRunAs text groups r input bytes status
+by_end : (text : Printing) (groups : ℕ) (r : InputReading) (input : List ℕ) (p : Program) (bytes : List ℕ) (status : Status) (e : End) → r.Gives input p → status ≡ end_status e → IsRunOf text p groups bytes status → IsRunAs text groups r input bytes status
 by_end text groups r input p bytes status (end.Break imm place) g is = subst (λ s. IsRunOf text p groups bytes s → IsRunAs text groups r input bytes s) (sym is) (λ o. (p, g, o))
 by_end text groups r input p bytes status (end.Limit place) g is = subst (λ s. IsRunOf text p groups bytes s → IsRunAs text groups r input bytes s) (sym is) (λ o. (p, g, o))
 by_end text groups r input p bytes status (end.Fault kind place) g is = subst (λ s. IsRunOf text p groups bytes s → IsRunAs text groups r input bytes s) (sym is) (λ o. (p, g, o))
 
 -- the answer of the program that an input is read as is that of the input
-pub run_of_program : (text : Run → List ℕ) (groups : ℕ) (r : InputReading) (input : List ℕ) (p : Program) (bytes : List ℕ) (status : Status) → r.Gives input p → IsRunOf text p groups bytes status ⊎ IsJudgedViolated p bytes status → IsRunAs text groups r input bytes status
+pub run_of_program : (text : Printing) (groups : ℕ) (r : InputReading) (input : List ℕ) (p : Program) (bytes : List ℕ) (status : Status) → r.Gives input p → IsRunOf text p groups bytes status ⊎ IsJudgedViolated p bytes status → IsRunAs text groups r input bytes status
 run_of_program text groups r input p bytes status g (inl o) = by_end text groups r input p bytes status (run_of p groups).end g o.ends o
 run_of_program text groups r input p bytes status g (inr o) = subst (λ s. IsJudgement p bytes s → IsRunAs text groups r input bytes s) (sym o.1) (λ j. (p, g, j)) o.0
 
 -- each row tells the answer of the program, or the refusal
-pub told_of_run : (text : Run → List ℕ) (groups : ℕ) (r : InputReading) (input bytes : List ℕ) (status : Status) → IsRunAs text groups r input bytes status → IsTold r (IsRunAnswer text groups) input bytes status
+pub told_of_run : (text : Printing) (groups : ℕ) (r : InputReading) (input bytes : List ℕ) (status : Status) → IsRunAs text groups r input bytes status → IsTold r (IsRunAnswer text groups) input bytes status
 told_of_run text groups r input bytes Done o = inl (o.0, o.1, inl o.2)
 told_of_run text groups r input bytes Violated o = inl (o.0, o.1, inr (o.2, refl))
 told_of_run text groups r input bytes Limit o = inl (o.0, o.1, inl o.2)
@@ -61,27 +60,27 @@ not_violated (end.Break imm place) is = cc
 not_violated (end.Limit place) is = cc
 not_violated (end.Fault kind place) is = cc
 
-violated_of_answer : (text : Run → List ℕ) (groups : ℕ) (p : Program) (bytes : List ℕ) (status : Status) → IsRunAnswer text groups p bytes status → ((status ≡ Violated) ↔ (¬ IsFree p))
+violated_of_answer : (text : Printing) (groups : ℕ) (p : Program) (bytes : List ℕ) (status : Status) → IsRunAnswer text groups p bytes status → ((status ≡ Violated) ↔ (¬ IsFree p))
 violated_of_answer text groups p bytes status (inl o) = (λ e. absurd (not_violated (run_of p groups).end (sym o.ends ∙ e)), λ n. absurd (n o.free))
 violated_of_answer text groups p bytes status (inr o) = violated_of_judgement p bytes status o.0
 
 -- The end of the run tells the status of a program that is free.
-end_of_answer : (text : Run → List ℕ) (groups : ℕ) (p : Program) (bytes : List ℕ) (status : Status) → IsRunAnswer text groups p bytes status → IsFree p → status ≡ end_status (run_of p groups).end
+end_of_answer : (text : Printing) (groups : ℕ) (p : Program) (bytes : List ℕ) (status : Status) → IsRunAnswer text groups p bytes status → IsFree p → status ≡ end_status (run_of p groups).end
 end_of_answer text groups p bytes status (inl o) free = o.ends
 end_of_answer text groups p bytes status (inr o) free = absurd ((violated_of_judgement p bytes status o.0).0 o.1 free)
 
-status_of_run : (text : Run → List ℕ) (groups : ℕ) (r : InputReading) → GivesOne r → RefusesNone r → (input bytes : List ℕ) (status : Status) → IsRunAs text groups r input bytes status
+status_of_run : (text : Printing) (groups : ℕ) (r : InputReading) → GivesOne r → RefusesNone r → (input bytes : List ℕ) (status : Status) → IsRunAs text groups r input bytes status
     → (p : Program) → r.Gives input p → IsFree p → status ≡ end_status (run_of p groups).end
 status_of_run text groups r one none input bytes status o =
     holds_where_told r (IsRunAnswer text groups) (λ p s. IsFree p → s ≡ end_status (run_of p groups).end) (end_of_answer text groups) one none input bytes status (told_of_run text groups r input bytes status o)
 
 -- `Violated` is the answer exactly where the program isn't free
-run_violated_where_not_free : (text : Run → List ℕ) (groups : ℕ) (r : InputReading) → GivesOne r → RefusesNone r → (input bytes : List ℕ) (status : Status) → IsRunAs text groups r input bytes status
+run_violated_where_not_free : (text : Printing) (groups : ℕ) (r : InputReading) → GivesOne r → RefusesNone r → (input bytes : List ℕ) (status : Status) → IsRunAs text groups r input bytes status
     → (p : Program) → r.Gives input p → ((status ≡ Violated) ↔ (¬ IsFree p))
 run_violated_where_not_free text groups r one none input bytes status o =
     holds_where_told r (IsRunAnswer text groups) (λ p s. (s ≡ Violated) ↔ (¬ IsFree p)) (violated_of_answer text groups) one none input bytes status (told_of_run text groups r input bytes status o)
 
-pub run_is : (text : Run → List ℕ) (groups : ℕ) (r : InputReading) (input : List ℕ) (p : Program) (bytes : List ℕ) (status : Status) → IsAcceptedAs r input p → IsRunOf text p groups bytes status → IsRunAs text groups r input bytes status
+pub run_is : (text : Printing) (groups : ℕ) (r : InputReading) (input : List ℕ) (p : Program) (bytes : List ℕ) (status : Status) → IsAcceptedAs r input p → IsRunOf text p groups bytes status → IsRunAs text groups r input bytes status
 run_is text groups r input p bytes status accepted o = run_of_program text groups r input p bytes status accepted.0 (inl o)
 
 -- A run under way that has come so far prints the run, and ends as it does.
@@ -96,8 +95,8 @@ pub text_of_progress : ProgressIsRun → (groups : ℕ) (p : Program) (m : Progr
 text_of_progress run groups p m e program came ends =
     let has = has_run run groups p m program came in same_text _ _ _ _ _ _ _ _ (ends ∙ has.end) has.groups has.range has.state
 
-pub run_of_progress : FreeIsRobust → ProgressIsRun → (text : Run → List ℕ) (groups : ℕ) (p : Program) (m : Progress) (e : End) (bytes : List ℕ) (status : Status) → IsProgram p → IsFree p → m ≡ groups_further groups p (begun (zero_state p)) → e ≡ end_of m
-    → bytes ≡ text (run_of p groups) → status ≡ end_status e → IsRunOf text p groups bytes status
+pub run_of_progress : FreeIsRobust → ProgressIsRun → (text : Printing) (groups : ℕ) (p : Program) (m : Progress) (e : End) (bytes : List ℕ) (status : Status) → IsProgram p → IsFree p → m ≡ groups_further groups p (begun (zero_state p)) → e ≡ end_of m
+    → bytes ≡ text (run_of p) groups → status ≡ end_status e → IsRunOf text p groups bytes status
 run_of_progress law run text groups p m e bytes status program free came ends printed answered =
     let has = has_run run groups p m program came in
     record { program = program; free = free; robust = law p program free; printed = printed; ends = answered ∙ ap end_status (ends ∙ has.end) }
@@ -120,16 +119,20 @@ accepted_of one none c ws input bytes status o is = done_where_free as_either on
 pub judged_of : GivesOne as_either → RefusesNone as_either → (c : Command) (ws : List WatchState) (input bytes : List ℕ) (status : Status) → IsCommandOutput c ws input bytes status
     → Judges c → (p : Program) → as_either.Gives input p → ((status ≡ Violated) ↔ (¬ IsFree p))
 judged_of one none command.Check ws input bytes status o judges = violated_where_not_free as_either one none input bytes status o
-judged_of one none (command.Run groups) ws input bytes status o judges = run_violated_where_not_free run_text groups as_either one none input bytes status o
+judged_of one none (command.Run groups) ws input bytes status o judges = run_violated_where_not_free state_after groups as_either one none input bytes status o
 judged_of one none (command.Watch groups) ws input bytes status o judges = run_violated_where_not_free (watch_text ws) groups as_either one none input bytes status o
+judged_of one none (command.Trace first count) ws input bytes status o judges = run_violated_where_not_free (trace_text first count) (first + count) as_either one none input bytes status o
 judged_of one none c ws input bytes status o judges = absurd judges
 
 pub ended_of : GivesOne as_either → RefusesNone as_either → (c : Command) (ws : List WatchState) (input bytes : List ℕ) (status : Status) → IsCommandOutput c ws input bytes status
     → (groups : ℕ) → groups_of c ≡ Some groups → (p : Program) → as_either.Gives input p → IsFree p → status ≡ end_status (run_of p groups).end
 ended_of one none (command.Run n) ws input bytes status o groups runs p gives free =
-    status_of_run run_text n as_either one none input bytes status o p gives free ∙ ap (λ k. end_status (run_of p k).end) (same_Some n groups runs)
+    status_of_run state_after n as_either one none input bytes status o p gives free ∙ ap (λ k. end_status (run_of p k).end) (same_Some n groups runs)
 ended_of one none (command.Watch n) ws input bytes status o groups runs p gives free =
     status_of_run (watch_text ws) n as_either one none input bytes status o p gives free ∙ ap (λ k. end_status (run_of p k).end) (same_Some n groups runs)
+ended_of one none (command.Trace first count) ws input bytes status o groups runs p gives free =
+    status_of_run (trace_text first count) (first + count) as_either one none input bytes status o p gives free
+    ∙ ap (λ k. end_status (run_of p k).end) (same_Some (first + count) groups runs)
 ended_of one none c ws input bytes status o groups runs p gives free = cc
 
 -- One number of groups is that of `watch`.

@@ -57,7 +57,7 @@ end_groups (suc most) p m =
     let rest = rest_within most p (advanced p m) (end_within most p (advanced p m)) in omega (arith, rest, advanced_groups p m)
 
 -- One group further, at most one more began.
-one_group : (p : Program) (m : Progress) → (group_further p m).groups ≤ m.groups + 1
+pub one_group : (p : Program) (m : Progress) → (group_further p m).groups ≤ m.groups + 1
 unfolding group_further
 one_group p m = end_groups RUN_LIMIT p m
 

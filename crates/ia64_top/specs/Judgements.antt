@@ -1,4 +1,4 @@
--- The verdict on a program, as `check` prints it, and `run` and `watch` where they run nothing.
+-- The verdict on a program, as `check` prints it, and `run`, `watch` and `trace` where they run nothing.
 use Rattle.std.specs.Prelude.{◌≡◌, ℕ, List}
 use Rattle.ia_insn.specs.Programs.{Program, IsProgram}
 use Rattle.group_checker.specs.declared.report.Verdict.{Verdict}

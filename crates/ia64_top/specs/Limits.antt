@@ -7,7 +7,7 @@ use Rattle.group_checker.specs.declared.report.TheConstants.{SHOWN_LIMIT}
 use Rattle.watch_seam.specs.declared.limits.TheConstants.{FILL_LIMIT}
 use Rattle.bundling.specs.declared.chunk.TheConstants.{QUIET_LIMIT}
 use Rattle.asm_words.specs.declared.limits.TheConstants.{LINE_LIMIT, NAME_LIMIT, NUMBER_LIMIT, NUMBER_TOKEN_LIMIT}
-use Rattle.ia64_top.specs.declared.limits.TheConstants.{INPUT_LIMIT, GROUP_LIMIT, TRIAL_LIMIT}
+use Rattle.ia64_top.specs.declared.limits.TheConstants.{INPUT_LIMIT, GROUP_LIMIT, TRACE_LIMIT, TRIAL_LIMIT}
 
 -- of programs, their images and their packing, of states, of what is shown, of lines of text, and of calls
 pub record AreLimits : Type 0 where
@@ -28,4 +28,5 @@ pub record AreLimits : Type 0 where
   pub number_tokens_of_a_line : NUMBER_TOKEN_LIMIT ≡ 63
   pub input : INPUT_LIMIT ≡ 16777216
   pub groups : GROUP_LIMIT ≡ 10000000
+  pub groups_of_a_trace : TRACE_LIMIT ≡ 100
   pub trial : TRIAL_LIMIT ≡ 4096

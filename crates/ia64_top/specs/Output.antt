@@ -1,5 +1,5 @@
 -- The stated output: what the words and the input give. Each command has a table of its own, a row for each status.
-use Rattle.std.specs.Prelude.{◌≡◌, ◌⊎◌, ℕ, ◌<◌, ◌≤◌, nat_lt, Bool, false, List, [], length, take, Option, MatchOption, MatchBool}
+use Rattle.std.specs.Prelude.{◌≡◌, ◌⊎◌, ℕ, ◌+◌, ◌<◌, ◌≤◌, nat_lt, Bool, false, List, [], length, take, Option, MatchOption, MatchBool}
 use Rattle.std.specs.Io.KnownBytes.{Appends}
 use Rattle.ia64_top.specs.declared.limits.TheConstants.{INPUT_LIMIT}
 use Rattle.ia64_top.specs.declared.words.Command.{Command}
@@ -14,10 +14,8 @@ use Rattle.asm_build.specs.Listing.{IsListing}
 use Rattle.ia64_top.specs.Words.{command_of}
 use Rattle.ia64_top.specs.Judgements.{IsJudgement, IsJudgedViolated, PrintsClashes}
 use Rattle.trial_maker.specs.Trials.{trial_program}
-use Rattle.ia_meaning.specs.Steps.{Run}
-use Rattle.ia_meaning.specs.Runs.{run_text}
 use Rattle.watch_seam.specs.Watchers.{WatchState}
-use Rattle.ia64_top.specs.Runs.{watch_text, IsRunOf, IsNumberedRunOf, IsRunOfEveryOrder}
+use Rattle.ia64_top.specs.Runs.{Printing, state_after, watch_text, trace_text, IsRunOf, IsNumberedRunOf, IsRunOfEveryOrder}
 use Rattle.ia64_top.specs.Trials.{IsTrialOutput}
 use Rattle.group_checker.specs.Reports.{IsFree}
 use Rattle.stop_placer.specs.Packed.{Packed}
@@ -74,8 +72,8 @@ IsUnrunAs reading input bytes status =
     ⊎ ((program : Program) × reading.Gives input program × IsJudgedViolated program bytes status)
 
 -- What is written and answered of an input that is read in a way, where so many groups of its program are run and this is
--- printed of a run. A program with violations isn't run: it gets the verdict that `check` gives it.
-abbrev pub IsRunAs : (Run → List ℕ) → ℕ → InputReading → List ℕ → List ℕ → Status → Type 0
+-- printed. A program with violations isn't run: it gets the verdict that `check` gives it.
+abbrev pub IsRunAs : Printing → ℕ → InputReading → List ℕ → List ℕ → Status → Type 0
 IsRunAs text groups reading input bytes Done =
     (program : Program) × reading.Gives input program × IsRunOf text program groups bytes Done
 IsRunAs text groups reading input bytes Violated =
@@ -119,13 +117,15 @@ IsUnreadable command input = (program : Program) → ¬ IsProgramOf command inpu
 abbrev pub IsSilent : Status → List ℕ → Status → Type 0
 IsSilent status bytes answer = (bytes ≡ []) × (answer ≡ status)
 
--- What is printed of a run where a command runs something: `watch` has the reports of the watchers before it.
-abbrev pub printed_run : Command → List WatchState → Run → List ℕ
-printed_run (command.Watch groups) watchers run = watch_text watchers run
-printed_run command watchers run = run_text run
+-- What is printed where a command runs something: `watch` has the reports of the watchers before the state, and `trace` the
+-- states before it and the groups between them.
+abbrev pub printing_of : Command → List WatchState → Printing
+printing_of (command.Watch groups) watchers = watch_text watchers
+printing_of (command.Trace first count) watchers = trace_text first count
+printing_of command watchers = state_after
 
 -- `build` and `wrap` make the image of a program, `stops` the text of the program into which a loose text is packed, `show`
--- its canonical text, `list` its listing, and `lift` its image of version 2. `check`, `run`, `watch` and `groups` take an image or a text, and `trial` takes no input.
+-- its canonical text, `list` its listing, and `lift` its image of version 2. `check`, `run`, `watch`, `trace` and `groups` take an image or a text, and `trial` takes no input.
 abbrev pub IsCommandOutput : Command → List WatchState → List ℕ → List ℕ → Status → Type 0
 IsCommandOutput command.Build watchers input bytes status =
     IsMadeOutput as_text Written input bytes status
@@ -141,9 +141,11 @@ IsCommandOutput command.Lift watchers input bytes status =
     IsMadeOutput as_image (IsImage Two) input bytes status
 IsCommandOutput command.Check watchers input bytes status = IsCheckedAs as_either input bytes status
 IsCommandOutput (command.Run groups) watchers input bytes status =
-    IsRunAs run_text groups as_either input bytes status
+    IsRunAs (printing_of (command.Run groups) watchers) groups as_either input bytes status
 IsCommandOutput (command.Watch groups) watchers input bytes status =
-    IsRunAs (watch_text watchers) groups as_either input bytes status
+    IsRunAs (printing_of (command.Watch groups) watchers) groups as_either input bytes status
+IsCommandOutput (command.Trace first count) watchers input bytes status =
+    IsRunAs (printing_of (command.Trace first count) watchers) (first + count) as_either input bytes status
 IsCommandOutput (command.Groups groups number) watchers input bytes status =
     IsNumberedRunAs groups number as_either input bytes status
 IsCommandOutput (command.Trial seed bundles) watchers input bytes status =
@@ -192,7 +194,7 @@ GivesPart words watchers input old new =
     (bytes : List ℕ) × (status : Status) × IsOutput words watchers input bytes status
     × ((count : ℕ) × (count < length bytes) × Appends old new (take count bytes))
 
--- The sink got what is printed of the run of a program, which is that of every order of the writes in its groups.
-abbrev pub GivesRunOfEveryOrder : (Run → List ℕ) → Program → ℕ → Option (List ℕ) → Option (List ℕ) → Status → Type 0
+-- The sink got what is printed of the runs of a program, which is that of every order of the writes in their groups.
+abbrev pub GivesRunOfEveryOrder : Printing → Program → ℕ → Option (List ℕ) → Option (List ℕ) → Status → Type 0
 GivesRunOfEveryOrder text program groups old new status =
     (bytes : List ℕ) × Appends old new bytes × IsRunOfEveryOrder text program groups bytes status

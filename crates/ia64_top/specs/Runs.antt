@@ -1,7 +1,8 @@
--- What `run`, `watch` and `groups` print and answer of a program that they run.
-use Rattle.std.specs.Prelude.{◌≡◌, ℕ, List, ◌++◌}
+-- What `run`, `watch`, `trace` and `groups` print and answer of a program that they run.
+use Rattle.std.specs.Prelude.{◌≡◌, ℕ, zero, suc, List, [], ◌++◌, length, drop, flat_map}
 use Rattle.ia_insn.specs.declared.ending.End.{End}
 use Rattle.ia_insn.specs.declared.ending.End.TheVariants as end
+use Rattle.ia_insn.specs.declared.ending.GroupEvent.{GroupEvent}
 use Rattle.ia_insn.specs.Programs.{Program, IsProgram}
 use Rattle.ia_meaning.specs.State.{zero_state}
 use Rattle.ia_meaning.specs.Steps.{Run, seq_run}
@@ -10,14 +11,14 @@ use Rattle.ia_meaning.specs.NumberedRuns.{numbered_run}
 use Rattle.ia_meaning.specs.OrderIndependence.{IsRobust}
 use Rattle.ia_meaning.specs.Runs.{run_text}
 use Rattle.group_checker.specs.Reports.{IsFree}
-use Rattle.watch_seam.specs.Watchers.{WatchState}
+use Rattle.watch_seam.specs.Watchers.{WatchState, line, event_text}
 use Rattle.watch_seam.specs.Watching.{numbered, reports}
 use Rattle.ia64_top.specs.declared.status.Status.{Status}
 use Rattle.ia64_top.specs.declared.status.Status.TheVariants.{Done, Limit, Faulted}
 
 -- the run of a program from the zero state, of at most so many groups
 abbrev pub run_of : Program → ℕ → Run
-run_of p groups = seq_run p groups (zero_state p)
+run_of p = λ groups. seq_run p groups (zero_state p)
 
 -- The run of a program from the zero state, of at most so many groups, each all at once and its writes in the order with a
 -- number.
@@ -30,17 +31,41 @@ end_status (end.Break imm place) = Done
 end_status (end.Limit place) = Limit
 end_status (end.Fault kind place) = Faulted
 
--- What `watch` prints of a run: what these watchers report of its groups, and then the state, as `run` prints it.
-abbrev pub watch_text : List WatchState → Run → List ℕ
-watch_text watchers run = reports run.events (numbered watchers) ++ run_text run
+-- What is printed, given the run of each number of groups and how many groups are asked for.
+abbrev pub Printing : Type 0
+Printing = (ℕ → Run) → ℕ → List ℕ
 
--- The bytes and the status of the run of a program, where this is printed of a run. Only a program without violations is
+-- `run` prints the state after the run.
+abbrev pub state_after : Printing
+state_after runs groups = run_text (runs groups)
+
+-- `watch` prints what these watchers report of its groups, and then the state, as `run` prints it.
+abbrev pub watch_text : List WatchState → Printing
+watch_text watchers runs groups = reports (runs groups).events (numbered watchers) ++ run_text (runs groups)
+
+-- What a run of one group more has of groups beside those before: the group, or none where the run has ended.
+abbrev pub further_events : (ℕ → Run) → ℕ → List GroupEvent
+further_events runs groups = drop (length (runs groups).events) (runs (suc groups)).events
+
+-- The groups that run behind so many, at most so many more: each as a tracer has it, and the state after it.
+abbrev pub traced_groups : (ℕ → Run) → (groups more : ℕ) → List ℕ
+traced_groups runs groups zero = []
+traced_groups runs groups (suc more) =
+    flat_map (λ event. line (event_text event) ++ run_text (runs (suc groups))) (further_events runs groups)
+    ++ traced_groups runs (suc groups) more
+
+-- `trace` prints the state after its first number of groups, and then so many groups that run behind them, or fewer where the
+-- run ends.
+abbrev pub trace_text : (first count : ℕ) → Printing
+trace_text first count runs groups = run_text (runs first) ++ traced_groups runs first count
+
+-- The bytes and the status of the run of a program, where this is printed. Only a program without violations is
 -- run, and so one that is order independent.
-pub record IsRunOf (text : Run → List ℕ) (p : Program) (groups : ℕ) (bytes : List ℕ) (status : Status) : Type 0 where
+pub record IsRunOf (text : Printing) (p : Program) (groups : ℕ) (bytes : List ℕ) (status : Status) : Type 0 where
   pub program : IsProgram p
   pub free : IsFree p
   pub robust : IsRobust p
-  pub printed : bytes ≡ text (run_of p groups)
+  pub printed : bytes ≡ text (run_of p) groups
   pub ends : status ≡ end_status (run_of p groups).end
 
 -- The bytes and the status of the run of a program all at once, in the order with a number. Every program is run, whether it
@@ -50,12 +75,12 @@ pub record IsNumberedRunOf (p : Program) (groups number : ℕ) (bytes : List ℕ
   pub printed : bytes ≡ run_text (numbered_run_of p groups number)
   pub ends : status ≡ end_status (numbered_run_of p groups number).end
 
--- the run of a program from the zero state, of at most so many groups, each all at once and its writes in the order of a code
-abbrev pub ordered_run_of : Program → ℕ → List (List ℕ) → Run
-ordered_run_of p groups codes = par_run p groups codes (zero_state p)
+-- The run of a program from the zero state, of at most so many groups, each all at once and its writes in the order of a code.
+abbrev pub ordered_run_of : Program → List (List ℕ) → ℕ → Run
+ordered_run_of p codes = λ groups. par_run p groups codes (zero_state p)
 
--- Whatever the order of the writes in each group, these bytes are what is printed of that run, and its end tells the status.
-abbrev pub IsRunOfEveryOrder : (Run → List ℕ) → Program → ℕ → List ℕ → Status → Type 0
+-- Whatever the order of the writes in each group, these bytes are what is printed of such runs, and their end tells the status.
+abbrev pub IsRunOfEveryOrder : Printing → Program → ℕ → List ℕ → Status → Type 0
 IsRunOfEveryOrder text p groups bytes status =
     (codes : List (List ℕ))
-    → (bytes ≡ text (ordered_run_of p groups codes)) × (status ≡ end_status (ordered_run_of p groups codes).end)
+    → (bytes ≡ text (ordered_run_of p codes) groups) × (status ≡ end_status (ordered_run_of p codes groups).end)

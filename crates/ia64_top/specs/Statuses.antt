@@ -34,8 +34,8 @@ TellsOfProgram Limit = Unit {0}
 TellsOfProgram Faulted = Unit {0}
 TellsOfProgram status = ⊥
 
--- The status of a command tells that the program is accepted: `check`, `stops` or `trial` is done, or `run` or `watch` printed
--- a state.
+-- The status of a command tells that the program is accepted: `check`, `stops` or `trial` is done, or `run`, `watch` or `trace`
+-- printed a state.
 abbrev pub TellsAccepted : Status → Command → Type 0
 TellsAccepted Done command.Check = Unit {0}
 TellsAccepted Done command.Stops = Unit {0}
@@ -46,6 +46,9 @@ TellsAccepted Faulted (command.Run groups) = Unit {0}
 TellsAccepted Done (command.Watch groups) = Unit {0}
 TellsAccepted Limit (command.Watch groups) = Unit {0}
 TellsAccepted Faulted (command.Watch groups) = Unit {0}
+TellsAccepted Done (command.Trace first count) = Unit {0}
+TellsAccepted Limit (command.Trace first count) = Unit {0}
+TellsAccepted Faulted (command.Trace first count) = Unit {0}
 TellsAccepted status command = ⊥
 
 -- A call with `trial` ends so: the trial is done, its program has violations, the sink failed, or memory ran out.

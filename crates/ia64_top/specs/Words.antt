@@ -1,29 +1,32 @@
 -- The table of words: which list of words is which command.
-use Rattle.std.specs.Prelude.{ℕ, ◌-◌, ◌^◌, ◌≤◌, ⊤, List, [], ◌∷◌, Option, Some, None, option_map, if◌then◌else◌, codes, bytes_eq, decimal}
-use Rattle.ia64_top.specs.declared.limits.TheConstants.{GROUP_LIMIT, TRIAL_LIMIT}
+use Rattle.std.specs.Prelude.{ℕ, ◌+◌, ◌-◌, ◌^◌, ◌≤◌, ⊤, List, [], ◌∷◌, Option, Some, None, option_map, if◌then◌else◌, codes, bytes_eq, decimal}
+use Rattle.ia64_top.specs.declared.limits.TheConstants.{GROUP_LIMIT, TRACE_LIMIT, TRIAL_LIMIT}
 use Rattle.ia64_top.specs.declared.words.Command.{Command}
-use Rattle.ia64_top.specs.declared.words.Command.TheVariants.{Build, Stops, Show, List as Listing, Wrap, Lift, Check, Run, Watch, Groups, Trial}
+use Rattle.ia64_top.specs.declared.words.Command.TheVariants.{Build, Stops, Show, List as Listing, Wrap, Lift, Check, Run, Watch, Trace, Groups, Trial}
 use Rattle.ia64_top.specs.Numbers.{number_between}
 
--- A run has at least one group, and at most the limit, and a trial so many bundles.
+-- A run has at least one group, and at most the limit, a trace shows so many groups, and a trial has so many bundles.
 abbrev pub HasNumbersInRange : Command → Type 0
 HasNumbersInRange (Run groups) = (1 ≤ groups) × (groups ≤ GROUP_LIMIT)
 HasNumbersInRange (Watch groups) = (1 ≤ groups) × (groups ≤ GROUP_LIMIT)
+HasNumbersInRange (Trace first count) = (first ≤ GROUP_LIMIT) × (1 ≤ count) × (count ≤ TRACE_LIMIT)
 HasNumbersInRange (Groups groups number) = (1 ≤ groups) × (groups ≤ GROUP_LIMIT)
 HasNumbersInRange (Trial seed bundles) = (1 ≤ bundles) × (bundles ≤ TRIAL_LIMIT)
 HasNumbersInRange command = ⊤
 
--- `check`, `run` and `watch` judge the program that the input is read as, and run it only where it is accepted.
+-- `check`, `run`, `watch` and `trace` judge the program that the input is read as, and run it only where it is accepted.
 abbrev pub Judges : Command → Type 0
 Judges Check = ⊤
 Judges (Run groups) = ⊤
 Judges (Watch groups) = ⊤
+Judges (Trace first count) = ⊤
 Judges command = ⊥
 
--- how many groups `run` and `watch` run at most
+-- how many groups `run`, `watch` and `trace` run at most
 abbrev pub groups_of : Command → Option ℕ
 groups_of (Run groups) = Some groups
 groups_of (Watch groups) = Some groups
+groups_of (Trace first count) = Some (first + count)
 groups_of command = None
 
 -- The command is `watch`, which watchers see.
@@ -36,6 +39,11 @@ abbrev pub IsTrial : Option Command → Type 0
 IsTrial (Some (Trial seed bundles)) = ⊤
 IsTrial command = ⊥
 
+-- the trace of so many groups behind a number of groups, where both are numbers
+abbrev pub trace_command : Option ℕ → Option ℕ → Option Command
+trace_command (Some first) (Some count) = Some (Trace first count)
+trace_command first count = None
+
 -- so many groups at once in the order with a number, where both are numbers
 abbrev pub groups_command : Option ℕ → Option ℕ → Option Command
 groups_command (Some groups) (Some number) = Some (Groups groups number)
@@ -47,8 +55,8 @@ trial_command (Some seed) (Some bundles) = Some (Trial seed bundles)
 trial_command seed bundles = None
 
 -- The command that the words are, where they are one: `build`, `stops`, `show`, `list`, `wrap`, `lift` or `check` alone, `run` or
--- `watch` and a number of groups, `groups`, a number of groups and the number of an order, of 64 bits, or `trial`, a seed of
--- 64 bits and a number of bundles. Upper and lower case differ.
+-- `watch` and a number of groups, `trace`, a number of groups and how many are traced behind them, `groups`, a number of groups
+-- and the number of an order, of 64 bits, or `trial`, a seed of 64 bits and a number of bundles. Upper and lower case differ.
 abbrev pub command_of : List (List ℕ) → Option Command
 command_of (word ∷ []) =
     if bytes_eq word (codes "build") then Some Build
@@ -62,7 +70,9 @@ command_of (word ∷ groups ∷ []) =
     if bytes_eq word (codes "run") then option_map Run (number_between 1 GROUP_LIMIT groups)
     else if bytes_eq word (codes "watch") then option_map Watch (number_between 1 GROUP_LIMIT groups) else None
 command_of (word ∷ first ∷ second ∷ []) =
-    if bytes_eq word (codes "groups")
+    if bytes_eq word (codes "trace")
+    then trace_command (number_between 0 GROUP_LIMIT first) (number_between 1 TRACE_LIMIT second)
+    else if bytes_eq word (codes "groups")
     then groups_command (number_between 1 GROUP_LIMIT first) (number_between 0 (2 ^ 64 - 1) second)
     else if bytes_eq word (codes "trial")
     then trial_command (number_between 0 (2 ^ 64 - 1) first) (number_between 1 TRIAL_LIMIT second) else None

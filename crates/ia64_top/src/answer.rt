@@ -1,17 +1,16 @@
 //! The answers of the commands.
 
-ghost use Rattle.std.specs.Prelude.{◌≡◌, ◌≢◌, ◌≤◌, ℕ, length, map, IfOk, OnOk, OnErr, MatchResult, Some};
+ghost use Rattle.std.specs.Prelude.{◌≡◌, ◌≢◌, ◌≤◌, ◌+◌, ℕ, length, map, IfOk, OnOk, OnErr, MatchResult, Some};
 ghost use Rattle.image_form.specs.Images.{IsImage, Written};
 ghost use Rattle.image_form.specs.declared.version.Version.TheVariants.{Two};
 ghost use Rattle.asm_build.specs.Listing.{IsListing};
-ghost use Rattle.ia64_top.specs.declared.limits.TheConstants.{GROUP_LIMIT, INPUT_LIMIT, TRIAL_LIMIT};
+ghost use Rattle.ia64_top.specs.declared.limits.TheConstants.{GROUP_LIMIT, INPUT_LIMIT, TRACE_LIMIT, TRIAL_LIMIT};
 ghost use Rattle.ia64_top.specs.Words.{HasNumbersInRange, IsWatch};
 ghost use Rattle.group_checker.specs.Reports.{IsFree};
 ghost use Rattle.ia64_top.specs.Judgements.{IsJudgement, verdict_status};
 ghost use Rattle.ia64_top.specs.Output.{IsCanonical, IsPackedText, IsMadeOutput, IsCheckedAs, IsAcceptedAs, IsUnrunAs, IsRunAs, IsNumberedRunAs, IsCommandOutput};
 ghost use Rattle.ia64_top.specs.Readings.{as_image, as_bundles, as_text, as_loose, as_either, IsRefusal};
-ghost use Rattle.ia64_top.specs.Runs.{end_status, watch_text, IsRunOf, IsNumberedRunOf};
-ghost use Rattle.ia_meaning.specs.Runs.{run_text};
+ghost use Rattle.ia64_top.specs.Runs.{end_status, state_after, watch_text, trace_text, IsRunOf, IsNumberedRunOf};
 ghost use Rattle.watch_seam.specs.Watching.{AwaitGroups};
 ghost use Rattle.ia64_top.specs.Watching.{RanNothing, HaveWatched, HaveWatchedPart};
 ghost use Rattle.trial_maker.specs.Trials.{trial_program};
@@ -21,6 +20,7 @@ ghost use Rattle.ia64_top.specs.declared.status.Status.{Status};
 
 use crate::status::Status;
 use crate::text::{packed_text, refusal, text_refusal, trial_text, verdict_text};
+use crate::tracing::trace_accepted;
 use crate::watching::watch_accepted;
 use crate::words::Command;
 use asm_build::{
@@ -265,7 +265,7 @@ fn run_accepted(alloc: Global, groups: u64, program: &Program) -> Result<Answer,
     requires some { 1 ≤ groups }
     requires few { groups ≤ GROUP_LIMIT }
     requires free { IsFree program.now }
-    ensures { IfOk result (λ answer. IsRunOf run_text program.now groups answer.bytes.items answer.status) }
+    ensures { IfOk result (λ answer. IsRunOf state_after program.now groups answer.bytes.items answer.status) }
 {
     progress_is_run();
     law_orders();
@@ -283,7 +283,7 @@ fn run_input(alloc: Global, groups: u64, input: &[u8]) -> Result<Answer, AllocEr
     requires some { 1 ≤ groups }
     requires few { groups ≤ GROUP_LIMIT }
     requires within { length input.now ≤ INPUT_LIMIT }
-    ensures { IfOk result (λ answer. IsRunAs run_text groups as_either input.now answer.bytes.items answer.status) }
+    ensures { IfOk result (λ answer. IsRunAs state_after groups as_either input.now answer.bytes.items answer.status) }
 {
     match take_accepted(alloc, input)? {
         Ok(program) => run_accepted(alloc, groups, &program),
@@ -315,6 +315,20 @@ fn watch_input(
     no_fault_where_read();
     match take_accepted(alloc, input)? {
         Ok(program) => watch_accepted(alloc, groups, &program, watchers),
+        Err(answer) => Ok(answer),
+    }
+}
+
+/// The answer of `trace` to an input within the limit. A program with violations isn't run.
+fn trace_input(alloc: Global, first: u64, count: u64, input: &[u8]) -> Result<Answer, AllocError>
+    requires before { first ≤ GROUP_LIMIT }
+    requires some { 1 ≤ count }
+    requires few { count ≤ TRACE_LIMIT }
+    requires within { length input.now ≤ INPUT_LIMIT }
+    ensures { IfOk result (λ answer. IsRunAs (trace_text first count) (first + count) as_either input.now answer.bytes.items answer.status) }
+{
+    match take_accepted(alloc, input)? {
+        Ok(program) => trace_accepted(alloc, first, count, &program),
         Err(answer) => Ok(answer),
     }
 }
@@ -418,6 +432,7 @@ pub(crate) fn respond(
         Command::Check => check_input(alloc, input),
         Command::Run { groups } => run_input(alloc, groups, input),
         Command::Watch { groups } => watch_input(alloc, groups, input, watchers),
+        Command::Trace { first, count } => trace_input(alloc, first, count, input),
         Command::Groups { groups, number } => groups_input(alloc, groups, number, input),
         Command::Trial { seed, bundles } => try_program(alloc, seed, bundles),
     }

@@ -7,6 +7,7 @@ pub mod limits;
 mod status;
 mod text;
 mod top;
+mod tracing;
 mod watching;
 mod words;
 

@@ -8,5 +8,8 @@ pub const INPUT_LIMIT: usize = TEXT_LIMIT;
 /// How many groups a run is asked for at most.
 pub const GROUP_LIMIT: u64 = 10_000_000;
 
+/// How many groups a trace shows at most, so that all its states have room in memory.
+pub const TRACE_LIMIT: u64 = 100;
+
 /// How many bundles a trial is asked for at most.
 pub const TRIAL_LIMIT: u64 = 4096;

@@ -18,7 +18,7 @@ ghost use Rattle.ia64_top.specs.Readings.{as_either};
 ghost use Rattle.trial_maker.specs.Trials.{trial_program};
 ghost use Rattle.watch_seam.specs.Watching.{AwaitGroups};
 ghost use Rattle.ia64_top.specs.Watching.{RanNothing, IsNotRun, HaveWatched, HaveWatchedPart};
-ghost use Rattle.ia64_top.specs.Output.{is_too_long, IsWithinLimit, IsProgramOf, IsUnreadable, printed_run, IsOutput, GivesOutput, GivesPart, GivesClashes, GivesTrial, GivesTrialPart, GivesRunOfEveryOrder};
+ghost use Rattle.ia64_top.specs.Output.{is_too_long, IsWithinLimit, IsProgramOf, IsUnreadable, printing_of, IsOutput, GivesOutput, GivesPart, GivesClashes, GivesTrial, GivesTrialPart, GivesRunOfEveryOrder};
 
 use crate::answer::respond;
 use crate::laws::one_output;
@@ -98,17 +98,17 @@ pub fn ia64<S: Source, K: Sink>(
         command_of words.now ≡ Some Command.Check → IsWithinLimit input → (program : Program) → as_either.Gives input program →
         ((result ≡ Status.Done) ↔ IsFree program)) }
 
-    // What `accepted` promises. Where `check`, `stops` or `trial` is done, or `run` or `watch` prints a state, the program is order independent: from every
+    // What `accepted` promises. Where `check`, `stops` or `trial` is done, or `run`, `watch` or `trace` prints a state, the program is order independent: from every
     // state at an entry, for every number of groups and every order of the writes in each group, groups at once leave
     // what slots one by one leave.
     ensures robust { IsAnswer result → IfSome (S.left source.old) (λ input. (command : Command) →
         command_of words.now ≡ Some command → TellsAccepted result command → (program : Program) → IsProgramOf command input program → IsRobust program) }
 
-    // So the state that `run` and `watch` print is the one of groups at once from the zero state, whatever the order of
-    // their writes, and so is what the watchers report.
+    // So each state that `run`, `watch` and `trace` print is the one of groups at once from the zero state, whatever the
+    // order of their writes, and so is what the watchers report.
     ensures ordered { IsAnswer result → IfSome (S.left source.old) (λ input. (command : Command) (groups : ℕ) →
         command_of words.now ≡ Some command → groups_of command ≡ Some groups → TellsAccepted result command → (program : Program) → as_either.Gives input program →
-        GivesRunOfEveryOrder (printed_run command (map (λ b. state b) watchers.old.items)) program groups (K.given sink.old) (K.given sink.new) result) }
+        GivesRunOfEveryOrder (printing_of command (map (λ b. state b) watchers.old.items)) program groups (K.given sink.old) (K.given sink.new) result) }
 
     // Of a program without violations `groups` gives what `run` gives for as many groups, the bytes and the status, whatever
     // the number of the order.
@@ -116,7 +116,7 @@ pub fn ia64<S: Source, K: Sink>(
         command_of words.now ≡ Some (Command.Groups groups number) → IsWithinLimit input → (program : Program) → as_either.Gives input program → IsFree program →
         GivesOutput (run_words groups) (map (λ b. state b) watchers.old.items) input (K.given sink.old) (K.given sink.new) result) }
 
-    // `check`, `run` and `watch` answer with violations exactly where on some walk two slots of a group break a rule.
+    // `check`, `run`, `watch` and `trace` answer with violations exactly where on some walk two slots of a group break a rule.
     ensures judged { IsAnswer result → IfSome (S.left source.old) (λ input. (command : Command) →
         command_of words.now ≡ Some command → Judges command → IsWithinLimit input → (program : Program) → as_either.Gives input program →
         ((result ≡ Status.Violated) ↔ (¬ IsFree program))) }

@@ -43,7 +43,7 @@ fn watch_groups(
 }
 
 /// How the run of a machine ended; `Limit` where it may go on.
-fn ending(machine: &Machine<'_>) -> End
+pub(crate) fn ending(machine: &Machine<'_>) -> End
     ensures { result ≡ end_of machine.now.progress }
 {
     end_or(machine.end(), machine.place())

@@ -1,11 +1,11 @@
 //! The words that a call is given, and the table of commands.
 
 ghost use Rattle.std.specs.Prelude.{◌≡◌, ◌↔◌, ◌-◌, ◌^◌, IsTrue, [], ◌∷◌, ◌++◌, List, ℕ, OnOk, OnErr};
-ghost use Rattle.ia64_top.specs.declared.limits.TheConstants.{GROUP_LIMIT, TRIAL_LIMIT};
+ghost use Rattle.ia64_top.specs.declared.limits.TheConstants.{GROUP_LIMIT, TRACE_LIMIT, TRIAL_LIMIT};
 ghost use Rattle.ia64_top.specs.Numbers.{BeginsAsNumeral, number_between, OneNumeral};
-ghost use Rattle.ia64_top.specs.Words.{groups_command, trial_command, command_of};
+ghost use Rattle.ia64_top.specs.Words.{trace_command, groups_command, trial_command, command_of};
 
-use crate::limits::{GROUP_LIMIT, TRIAL_LIMIT};
+use crate::limits::{GROUP_LIMIT, TRACE_LIMIT, TRIAL_LIMIT};
 use std::alloc::{AllocError, Global};
 use std::marker::Model;
 
@@ -35,6 +35,13 @@ pub enum Command {
     Watch {
         /// How many groups it may have, 1 to 10,000,000.
         groups: u64,
+    },
+    /// Runs a program that is accepted, and gives the state after each of some groups.
+    Trace {
+        /// How many groups run before the first state, 0 to 10,000,000.
+        first: u64,
+        /// How many groups run from there on, each with its state, 1 to 100.
+        count: u64,
     },
     /// Runs a program, accepted or not, each of its groups all at once.
     Groups {
@@ -96,6 +103,15 @@ fn groups_command(groups: &[u8], number: &[u8]) -> Option<Command>
     Some(Command::Groups { groups, number })
 }
 
+/// The trace of so many groups behind a number of groups, where the words are such numbers.
+fn trace_command(first: &[u8], count: &[u8]) -> Option<Command>
+    ensures { result ≡ trace_command (number_between 0 GROUP_LIMIT first.now) (number_between 1 TRACE_LIMIT count.now) }
+{
+    let first = number_between(0, GROUP_LIMIT, first)?;
+    let count = number_between(1, TRACE_LIMIT, count)?;
+    Some(Command::Trace { first, count })
+}
+
 /// The trial of a seed and a number of bundles, where the words are such numbers.
 fn trial_command(seed: &[u8], bundles: &[u8]) -> Option<Command>
     ensures { result ≡ trial_command (number_between 0 (2 ^ 64 - 1) seed.now) (number_between 1 TRIAL_LIMIT bundles.now) }
@@ -143,8 +159,8 @@ impl Words {
     }
 
     /// The command that the words are, by the table: `build`, `stops`, `show`, `list`, `wrap`, `lift` or `check` alone,
-    /// `run` or `watch` and a number of groups, `groups`, a number of groups and that of an order, or `trial`, a seed and a
-    /// number of bundles, in lower case.
+    /// `run` or `watch` and a number of groups, `trace`, a number of groups and how many are traced, `groups`, a number of
+    /// groups and that of an order, or `trial`, a seed and a number of bundles, in lower case.
     pub fn command(&self) -> Option<Command>
         ensures { result ≡ command_of self.now }
     {
@@ -163,6 +179,9 @@ impl Words {
             [word, groups] if word.as_slice() == b"watch".as_slice() => {
                 let groups = number_between(1, GROUP_LIMIT, groups)?;
                 Some(Command::Watch { groups })
+            }
+            [word, first, count] if word.as_slice() == b"trace".as_slice() => {
+                trace_command(first, count)
             }
             [word, groups, number] if word.as_slice() == b"groups".as_slice() => {
                 groups_command(groups, number)

@@ -11,5 +11,5 @@ mod watch;
 
 pub use counter::Counter;
 pub use reports::Reports;
-pub use tracer::Tracer;
+pub use tracer::{Tracer, push_group_line};
 pub use watch::{Keep, Watch, a_line_a_group};

@@ -1,8 +1,8 @@
 //! Lines of groups.
 
-ghost use Rattle.std.specs.Prelude.{◌≡◌, ◌≤◌, Some};
+ghost use Rattle.std.specs.Prelude.{◌≡◌, ◌++◌, ◌≤◌, OnOk, OnErr, Some};
 ghost use Rattle.watch_seam.specs.declared.limits.TheConstants.{FILL_LIMIT};
-ghost use Rattle.watch_seam.specs.Watchers.{event_text, fresh, tracer};
+ghost use Rattle.watch_seam.specs.Watchers.{line, event_text, fresh, tracer};
 
 use crate::counter::Counter;
 use crate::watch::{Keep, Watch};
@@ -35,6 +35,20 @@ impl fmt::Display for EventText {
             How::Ends => write!(f, "{number} {first} {last} ends"),
         }
     }
+}
+
+/// Appends the line of a group: its number, its first and its last place, and `falls`, `taken` or `ends`.
+///
+/// # Errors
+///
+/// Want of memory. The bytes are as they were then.
+pub fn push_group_line(out: &mut Vec<u8>, event: &GroupEvent) -> Result<(), AllocError>
+    ensures ok { OnOk result (out.new.items ≡ out.old.items ++ line (event_text event.now)) }
+    ensures err { OnErr result (out.new.items ≡ out.old.items) }
+{
+    let shown = EventText { event: *event };
+    let text = format!(in *out.allocator(); "{shown}\n")?;
+    out.extend_from_slice(text.as_bytes())
 }
 
 /// Keeps a line of each group.
@@ -71,9 +85,7 @@ impl Watch for Tracer {
     ghost state = { λ t. t };
 
     fn see(&mut self, event: &GroupEvent) -> Result<Keep, AllocError> {
-        let shown = EventText { event: *event };
-        let line = format!(in *self.lines.allocator(); "{shown}\n")?;
-        self.lines.extend_from_slice(line.as_bytes())?;
+        push_group_line(&mut self.lines, event)?;
         Ok(self.counts.count(event))
     }
 
