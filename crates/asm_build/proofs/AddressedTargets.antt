@@ -1,27 +1,34 @@
 -- An instruction with an address put in fits its slot as before, and its target is the bundle of the label.
-use Rattle.std.proofs.Common.{◌≡◌, ◌∙◌, subst, sym, inl, inr, ℕ, zero, suc, ◌-◌, ◌/◌, ◌<◌, ◌^◌, true, false, cond, ltb, pos, negsuc, ◌+ℤ◌, ◌-ℤ◌, ◌≤ℤ◌, ◌<ℤ◌, Option, Some, None, arith}
+use Rattle.std.proofs.Common.{◌≡◌, ◌∙◌, subst, sym, inl, inr, ℕ, zero, suc, ◌-◌, ◌<◌, ◌^◌, true, false, cond, ltb, pos, negsuc, ◌+ℤ◌, ◌-ℤ◌, ◌≤ℤ◌, ◌<ℤ◌, Option, Some, None, arith}
 use Rattle.std.specs.Prelude.{IfSome}
 use lib.Dec.{le→leb, lt→ltb}
 use Rattle.std.proofs.Math.IntN.{+ℤ_comm, -ℤ-+ℤ_cancel}
-use Rattle.std.proofs.lemmas.Nat.{pow_pos, mod_below}
-use Rattle.bundle_bits.specs.Words.{bits}
 use Rattle.ia_insn.specs.declared.insn.Insn.{Insn}
 use Rattle.ia_insn.specs.declared.insn.Op.{Op}
 use Rattle.ia_insn.specs.declared.insn.Op.TheVariants as op
 use Rattle.ia_insn.specs.declared.choices.Unit.{Unit as ExecutionUnit}
 use Rattle.ia_insn.specs.declared.choices.Unit.TheVariants as unit
-use Rattle.ia_insn.specs.declared.choices.BranchKind.TheVariants as branch
-use Rattle.ia_insn.specs.Listed.{IsListedA, IsListedI, IsListedM, IsListedB, IsListedF, IsListedX}
-use Rattle.ia_insn.specs.Fits.{Fits, FitsUnit, IsBranchSlot}
 use Rattle.ia_insn.specs.Signed.{FitsSigned}
-use Rattle.ia_insn.specs.Addresses.{bundle_address, data_address}
-use Rattle.ia_insn.specs.Targets.{displacement, IsBundleAt}
+use Rattle.ia_insn.specs.Displacements.{displacement}
+use Rattle.insn_rows.specs.Rows.{listed}
+use Rattle.insn_rows.specs.Arms.{opcode_of}
+use Rattle.insn_rows.proofs.Laws.{AsRow}
+use Rattle.formats_a.proofs.Words.{row_a}
+use Rattle.formats_i.proofs.Words.{row_i}
+use Rattle.formats_m.proofs.Words.{row_m}
+use Rattle.formats_b.proofs.WordsB.{row_b}
+use Rattle.formats_b.proofs.WordsF.{row_f}
+use Rattle.formats_b.specs.ListedX.{rows, IsListedX}
+use Rattle.formats_b.specs.PlacesX.{place_of}
+use Rattle.formats_b.specs.PartsX.{slot_op}
+use Rattle.formats_b.proofs.WordsX.{row_of_x, of_row_x}
+use Rattle.ia_program.specs.Fits.{Fits, FitsUnit}
+use Rattle.ia_program.specs.Addresses.{bundle_address, data_address}
+use Rattle.ia_program.specs.Targets.{IsBundleAt}
 use Rattle.asm_build.specs.declared.address.Address.{Address}
 use Rattle.asm_build.specs.declared.address.Address.TheVariants.{Bundle, Byte}
 use Rattle.asm_build.specs.Addresses.{IsInside, IsReachable, addressed, reach}
-
-small : (low width n : ℕ) → bits low width n < 2 ^ width
-small low width n = mod_below (n / 2 ^ low) (2 ^ width) (pow_pos width)
+use Rattle.asm_build.proofs.UntargetedSlots.{fits_aimed}
 
 -- a distance between bundles fits the field of a displacement
 near : (m n : ℕ) → m < reach → n < reach → FitsSigned 21 (pos m -ℤ pos n)
@@ -34,108 +41,49 @@ back m n = +ℤ_comm (pos n) (pos m -ℤ pos n) ∙ -ℤ-+ℤ_cancel (pos m) (po
 at_bundle : (count m n : ℕ) → m < count → IsBundleAt count n (pos m -ℤ pos n)
 at_bundle count m n h = (subst (λ z. pos 0 ≤ℤ z) (sym (back m n)) (record { le = le→leb 0 m (omega arith) }), subst (λ z. z <ℤ pos count) (sym (back m n)) (record { lt = lt→ltb m count h }))
 
-stays_a : (qp : ℕ) (x : Op) (a : Address) (n : ℕ) → IsReachable a → n < reach → IsListedA (record { qp = qp; op = x }) → IfSome (addressed x a n) (λ y. IsListedA (record { qp = qp; op = y }))
-stays_a qp (op.ChkS u r2 disp) a n h k l = absurd l.row
-stays_a qp (op.ChkA clear r1 disp) a n h k l = absurd l.row
-stays_a qp (op.Br kind wh many clr disp) a n h k l = absurd l.row
-stays_a qp (op.BrCall b1 wh many clr disp) a n h k l = absurd l.row
-stays_a qp (op.Movl r1 imm) a n h k l = absurd l.row
-stays_a qp x a n h k l = tt
+-- a long move of another number
+row_moved : (qp r1 imm other : ℕ) → AsRow rows (place_of (opcode_of (slot_op (op.Movl r1 imm)))) (record { qp = qp; op = slot_op (op.Movl r1 imm) })
+    → AsRow rows (place_of (opcode_of (slot_op (op.Movl r1 other)))) (record { qp = qp; op = slot_op (op.Movl r1 other) })
+unfolding rows listed
+row_moved qp r1 imm other h = grind arith
 
-stays_i : (qp : ℕ) (x : Op) (a : Address) (n : ℕ) → IsReachable a → n < reach → IsListedI (record { qp = qp; op = x }) → IfSome (addressed x a n) (λ y. IsListedI (record { qp = qp; op = y }))
-stays_i qp (op.ChkS unit.I r2 disp) (Bundle m) n h k l =
-    record { row = tt; ranges = (tt, near m n h k); qualifier = l.qualifier; fit = (l.fit.0, (small 20 1 _, (l.fit.1.1.0, (small 7 13 _, (l.fit.1.1.1.1.0, (small 0 7 _, (l.fit.1.1.1.1.1.1.0, tt))))))) }
-stays_i qp (op.ChkS unit.I r2 disp) (Byte at) n h k l = tt
-stays_i qp (op.ChkS u r2 disp) a n h k l = absurd l.row
-stays_i qp (op.ChkA clear r1 disp) a n h k l = absurd l.row
-stays_i qp (op.Br kind wh many clr disp) a n h k l = absurd l.row
-stays_i qp (op.BrCall b1 wh many clr disp) a n h k l = absurd l.row
-stays_i qp (op.Movl r1 imm) a n h k l = absurd l.row
-stays_i qp x a n h k l = tt
-
-stays_m : (qp : ℕ) (x : Op) (a : Address) (n : ℕ) → IsReachable a → n < reach → IsListedM (record { qp = qp; op = x }) → IfSome (addressed x a n) (λ y. IsListedM (record { qp = qp; op = y }))
-stays_m qp (op.ChkS unit.M r2 disp) (Bundle m) n h k l =
-    record { row = tt; ranges = (tt, near m n h k); qualifier = l.qualifier; fit = (l.fit.0, (small 20 1 _, (l.fit.1.1.0, (small 7 13 _, (l.fit.1.1.1.1.0, (small 0 7 _, (l.fit.1.1.1.1.1.1.0, tt))))))) }
-stays_m qp (op.ChkS unit.M r2 disp) (Byte at) n h k l = tt
-stays_m qp (op.ChkS u r2 disp) a n h k l = absurd l.row
-stays_m qp (op.ChkA clear r1 disp) (Bundle m) n h k l =
-    record { row = tt; ranges = near m n h k; qualifier = l.qualifier; fit = (l.fit.0, (small 20 1 _, (l.fit.1.1.0, (small 0 20 _, (l.fit.1.1.1.1.0, (l.fit.1.1.1.1.1.0, tt)))))) }
-stays_m qp (op.ChkA clear r1 disp) (Byte at) n h k l = tt
-stays_m qp (op.Br kind wh many clr disp) a n h k l = absurd l.row
-stays_m qp (op.BrCall b1 wh many clr disp) a n h k l = absurd l.row
-stays_m qp (op.Movl r1 imm) a n h k l = absurd l.row
-stays_m qp x a n h k l = tt
-
-stays_b : (qp : ℕ) (x : Op) (a : Address) (n : ℕ) → IsReachable a → n < reach → IsListedB (record { qp = qp; op = x }) → IfSome (addressed x a n) (λ y. IsListedB (record { qp = qp; op = y }))
-stays_b qp (op.ChkS u r2 disp) a n h k l = absurd l.row
-stays_b qp (op.ChkA clear r1 disp) a n h k l = absurd l.row
-stays_b qp (op.Br kind wh many clr disp) (Bundle m) n h k l =
-    record { row = tt; ranges = (l.ranges.0, near m n h k); qualifier = l.qualifier; fit = (l.fit.0, (small 20 1 _, (l.fit.1.1.0, (l.fit.1.1.1.0, (small 0 20 _, (l.fit.1.1.1.1.1.0, (l.fit.1.1.1.1.1.1.0, (l.fit.1.1.1.1.1.1.1.0, tt)))))))) }
-stays_b qp (op.Br kind wh many clr disp) (Byte at) n h k l = tt
-stays_b qp (op.BrCall b1 wh many clr disp) (Bundle m) n h k l =
-    record { row = tt; ranges = (l.ranges.0, near m n h k); qualifier = l.qualifier; fit = (l.fit.0, (small 20 1 _, (l.fit.1.1.0, (l.fit.1.1.1.0, (small 0 20 _, (l.fit.1.1.1.1.1.0, (l.fit.1.1.1.1.1.1.0, (l.fit.1.1.1.1.1.1.1.0, tt)))))))) }
-stays_b qp (op.BrCall b1 wh many clr disp) (Byte at) n h k l = tt
-stays_b qp (op.Movl r1 imm) a n h k l = absurd l.row
-stays_b qp x a n h k l = tt
-
-stays_f : (qp : ℕ) (x : Op) (a : Address) (n : ℕ) → IsReachable a → n < reach → IsListedF (record { qp = qp; op = x }) → IfSome (addressed x a n) (λ y. IsListedF (record { qp = qp; op = y }))
-stays_f qp (op.ChkS u r2 disp) a n h k l = absurd l.row
-stays_f qp (op.ChkA clear r1 disp) a n h k l = absurd l.row
-stays_f qp (op.Br kind wh many clr disp) a n h k l = absurd l.row
-stays_f qp (op.BrCall b1 wh many clr disp) a n h k l = absurd l.row
-stays_f qp (op.Movl r1 imm) a n h k l = absurd l.row
-stays_f qp x a n h k l = tt
-
--- the fields of a long move, but for the number
 moved : (qp r1 imm other : ℕ) → other < 2 ^ 64 → IsListedX (record { qp = qp; op = op.Movl r1 imm }) → IsListedX (record { qp = qp; op = op.Movl r1 other })
-moved qp r1 imm other h l =
-    record { row = tt; ranges = (l.ranges.0, h); qualifier = l.qualifier; fit = (l.fit.0, (small 63 1 other, (small 7 9 other, (small 16 5 other, (small 21 1 other, (l.fit.1.1.1.1.1.0, (small 0 7 other, (l.fit.1.1.1.1.1.1.1.0, (l.fit.1.1.1.1.1.1.1.1.0, tt))))))))) }
+moved qp r1 imm other h l = of_row_x _ (row_moved qp r1 imm other (row_of_x _ l).0) h
 
-stays_x : (qp : ℕ) (x : Op) (a : Address) (n : ℕ) → IsReachable a → n < reach → IsListedX (record { qp = qp; op = x }) → IfSome (addressed x a n) (λ y. IsListedX (record { qp = qp; op = y }))
-stays_x qp (op.ChkS u r2 disp) a n h k l = absurd l.row
-stays_x qp (op.ChkA clear r1 disp) a n h k l = absurd l.row
-stays_x qp (op.Br kind wh many clr disp) a n h k l = absurd l.row
-stays_x qp (op.BrCall b1 wh many clr disp) a n h k l = absurd l.row
-stays_x qp (op.Movl r1 imm) (Bundle m) n h k l = moved qp r1 imm (bundle_address m) (omega (arith, h)) l
-stays_x qp (op.Movl r1 imm) (Byte at) n h k l = moved qp r1 imm (data_address at) (omega (arith, h)) l
-stays_x qp x a n h k l = tt
+unit_moved : (qp r1 imm other : ℕ) (u : ExecutionUnit) (slot : ℕ) → other < 2 ^ 64
+    → FitsUnit (record { qp = qp; op = op.Movl r1 imm }) u slot → FitsUnit (record { qp = qp; op = op.Movl r1 other }) u slot
+unit_moved qp r1 imm other unit.M slot h (inl l) = absurd (row_a _ l)
+unit_moved qp r1 imm other unit.M slot h (inr l) = absurd (row_m _ l)
+unit_moved qp r1 imm other unit.I slot h (inl l) = absurd (row_a _ l)
+unit_moved qp r1 imm other unit.I slot h (inr l) = absurd (row_i _ l)
+unit_moved qp r1 imm other unit.F slot h l = absurd (row_f _ l)
+unit_moved qp r1 imm other unit.B slot h l = absurd (row_b _ l.0)
+unit_moved qp r1 imm other unit.L slot h l = (moved qp r1 imm other h l.0, l.1)
+unit_moved qp r1 imm other unit.X slot h l = (moved qp r1 imm other h l.0, l.1)
 
--- so does the slot of a branch
-branch_stays : (x : Op) (a : Address) (n slot : ℕ) → IsBranchSlot x slot → IfSome (addressed x a n) (λ y. IsBranchSlot y slot)
-branch_stays (op.ChkS u r2 disp) (Bundle m) n slot h = h
-branch_stays (op.ChkA clear r1 disp) (Bundle m) n slot h = h
-branch_stays (op.Br branch.Cond wh many clr disp) (Bundle m) n slot h = h
-branch_stays (op.Br kind wh many clr disp) (Bundle m) n slot h = h
-branch_stays (op.BrCall b1 wh many clr disp) (Bundle m) n slot h = h
-branch_stays (op.Movl r1 imm) (Bundle m) n slot h = h
-branch_stays (op.Movl r1 imm) (Byte at) n slot h = h
-branch_stays x a n slot h = tt
+fits_moved : (qp r1 imm other : ℕ) (u : ExecutionUnit) (slot : ℕ) → other < 2 ^ 64
+    → Fits (record { qp = qp; op = op.Movl r1 imm }) u slot → Fits (record { qp = qp; op = op.Movl r1 other }) u slot
+fits_moved qp r1 imm other u slot h f = record { place = f.place; kind = unit_moved qp r1 imm other u slot h f.kind }
 
--- what holds of an operation that there may be
-both : (P Q : Op → Type 0) (o : Option Op) → IfSome o P → IfSome o Q → IfSome o (λ y. P y × Q y)
-both P Q None p q = tt
-both P Q (Some y) p q = (p, q)
-
-pub IfSome-weaken : {A : Type 0} (P Q : A → Type 0) (o : Option A) → ((y : A) → P y → Q y) → IfSome o P → IfSome o Q
-IfSome-weaken P Q None f p = tt
-IfSome-weaken P Q (Some y) f p = f y p
-
-unit_stays : (qp : ℕ) (x : Op) (a : Address) (n : ℕ) (u : ExecutionUnit) (slot : ℕ) → IsReachable a → n < reach
-    → FitsUnit (record { qp = qp; op = x }) u slot → IfSome (addressed x a n) (λ y. FitsUnit (record { qp = qp; op = y }) u slot)
-unit_stays qp x a n unit.M slot h k (inl l) = IfSome-weaken _ _ (addressed x a n) (λ y p. inl p) (stays_a qp x a n h k l)
-unit_stays qp x a n unit.M slot h k (inr l) = IfSome-weaken _ _ (addressed x a n) (λ y p. inr p) (stays_m qp x a n h k l)
-unit_stays qp x a n unit.I slot h k (inl l) = IfSome-weaken _ _ (addressed x a n) (λ y p. inl p) (stays_a qp x a n h k l)
-unit_stays qp x a n unit.I slot h k (inr l) = IfSome-weaken _ _ (addressed x a n) (λ y p. inr p) (stays_i qp x a n h k l)
-unit_stays qp x a n unit.F slot h k l = stays_f qp x a n h k l
-unit_stays qp x a n unit.B slot h k l = both _ _ (addressed x a n) (stays_b qp x a n h k l.0) (branch_stays x a n slot l.1)
-unit_stays qp x a n unit.L slot h k l = IfSome-weaken _ _ (addressed x a n) (λ y p. (p, l.1)) (stays_x qp x a n h k l.0)
-unit_stays qp x a n unit.X slot h k l = IfSome-weaken _ _ (addressed x a n) (λ y p. (p, l.1)) (stays_x qp x a n h k l.0)
+fits_addressed : (qp : ℕ) (x : Op) (a : Address) (n : ℕ) (u : ExecutionUnit) (slot : ℕ) → IsReachable a → n < reach
+    → Fits (record { qp = qp; op = x }) u slot → IfSome (addressed x a n) (λ y. Fits (record { qp = qp; op = y }) u slot)
+fits_addressed qp (op.ChkS v r2 disp) (Bundle m) n u slot h k f = fits_aimed qp (op.ChkS v r2 disp) _ u slot (near m n h k) f
+fits_addressed qp (op.ChkA clear r1 disp) (Bundle m) n u slot h k f = fits_aimed qp (op.ChkA clear r1 disp) _ u slot (near m n h k) f
+fits_addressed qp (op.Br kind wh many clr disp) (Bundle m) n u slot h k f = fits_aimed qp (op.Br kind wh many clr disp) _ u slot (near m n h k) f
+fits_addressed qp (op.BrCall b1 wh many clr disp) (Bundle m) n u slot h k f = fits_aimed qp (op.BrCall b1 wh many clr disp) _ u slot (near m n h k) f
+fits_addressed qp (op.Movl r1 imm) (Bundle m) n u slot h k f = fits_moved qp r1 imm (bundle_address m) u slot (omega (arith, h)) f
+fits_addressed qp (op.Movl r1 imm) (Byte at) n u slot h k f = fits_moved qp r1 imm (data_address at) u slot (omega (arith, h)) f
+fits_addressed qp x a n u slot h k f = tt
 
 -- An instruction with an address put in fits the slots that it fits without.
 pub fit_stays : (i : Insn) (a : Address) (n : ℕ) (u : ExecutionUnit) (slot : ℕ) → IsReachable a → n < reach
     → Fits i u slot → IfSome (addressed i.op a n) (λ y. Fits (record { qp = i.qp; op = y }) u slot)
-fit_stays i a n u slot h k f =
-    IfSome-weaken _ _ (addressed i.op a n) (λ y p. record { place = f.place; kind = p }) (unit_stays i.qp i.op a n u slot h k f.kind)
+fit_stays i a n u slot h k f = fits_addressed i.qp i.op a n u slot h k f
+
+-- what holds of an operation that there may be
+pub IfSome-weaken : {A : Type 0} (P Q : A → Type 0) (o : Option A) → ((y : A) → P y → Q y) → IfSome o P → IfSome o Q
+IfSome-weaken P Q None f p = tt
+IfSome-weaken P Q (Some y) f p = f y p
 
 -- Its target, where it has one, is the bundle of the label.
 pub target_inside : (count : ℕ) (x : Op) (a : Address) (n : ℕ) → IsInside count a → IfSome (addressed x a n) (λ y. IfSome (displacement y) (IsBundleAt count n))

@@ -4,7 +4,7 @@ use Rattle.std.specs.Int.{w64, to_le_bytes, from_le_bytes}
 use Rattle.std.proofs.lemmas.Nat.{le_bytes_8}
 use Rattle.asm_build.specs.CanonicalText.{data_word, words_of}
 use Rattle.asm_build.specs.TextParts.{numbers_bytes}
-use Rattle.ia_insn.specs.Programs.{AreBytes}
+use Rattle.ia_program.specs.Programs.{AreBytes}
 
 -- the bytes of a word, the lowest first
 word_bytes : (a b c d e f g h : ℕ) → a < 256 → b < 256 → c < 256 → d < 256 → e < 256 → f < 256 → g < 256 → h < 256

@@ -2,8 +2,8 @@
 use Rattle.std.proofs.Common.{◌≡◌, ◌⊎◌, inl, inr, refl, ◌+◌, length}
 use Rattle.std.proofs.Math.Decide.{dec_le, dec_lt}
 use Rattle.first_fault.proofs.Laws.{AreDecided}
-use Rattle.ia_insn.specs.declared.limits.TheConstants.{BUNDLE_LIMIT, DATA_LIMIT}
-use Rattle.asm_instructions.proofs.Decided.{alike, both, is_none, some, some_and, if_some}
+use Rattle.ia_program.specs.declared.limits.TheConstants.{BUNDLE_LIMIT, DATA_LIMIT}
+use Rattle.insn_rows.proofs.Decided.{alike, both, is_none, some, some_and, if_some}
 use Rattle.asm_reading.specs.declared.line.Line.{Line}
 use Rattle.asm_reading.specs.declared.line.Line.TheVariants as line
 use Rattle.asm_reading.specs.declared.line.TemplateName.{TemplateName}

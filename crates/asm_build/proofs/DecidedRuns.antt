@@ -1,20 +1,20 @@
 -- Each place of bundles is within its run, or one is the first past it.
 use Rattle.std.proofs.Common.{◌⊎◌, inl, inr, ℕ, zero, suc, ◌+◌, ◌≤◌, List, [], ◌∷◌, length, Option, Some, None, slice_get, arith}
 use Rattle.std.proofs.Math.Decide.{ℕ_discrete, dec_lt}
-use Rattle.ia_insn.specs.declared.limits.TheConstants.{RUN_LIMIT}
 use Rattle.ia_insn.specs.declared.insn.Op.{Op}
 use Rattle.ia_insn.specs.declared.insn.Op.TheVariants.{Br, BrCall, BrInd, BrRet, BrCallInd, Break}
 use Rattle.ia_insn.specs.declared.choices.BranchKind.TheVariants.{Cond}
-use Rattle.ia_insn.specs.declared.place.Place.{Place}
-use Rattle.ia_insn.specs.declared.bundle.Slots.{Slots}
-use Rattle.ia_insn.specs.declared.bundle.Slots.TheVariants.{Three, Long}
-use Rattle.ia_insn.specs.Bundles.{Bundle, IsStopAfter, last_slot}
-use Rattle.ia_insn.specs.Places.{insn_at, IsPlaceOf, EachPlace, IsFirstBad}
-use Rattle.ia_insn.specs.Runs.{IsLeaving, EndsRun, IsWithinRun}
-use Rattle.ia_insn.specs.Templates.{stops_of}
-use Rattle.ia_insn.proofs.InOrder.{slot_small, bundle_small, lies_in, next_slot, next_bundle, no_next}
-use Rattle.ia_insn.proofs.Reaching.{HasReached, HasRun, Follows, first_reached, first_run, first_bad, goes_on, fewer_left, slots_left, within_run, past_run, run_ends, run_goes_on}
-use Rattle.asm_instructions.proofs.Decided.{either, both, some_and, contains}
+use Rattle.ia_program.specs.declared.limits.TheConstants.{RUN_LIMIT}
+use Rattle.ia_program.specs.declared.place.Place.{Place}
+use Rattle.ia_program.specs.declared.bundle.Slots.{Slots}
+use Rattle.ia_program.specs.declared.bundle.Slots.TheVariants.{Three, Long}
+use Rattle.ia_program.specs.Bundles.{Bundle, IsStopAfter, last_slot}
+use Rattle.ia_program.specs.Places.{insn_at, IsPlaceOf, EachPlace, IsFirstBad}
+use Rattle.ia_program.specs.Runs.{IsLeaving, EndsRun, IsWithinRun}
+use Rattle.ia_program.specs.Templates.{stops_of}
+use Rattle.ia_program.proofs.InOrder.{slot_small, bundle_small, lies_in, next_slot, next_bundle, no_next}
+use Rattle.ia_program.proofs.Reaching.{HasReached, HasRun, Follows, first_reached, first_run, first_bad, goes_on, fewer_left, slots_left, within_run, past_run, run_ends, run_goes_on}
+use Rattle.insn_rows.proofs.Decided.{either, both, some_and, contains}
 
 leaving : (x : Op) → Dec (IsLeaving x)
 leaving (Br Cond wh many clr disp) = yes tt

@@ -1,9 +1,9 @@
 -- The faults after the last line are of a line, for a reason.
 use Rattle.std.proofs.Common.{◌≡◌, ◌∙◌, inl, inr, refl, sym, subst, ℕ, ◌+◌, Bool, true, false, List, [], ◌∷◌, length, Option, Some, None, Result, Ok, Err, IfSome, IfErr, nat_lt, if◌then◌else◌}
 use Rattle.first_fault.specs.Stages.{IsFirstFault}
-use Rattle.ia_insn.specs.declared.limits.TheConstants.{ENTRY_LIMIT}
-use Rattle.ia_insn.specs.declared.relations.Relation.{Relation}
-use Rattle.ia_insn.specs.Programs.{IsEntryOf}
+use Rattle.ia_program.specs.declared.limits.TheConstants.{ENTRY_LIMIT}
+use Rattle.ia_program.specs.declared.relations.Relation.{Relation}
+use Rattle.ia_program.specs.Programs.{IsEntryOf}
 use Rattle.asm_build.specs.declared.text_parts.EntryLine.{EntryLine}
 use Rattle.asm_build.specs.declared.text_parts.RelationLine.{RelationLine}
 use Rattle.asm_build.specs.declared.reason.Reason.{Reason}

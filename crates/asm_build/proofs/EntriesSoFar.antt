@@ -5,8 +5,8 @@ use Rattle.std.specs.List.{AllByRecursion}
 use Rattle.std.specs.Cmp.{nat_cmp_is}
 use Rattle.std.specs.Ordering.{nat_cmp}
 use Rattle.std.proofs.lemmas.Bool.{cases_order, cases_eq, ne_eqb, eq-eqb, le-ltb}
-use Rattle.ia_insn.specs.declared.limits.TheConstants.{ENTRY_LIMIT}
-use Rattle.ia_insn.specs.Programs.{IsEntryAt, AreEntries}
+use Rattle.ia_program.specs.declared.limits.TheConstants.{ENTRY_LIMIT}
+use Rattle.ia_program.specs.Programs.{IsEntryAt, AreEntries}
 use Rattle.asm_printing.specs.SlotTexts.{label_text}
 use Rattle.asm_build.specs.declared.address.Address.TheVariants.{Bundle}
 use Rattle.asm_build.specs.declared.text_parts.EntryLine.{EntryLine}

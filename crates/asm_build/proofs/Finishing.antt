@@ -6,18 +6,19 @@ use Rattle.std.specs.Option.{option_map}
 use Rattle.std.specs.Map.{values_of}
 use Rattle.std.proofs.lemmas.List.{length-append, length-replicate}
 use Rattle.first_fault.specs.Stages.{IsFirstFault, ArePassed}
-use Rattle.ia_insn.specs.declared.limits.TheConstants.{DATA_LIMIT}
 use Rattle.ia_insn.specs.declared.insn.Insn.{Insn}
 use Rattle.ia_insn.specs.declared.insn.Op.{Op}
-use Rattle.ia_insn.specs.declared.place.Place.{Place}
-use Rattle.ia_insn.specs.declared.relations.Relation.{Relation}
-use Rattle.ia_insn.specs.declared.bundle.Slots.{Slots}
-use Rattle.ia_insn.specs.declared.bundle.Slots.TheVariants.{Three, Long}
-use Rattle.ia_insn.specs.Bundles.{Bundle, slot_insn}
-use Rattle.ia_insn.specs.Places.{bundle_insn, insn_at, EachPlace, IsFirstBad}
-use Rattle.ia_insn.specs.Programs.{AreInRange, AreEntries, IsEntryOf}
-use Rattle.ia_insn.specs.Runs.{IsWithinRun}
-use Rattle.ia_insn.specs.Targets.{displacement, IsBundleAt, IsTargetInside}
+use Rattle.ia_insn.specs.Displacements.{displacement}
+use Rattle.ia_program.specs.declared.limits.TheConstants.{DATA_LIMIT}
+use Rattle.ia_program.specs.declared.place.Place.{Place}
+use Rattle.ia_program.specs.declared.relations.Relation.{Relation}
+use Rattle.ia_program.specs.declared.bundle.Slots.{Slots}
+use Rattle.ia_program.specs.declared.bundle.Slots.TheVariants.{Three, Long}
+use Rattle.ia_program.specs.Bundles.{Bundle, slot_insn}
+use Rattle.ia_program.specs.Places.{bundle_insn, insn_at, EachPlace, IsFirstBad}
+use Rattle.ia_program.specs.Programs.{AreInRange, AreEntries, IsEntryOf}
+use Rattle.ia_program.specs.Runs.{IsWithinRun}
+use Rattle.ia_program.specs.Targets.{IsBundleAt, IsTargetInside}
 use Rattle.asm_build.specs.declared.draft.BundleLines.{BundleLines}
 use Rattle.asm_build.specs.declared.draft.SlotName.{SlotName}
 use Rattle.asm_build.specs.declared.text_parts.RelationLine.{RelationLine}

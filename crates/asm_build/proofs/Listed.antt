@@ -1,7 +1,7 @@
 -- The listing of bundles, one more at a time.
 use Rattle.std.proofs.Common.{◌≡◌, refl, ℕ, ◌+◌, ◌<◌, ◌≤◌, List, [], ◌∷◌, ◌++◌, length, drop, get_or, append_assoc}
 use Rattle.std.proofs.lemmas.List.{append-nil, drop_all}
-use Rattle.ia_insn.specs.Bundles.{Bundle}
+use Rattle.ia_program.specs.Bundles.{Bundle}
 use Rattle.asm_build.specs.Listing.{IsBundleListing, AreBundleListings, IsAppended}
 use Rattle.asm_build.proofs.Steps.{item_and_rest}
 

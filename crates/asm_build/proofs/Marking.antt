@@ -8,11 +8,11 @@ use Rattle.std.proofs.Math.Bool.{or_assoc}
 use Rattle.std.specs.Prelude.{slice_index_or, Contains, ◌↔◌, IsTrue}
 use Rattle.std.proofs.lemmas.Bool.{or_right}
 use Rattle.ia_insn.specs.declared.insn.Insn.{Insn}
-use Rattle.ia_insn.specs.declared.bundle.Slots.{Slots}
-use Rattle.ia_insn.specs.declared.bundle.Slots.TheVariants.{Three, Long}
+use Rattle.ia_program.specs.declared.bundle.Slots.{Slots}
+use Rattle.ia_program.specs.declared.bundle.Slots.TheVariants.{Three, Long}
 use Rattle.asm_printing.specs.SlotTexts.{target_of}
-use Rattle.ia_insn.specs.Bundles.{Bundle}
-use Rattle.ia_insn.specs.declared.relations.Relation.{Relation}
+use Rattle.ia_program.specs.Bundles.{Bundle}
+use Rattle.ia_program.specs.declared.relations.Relation.{Relation}
 use Rattle.asm_build.specs.CanonicalText.{is_among, listed_once, bundle_targets, targets_from, bundles_text}
 use Rattle.asm_build.specs.Marks.{AreMarks, Marked, marked_texts}
 

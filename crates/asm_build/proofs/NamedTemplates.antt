@@ -6,11 +6,11 @@ use Rattle.std.proofs.lemmas.Bool.Decides.{Decides-and}
 use Rattle.std.proofs.lemmas.Slice.Eq.{bytes_eq-Decides}
 use Rattle.ia_insn.specs.declared.choices.Unit.{Unit as ExecutionUnit}
 use Rattle.ia_insn.specs.declared.choices.Unit.TheVariants.{M, I, F, B, L, X}
-use Rattle.ia_insn.specs.declared.bundle.Slots.{Slots}
-use Rattle.ia_insn.specs.Bundles.{FitUnits}
-use Rattle.ia_insn.specs.Templates.{Shape, no_shape, shape_of, IsTemplate, units_of, stops_of, StopsAs, HasShape}
-use Rattle.ia_insn.proofs.TemplateCodes.{one_template, code_small}
-use Rattle.ia_insn.proofs.Tests.{last_or_below}
+use Rattle.ia_program.specs.declared.bundle.Slots.{Slots}
+use Rattle.ia_program.specs.Bundles.{FitUnits}
+use Rattle.ia_program.specs.Templates.{Shape, no_shape, shape_of, IsTemplate, units_of, stops_of, StopsAs, HasShape}
+use Rattle.ia_program.proofs.TemplateCodes.{one_template, code_small}
+use Rattle.ia_program.proofs.Tests.{last_or_below}
 use Rattle.asm_reading.specs.declared.line.TemplateName.{TemplateName}
 use Rattle.asm_reading.specs.declared.line.TemplateName.TheVariants as template_name
 use Rattle.asm_build.specs.CanonicalText.{has_stop, is_among, unit_letter}

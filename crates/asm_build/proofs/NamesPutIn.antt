@@ -9,10 +9,11 @@ use lib.IntN.{+ℤ_comm, +ℤ-neg_ℤ_cancel}
 use Rattle.ia_insn.specs.declared.insn.Insn.{Insn}
 use Rattle.ia_insn.specs.declared.insn.Op.{Op}
 use Rattle.ia_insn.specs.declared.insn.Op.TheVariants as op
-use Rattle.ia_insn.specs.declared.bundle.Slots.{Slots}
-use Rattle.ia_insn.specs.declared.bundle.Slots.TheVariants as slots
-use Rattle.ia_insn.specs.Bundles.{Bundle}
-use Rattle.ia_insn.specs.Targets.{displacement, IsBundleAt}
+use Rattle.ia_insn.specs.Displacements.{displacement}
+use Rattle.ia_program.specs.declared.bundle.Slots.{Slots}
+use Rattle.ia_program.specs.declared.bundle.Slots.TheVariants as slots
+use Rattle.ia_program.specs.Bundles.{Bundle}
+use Rattle.ia_program.specs.Targets.{IsBundleAt}
 use Rattle.asm_printing.specs.SlotTexts.{label_text, natural_of, target_of}
 use Rattle.asm_text.specs.ReadBack.{untargeted}
 use Rattle.asm_build.specs.declared.address.Address.TheVariants as address

@@ -6,11 +6,11 @@ use Rattle.std.specs.Map.{values_of}
 use Rattle.ia_insn.specs.declared.insn.Insn.{Insn}
 use Rattle.ia_insn.specs.declared.insn.Op.{Op}
 use Rattle.ia_insn.specs.declared.choices.Unit.{Unit as ExecutionUnit}
-use Rattle.ia_insn.specs.declared.bundle.Slots.{Slots}
-use Rattle.ia_insn.specs.declared.bundle.Slots.TheVariants.{Three, Long}
-use Rattle.ia_insn.specs.Bundles.{Bundle, FitUnits, IsBundle, AreBundles}
-use Rattle.ia_insn.specs.Fits.{Fits}
-use Rattle.ia_insn.specs.Targets.{displacement}
+use Rattle.ia_insn.specs.Displacements.{displacement}
+use Rattle.ia_program.specs.declared.bundle.Slots.{Slots}
+use Rattle.ia_program.specs.declared.bundle.Slots.TheVariants.{Three, Long}
+use Rattle.ia_program.specs.Bundles.{Bundle, FitUnits, IsBundle, AreBundles}
+use Rattle.ia_program.specs.Fits.{Fits}
 use Rattle.asm_build.specs.declared.address.Address.{Address}
 use Rattle.asm_build.specs.declared.draft.BundleLines.{BundleLines}
 use Rattle.asm_build.specs.declared.draft.SlotName.{SlotName}

@@ -1,8 +1,8 @@
 -- The text of a program comes to one program or to one fault, and not to both.
 use Rattle.std.proofs.Common.{◌∙◌, sym, ap, ℕ, []}
 use Rattle.first_fault.proofs.Laws.{AreSound, unless_sound}
-use Rattle.ia_insn.specs.Programs.{IsEntryOf}
-use Rattle.ia_insn.proofs.ProgramFaults.{one_first_bad}
+use Rattle.ia_program.specs.Programs.{IsEntryOf}
+use Rattle.ia_program.proofs.ProgramFaults.{one_first_bad}
 use Rattle.asm_reading.specs.declared.line.Line.{Line}
 use Rattle.asm_build.specs.Laws.{OneTextProgram, OneTextFault, NoFaultWhereRead}
 use Rattle.asm_build.specs.Names.{name_fault, program_of}

@@ -2,7 +2,7 @@
 use Rattle.std.proofs.Common.{◌≡◌, ◌∙◌, inl, inr, refl, sym, ap, ℕ, ◌+◌, List, [], ◌∷◌, length, Option, Result, Ok, Err, arith}
 use Rattle.first_fault.specs.Stages.{Stage, ArePassed}
 use Rattle.first_fault.proofs.Laws.{IsSound, AreSound, unless_sound, one_fault, no_fault}
-use Rattle.ia_insn.specs.declared.relations.Relation.{Relation}
+use Rattle.ia_program.specs.declared.relations.Relation.{Relation}
 use Rattle.asm_reading.specs.declared.line.Line.{Line}
 use Rattle.asm_reading.specs.OneAnswer.{HasOneValue, HasOneFault, HasNoFault}
 use Rattle.asm_build.specs.declared.reason.Reason.{Reason}

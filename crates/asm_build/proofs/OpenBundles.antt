@@ -1,10 +1,10 @@
 -- The instructions of an open bundle fit its slots.
 use Rattle.std.proofs.Common.{◌≡◌, refl, sym, subst, ℕ, Bool, Some}
-use Rattle.ia_insn.specs.declared.bundle.Slots.{Slots}
-use Rattle.ia_insn.specs.declared.bundle.Slots.TheVariants.{Three, Long}
-use Rattle.ia_insn.specs.Bundles.{FitUnits}
-use Rattle.ia_insn.specs.Fits.{Fits}
-use Rattle.ia_insn.specs.Templates.{units_of}
+use Rattle.ia_program.specs.declared.bundle.Slots.{Slots}
+use Rattle.ia_program.specs.declared.bundle.Slots.TheVariants.{Three, Long}
+use Rattle.ia_program.specs.Bundles.{FitUnits}
+use Rattle.ia_program.specs.Fits.{Fits}
+use Rattle.ia_program.specs.Templates.{units_of}
 use Rattle.asm_reading.specs.declared.line.TemplateName.{TemplateName}
 use Rattle.asm_reading.specs.declared.line.TemplateName.TheVariants as template_name
 use Rattle.asm_build.specs.declared.draft.SlotLine.{SlotLine}

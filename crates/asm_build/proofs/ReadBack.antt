@@ -5,14 +5,14 @@ use Rattle.std.specs.List.{AllByRecursion}
 use Rattle.std.specs.Map.{values_of}
 use Rattle.std.proofs.lemmas.Bool.{eq-eqb, or_left, or_right}
 use Rattle.first_fault.specs.Stages.{ArePassed}
-use Rattle.ia_insn.specs.declared.limits.TheConstants.{DATA_LIMIT}
+use Rattle.ia_program.specs.declared.limits.TheConstants.{DATA_LIMIT}
 use Rattle.bstr.specs.Text.{without_terminator}
 use Rattle.bstr.proofs.lemmas.LineLemmas.{lines-nil}
-use Rattle.ia_insn.specs.Bundles.{Bundle}
-use Rattle.ia_insn.specs.Places.{EachPlace}
-use Rattle.ia_insn.specs.declared.relations.Relation.{Relation}
-use Rattle.ia_insn.specs.Programs.{Program, IsProgram, IsEntryOf, AreBytes, no_relation, relations_at}
-use Rattle.ia_insn.specs.Runs.{IsWithinRun}
+use Rattle.ia_program.specs.Bundles.{Bundle}
+use Rattle.ia_program.specs.Places.{EachPlace}
+use Rattle.ia_program.specs.declared.relations.Relation.{Relation}
+use Rattle.ia_program.specs.Programs.{Program, IsProgram, IsEntryOf, AreBytes, no_relation, relations_at}
+use Rattle.ia_program.specs.Runs.{IsWithinRun}
 use Rattle.asm_printing.specs.SlotTexts.{label_text}
 use Rattle.asm_build.specs.declared.address.Address.TheVariants as address
 use Rattle.asm_build.specs.declared.draft.BundleLines.{BundleLines}

@@ -5,15 +5,15 @@ use Rattle.std.specs.Prelude.{slice_get}
 use Rattle.std.proofs.Math.Decide.{ℕ_discrete, dec_le, dec_lt}
 use Rattle.first_fault.specs.Stages.{ArePassed, IsFirstFault}
 use Rattle.first_fault.proofs.Laws.{AreDecided}
-use Rattle.ia_insn.specs.declared.limits.TheConstants.{RELATION_LIMIT}
 use Rattle.ia_insn.specs.declared.insn.Op.{Op}
 use Rattle.ia_insn.specs.declared.insn.Op.TheVariants as op
-use Rattle.ia_insn.specs.declared.relations.Relation.{Relation}
-use Rattle.ia_insn.specs.declared.bundle.Slots.{Slots}
-use Rattle.ia_insn.specs.declared.bundle.Slots.TheVariants as slots
-use Rattle.ia_insn.specs.Bundles.{Bundle}
-use Rattle.ia_insn.specs.Programs.{IsCall, HasCall, IsAfterCall, IsEntryOf}
-use Rattle.asm_instructions.proofs.Decided.{alike, both, either, some_and, contains}
+use Rattle.ia_program.specs.declared.limits.TheConstants.{RELATION_LIMIT}
+use Rattle.ia_program.specs.declared.relations.Relation.{Relation}
+use Rattle.ia_program.specs.declared.bundle.Slots.{Slots}
+use Rattle.ia_program.specs.declared.bundle.Slots.TheVariants as slots
+use Rattle.ia_program.specs.Bundles.{Bundle}
+use Rattle.ia_program.specs.Programs.{IsCall, HasCall, IsAfterCall, IsEntryOf}
+use Rattle.insn_rows.proofs.Decided.{alike, both, either, some_and, contains}
 use Rattle.asm_build.specs.declared.text_parts.RelationLine.{RelationLine}
 use Rattle.asm_build.specs.declared.reason.TextError.{TextError}
 use Rattle.asm_build.specs.declared.reason.TextError.TheVariants as error

@@ -5,11 +5,11 @@ use Rattle.std.specs.Fmt.{decimal}
 use Rattle.std.proofs.lemmas.Bool.{cases_order, eq-eqb, ne_eqb, le-ltb, lt-ltb}
 use Rattle.std.proofs.lemmas.Fmt.{length-decimal-le}
 use Rattle.first_fault.specs.Stages.{ArePassed}
-use Rattle.ia_insn.specs.declared.limits.TheConstants.{RELATION_LIMIT}
-use Rattle.ia_insn.specs.declared.relations.Relation.{Relation}
-use Rattle.ia_insn.specs.Bundles.{Bundle}
-use Rattle.ia_insn.specs.Programs.{IsEntryOf, IsRelationBefore, AreRelations, no_relation, relations_at}
-use Rattle.ia_insn.proofs.DeclaredRelations.{rises_or_stays}
+use Rattle.ia_program.specs.declared.limits.TheConstants.{RELATION_LIMIT}
+use Rattle.ia_program.specs.declared.relations.Relation.{Relation}
+use Rattle.ia_program.specs.Bundles.{Bundle}
+use Rattle.ia_program.specs.Programs.{IsEntryOf, IsRelationBefore, AreRelations, no_relation, relations_at}
+use Rattle.ia_program.proofs.DeclaredRelations.{rises_or_stays}
 use Rattle.asm_reading.specs.declared.line.Line.TheVariants as line
 use Rattle.asm_text.proofs.RelationLines.{relation_reads}
 use Rattle.asm_build.specs.declared.draft.BundleLines.{BundleLines}

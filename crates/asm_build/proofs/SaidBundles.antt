@@ -3,8 +3,8 @@ use Rattle.std.proofs.Common.{◌≡◌, ◌∙◌, refl, sym, ap, subst, ℕ, �
 use Rattle.std.specs.Prelude.{IsSome, IfSome, IsSomeAnd, ⊤}
 use Rattle.std.specs.Option.{option_map}
 use Rattle.first_fault.specs.Stages.{ArePassed}
-use Rattle.ia_insn.specs.declared.bundle.Slots.TheVariants.{Three, Long}
-use Rattle.ia_insn.specs.Bundles.{IsBundle}
+use Rattle.ia_program.specs.declared.bundle.Slots.TheVariants.{Three, Long}
+use Rattle.ia_program.specs.Bundles.{IsBundle}
 use Rattle.asm_reading.specs.declared.line.Draft.{Draft}
 use Rattle.asm_reading.specs.declared.line.Line.{Line}
 use Rattle.asm_reading.specs.declared.line.Line.TheVariants as line

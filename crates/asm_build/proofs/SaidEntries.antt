@@ -6,7 +6,7 @@ use Rattle.std.specs.Ordering.{nat_cmp}
 use Rattle.std.specs.Cmp.{nat_cmp_is}
 use Rattle.std.specs.declared.cmp.Ordering.TheVariants.{Less, Equal, Greater}
 use Rattle.std.proofs.lemmas.Bool.{cases_order, cases_eq, ne_eqb}
-use Rattle.ia_insn.specs.declared.limits.TheConstants.{ENTRY_LIMIT}
+use Rattle.ia_program.specs.declared.limits.TheConstants.{ENTRY_LIMIT}
 use Rattle.asm_build.specs.declared.address.Address.{Address}
 use Rattle.asm_build.specs.declared.address.Address.TheVariants as address
 use Rattle.asm_build.specs.declared.text_parts.EntryLine.{EntryLine}

@@ -8,7 +8,7 @@ use Rattle.std.specs.Ordering.{nat_cmp, is_eq}
 use Rattle.std.proofs.lemmas.Cmp.{nat_list_cmp_total, tied_itself}
 use Rattle.std.proofs.lemmas.Map.Lookups.{exact_bytes}
 use Rattle.first_fault.specs.Stages.{ArePassed}
-use Rattle.ia_insn.specs.Bundles.{IsBundle}
+use Rattle.ia_program.specs.Bundles.{IsBundle}
 use Rattle.asm_reading.specs.declared.line.Line.{Line}
 use Rattle.asm_reading.specs.declared.line.Line.TheVariants as line
 use Rattle.asm_build.specs.declared.address.Address.{Address}

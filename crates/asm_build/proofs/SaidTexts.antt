@@ -4,8 +4,8 @@ use Rattle.std.specs.Prelude.{IfSome, Contains, is_some, unwrap_or, if◌then◌
 use Rattle.first_fault.specs.Stages.{ArePassed}
 use Rattle.ia_insn.specs.declared.insn.Insn.{Insn}
 use Rattle.ia_insn.specs.declared.insn.Op.{Op}
-use Rattle.ia_insn.specs.Programs.{Program, AreEntries, IsEntryOf}
-use Rattle.ia_insn.specs.Targets.{displacement}
+use Rattle.ia_insn.specs.Displacements.{displacement}
+use Rattle.ia_program.specs.Programs.{Program, AreEntries, IsEntryOf}
 use Rattle.asm_reading.specs.declared.line.Line.{Line}
 use Rattle.asm_reading.specs.declared.line.TemplateName.{TemplateName}
 use Rattle.asm_reading.specs.declared.line.TemplateName.TheVariants as template_name

@@ -2,8 +2,8 @@
 use Rattle.std.proofs.Common.{inl, inr, refl, ℕ, List, [], length}
 use Rattle.std.proofs.Math.Decide.{dec_le}
 use Rattle.first_fault.proofs.Laws.{AreDecided}
-use Rattle.ia_insn.specs.Programs.{IsEntryOf}
-use Rattle.asm_instructions.proofs.Decided.{both, is_none}
+use Rattle.ia_program.specs.Programs.{IsEntryOf}
+use Rattle.insn_rows.proofs.Decided.{both, is_none}
 use Rattle.asm_build.specs.Names.{name_fault, program_of}
 use Rattle.asm_build.specs.Laws.{TextOrFault}
 use Rattle.asm_build.specs.Relations.{relation_stages}

@@ -5,7 +5,7 @@ use Rattle.std.specs.Map.{values_of}
 use Rattle.first_fault.specs.Stages.{Stage, IsFirstFault, ArePassed}
 use Rattle.first_fault.proofs.Laws.{IsDecided, AreDecided, some_fault}
 use Rattle.asm_words.specs.declared.limits.TheConstants.{LINE_LIMIT}
-use Rattle.asm_instructions.proofs.Decided.{all}
+use Rattle.insn_rows.proofs.Decided.{all}
 use Rattle.asm_reading.specs.declared.line.Line.{Line}
 use Rattle.asm_reading.specs.SomeAnswer.{LineOrFault}
 use Rattle.asm_build.specs.declared.address.Address.{Address}

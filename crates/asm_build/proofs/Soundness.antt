@@ -3,14 +3,15 @@ use Rattle.std.proofs.Common.{ℤ, pos, ◌+ℤ◌, ◌≤ℤ◌, ℕ, List, [],
 use Rattle.std.specs.Prelude.{IfSome, IsSome, slice_get}
 use Rattle.ia_insn.specs.declared.insn.Insn.{Insn}
 use Rattle.ia_insn.specs.declared.choices.Unit.{Unit as ExecutionUnit}
-use Rattle.ia_insn.specs.declared.bundle.Slots.{Slots}
-use Rattle.ia_insn.specs.declared.bundle.Slots.TheVariants.{Three, Long}
-use Rattle.ia_insn.specs.Bundles.{Bundle, FitUnits, IsBundle}
-use Rattle.ia_insn.specs.Places.{bundle_insn, insn_at, EachPlace}
-use Rattle.ia_insn.specs.Programs.{Program, IsProgram}
-use Rattle.ia_insn.specs.Targets.{displacement, IsBundleAt, IsTargetInside}
-use Rattle.ia_insn.specs.Templates.{units_of}
-use Rattle.ia_insn.proofs.ListedSlots.{unit_listed}
+use Rattle.ia_insn.specs.Displacements.{displacement}
+use Rattle.ia_program.specs.declared.bundle.Slots.{Slots}
+use Rattle.ia_program.specs.declared.bundle.Slots.TheVariants.{Three, Long}
+use Rattle.ia_program.specs.Bundles.{Bundle, FitUnits, IsBundle}
+use Rattle.ia_program.specs.Places.{bundle_insn, insn_at, EachPlace}
+use Rattle.ia_program.specs.Programs.{Program, IsProgram}
+use Rattle.ia_program.specs.Targets.{IsBundleAt, IsTargetInside}
+use Rattle.ia_program.specs.Templates.{units_of}
+use Rattle.ia_program.proofs.ListedSlots.{unit_listed}
 use Rattle.asm_printing.specs.SlotTexts.{HasTarget}
 use Rattle.asm_build.specs.Marks.{IsSound, AreSound, AreAllSound}
 

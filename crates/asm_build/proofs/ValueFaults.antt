@@ -2,7 +2,7 @@
 use Rattle.std.proofs.Common.{◌≡◌, refl, ap, inl, inr, ℕ, ◌+◌, ◌*◌, ◌<◌, min, arith, length, List, Option, Some, None, Bool, true}
 use Rattle.std.specs.Prelude.{is_some, IsSome}
 use Rattle.first_fault.specs.Stages.{IsFirstFault}
-use Rattle.ia_insn.specs.declared.limits.TheConstants.{DATA_LIMIT}
+use Rattle.ia_program.specs.declared.limits.TheConstants.{DATA_LIMIT}
 use Rattle.asm_reading.specs.declared.line.Line.TheVariants as line
 use Rattle.asm_reading.specs.declared.line.Draft.{Draft}
 use Rattle.asm_build.specs.declared.reason.Reason.TheVariants.{Twice, Template, Limit}

@@ -4,7 +4,7 @@ use Rattle.std.specs.Prelude.{if◌then◌else◌}
 use Rattle.std.specs.Int.{w64, to_le_bytes}
 use Rattle.std.proofs.lemmas.Bool.{eq-eqb, ne_eqb, or_right}
 use Rattle.std.proofs.lemmas.Grind.{flat_map-append}
-use Rattle.ia_insn.specs.declared.limits.TheConstants.{DATA_LIMIT}
+use Rattle.ia_program.specs.declared.limits.TheConstants.{DATA_LIMIT}
 use Rattle.asm_reading.specs.declared.line.Line.TheVariants as says
 use Rattle.asm_build.specs.declared.draft.BundleLines.{BundleLines}
 use Rattle.asm_build.specs.declared.text_parts.EntryLine.{EntryLine}

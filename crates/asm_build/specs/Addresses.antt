@@ -1,9 +1,9 @@
 -- What a label names, and what its name means in an instruction.
 use Rattle.std.specs.Prelude.{ℕ, ◌^◌, ◌<◌, ◌≤◌, pos, ◌-ℤ◌, Option, Some, None, ⊤}
-use Rattle.ia_insn.specs.declared.limits.TheConstants.{DATA_LIMIT}
 use Rattle.ia_insn.specs.declared.insn.Op.{Op}
 use Rattle.ia_insn.specs.declared.insn.Op.TheVariants as op
-use Rattle.ia_insn.specs.Addresses.{bundle_address, data_address}
+use Rattle.ia_program.specs.declared.limits.TheConstants.{DATA_LIMIT}
+use Rattle.ia_program.specs.Addresses.{bundle_address, data_address}
 use Rattle.asm_build.specs.declared.address.Address.{Address}
 use Rattle.asm_build.specs.declared.address.Address.TheVariants.{Bundle, Byte}
 

@@ -1,6 +1,6 @@
 -- A text reads as one program or has one first fault, and not both, but one of the two.
 use Rattle.std.specs.Prelude.{◌≡◌, ◌⊎◌, ℕ, List}
-use Rattle.ia_insn.specs.Programs.{Program}
+use Rattle.ia_program.specs.Programs.{Program}
 use Rattle.asm_build.specs.declared.reason.Reason.{Reason}
 use Rattle.asm_build.specs.declared.reason.TextError.{TextError}
 use Rattle.asm_build.specs.declared.reason.TextError.TheVariants.{Fault}

@@ -1,9 +1,9 @@
 -- The listing of a program: its bundles by their bytes, with their slots.
 use Rattle.std.specs.Prelude.{◌≡◌, ℕ, ◌+◌, List, [], ◌∷◌, ◌++◌, map, codes, decimal}
 use Rattle.hex.specs.Hex.{encode_lower}
-use Rattle.ia_insn.specs.Bundles.{Bundle}
-use Rattle.ia_insn.specs.Programs.{Program}
-use Rattle.ia_insn.specs.Templates.{units_of}
+use Rattle.ia_program.specs.Bundles.{Bundle}
+use Rattle.ia_program.specs.Programs.{Program}
+use Rattle.ia_program.specs.Templates.{units_of}
 use Rattle.insn_codec.specs.Spelling.{IsSpelled}
 use Rattle.asm_build.specs.CanonicalText.{line, unit_letter, slots_text}
 

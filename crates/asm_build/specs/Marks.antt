@@ -1,13 +1,14 @@
 -- Marks: of each bundle, whether its number is one of a list.
 use Rattle.std.specs.Prelude.{◌≡◌, ℕ, ◌+◌, ◌<◌, Bool, false, ◌||◌, List, [], ◌∷◌, ◌++◌, length, get_or, IfSome, slice_get}
 use Rattle.ia_insn.specs.declared.insn.Insn.{Insn}
-use Rattle.ia_insn.specs.declared.bundle.Slots.{Slots}
-use Rattle.ia_insn.specs.declared.bundle.Slots.TheVariants.{Three, Long}
-use Rattle.ia_insn.specs.declared.relations.Relation.{Relation}
-use Rattle.ia_insn.specs.Bundles.{Bundle}
-use Rattle.ia_insn.specs.Listed.{IsListed}
-use Rattle.ia_insn.specs.Programs.{relations_at}
-use Rattle.ia_insn.specs.Targets.{displacement, IsBundleAt}
+use Rattle.ia_insn.specs.Displacements.{displacement}
+use Rattle.ia_program.specs.declared.bundle.Slots.{Slots}
+use Rattle.ia_program.specs.declared.bundle.Slots.TheVariants.{Three, Long}
+use Rattle.ia_program.specs.declared.relations.Relation.{Relation}
+use Rattle.ia_program.specs.Bundles.{Bundle}
+use Rattle.ia_program.specs.Listed.{IsListed}
+use Rattle.ia_program.specs.Programs.{relations_at}
+use Rattle.ia_program.specs.Targets.{IsBundleAt}
 use Rattle.asm_build.specs.CanonicalText.{is_among, marked_text}
 
 -- The marks of so many bundles: those of these numbers are marked.

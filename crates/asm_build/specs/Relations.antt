@@ -4,9 +4,9 @@ use Rattle.std.specs.BTreeSet.{insert_key}
 use Rattle.std.specs.Ordering.{nat_cmp, on, then_cmp}
 use Rattle.std.specs.declared.cmp.Ordering.{Ordering}
 use Rattle.first_fault.specs.Stages.{Stage, unless}
-use Rattle.ia_insn.specs.declared.limits.TheConstants.{RELATION_LIMIT}
-use Rattle.ia_insn.specs.declared.relations.Relation.{Relation}
-use Rattle.ia_insn.specs.Programs.{IsRelationBefore, relation_at, relation_before}
+use Rattle.ia_program.specs.declared.limits.TheConstants.{RELATION_LIMIT}
+use Rattle.ia_program.specs.declared.relations.Relation.{Relation}
+use Rattle.ia_program.specs.Programs.{IsRelationBefore, relation_at, relation_before}
 use Rattle.asm_build.specs.declared.text_parts.RelationLine.{RelationLine}
 use Rattle.asm_build.specs.declared.reason.Reason.TheVariants as reason
 use Rattle.asm_build.specs.declared.reason.TextError.{TextError}

@@ -1,6 +1,6 @@
 -- The canonical text of a program is read as the program, and is short.
 use Rattle.std.specs.Prelude.{◌+◌, ◌<◌, ◌≤◌, ◌^◌, length}
-use Rattle.ia_insn.specs.Programs.{Program, IsProgram}
+use Rattle.ia_program.specs.Programs.{Program, IsProgram}
 use Rattle.asm_build.specs.declared.limits.TheConstants.{TEXT_LIMIT}
 use Rattle.asm_build.specs.CanonicalText.{canonical_text}
 use Rattle.asm_build.specs.TextReading.{Reads}

@@ -8,7 +8,7 @@ use Rattle.std.specs.BTreeMap.{insert_entry, is_at}
 use Rattle.std.specs.Cmp.Lexicographic.{slice_cmp}
 use Rattle.std.specs.Ordering.{nat_cmp}
 use Rattle.first_fault.specs.Stages.{Stage, unless, IsFirstFault}
-use Rattle.ia_insn.specs.declared.limits.TheConstants.{BUNDLE_LIMIT, DATA_LIMIT}
+use Rattle.ia_program.specs.declared.limits.TheConstants.{BUNDLE_LIMIT, DATA_LIMIT}
 use Rattle.asm_reading.specs.declared.line.Line.{Line}
 use Rattle.asm_reading.specs.declared.line.Line.TheVariants as line
 use Rattle.asm_build.specs.declared.address.Address.{Address}

@@ -3,10 +3,10 @@
 use Rattle.std.specs.Prelude.{◌≡◌, ◌↔◌, ℕ, ◌+◌, ◌<◌, ◌≤◌, Bool, true, false, ◌||◌, List, [], ◌∷◌, ◌++◌, length, flat_map, replicate, Contains, Option, Some, None, ⊤}
 use Rattle.ia_insn.specs.declared.insn.Insn.{Insn}
 use Rattle.ia_insn.specs.declared.insn.Op.{Op}
-use Rattle.ia_insn.specs.declared.bundle.Slots.TheVariants.{Three, Long}
-use Rattle.ia_insn.specs.Bundles.{Bundle}
-use Rattle.ia_insn.specs.declared.relations.Relation.{Relation}
-use Rattle.ia_insn.specs.Programs.{Program, AreEntries, IsEntryOf, IsRelationBefore, relation_at, relation_before}
+use Rattle.ia_program.specs.declared.bundle.Slots.TheVariants.{Three, Long}
+use Rattle.ia_program.specs.Bundles.{Bundle}
+use Rattle.ia_program.specs.declared.relations.Relation.{Relation}
+use Rattle.ia_program.specs.Programs.{Program, AreEntries, IsEntryOf, IsRelationBefore, relation_at, relation_before}
 use Rattle.asm_reading.specs.declared.line.Line.{Line}
 use Rattle.asm_reading.specs.declared.line.Line.TheVariants as line
 use Rattle.asm_reading.specs.declared.line.TemplateName.{TemplateName}

@@ -4,7 +4,8 @@ ghost use Rattle.std.specs.Prelude.{◌≡◌, ◌↔◌, ◌<◌, pos, ◌-ℤ�
 ghost use Rattle.asm_build.specs.declared.address.Address.TheVariants as address;
 ghost use Rattle.asm_build.specs.Addresses.{IsInside, IsReachable, addressed, reach};
 
-use ia_insn::{Op, bundle_address, data_address};
+use ia_insn::Op;
+use ia_program::{bundle_address, data_address};
 
 /// What a label names: the next bundle, or the next byte of data. In a text without bundles instructions are counted
 /// in their place.

@@ -2,12 +2,12 @@
 
 ghost use Rattle.std.specs.Prelude.{◌≡◌, ◌≢◌, ◌⊎◌, ◌<◌, ◌+◌, ◌^◌, None, Some, Ok, Err, IfOk, IfErr, OnOk, length};
 ghost use Rattle.first_fault.specs.Stages.{ArePassed, IsFirstFault};
-ghost use Rattle.ia_insn.specs.declared.place.Place.{Place as PlaceOf};
-ghost use Rattle.ia_insn.specs.Bundles.{AreBundles};
-ghost use Rattle.ia_insn.specs.Places.{EachPlace, IsFirstBad};
-ghost use Rattle.ia_insn.specs.Programs.{Program as ProgramOf, AreInRange, AreEntries, AreRelations};
-ghost use Rattle.ia_insn.specs.Runs.{IsWithinRun};
-ghost use Rattle.ia_insn.specs.Targets.{IsTargetInside};
+ghost use Rattle.ia_program.specs.declared.place.Place.{Place as PlaceOf};
+ghost use Rattle.ia_program.specs.Bundles.{AreBundles};
+ghost use Rattle.ia_program.specs.Places.{EachPlace, IsFirstBad};
+ghost use Rattle.ia_program.specs.Programs.{Program as ProgramOf, AreInRange, AreEntries, AreRelations};
+ghost use Rattle.ia_program.specs.Runs.{IsWithinRun};
+ghost use Rattle.ia_program.specs.Targets.{IsTargetInside};
 ghost use Rattle.asm_reading.specs.declared.line.Line.{Line as LineValue};
 ghost use Rattle.asm_build.specs.declared.reason.Reason.{Reason as ReasonOf};
 ghost use Rattle.asm_build.specs.declared.reason.Reason.TheVariants as reason;
@@ -27,7 +27,7 @@ use crate::text_parts::TextParts;
 use asm_text::{LineBuffers, read_line_with};
 use asm_words::limits::LINE_LIMIT;
 use bstr::ByteSlice;
-use ia_insn::{BundleOf, Place, Program, Relation, long_run};
+use ia_program::{BundleOf, Place, Program, Relation, long_run};
 use std::alloc::{AllocError, Global};
 use std::collections::BTreeSet;
 

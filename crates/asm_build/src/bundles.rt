@@ -1,13 +1,14 @@
 //! The text of bundles.
 
 ghost use Rattle.std.specs.Prelude.{◌≡◌, ◌++◌, [], ◌<◌, ◌≤◌, length, codes, if◌then◌else◌, OnOk};
-ghost use Rattle.ia_insn.specs.declared.limits.TheConstants.{BUNDLE_LIMIT};
+ghost use Rattle.ia_program.specs.declared.limits.TheConstants.{BUNDLE_LIMIT};
 ghost use Rattle.asm_printing.specs.SlotTexts.{label_text, slot_text};
 ghost use Rattle.asm_build.specs.CanonicalText.{has_stop, line, unit_letter, relation_text, relations_text, head_text, slots_text, marked_text};
 ghost use Rattle.asm_build.specs.Marks.{IsSound, AreSound, AreAllSound, marked_texts};
 
 use asm_text::{print_slot, push_bytes, push_decimal};
-use ia_insn::{BundleOf, Insn, Place, Program, Relation, Slots, Template, Unit};
+use ia_insn::{Insn, Unit};
+use ia_program::{BundleOf, Place, Program, Relation, Slots, Template};
 use std::alloc::AllocError;
 
 fn push_label(out: &mut Vec<u8>, n: u32) -> Result<(), AllocError>

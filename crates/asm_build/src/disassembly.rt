@@ -8,7 +8,7 @@ use crate::bundles::push_bundles;
 use crate::canonical_texts_are_read_back;
 use crate::data::push_data;
 use crate::labels::{entry_marks, target_marks};
-use ia_insn::Program;
+use ia_program::Program;
 use std::alloc::{AllocError, Global};
 
 /// The canonical text of a program: its bundles in order, each with its label where it is a declared

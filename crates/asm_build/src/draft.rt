@@ -1,7 +1,7 @@
 //! Bundles as their lines have them.
 
 ghost use Rattle.std.specs.Prelude.{◌≡◌, ◌↔◌, true, Some, IfSome, MatchOption, IsTrue};
-ghost use Rattle.ia_insn.specs.Bundles.{IsBundle};
+ghost use Rattle.ia_program.specs.Bundles.{IsBundle};
 ghost use Rattle.asm_reading.specs.declared.line.TemplateName.TheVariants as template_name;
 ghost use Rattle.asm_build.specs.declared.draft.SlotLines.TheVariants as slots;
 ghost use Rattle.asm_build.specs.Drafts.{OpenBundle, AreFitting, letter_of, lettered, completed, count_of, one_more, last_stopped, HasSlot, HasSlotRoom, next_unit, FitsNext, added, stopped, closed_as, closed, IsWhole};
@@ -10,7 +10,8 @@ ghost use Rattle.asm_build.specs.Names.{slot_line};
 use crate::template_name::{template_of, units_named};
 use asm_text::{Draft, TemplateName};
 use asm_words::Name;
-use ia_insn::{BundleOf, Insn, Op, Slots, Unit, fits};
+use ia_insn::{Insn, Op, Unit};
+use ia_program::{BundleOf, Slots, fits};
 use std::marker::Model;
 
 /// A slot line within its bundle.

@@ -1,14 +1,16 @@
 //! Marks of the bundles that a list of numbers or the targets of instructions name.
 
 ghost use Rattle.std.specs.Prelude.{◌∷◌, [], ◌<◌, ◌≤◌, length, IfOk, IfSome};
-ghost use Rattle.ia_insn.specs.declared.limits.TheConstants.{BUNDLE_LIMIT};
-ghost use Rattle.ia_insn.specs.Programs.{AreEntries};
-ghost use Rattle.ia_insn.specs.Targets.{displacement, IsBundleAt};
+ghost use Rattle.ia_insn.specs.Displacements.{displacement};
+ghost use Rattle.ia_program.specs.declared.limits.TheConstants.{BUNDLE_LIMIT};
+ghost use Rattle.ia_program.specs.Programs.{AreEntries};
+ghost use Rattle.ia_program.specs.Targets.{IsBundleAt};
 ghost use Rattle.asm_printing.specs.SlotTexts.{target_of};
 ghost use Rattle.asm_build.specs.CanonicalText.{bundle_targets, listed_once, targets_from};
 ghost use Rattle.asm_build.specs.Marks.{AreMarks, Marked, AreSound, AreAllSound};
 
-use ia_insn::{BundleOf, Op, Slots};
+use ia_insn::Op;
+use ia_program::{BundleOf, Slots};
 use std::alloc::{AllocError, Global};
 
 #[tactic(auto, using(crate::proofs::Marking::one_marked))]

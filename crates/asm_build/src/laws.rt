@@ -1,7 +1,7 @@
 //! The laws of texts.
 
 ghost use Rattle.std.specs.Prelude.{ℕ, List};
-ghost use Rattle.ia_insn.specs.Programs.{Program};
+ghost use Rattle.ia_program.specs.Programs.{Program};
 ghost use Rattle.asm_build.specs.Laws.{OneTextProgram, OneTextFault, NoFaultWhereRead, TextOrFault};
 ghost use Rattle.asm_build.specs.RoundTrip.{CanonicalTextReads, CanonicalTextIsShort, CanonicalTextFits};
 ghost use Rattle.asm_build.specs.WholeTexts.{MeansWhatItReads};

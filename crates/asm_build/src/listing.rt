@@ -1,9 +1,9 @@
 //! The listing of a program.
 
 ghost use Rattle.std.specs.Prelude.{◌≡◌, ◌++◌, ◌≤◌, length, map, IfOk, OnOk};
-ghost use Rattle.ia_insn.specs.declared.limits.TheConstants.{BUNDLE_LIMIT};
+ghost use Rattle.ia_program.specs.declared.limits.TheConstants.{BUNDLE_LIMIT};
 ghost use Rattle.hex.specs.Hex.{encode_lower};
-ghost use Rattle.ia_insn.specs.Templates.{units_of};
+ghost use Rattle.ia_program.specs.Templates.{units_of};
 ghost use Rattle.asm_build.specs.CanonicalText.{unit_letter};
 ghost use Rattle.asm_build.specs.Listing.{head_listed, IsBundleListing, AreBundleListings, IsListing, IsAppended};
 ghost use Rattle.asm_build.specs.Marks.{AreSound, AreAllSound};
@@ -11,7 +11,7 @@ ghost use Rattle.asm_build.specs.Marks.{AreSound, AreAllSound};
 use crate::bundles::{push_slots, unit_letter};
 use asm_text::{push_bytes, push_decimal};
 use hex::encode_to_slice;
-use ia_insn::{BundleOf, Program, Template};
+use ia_program::{BundleOf, Program, Template};
 use insn_codec::encode_bundle;
 use std::alloc::{AllocError, Global};
 

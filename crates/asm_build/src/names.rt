@@ -3,8 +3,8 @@
 ghost use Rattle.std.specs.Prelude.{◌≡◌, ℕ, ◌<◌, ◌≤◌, ◌⊎◌, true, false, [], IfOk, IfErr, IfSome, Some, None, Ok, Err, length, is_some, OnOk};
 ghost use Rattle.std.specs.List.{AllByRecursion};
 ghost use Rattle.std.specs.Map.{values_of};
-ghost use Rattle.ia_insn.specs.declared.limits.TheConstants.{BUNDLE_LIMIT};
-ghost use Rattle.ia_insn.specs.Bundles.{IsBundle, AreBundles};
+ghost use Rattle.ia_program.specs.declared.limits.TheConstants.{BUNDLE_LIMIT};
+ghost use Rattle.ia_program.specs.Bundles.{IsBundle, AreBundles};
 ghost use Rattle.asm_build.specs.declared.reason.Reason.TheVariants as reason;
 ghost use Rattle.asm_build.specs.declared.reason.TextError.TheVariants as error;
 ghost use Rattle.asm_build.specs.Addresses.{IsReachable, reach};
@@ -16,8 +16,9 @@ use crate::draft::{BundleLines, SlotName};
 use crate::reason::{Reason, TextError, fault};
 use crate::text_parts::{EntryLine, TextParts};
 use asm_words::Name;
-use ia_insn::limits::ENTRY_LIMIT;
-use ia_insn::{BundleOf, Insn, Op, Slots};
+use ia_insn::{Insn, Op};
+use ia_program::limits::ENTRY_LIMIT;
+use ia_program::{BundleOf, Slots};
 use std::alloc::{AllocError, Global};
 use std::collections::{BTreeMap, BTreeSet};
 

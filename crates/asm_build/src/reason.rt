@@ -34,9 +34,9 @@ pub enum Reason {
     /// No label that fits has the name.
     NoLabel,
     /// A line over [`LINE_LIMIT`](asm_words::limits::LINE_LIMIT) bytes, or a bundle, data, a declared entry or a
-    /// declared relation past its [limit](ia_insn::limits).
+    /// declared relation past its [limit](ia_program::limits).
     Limit,
-    /// A slot past [`RUN_LIMIT`](ia_insn::limits::RUN_LIMIT) others of its run.
+    /// A slot past [`RUN_LIMIT`](ia_program::limits::RUN_LIMIT) others of its run.
     LongRun,
     /// A line that may not stand there; or, after the last line, a bundle is open or a label of the text
     /// has no bundle.

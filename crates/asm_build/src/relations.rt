@@ -2,8 +2,8 @@
 
 ghost use Rattle.std.specs.Prelude.{◌≡◌, ◌≤◌, ◌⊎◌, ◌∷◌, [], length, IfOk, IfErr, OnOk};
 ghost use Rattle.first_fault.specs.Stages.{ArePassed, IsFirstFault};
-ghost use Rattle.ia_insn.specs.declared.limits.TheConstants.{RELATION_LIMIT};
-ghost use Rattle.ia_insn.specs.Programs.{IsEntryOf};
+ghost use Rattle.ia_program.specs.declared.limits.TheConstants.{RELATION_LIMIT};
+ghost use Rattle.ia_program.specs.Programs.{IsEntryOf};
 ghost use Rattle.asm_matching.specs.Related.{ArePredicates};
 ghost use Rattle.asm_build.specs.declared.reason.Reason.TheVariants as reason;
 ghost use Rattle.asm_build.specs.declared.reason.TextError.TheVariants as error;
@@ -11,8 +11,8 @@ ghost use Rattle.asm_build.specs.Relations.{relations_above, relations_among, wi
 
 use crate::reason::{Reason, TextError, fault};
 use crate::text_parts::RelationLine;
-use ia_insn::limits::RELATION_LIMIT;
-use ia_insn::{BundleOf, Relation, is_entry};
+use ia_program::limits::RELATION_LIMIT;
+use ia_program::{BundleOf, Relation, is_entry};
 use std::alloc::{AllocError, Global};
 use std::collections::BTreeSet;
 

@@ -4,7 +4,8 @@ ghost use Rattle.std.specs.Prelude.{◌≡◌};
 ghost use Rattle.asm_build.specs.TemplateNames.{template_of, units_named};
 
 use asm_text::TemplateName;
-use ia_insn::{Template, Unit};
+use ia_insn::Unit;
+use ia_program::Template;
 
 /// The units of the three slots.
 pub(crate) fn units_named(name: TemplateName) -> [Unit; 3]

@@ -16,7 +16,7 @@ use crate::draft::{BundleLines, Open};
 use crate::reason::{Reason, TextError, fault};
 use asm_text::{Draft, Line, Predicates, TemplateName, Values};
 use asm_words::Name;
-use ia_insn::limits::{BUNDLE_LIMIT, DATA_LIMIT};
+use ia_program::limits::{BUNDLE_LIMIT, DATA_LIMIT};
 use std::alloc::{AllocError, Global};
 use std::collections::BTreeMap;
 use std::marker::Model;

@@ -59,11 +59,3 @@ has_increment z (inr (inr (inr e))) = rw e refl
 
 pub increment_within : (z : ℤ) → IsIncrement z → unsigned_abs z ≤ 16
 increment_within z h = grind arith
-
--- so it can be printed with its sign
-pub increment_printed : (z : ℤ) → IsIncrement z → unsigned_abs z < 18446744073709551616
-increment_printed z h = omega (arith, increment_within z h)
-
--- a signed number of a width below 64 can be printed
-pub number_printed : (width : ℕ) (z : ℤ) → FitsSigned width z → 2 ^ (width - 1) < 18446744073709551616 → unsigned_abs z < 18446744073709551616
-number_printed width z h l = omega (arith, magnitude_within width z h, l)

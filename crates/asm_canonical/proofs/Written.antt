@@ -1,5 +1,5 @@
 -- How an instruction is printed, token by token.
-use Rattle.std.proofs.Common.{◌<◌, ◌^◌, ℕ, List}
+use Rattle.std.proofs.Common.{◌<◌, ◌^◌, List}
 use Rattle.asm_words.specs.declared.tokens.Token.{Token}
 use Rattle.asm_words.specs.declared.tokens.Token.TheVariants as t
 use Rattle.asm_forms.specs.declared.completer.Completer.{Completer}

@@ -2,7 +2,7 @@
 -- the tokens are they.
 use Rattle.std.proofs.Common.{◌≡◌, refl, ap, Bool, true, false, List, [], ◌∷◌}
 use Rattle.std.specs.Cmp.Lexicographic.{pointwise}
-use Rattle.ia_insn.proofs.Tests.{left, right}
+use Rattle.ia_program.proofs.Tests.{left, right}
 use Rattle.asm_words.specs.declared.tokens.Token.{Token}
 use Rattle.asm_words.specs.declared.tokens.Token.TheVariants as t
 use Rattle.asm_forms.specs.declared.items.FormItem.{FormItem}

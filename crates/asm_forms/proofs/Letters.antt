@@ -3,7 +3,7 @@ use Rattle.std.proofs.Common.{◌≡◌, ◌≤◌, ◌<◌, ◌⊎◌, inl, inr
 use Rattle.std.specs.Prelude.{filter}
 use Rattle.std.specs.List.{list_all}
 use Rattle.std.proofs.lemmas.Bool.{leb-true, ltb-true, ne_eqb}
-use Rattle.ia_insn.proofs.Tests.{left, right}
+use Rattle.ia_program.proofs.Tests.{left, right}
 use Rattle.asm_forms.specs.Naming.{is_named, begins, named_forms}
 use Rattle.asm_forms.specs.Rows.{FormRow, rows_to_b, rows_c_to_i, rows_l_to_n, rows_o_to_r, rows_from_s, rows}
 

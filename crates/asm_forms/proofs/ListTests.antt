@@ -3,7 +3,7 @@ use Rattle.std.proofs.Common.{◌≡◌, refl, ℕ, zero, suc, ◌<◌, Bool, tr
 use Rattle.std.specs.Prelude.{flat_map}
 use Rattle.std.specs.List.{find, list_all}
 use Rattle.std.proofs.lemmas.Bool.{and_from}
-use Rattle.ia_insn.proofs.Tests.{left, right}
+use Rattle.ia_program.proofs.Tests.{left, right}
 
 -- of what holds of all, it holds of the one at a place
 pub all_at : {A : Type 0} (p : A → Bool) (xs : List A) (i : ℕ) (d : A) → i < length xs → list_all p xs ≡ true → p (get_or xs i d) ≡ true

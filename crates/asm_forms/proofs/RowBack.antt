@@ -15,7 +15,7 @@ use Rattle.ia_insn.specs.declared.choices.LoadKind.TheVariants as load
 use Rattle.ia_insn.specs.declared.choices.StoreKind.TheVariants as store
 use Rattle.ia_insn.specs.declared.choices.BranchKind.TheVariants as branch
 use Rattle.ia_insn.specs.declared.choices.Unit.TheVariants as unit
-use Rattle.ia_insn.proofs.Tests.{left, right}
+use Rattle.ia_program.proofs.Tests.{left, right}
 use Rattle.asm_forms.specs.declared.completer.Completer.{Completer}
 use Rattle.asm_forms.specs.declared.completer.Completer.TheVariants as c
 use Rattle.asm_forms.specs.declared.completer.CompleterSet.{CompleterSet}

@@ -11,7 +11,7 @@ use Rattle.asm_forms.specs.declared.items.Kind.TheVariants as k
 use Rattle.asm_forms.specs.declared.items.NumberField.{NumberField}
 use Rattle.asm_forms.specs.declared.items.NumberField.TheVariants.{Imm8, Less8, Imm9, Imm14, Imm22, Imm21, Imm62, Imm64, Count, Position, Length, Length16, ZeroOrMinusOne, Frame, Rotating, Tag, Mask, RotatingMask, Increment, Skip, Data1, Data2, Data4}
 use Rattle.ia_insn.specs.declared.registers.Ar.TheVariants as ar
-use Rattle.ia_insn.specs.declared.limits.TheConstants.{DATA_LIMIT}
+use Rattle.ia_program.specs.declared.limits.TheConstants.{DATA_LIMIT}
 
 -- from -below to above
 abbrev pub within : Bool → ℕ → ℕ → ℕ → Bool

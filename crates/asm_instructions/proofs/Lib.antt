@@ -1,2 +1,1 @@
-pub mod Decided
 pub mod DecidedFormats

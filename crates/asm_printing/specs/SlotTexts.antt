@@ -20,8 +20,8 @@ use Rattle.ia_insn.specs.declared.insn.Insn.{Insn}
 use Rattle.ia_insn.specs.declared.insn.Op.{Op}
 use Rattle.ia_insn.specs.declared.registers.Ar.{Ar}
 use Rattle.ia_insn.specs.declared.registers.Ar.TheVariants as ar
-use Rattle.ia_insn.specs.Targets.{displacement}
-use Rattle.ia_insn.specs.Texts.{gr_text, pr_text, br_text}
+use Rattle.ia_insn.specs.Displacements.{displacement}
+use Rattle.ia_insn.specs.RegisterTexts.{gr_text, pr_text, br_text}
 use Rattle.asm_canonical.specs.Canonical.{syntax_of}
 
 -- the fields whose numbers are printed in hexadecimal: masks, and the numbers of movl, break, nop and hint

@@ -3,7 +3,7 @@
 ghost use Rattle.std.specs.Prelude.{◌≡◌, ◌++◌, ◌∷◌, ◌<◌, OnOk, OnErr, Some, false, decimal, flat_map};
 ghost use Rattle.std.specs.Io.{StartsWith};
 ghost use Rattle.asm_forms.specs.Completers.{text_of};
-ghost use Rattle.ia_insn.specs.Listed.{IsListed};
+ghost use Rattle.ia_program.specs.Listed.{IsListed};
 ghost use Rattle.asm_canonical.specs.Canonical.{syntax_of};
 ghost use Rattle.asm_printing.specs.SlotTexts.{is_hex, ar_text, number_text, token_text, operands_text, spaced, mnemonic_text, predicate_text, stop_text, target_of, or_zero, HasTarget, line_text, slot_text};
 
@@ -11,7 +11,8 @@ use crate::numerals::{push_bytes, push_decimal, push_hex};
 use asm_canonical::{Syntax, syntax_of};
 use asm_forms::{Completer, Form, FormItem, Kind, NumberField, mark_token, text};
 use asm_words::Token;
-use ia_insn::{Ar, Insn, Op, Place, Pr};
+use ia_insn::{Ar, Insn, Op, Pr};
+use ia_program::Place;
 use std::alloc::AllocError;
 
 #[tactic(auto, using(crate::proofs::Kept::kept_before))]

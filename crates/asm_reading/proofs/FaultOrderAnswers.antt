@@ -6,7 +6,7 @@ use Rattle.std.specs.Option.{option_and_then, option_map}
 use Rattle.std.proofs.lemmas.Bool.{eqb-true}
 use Rattle.std.proofs.lemmas.Option.{slice_get_within}
 use Rattle.first_fault.specs.Stages.{Stage, IsFirstFault, ArePassed}
-use Rattle.ia_insn.proofs.Tests.{left}
+use Rattle.ia_program.proofs.Tests.{left}
 use Rattle.asm_words.specs.declared.tokens.Token.{Token}
 use Rattle.asm_words.specs.declared.tokens.Token.TheVariants as t
 use Rattle.asm_words.specs.declared.word.WordKind.TheVariants as kind

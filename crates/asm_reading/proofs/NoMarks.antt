@@ -3,7 +3,7 @@ use Rattle.std.proofs.Common.{◌≡◌, refl, sym, ℕ, Bool, true, false, not,
 use Rattle.std.specs.Option.{option_map}
 use Rattle.std.specs.Str.{bytes_eq}
 use Rattle.std.proofs.lemmas.Bool.{not-true}
-use Rattle.ia_insn.proofs.Tests.{left, right}
+use Rattle.ia_program.proofs.Tests.{left, right}
 use Rattle.asm_words.specs.declared.tokens.Token.{Token}
 use Rattle.asm_words.specs.declared.tokens.Token.TheVariants as t
 use Rattle.asm_words.specs.declared.word.WordKind.{WordKind}

@@ -5,7 +5,7 @@ use Rattle.std.specs.List.{find, list_all, starts_with}
 use Rattle.std.specs.Option.{option_map}
 use Rattle.std.proofs.lemmas.Bool.{eqb-true, and_from}
 use Rattle.ia_insn.specs.declared.insn.Op.{Op}
-use Rattle.ia_insn.proofs.Tests.{left, right}
+use Rattle.ia_program.proofs.Tests.{left, right}
 use Rattle.asm_words.specs.declared.tokens.Token.{Token}
 use Rattle.asm_words.specs.declared.fault.LineFault.TheVariants as fault
 use Rattle.asm_forms.specs.declared.completer.Completer.{Completer}

@@ -34,7 +34,7 @@ use Rattle.asm_forms.specs.Rows.{row_of}
 use Rattle.asm_matching.specs.Matching.{fault_at, read_form}
 use Rattle.asm_matching.specs.Relations.{named_predicates, agreed_relation, relation_fault}
 use Rattle.ia_insn.specs.declared.insn.Op.{Op}
-use Rattle.ia_insn.specs.Listed.{IsListed}
+use Rattle.ia_program.specs.Listed.{IsListed}
 use Rattle.asm_instructions.specs.Instructions.{op_of}
 use Rattle.asm_instructions.specs.Operands.{u32_at, magnitude, is_negative, wrapped, bytes, completer_at, is_present}
 use Rattle.asm_reading.specs.declared.line.Line.{Line}

@@ -20,7 +20,8 @@ use asm_instructions::{is_present_at, op_of, u32_at};
 use asm_matching::read_form;
 use asm_words::limits::LINE_LIMIT;
 use asm_words::{LineFault, Name, Token, Word, WordKind, numbered_register, token, words_into};
-use ia_insn::{Insn, Pr, is_listed};
+use ia_insn::{Insn, Pr};
+use ia_program::is_listed;
 
 /// Puts what the words may be read as into the buffer, in the place of what it held.
 fn tokens_into(line: &[u8], words: &[Word], buffer: &mut Tokens)

@@ -5,7 +5,7 @@ use Rattle.std.specs.Prelude.{ℤ}
 use Rattle.std.specs.Option.{option_map}
 use Rattle.std.specs.List.{AllByRecursion, list_all, list_any}
 use Rattle.std.proofs.lemmas.Bool.{and_from}
-use Rattle.ia_insn.proofs.Tests.{left, right}
+use Rattle.ia_program.proofs.Tests.{left, right}
 use Rattle.asm_words.specs.declared.tokens.Token.{Token}
 use Rattle.asm_words.specs.declared.tokens.Token.TheVariants as t
 use Rattle.asm_forms.specs.declared.form.Form.{Form}

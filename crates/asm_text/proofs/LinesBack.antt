@@ -1,8 +1,8 @@
 -- The canonical line of a listed instruction is read back.
 use Rattle.std.proofs.Common.{ℕ, ◌<◌, ◌≤◌, ◌^◌, Bool, length}
 use Rattle.ia_insn.specs.declared.insn.Insn.{Insn}
-use Rattle.ia_insn.specs.Listed.{IsListed}
-use Rattle.ia_insn.proofs.OperandRanges.{ranges_of_listed}
+use Rattle.ia_program.specs.Listed.{IsListed}
+use Rattle.ia_program.proofs.OperandRanges.{ranges_of_listed}
 use Rattle.asm_reading.specs.Lines.{LineOf}
 use Rattle.asm_printing.specs.declared.limits.TheConstants.{SLOT_LINE_LIMIT}
 use Rattle.asm_printing.specs.SlotTexts.{slot_text}

@@ -10,7 +10,7 @@ use Rattle.std.proofs.lemmas.List.{length-append}
 use native.Mathlib.Nat.{pow-suc}
 use Rattle.ia_insn.specs.declared.insn.Insn.{Insn}
 use Rattle.ia_insn.specs.declared.registers.Ar.TheVariants as ar
-use Rattle.ia_insn.proofs.Tests.{left, right}
+use Rattle.ia_program.proofs.Tests.{left, right}
 use Rattle.asm_words.specs.declared.tokens.Token.{Token}
 use Rattle.asm_words.specs.declared.tokens.Token.TheVariants as t
 use Rattle.asm_words.proofs.HexDigits.{hex_one, hex_step}

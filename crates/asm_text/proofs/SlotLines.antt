@@ -28,7 +28,7 @@ use Rattle.asm_forms.specs.Rows.{row_of}
 use Rattle.asm_forms.proofs.Fits.{taken_back}
 use Rattle.ia_insn.specs.declared.insn.Insn.{Insn}
 use Rattle.ia_insn.specs.declared.insn.Op.{Op}
-use Rattle.ia_insn.specs.Targets.{displacement}
+use Rattle.ia_insn.specs.Displacements.{displacement}
 use Rattle.asm_forms.proofs.RowBack.{row_back}
 use Rattle.asm_forms.specs.Spelled.{is_spelled}
 use Rattle.asm_matching.specs.Matching.{read_form}

@@ -7,7 +7,7 @@ use Rattle.asm_forms.specs.Items.{fits, is_label_item}
 use Rattle.asm_forms.specs.Naming.{completers_in}
 use Rattle.asm_forms.specs.Rows.{row_of}
 use Rattle.ia_insn.specs.declared.insn.Op.{Op}
-use Rattle.ia_insn.specs.Targets.{displacement}
+use Rattle.ia_insn.specs.Displacements.{displacement}
 use Rattle.asm_instructions.specs.Instructions.{op_of}
 use Rattle.asm_instructions.specs.Operands.{signed}
 use Rattle.asm_reading.specs.Lines.{is_bare}

@@ -2,7 +2,7 @@
 
 ghost use Rattle.std.specs.Prelude.{ℕ, ◌<◌, ◌≤◌, ◌^◌, Bool, length};
 ghost use Rattle.ia_insn.specs.declared.insn.Insn.{Insn};
-ghost use Rattle.ia_insn.specs.Listed.{IsListed};
+ghost use Rattle.ia_program.specs.Listed.{IsListed};
 ghost use Rattle.asm_reading.specs.Lines.{LineOf};
 ghost use Rattle.asm_printing.specs.declared.limits.TheConstants.{SLOT_LINE_LIMIT};
 ghost use Rattle.asm_printing.specs.SlotTexts.{slot_text};

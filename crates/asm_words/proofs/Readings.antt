@@ -8,7 +8,7 @@ use Rattle.std.proofs.lemmas.Fmt.{digits_is_IsNumeral, decimal_is_IsNumeral, len
 use Rattle.std.proofs.lemmas.Bool.Decides.{nat_tests}
 use Rattle.std.proofs.lemmas.Bool.{eqb-true, le-leb}
 use Rattle.std.proofs.lemmas.Str.Parse.{digit_from_value}
-use Rattle.ia_insn.proofs.Tests.{left, right, all_below, below}
+use Rattle.ia_program.proofs.Tests.{left, right, all_below, below}
 use Rattle.asm_words.specs.declared.limits.TheConstants.{NAME_LIMIT}
 use Rattle.asm_words.specs.declared.tokens.Token.{Token}
 use Rattle.asm_words.specs.declared.tokens.Token.TheVariants as t

@@ -4,13 +4,13 @@ use Rattle.std.specs.Prelude.{IsSomeAnd}
 use Rattle.std.proofs.lemmas.Bool.Decides.{same_from_decides, Decides-eqb}
 use Rattle.std.proofs.lemmas.Option.{same_Some, slice_get_within}
 use Rattle.ia_insn.specs.declared.insn.Insn.{Insn}
-use Rattle.ia_insn.specs.declared.place.Place.{Place}
-use Rattle.ia_insn.specs.declared.relations.Relation.{Relation}
-use Rattle.ia_insn.specs.declared.bundle.Slots.{Slots}
-use Rattle.ia_insn.specs.declared.bundle.Slots.TheVariants.{Three, Long}
-use Rattle.ia_insn.specs.Bundles.{Bundle, slot_insn}
-use Rattle.ia_insn.specs.Places.{bundle_insn, insn_at}
-use Rattle.ia_insn.specs.Programs.{IsCall, HasCall, IsAfterCall, IsEntryOf, no_relation, relation_at, relations_at}
+use Rattle.ia_program.specs.declared.place.Place.{Place}
+use Rattle.ia_program.specs.declared.relations.Relation.{Relation}
+use Rattle.ia_program.specs.declared.bundle.Slots.{Slots}
+use Rattle.ia_program.specs.declared.bundle.Slots.TheVariants.{Three, Long}
+use Rattle.ia_program.specs.Bundles.{Bundle, slot_insn}
+use Rattle.ia_program.specs.Places.{bundle_insn, insn_at}
+use Rattle.ia_program.specs.Programs.{IsCall, HasCall, IsAfterCall, IsEntryOf, no_relation, relation_at, relations_at}
 use Rattle.resource_sets.proofs.Members.{in_map, from_map}
 use Rattle.predicate_rel.specs.Pairs.{Pairs, no_pairs, with_pair}
 use Rattle.flow_facts.specs.Graphs.{IsRowEntry, with_relations, known_at_entry}

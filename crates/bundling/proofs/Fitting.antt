@@ -7,14 +7,15 @@ use Rattle.std.proofs.lemmas.Option.{same_Some, slice_get_within, slice_get_past
 use Rattle.ia_insn.specs.declared.insn.Insn.{Insn}
 use Rattle.ia_insn.specs.declared.choices.Unit.{Unit as ExecutionUnit}
 use Rattle.ia_insn.specs.declared.choices.Unit.TheVariants as units
-use Rattle.ia_insn.specs.declared.bundle.Slots.{Slots}
-use Rattle.ia_insn.specs.declared.bundle.Slots.TheVariants.{Three, Long}
-use Rattle.ia_insn.specs.Bundles.{Bundle, IsBundle, AreBundles, slot_insn}
-use Rattle.ia_insn.specs.Listed.{IsListed}
-use Rattle.ia_insn.specs.Places.{insn_at, EachPlace}
-use Rattle.ia_insn.specs.Targets.{displacement, IsBundleAt, IsTargetInside}
-use Rattle.ia_insn.specs.Templates.{units_of}
-use Rattle.ia_insn.proofs.InOrder.{bundle_small}
+use Rattle.ia_insn.specs.Displacements.{displacement}
+use Rattle.ia_program.specs.declared.bundle.Slots.{Slots}
+use Rattle.ia_program.specs.declared.bundle.Slots.TheVariants.{Three, Long}
+use Rattle.ia_program.specs.Bundles.{Bundle, IsBundle, AreBundles, slot_insn}
+use Rattle.ia_program.specs.Listed.{IsListed}
+use Rattle.ia_program.specs.Places.{insn_at, EachPlace}
+use Rattle.ia_program.specs.Targets.{IsBundleAt, IsTargetInside}
+use Rattle.ia_program.specs.Templates.{units_of}
+use Rattle.ia_program.proofs.InOrder.{bundle_small}
 use Rattle.slot_layouts.specs.declared.layout.Wanted.{Wanted}
 use Rattle.slot_layouts.specs.Classes.{class_of}
 use Rattle.slot_layouts.specs.Filled.{nop_of, slot_content, contents, filled, AreOf}

@@ -4,10 +4,10 @@ use Rattle.std.proofs.Common.{arith, ◌≡◌, ℕ, suc, ◌<◌, ◌≤◌, �
 use Rattle.std.proofs.lemmas.Bool.{cases_lt}
 use Rattle.std.proofs.lemmas.Option.{same_Some}
 use Rattle.ia_insn.specs.declared.insn.Insn.{Insn}
-use Rattle.ia_insn.specs.declared.place.Place.{Place}
-use Rattle.ia_insn.specs.Bundles.{Bundle, last_slot}
-use Rattle.ia_insn.specs.Places.{IsPlaceOf, IsBefore}
-use Rattle.ia_insn.proofs.InOrder.{lies_in}
+use Rattle.ia_program.specs.declared.place.Place.{Place}
+use Rattle.ia_program.specs.Bundles.{Bundle, last_slot}
+use Rattle.ia_program.specs.Places.{IsPlaceOf, IsBefore}
+use Rattle.ia_program.proofs.InOrder.{lies_in}
 use Rattle.ia_meaning.specs.Sequence.{stopped_in, is_stopped}
 use Rattle.slot_layouts.specs.declared.layout.Wanted.{Wanted}
 use Rattle.slot_layouts.specs.Filled.{filled}

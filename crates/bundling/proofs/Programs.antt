@@ -4,12 +4,12 @@ use Rattle.std.proofs.Common.{arith, ◌≡◌, ◌⊎◌, ℕ, zero, suc, ◌-�
 use Rattle.std.specs.Prelude.{map, Contains, IsSomeAnd, slice_index}
 use Rattle.std.proofs.lemmas.List.{get_or-map, length-map}
 use Rattle.std.proofs.lemmas.List.Elements.{Contains-get_or}
-use Rattle.ia_insn.specs.declared.limits.TheConstants.{ENTRY_LIMIT, RELATION_LIMIT}
 use Rattle.ia_insn.specs.declared.insn.Insn.{Insn}
-use Rattle.ia_insn.specs.declared.relations.Relation.{Relation}
-use Rattle.ia_insn.specs.Places.{EachPlace}
-use Rattle.ia_insn.specs.Runs.{IsWithinRun}
-use Rattle.ia_insn.specs.Programs.{IsProgram, AreInRange, floor, IsEntryAt, AreEntries, IsCall, IsEntryOf, IsRelationBefore, IsDeclarable, no_relation, relation_at, relation_before, AreRelations}
+use Rattle.ia_program.specs.declared.limits.TheConstants.{ENTRY_LIMIT, RELATION_LIMIT}
+use Rattle.ia_program.specs.declared.relations.Relation.{Relation}
+use Rattle.ia_program.specs.Places.{EachPlace}
+use Rattle.ia_program.specs.Runs.{IsWithinRun}
+use Rattle.ia_program.specs.Programs.{IsProgram, AreInRange, floor, IsEntryAt, AreEntries, IsCall, IsEntryOf, IsRelationBefore, IsDeclarable, no_relation, relation_at, relation_before, AreRelations}
 use Rattle.loose_items.specs.declared.item.Item.{Item}
 use Rattle.loose_text.specs.LooseTexts.{Loose, IsLoose, BreaksAt, IsItemEntry}
 use Rattle.asm_build.specs.Relations.{IsFit}

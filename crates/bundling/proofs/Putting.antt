@@ -7,10 +7,11 @@ use Rattle.ia_insn.specs.declared.insn.Op.TheVariants as op
 use Rattle.ia_insn.specs.declared.choices.BranchKind.TheVariants as branch
 use Rattle.ia_insn.specs.declared.choices.Unit.{Unit as ExecutionUnit}
 use Rattle.ia_insn.specs.declared.choices.Unit.TheVariants as units
-use Rattle.ia_insn.specs.Listed.{IsListed}
-use Rattle.ia_insn.specs.Fits.{Fits}
-use Rattle.ia_insn.specs.Targets.{displacement, IsBundleAt}
-use Rattle.ia_insn.proofs.ListedSlots.{unit_listed}
+use Rattle.ia_insn.specs.Displacements.{displacement}
+use Rattle.ia_program.specs.Listed.{IsListed}
+use Rattle.ia_program.specs.Fits.{Fits}
+use Rattle.ia_program.specs.Targets.{IsBundleAt}
+use Rattle.ia_program.proofs.ListedSlots.{unit_listed}
 use Rattle.slot_layouts.specs.declared.classes.SlotClass.{SlotClass}
 use Rattle.slot_layouts.specs.declared.classes.SlotClass.TheVariants.{A, I, M, F, B, Loop, X}
 use Rattle.slot_layouts.specs.Classes.{class_of, has_place}

@@ -2,13 +2,13 @@
 use Rattle.std.proofs.Common.{arith, ◌≡◌, ℕ, suc, ◌+◌, ◌-◌, ◌<◌, ◌≤◌, ◌⊎◌, inl, inr, refl, sym, ◌∙◌, ap, subst, Bool, true, false, not, ◌&&◌, List, [], ◌∷◌, length, Option, Some, None, IsSome, slice_get}
 use Rattle.std.specs.Prelude.{IsSomeAnd}
 use Rattle.std.proofs.lemmas.Option.{slice_get_within}
-use Rattle.ia_insn.specs.declared.limits.TheConstants.{RUN_LIMIT}
 use Rattle.ia_insn.specs.declared.insn.Insn.{Insn}
-use Rattle.ia_insn.specs.declared.place.Place.{Place}
-use Rattle.ia_insn.specs.Bundles.{Bundle, slot_insn, last_slot}
-use Rattle.ia_insn.specs.Places.{bundle_insn, insn_at, IsPlaceOf, place_number}
-use Rattle.ia_insn.specs.Runs.{EndsRun, IsWithinRun}
-use Rattle.ia_insn.proofs.InOrder.{lies_in, is_place, bundle_small, slot_small}
+use Rattle.ia_program.specs.declared.limits.TheConstants.{RUN_LIMIT}
+use Rattle.ia_program.specs.declared.place.Place.{Place}
+use Rattle.ia_program.specs.Bundles.{Bundle, slot_insn, last_slot}
+use Rattle.ia_program.specs.Places.{bundle_insn, insn_at, IsPlaceOf, place_number}
+use Rattle.ia_program.specs.Runs.{EndsRun, IsWithinRun}
+use Rattle.ia_program.proofs.InOrder.{lies_in, is_place, bundle_small, slot_small}
 use Rattle.ia_meaning.specs.Sequence.{is_stopped, stopped_in, StopTest}
 use Rattle.slot_layouts.specs.declared.layout.Wanted.{Wanted}
 use Rattle.slot_layouts.specs.Filled.{filled}

@@ -1,10 +1,10 @@
 -- Runs of slots: where one is long, the bundles before its end have no stop.
 use Rattle.std.proofs.Common.{arith, ◌≡◌, ℕ, ◌+◌, ◌<◌, ◌≤◌, ◌⊎◌, inl, inr, sym, ◌∙◌, ap, subst, List, [], ◌∷◌, length}
-use Rattle.ia_insn.specs.declared.place.Place.{Place}
-use Rattle.ia_insn.specs.Bundles.{Bundle}
-use Rattle.ia_insn.specs.Places.{IsPlaceOf, IsBefore, place_number}
-use Rattle.ia_insn.specs.Runs.{EndsRun, StandBefore}
-use Rattle.ia_insn.proofs.InOrder.{slot_small}
+use Rattle.ia_program.specs.declared.place.Place.{Place}
+use Rattle.ia_program.specs.Bundles.{Bundle}
+use Rattle.ia_program.specs.Places.{IsPlaceOf, IsBefore, place_number}
+use Rattle.ia_program.specs.Runs.{EndsRun, StandBefore}
+use Rattle.ia_program.proofs.InOrder.{slot_small}
 use Rattle.group_checker.proofs.Falling.{number_rises}
 use Rattle.bundling.proofs.Locating.{in_bundle}
 

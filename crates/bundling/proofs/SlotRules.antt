@@ -5,10 +5,10 @@ use Rattle.ia_insn.specs.declared.insn.Insn.{Insn}
 use Rattle.ia_insn.specs.declared.insn.Op.{Op}
 use Rattle.ia_insn.specs.declared.insn.Op.TheVariants as op
 use Rattle.ia_insn.specs.declared.choices.BranchKind.TheVariants as branch
-use Rattle.ia_insn.specs.declared.place.Place.{Place}
-use Rattle.ia_insn.specs.Bundles.{Bundle, last_slot}
-use Rattle.ia_insn.specs.Places.{IsBefore, IsNext}
-use Rattle.ia_insn.proofs.InOrder.{next_slot, next_bundle, no_next}
+use Rattle.ia_program.specs.declared.place.Place.{Place}
+use Rattle.ia_program.specs.Bundles.{Bundle, last_slot}
+use Rattle.ia_program.specs.Places.{IsBefore, IsNext}
+use Rattle.ia_program.proofs.InOrder.{next_slot, next_bundle, no_next}
 use Rattle.ia_meaning.specs.Actions.{insn_action, action_of, is_alloc, allocates}
 use Rattle.ia_meaning.specs.Sequence.{first_of, next_of, is_stopped}
 use Rattle.ia_meaning.proofs.Sequences.{next_same}

@@ -7,11 +7,11 @@ use Rattle.std.proofs.lemmas.Option.{same_Some, slice_get_within}
 use Rattle.ia_insn.specs.declared.insn.Insn.{Insn}
 use Rattle.ia_insn.specs.declared.choices.Unit.{Unit as ExecutionUnit}
 use Rattle.ia_insn.specs.declared.choices.Unit.TheVariants as units
-use Rattle.ia_insn.specs.declared.place.Place.{Place}
-use Rattle.ia_insn.specs.Templates.{units_of}
-use Rattle.ia_insn.specs.Bundles.{Bundle, slot_insn}
-use Rattle.ia_insn.specs.Places.{insn_at, IsBefore}
-use Rattle.ia_insn.proofs.InOrder.{lies_in}
+use Rattle.ia_program.specs.declared.place.Place.{Place}
+use Rattle.ia_program.specs.Templates.{units_of}
+use Rattle.ia_program.specs.Bundles.{Bundle, slot_insn}
+use Rattle.ia_program.specs.Places.{insn_at, IsBefore}
+use Rattle.ia_program.proofs.InOrder.{lies_in}
 use Rattle.slot_layouts.specs.Filled.{nop_of, filled}
 use Rattle.row_laws.specs.Spreads.{DoesLike, IsFiller}
 use Rattle.loose_items.specs.declared.item.Item.{Item}

@@ -5,10 +5,10 @@ use Rattle.std.proofs.lemmas.Bool.{cases_lt}
 use Rattle.std.proofs.lemmas.List.{get_or_past}
 use Rattle.std.proofs.lemmas.Option.{get_or_from_slice_get}
 use Rattle.ia_insn.specs.declared.insn.Insn.{Insn}
-use Rattle.ia_insn.specs.declared.place.Place.{Place}
-use Rattle.ia_insn.specs.Bundles.{Bundle, last_slot}
-use Rattle.ia_insn.specs.Places.{IsPlaceOf, IsBefore}
-use Rattle.ia_insn.proofs.InOrder.{is_place, bundle_small}
+use Rattle.ia_program.specs.declared.place.Place.{Place}
+use Rattle.ia_program.specs.Bundles.{Bundle, last_slot}
+use Rattle.ia_program.specs.Places.{IsPlaceOf, IsBefore}
+use Rattle.ia_program.proofs.InOrder.{is_place, bundle_small}
 use Rattle.ia_meaning.specs.Sequence.{first_of, is_stopped}
 use Rattle.slot_layouts.specs.declared.layout.Wanted.{Wanted}
 use Rattle.slot_layouts.specs.Laws.{HasStopWhere}

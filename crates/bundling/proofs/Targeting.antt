@@ -7,11 +7,11 @@ use Rattle.ia_insn.specs.declared.insn.Insn.{Insn}
 use Rattle.ia_insn.specs.declared.insn.Op.{Op}
 use Rattle.ia_insn.specs.declared.insn.Op.TheVariants as op
 use Rattle.ia_insn.specs.declared.choices.BranchKind.TheVariants as branch
-use Rattle.ia_insn.specs.declared.place.Place.{Place}
-use Rattle.ia_insn.specs.Bundles.{slot_insn}
-use Rattle.ia_insn.specs.Places.{bundle_insn, insn_at}
-use Rattle.ia_insn.specs.Listed.{IsListed}
-use Rattle.ia_insn.specs.Programs.{IsCall}
+use Rattle.ia_program.specs.declared.place.Place.{Place}
+use Rattle.ia_program.specs.Bundles.{slot_insn}
+use Rattle.ia_program.specs.Places.{bundle_insn, insn_at}
+use Rattle.ia_program.specs.Listed.{IsListed}
+use Rattle.ia_program.specs.Programs.{IsCall}
 use Rattle.ia_meaning.specs.Actions.{action_of}
 use Rattle.ia_meaning.specs.Sequence.{first_of}
 use Rattle.predicate_rel.specs.Edges.{displacement_of, target_at}

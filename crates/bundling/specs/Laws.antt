@@ -1,9 +1,9 @@
 -- What the bundles of a loose text's instructions are.
 use Rattle.std.specs.Prelude.{◌≡◌, ℕ, ◌+◌, ◌<◌, Bool, true, false, List, length, slice_get, slice_index_or}
-use Rattle.ia_insn.specs.declared.place.Place.{Place}
-use Rattle.ia_insn.specs.Places.{insn_at, IsPlaceOf, IsBefore, EachPlace}
-use Rattle.ia_insn.specs.Programs.{Program, IsProgram}
-use Rattle.ia_insn.specs.Runs.{IsWithinRun}
+use Rattle.ia_program.specs.declared.place.Place.{Place}
+use Rattle.ia_program.specs.Places.{insn_at, IsPlaceOf, IsBefore, EachPlace}
+use Rattle.ia_program.specs.Programs.{Program, IsProgram}
+use Rattle.ia_program.specs.Runs.{IsWithinRun}
 use Rattle.ia_meaning.specs.Sequence.{is_stopped}
 use Rattle.row_laws.specs.Spreads.{IsSpread, IsBetween, AreStops, KeepsSlotRules}
 use Rattle.loose_text.specs.LooseTexts.{Loose, IsLoose}

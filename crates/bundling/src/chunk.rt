@@ -4,7 +4,7 @@ ghost use Rattle.std.specs.Prelude.{◌≡◌};
 ghost use Rattle.bundling.specs.Chunk.{Chunk as ChunkOf};
 
 use arrayvec::ArrayVec;
-use ia_insn::limits::RUN_LIMIT;
+use ia_program::limits::RUN_LIMIT;
 use slot_layouts::Wanted;
 use std::marker::Model;
 

@@ -6,10 +6,10 @@
 //! relations become those of their bundles.
 
 ghost use Rattle.std.specs.Prelude.{◌≡◌, ℕ, ◌++◌, ◌<◌, ◌≤◌, IfOk, OnOk, IfSome, IsSome, length, map, sum, slice_get, option_map};
-ghost use Rattle.ia_insn.specs.declared.limits.TheConstants.{BUNDLE_LIMIT};
-ghost use Rattle.ia_insn.specs.Bundles.{IsBundle, AreBundles};
-ghost use Rattle.ia_insn.specs.Places.{EachPlace};
-ghost use Rattle.ia_insn.specs.Runs.{IsWithinRun};
+ghost use Rattle.ia_program.specs.declared.limits.TheConstants.{BUNDLE_LIMIT};
+ghost use Rattle.ia_program.specs.Bundles.{IsBundle, AreBundles};
+ghost use Rattle.ia_program.specs.Places.{EachPlace};
+ghost use Rattle.ia_program.specs.Runs.{IsWithinRun};
 ghost use Rattle.slot_layouts.specs.Layouts.{laid_out};
 ghost use Rattle.slot_layouts.specs.Filled.{slot_content, contents, filled};
 ghost use Rattle.asm_build.specs.Addresses.{IsReachable, reach};
@@ -19,7 +19,8 @@ ghost use Rattle.bundling.specs.Bundled.{relocated, put_in, targeted, row_of, la
 use crate::chunk::Chunk;
 use crate::laws::bundled_is_program;
 use asm_build::{Address, addressed};
-use ia_insn::{BundleOf, Insn, Place, Program, Relation, Slots, Unit};
+use ia_insn::{Insn, Unit};
+use ia_program::{BundleOf, Place, Program, Relation, Slots};
 use loose_text::LooseText;
 use slot_layouts::{Layout, laid_out, laid_out_bundles, laid_out_is_layout, nop_of};
 use std::alloc::{AllocError, Global};

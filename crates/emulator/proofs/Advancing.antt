@@ -1,6 +1,6 @@
 -- One step further.
 use Rattle.std.proofs.Common.{◌≡◌, sym, subst}
-use Rattle.ia_insn.specs.Programs.{Program, IsProgram}
+use Rattle.ia_program.specs.Programs.{Program, IsProgram}
 use Rattle.ia_meaning.specs.Runs.{IsUnderWay}
 use Rattle.ia_meaning.proofs.GroupEnds.{advances_under_way}
 use Rattle.ia_meaning.specs.Progress.{Progress, advanced}

@@ -2,10 +2,10 @@
 use Rattle.std.proofs.Common.{◌≡◌, ℕ, zero, suc, ◌+◌, ◌-◌, ◌^◌, ◌<◌, ◌≤◌, ◌⊎◌, inl, inr, Bool, true, false, refl, sym, ap, ◌∙◌, arith}
 use Rattle.std.specs.Option.{is_some}
 use Rattle.std.specs.Prelude.{Option, Some, None, ◌==◌, if◌then◌else◌}
-use Rattle.ia_insn.specs.declared.limits.TheConstants.{RUN_LIMIT}
-use Rattle.ia_insn.specs.declared.ending.End.{End}
-use Rattle.ia_insn.specs.declared.ending.How.{How}
-use Rattle.ia_insn.specs.Programs.{Program, IsProgram}
+use Rattle.ia_program.specs.declared.limits.TheConstants.{RUN_LIMIT}
+use Rattle.ia_program.specs.declared.ending.End.{End}
+use Rattle.ia_program.specs.declared.ending.How.{How}
+use Rattle.ia_program.specs.Programs.{Program, IsProgram}
 use Rattle.ia_meaning.specs.Steps.{seq_step}
 use Rattle.ia_meaning.specs.Progress.{Progress, opened, stepped, advanced, slots_after, rest_by, to_group_end, group_further, groups_further}
 use Rattle.ia_meaning.specs.Runs.{IsUnderWay, event_by, event_to_end, event_further}

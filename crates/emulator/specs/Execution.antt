@@ -1,5 +1,5 @@
 -- What contracts see of the machine.
-use Rattle.ia_insn.specs.Programs.{Program}
+use Rattle.ia_program.specs.Programs.{Program}
 use Rattle.ia_meaning.specs.Progress.{Progress}
 use Rattle.machine_state.specs.Contents.{Contents}
 

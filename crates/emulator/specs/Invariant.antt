@@ -1,5 +1,5 @@
 -- What is seen of the machine, and what is true of it.
-use Rattle.ia_insn.specs.Programs.{IsProgram}
+use Rattle.ia_program.specs.Programs.{IsProgram}
 use Rattle.ia_meaning.specs.Runs.{IsUnderWay}
 use Rattle.emulator.specs.declared.machine.Machine.TheInside.{Inside}
 use Rattle.emulator.specs.Progress.{progress_of}

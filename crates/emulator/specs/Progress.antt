@@ -1,7 +1,7 @@
 -- How far a run of the machine has come.
 use Rattle.std.specs.Prelude.{◌≡◌, ℕ, ◌<◌, ◌^◌, Option}
-use Rattle.ia_insn.specs.Programs.{Program}
-use Rattle.ia_insn.specs.declared.place.Place.{Place}
+use Rattle.ia_program.specs.Programs.{Program}
+use Rattle.ia_program.specs.declared.place.Place.{Place}
 use Rattle.ia_meaning.specs.State.{State}
 use Rattle.ia_meaning.specs.Writes.{frame_changes}
 use Rattle.ia_meaning.specs.Outcomes.{Outcome}

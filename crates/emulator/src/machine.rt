@@ -11,8 +11,9 @@ ghost use Rattle.machine_state.specs.Contents.{stack_of};
 ghost use Rattle.emulator.specs.Execution.{Execution, contents};
 
 use crate::run::Run;
-use ia_insn::{Ar, Br, End, Gr, GroupEvent, Place, Program};
+use ia_insn::{Ar, Br, Gr};
 use ia_meaning::Cell;
+use ia_program::{End, GroupEvent, Place, Program};
 use machine_state::MachineState;
 use nat_alat::{Alat, DataMem};
 use reg_stack::{Stack, StackFault};

@@ -1,13 +1,13 @@
 //! A run under way.
 
 ghost use Rattle.std.specs.Prelude.{◌≡◌, ◌<◌, ◌≤◌, ◌%◌, ◌+◌, ◌^◌, [], length, Some, None, IfNone, IfOk};
-ghost use Rattle.ia_insn.specs.declared.limits.TheConstants.{DATA_LIMIT, RUN_LIMIT};
-ghost use Rattle.ia_insn.specs.Places.{IsPlaceOf};
-ghost use Rattle.ia_insn.specs.declared.ending.How.TheVariants as how;
+ghost use Rattle.ia_program.specs.declared.limits.TheConstants.{DATA_LIMIT, RUN_LIMIT};
+ghost use Rattle.ia_program.specs.Places.{IsPlaceOf};
+ghost use Rattle.ia_program.specs.declared.ending.How.TheVariants as how;
 ghost use Rattle.ia_meaning.specs.declared.next.Next.TheVariants.{Falls};
 ghost use Rattle.ia_meaning.specs.Progress.{begun, opened, slots_after, stepped, advanced, group_further, groups_further, end_of};
 ghost use Rattle.ia_meaning.specs.Runs.{IsUnderWay, event_further};
-ghost use Rattle.ia_insn.specs.Programs.{IsProgram};
+ghost use Rattle.ia_program.specs.Programs.{IsProgram};
 ghost use Rattle.ia_meaning.specs.Sequence.{first_of, next_of, is_stopped};
 ghost use Rattle.ia_meaning.specs.State.{zero_registers};
 ghost use Rattle.ia_meaning.specs.Steps.{how_falling, seq_step};
@@ -15,8 +15,8 @@ ghost use Rattle.machine_state.specs.Changes.{outcome_with, MayChange};
 ghost use Rattle.emulator.specs.Outcomes.{outcome_of};
 ghost use Rattle.emulator.specs.Progress.{state_of, progress_of, settled_step, arrived, IsHere};
 
-use ia_insn::{End, FaultKind, GroupEvent, How, Place};
 use ia_meaning::{Next, end_or};
+use ia_program::{End, FaultKind, GroupEvent, How, Place};
 use machine_state::MachineState;
 use slot_effects::{Change, SlotEffect, effect};
 use slot_table::{Slot, SlotTable};
@@ -221,7 +221,7 @@ impl Run {
     }
 
     /// Runs so many groups, at least one, or up to an end, and tells of the group where it is one. A group that is under
-    /// way is the first of them. Each has at most [`RUN_LIMIT`](ia_insn::limits::RUN_LIMIT) slots.
+    /// way is the first of them. Each has at most [`RUN_LIMIT`](ia_program::limits::RUN_LIMIT) slots.
     pub fn run_groups(&mut self, table: &SlotTable, groups: u64) -> GroupEvent
         requires program { IsProgram table.now }
         requires running { self.old.end ≡ None }

@@ -4,8 +4,8 @@ use Rattle.std.specs.Prelude.{bit_or}
 use Rattle.std.proofs.lemmas.Bool.{cases_Bool, or_parts, true≢false, or_right}
 use Rattle.std.proofs.lemmas.Option.{none-some}
 use Rattle.std.proofs.lemmas.List.Sums.{sum_by-set}
-use Rattle.ia_insn.specs.declared.place.Place.{Place}
-use Rattle.ia_insn.specs.Places.{place_at}
+use Rattle.ia_program.specs.declared.place.Place.{Place}
+use Rattle.ia_program.specs.Places.{place_at}
 use Rattle.predicate_rel.specs.Pairs.{Pairs, has_bit}
 use Rattle.predicate_rel.specs.Changes.{HasAllRows}
 use Rattle.predicate_rel.proofs.BitLemmas.{has_bit_all, has_bit_none, has_bit_or}

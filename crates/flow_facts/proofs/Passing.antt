@@ -4,11 +4,11 @@ use mathlib.Core.Path.{fun_ext}
 use Rattle.std.specs.Prelude.{bit_or}
 use Rattle.std.proofs.lemmas.Option.{same_Some}
 use Rattle.ia_insn.specs.declared.insn.Insn.{Insn}
-use Rattle.ia_insn.specs.declared.place.Place.{Place}
-use Rattle.ia_insn.specs.Places.{place_number, place_at, insn_at}
-use Rattle.ia_insn.specs.Programs.{Program, IsEntry}
-use Rattle.ia_insn.proofs.InOrder.{slot_small}
-use Rattle.ia_insn.proofs.Reaching.{place_at-number}
+use Rattle.ia_program.specs.declared.place.Place.{Place}
+use Rattle.ia_program.specs.Places.{place_number, place_at, insn_at}
+use Rattle.ia_program.specs.Programs.{Program, IsEntry}
+use Rattle.ia_program.proofs.InOrder.{slot_small}
+use Rattle.ia_program.proofs.Reaching.{place_at-number}
 use Rattle.ia_meaning.specs.Sequence.{first_of}
 use Rattle.predicate_rel.specs.declared.edge.Edge.{Edge}
 use Rattle.predicate_rel.specs.declared.edge.Edge.TheVariants.{Falls, Taken}

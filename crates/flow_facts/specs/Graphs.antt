@@ -2,10 +2,10 @@
 -- instruction sequencing).
 use Rattle.std.specs.Prelude.{◌≡◌, ℕ, ◌+◌, ◌-◌, ◌<◌, ◌≤◌, ◌⊎◌, ◌==◌, List, [], ◌∷◌, Option, None, Some, IsSome, IsSomeAnd, Contains, length, slice_get, nat_lt, if◌then◌else◌}
 use Rattle.ia_insn.specs.declared.insn.Insn.{Insn}
-use Rattle.ia_insn.specs.declared.place.Place.{Place}
-use Rattle.ia_insn.specs.declared.relations.Relation.{Relation}
-use Rattle.ia_insn.specs.Places.{insn_at}
-use Rattle.ia_insn.specs.Programs.{Program, IsCall, IsEntry, relations_at}
+use Rattle.ia_program.specs.declared.place.Place.{Place}
+use Rattle.ia_program.specs.declared.relations.Relation.{Relation}
+use Rattle.ia_program.specs.Places.{insn_at}
+use Rattle.ia_program.specs.Programs.{Program, IsCall, IsEntry, relations_at}
 use Rattle.ia_meaning.specs.Actions.{insn_action}
 use Rattle.ia_meaning.specs.Sequence.{first_of, next_of}
 use Rattle.predicate_rel.specs.declared.edge.Edge.{Edge}

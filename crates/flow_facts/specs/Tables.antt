@@ -1,7 +1,7 @@
 -- How a table of what is known at each place changes while it is made.
 use Rattle.std.specs.Prelude.{◌≡◌, ◌≢◌, ◌<◌, ◌≤◌, ℕ, zero, suc, ◌+◌, ◌*◌, ◌/◌, ◌==◌, Bool, false, if◌then◌else◌, None, Some, List, length, slice_index_or, sum_by, ◌⊎◌}
-use Rattle.ia_insn.specs.declared.place.Place.{Place}
-use Rattle.ia_insn.specs.Programs.{Program, IsEntry}
+use Rattle.ia_program.specs.declared.place.Place.{Place}
+use Rattle.ia_program.specs.Programs.{Program, IsEntry}
 use Rattle.ia_meaning.specs.Sequence.{first_of}
 use Rattle.predicate_rel.specs.declared.edge.Edge.{Edge}
 use Rattle.predicate_rel.specs.Pairs.{Table, Pairs, has_bit, pairs_of, IsWithin}

@@ -2,8 +2,8 @@
 
 ghost use Rattle.std.specs.Prelude.{◌≡◌, ◌≢◌, ◌+◌, ◌<◌, List, length, slice_index_or, All, None, Some, IfOk};
 ghost use Rattle.std.specs.Option.{option_copied};
-ghost use Rattle.ia_insn.specs.declared.place.Place.{Place};
-ghost use Rattle.ia_insn.specs.Places.{place_at};
+ghost use Rattle.ia_program.specs.declared.place.Place.{Place};
+ghost use Rattle.ia_program.specs.Places.{place_at};
 ghost use Rattle.predicate_rel.specs.Pairs.{no_pairs, pairs_of};
 ghost use Rattle.predicate_rel.specs.Edges.{HasEdge, pairs_past};
 ghost use Rattle.flow_facts.specs.Graphs.{with_relations};
@@ -12,7 +12,8 @@ ghost use Rattle.flow_facts.specs.Tables.{Passed, weight, dirty_count, IsWitness
 
 use crate::dirty::DirtyPlaces;
 use crate::table::join;
-use ia_insn::{Place, Pr, Program, Relation};
+use ia_insn::Pr;
+use ia_program::{Place, Program, Relation};
 use predicate_rel::{Edge, Facts};
 use slot_table::{SlotTable, place_number};
 use std::alloc::{AllocError, Global};

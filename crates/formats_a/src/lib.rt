@@ -3,7 +3,7 @@
 //!
 //! They are the additions, subtractions and logical operations on registers and on immediates of
 //! 8, 14 and 22 bits, shift left and add, the compares, and the additions, subtractions and compares
-//! of lanes. [`decode_a`] gives the instruction of
+//! of lanes. Which there are is a table: `rows` has a row an opcode. [`decode_a`] gives the instruction of
 //! a slot's word and [`encode_a`] the word of an instruction. Both are exact: a word with a bit
 //! set that its format leaves blank, a reserved code or an operand out of its range is that of no
 //! instruction.
@@ -11,20 +11,21 @@
 //! Nothing here takes memory.
 #![tactic(auto)]
 
-ghost use Rattle.std.specs.Prelude.{◌≡◌, ◌<◌, ◌≤◌, ◌^◌, ◌↔◌, IsTrue, IsNone, IfSome, Some, SomeIff};
-ghost use Rattle.std.specs.Option.{SomeIff};
-ghost use Rattle.ia_insn.specs.Listed.{IsListedA};
-ghost use Rattle.ia_insn.specs.Codes.{CodeA, word_a, OneInstruction, OneWord, OpcodeIsHigh};
+ghost use Rattle.std.specs.Prelude.{◌≡◌, ℕ, ◌<◌, ◌≤◌, ◌^◌, ◌↔◌, IsTrue, IsSome, IsNone, IfSome, Some};
 ghost use Rattle.ia_insn.specs.declared.insn.Insn.{Insn};
+ghost use Rattle.insn_rows.specs.Laws.{OneInstruction, OneWord, OpcodeIsHigh};
+ghost use Rattle.formats_a.specs.Listed.{CodeA, IsListedA};
 
-mod reading;
-mod writing;
+mod places;
+mod rows;
 
-use ia_insn::{Insn, is_listed_a};
+use ia_insn::Insn;
+use insn_rows::{decode_with, encode_with, opcode_of};
+pub use rows::ROWS;
 
 /// The A instruction whose word this is, and None exactly where it is that of none (volume 3,
 /// chapter 4, instruction formats, A1 to A9). Where in its bundle the word stands is not looked at.
-#[tactic(auto, using(crate::proofs::RowsA::read_back, crate::proofs::RowsA::code_is_below))]
+#[tactic(auto, using(crate::proofs::Words::below, crate::proofs::Words::high))]
 pub fn decode_a(word: u64) -> Option<Insn>
     // What is answered has this word.
     ensures found { IfSome result (λ i. CodeA i word) }
@@ -39,48 +40,49 @@ pub fn decode_a(word: u64) -> Option<Insn>
     // unit alone has less.
     ensures opcode { word < 2 ^ 40 → IsNone result }
 {
-    let insn = reading::read(word);
-    if has_word(&insn, word) {
-        Some(insn)
-    } else {
-        None
-    }
-}
-
-/// Whether this is the word of the instruction.
-fn has_word(insn: &Insn, word: u64) -> bool
-    ensures { IsTrue result ↔ CodeA insn.now word }
-{
-    encode_a(insn) == Some(word)
+    decode_with(rows::rows(), word)
 }
 
 /// The word of an A instruction, and None exactly where the instruction is of another family or
 /// an operand is not in its range (volume 3, chapter 4, instruction formats, A1 to A9).
-#[tactic(auto, using(crate::proofs::RowsA::word_is_below))]
+#[tactic(auto, using(crate::proofs::Table::is_place_of))]
 pub fn encode_a(insn: &Insn) -> Option<u64>
-    ensures word { SomeIff result (IsListedA insn.now) (word_a insn.now) }
+    // A word comes exactly where it is an A instruction in its ranges.
+    ensures listed { IsSome result ↔ IsListedA insn.now }
+
+    // What is answered is its word.
+    ensures found { IfSome result (λ w. CodeA insn.now w) }
+
+    // A word that it has is answered.
+    ensures only { (w : ℕ) → CodeA insn.now w → result ≡ Some w }
 
     // It has the 41 bits of a slot.
-    ensures within { IfSome result (λ word. word < 2 ^ 41) }
+    ensures within { IfSome result (λ w. w < 2 ^ 41) }
 {
-    if is_listed_a(insn) {
-        Some(writing::write(insn))
-    } else {
-        None
-    }
+    encode_with(rows::rows(), places::place_of(opcode_of(&insn.op)), insn)
+}
+
+/// Whether the instruction is an A instruction whose operands are in their ranges: whether it has a word.
+pub fn is_listed_a(insn: &Insn) -> bool
+    ensures { IsTrue result ↔ IsListedA insn.now }
+{
+    encode_a(insn).is_some()
 }
 
 /// The law that a word is that of at most one A instruction. It does nothing.
+#[tactic(auto, using(crate::proofs::Words::one_insn))]
 pub fn one_instruction()
     ensures { OneInstruction CodeA }
 {}
 
 /// The law that an A instruction has at most one word. It does nothing.
+#[tactic(auto, using(crate::proofs::Words::one_word))]
 pub fn one_word()
     ensures { OneWord CodeA }
 {}
 
 /// The law that the major opcode of an A instruction's word is 8 or more. It does nothing.
+#[tactic(auto, using(crate::proofs::Words::high))]
 pub fn opcode_is_high()
     ensures { OpcodeIsHigh CodeA }
 {}

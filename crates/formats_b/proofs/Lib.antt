@@ -1,4 +1,7 @@
-pub mod Parts
-pub mod RowsB
-pub mod RowsF
-pub mod RowsX
+pub mod TableB
+pub mod WordsB
+pub mod TableF
+pub mod WordsF
+pub mod PartsX
+pub mod TableX
+pub mod WordsX

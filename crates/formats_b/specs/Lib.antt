@@ -1,4 +1,7 @@
-pub mod Numbered
-pub mod ReadingB
-pub mod ReadingF
-pub mod ReadingX
+pub mod ListedB
+pub mod PlacesB
+pub mod ListedF
+pub mod PlacesF
+pub mod PartsX
+pub mod ListedX
+pub mod PlacesX

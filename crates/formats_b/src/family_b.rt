@@ -1,19 +1,19 @@
 //! The B instructions, of B slots (volume 3, chapter 4, instruction formats, B1 to B9).
 
-ghost use Rattle.std.specs.Prelude.{◌≡◌, ◌<◌, ◌≤◌, ◌^◌, ◌↔◌, IsTrue, IsNone, IfSome, Some, SomeIff};
-ghost use Rattle.std.specs.Option.{SomeIff};
-ghost use Rattle.ia_insn.specs.Listed.{IsListedB};
-ghost use Rattle.ia_insn.specs.Codes.{CodeB, word_b, OneInstruction, OneWord};
+ghost use Rattle.std.specs.Prelude.{◌≡◌, ℕ, ◌<◌, ◌≤◌, ◌^◌, ◌↔◌, IsTrue, IsSome, IsNone, IfSome, Some};
 ghost use Rattle.ia_insn.specs.declared.insn.Insn.{Insn};
+ghost use Rattle.insn_rows.specs.Laws.{OneInstruction, OneWord};
+ghost use Rattle.formats_b.specs.ListedB.{CodeB, IsListedB};
 
-mod reading;
-mod writing;
+mod places;
+pub mod rows;
 
-use ia_insn::{Insn, is_listed_b};
+use ia_insn::Insn;
+use insn_rows::{decode_with, encode_with, opcode_of};
 
 /// The B instruction whose word this is, and None exactly where it is that of none (volume 3,
 /// chapter 4, instruction formats, B1 to B9). Where in its bundle the word stands is not looked at.
-#[tactic(auto, using(crate::proofs::RowsB::read_back, crate::proofs::RowsB::code_is_below))]
+#[tactic(auto, using(crate::proofs::WordsB::below))]
 pub fn decode_b(word: u64) -> Option<Insn>
     // What is answered has this word.
     ensures found { IfSome result (λ i. CodeB i word) }
@@ -24,35 +24,33 @@ pub fn decode_b(word: u64) -> Option<Insn>
     // A slot has 41 bits, and no larger number is a word.
     ensures beyond { 2 ^ 41 ≤ word → IsNone result }
 {
-    let insn = reading::read(word);
-    if has_word(&insn, word) {
-        Some(insn)
-    } else {
-        None
-    }
+    decode_with(rows::rows(), word)
 }
 
-/// Whether this is the word of the B instruction.
-fn has_word(insn: &Insn, word: u64) -> bool
-    ensures { IsTrue result ↔ CodeB insn.now word }
-{
-    encode_b(insn) == Some(word)
-}
-
-/// The word of a B instruction, and None exactly where the instruction is of another family or an
-/// operand is not in its range (volume 3, chapter 4, instruction formats, B1 to B9).
-#[tactic(auto, using(crate::proofs::RowsB::word_is_below))]
+/// The word of a B instruction, and None exactly where the instruction is of another family or
+/// an operand is not in its range (volume 3, chapter 4, instruction formats, B1 to B9).
+#[tactic(auto, using(crate::proofs::TableB::is_place_of))]
 pub fn encode_b(insn: &Insn) -> Option<u64>
-    ensures word { SomeIff result (IsListedB insn.now) (word_b insn.now) }
+    // A word comes exactly where it is a B instruction in its ranges.
+    ensures listed { IsSome result ↔ IsListedB insn.now }
+
+    // What is answered is its word.
+    ensures found { IfSome result (λ w. CodeB insn.now w) }
+
+    // A word that it has is answered.
+    ensures only { (w : ℕ) → CodeB insn.now w → result ≡ Some w }
 
     // It has the 41 bits of a slot.
-    ensures within { IfSome result (λ word. word < 2 ^ 41) }
+    ensures within { IfSome result (λ w. w < 2 ^ 41) }
 {
-    if is_listed_b(insn) {
-        Some(writing::write(insn))
-    } else {
-        None
-    }
+    encode_with(rows::rows(), places::place_of(opcode_of(&insn.op)), insn)
+}
+
+/// Whether the instruction is a B instruction whose operands are in their ranges: whether it has a word.
+pub fn is_listed_b(insn: &Insn) -> bool
+    ensures { IsTrue result ↔ IsListedB insn.now }
+{
+    encode_b(insn).is_some()
 }
 
 /// The law that a word is that of at most one B instruction. It does nothing.

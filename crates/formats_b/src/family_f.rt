@@ -1,20 +1,19 @@
 //! The F instructions, of F slots (volume 3, chapter 4, instruction formats, F15 and F16).
 
-ghost use Rattle.std.specs.Prelude.{◌≡◌, ◌<◌, ◌≤◌, ◌^◌, ◌↔◌, IsTrue, IsNone, IfSome, Some, SomeIff};
-ghost use Rattle.std.specs.Option.{SomeIff};
-ghost use Rattle.ia_insn.specs.Listed.{IsListedF};
-ghost use Rattle.ia_insn.specs.Codes.{CodeF, word_f, OneInstruction, OneWord};
+ghost use Rattle.std.specs.Prelude.{◌≡◌, ℕ, ◌<◌, ◌≤◌, ◌^◌, ◌↔◌, IsTrue, IsSome, IsNone, IfSome, Some};
 ghost use Rattle.ia_insn.specs.declared.insn.Insn.{Insn};
+ghost use Rattle.insn_rows.specs.Laws.{OneInstruction, OneWord};
+ghost use Rattle.formats_b.specs.ListedF.{CodeF, IsListedF};
 
-mod reading;
-mod writing;
+mod places;
+pub mod rows;
 
-use ia_insn::{Insn, is_listed_f};
+use ia_insn::Insn;
+use insn_rows::{decode_with, encode_with, opcode_of};
 
 /// The F instruction whose word this is, and None exactly where it is that of none (volume 3,
-/// chapter 4, instruction formats, F15 and F16). Where in its bundle the word stands is not looked
-/// at.
-#[tactic(auto, using(crate::proofs::RowsF::read_back, crate::proofs::RowsF::code_is_below))]
+/// chapter 4, instruction formats, F15 and F16). Where in its bundle the word stands is not looked at.
+#[tactic(auto, using(crate::proofs::WordsF::below))]
 pub fn decode_f(word: u64) -> Option<Insn>
     // What is answered has this word.
     ensures found { IfSome result (λ i. CodeF i word) }
@@ -25,35 +24,33 @@ pub fn decode_f(word: u64) -> Option<Insn>
     // A slot has 41 bits, and no larger number is a word.
     ensures beyond { 2 ^ 41 ≤ word → IsNone result }
 {
-    let insn = reading::read(word);
-    if has_word(&insn, word) {
-        Some(insn)
-    } else {
-        None
-    }
+    decode_with(rows::rows(), word)
 }
 
-/// Whether this is the word of the F instruction.
-fn has_word(insn: &Insn, word: u64) -> bool
-    ensures { IsTrue result ↔ CodeF insn.now word }
-{
-    encode_f(insn) == Some(word)
-}
-
-/// The word of an F instruction, and None exactly where the instruction is of another family or an
-/// operand is not in its range (volume 3, chapter 4, instruction formats, F15 and F16).
-#[tactic(auto, using(crate::proofs::RowsF::word_is_below))]
+/// The word of an F instruction, and None exactly where the instruction is of another family or
+/// an operand is not in its range (volume 3, chapter 4, instruction formats, F15 and F16).
+#[tactic(auto, using(crate::proofs::TableF::is_place_of))]
 pub fn encode_f(insn: &Insn) -> Option<u64>
-    ensures word { SomeIff result (IsListedF insn.now) (word_f insn.now) }
+    // A word comes exactly where it is an F instruction in its ranges.
+    ensures listed { IsSome result ↔ IsListedF insn.now }
+
+    // What is answered is its word.
+    ensures found { IfSome result (λ w. CodeF insn.now w) }
+
+    // A word that it has is answered.
+    ensures only { (w : ℕ) → CodeF insn.now w → result ≡ Some w }
 
     // It has the 41 bits of a slot.
-    ensures within { IfSome result (λ word. word < 2 ^ 41) }
+    ensures within { IfSome result (λ w. w < 2 ^ 41) }
 {
-    if is_listed_f(insn) {
-        Some(writing::write(insn))
-    } else {
-        None
-    }
+    encode_with(rows::rows(), places::place_of(opcode_of(&insn.op)), insn)
+}
+
+/// Whether the instruction is an F instruction whose operands are in their ranges: whether it has a word.
+pub fn is_listed_f(insn: &Insn) -> bool
+    ensures { IsTrue result ↔ IsListedF insn.now }
+{
+    encode_f(insn).is_some()
 }
 
 /// The law that a word is that of at most one F instruction. It does nothing.

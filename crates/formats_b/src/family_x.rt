@@ -1,15 +1,17 @@
 //! The long instructions, which stand over an L and an X slot (volume 3, chapter 4, instruction
 //! formats, X1, X2 and X5).
 
-ghost use Rattle.std.specs.Prelude.{◌≡◌, ◌<◌, ◌≤◌, ◌^◌, ◌↔◌, IsTrue, IsSome, IsNone, IfSome, Some};
-ghost use Rattle.ia_insn.specs.Listed.{IsListedX};
-ghost use Rattle.ia_insn.specs.Codes.{CodeX, OneLongInstruction, OneLongWord};
+ghost use Rattle.std.specs.Prelude.{◌≡◌, ℕ, ◌<◌, ◌≤◌, ◌^◌, ◌↔◌, IsTrue, IsSome, IsNone, IfSome, Some};
+ghost use Rattle.formats_b.specs.ListedX.{CodeX, IsListedX, OneLongInstruction, OneLongWord};
 ghost use Rattle.ia_insn.specs.declared.insn.Insn.{Insn};
 
-mod reading;
-mod writing;
+mod parts;
+mod places;
+pub mod rows;
 
-use ia_insn::{Insn, is_listed_x};
+use ia_insn::Insn;
+use insn_rows::{decode_with, encode_with, opcode_of};
+use parts::{is_within, low_of, slot_part, whole};
 
 /// The words of a long instruction, 41 bits each (volume 1, chapter 3, instruction encoding).
 #[derive(Clone, Copy, Debug, PartialEq, Eq)]
@@ -24,7 +26,7 @@ pub struct LongWord {
 /// slot, and None exactly where they are those of none (volume 3, chapter 4, instruction formats,
 /// X1, X2 and X5). The number of a `nop` or `break` has bit 36 of `word` on top, then `l`, then
 /// bits 25:6 of `word`.
-#[tactic(auto, using(crate::proofs::RowsX::read_back, crate::proofs::RowsX::code_is_below))]
+#[tactic(auto, using(crate::proofs::WordsX::l_below, crate::proofs::WordsX::word_below))]
 pub fn decode_x(l: u64, word: u64) -> Option<Insn>
     // What is answered has these words.
     ensures found { IfSome result (λ i. CodeX i l word) }
@@ -36,24 +38,18 @@ pub fn decode_x(l: u64, word: u64) -> Option<Insn>
     ensures beyond_l { 2 ^ 41 ≤ l → IsNone result }
     ensures beyond_word { 2 ^ 41 ≤ word → IsNone result }
 {
-    let insn = reading::read(l, word);
-    if has_words(&insn, l, word) {
-        Some(insn)
-    } else {
-        None
+    if l >= 1 << 41 {
+        return None;
     }
-}
-
-/// Whether these are the words of the long instruction.
-fn has_words(insn: &Insn, l: u64, word: u64) -> bool
-    ensures { IsTrue result ↔ CodeX insn.now l word }
-{
-    encode_x(insn) == Some(LongWord { l, word })
+    match decode_with(rows::rows(), word) {
+        Some(part) => Some(whole(l, part)),
+        None => None,
+    }
 }
 
 /// The words of a long instruction, and None exactly where the instruction is of another family or
 /// an operand is not in its range (volume 3, chapter 4, instruction formats, X1, X2 and X5).
-#[tactic(auto, using(crate::proofs::RowsX::word_is_below, crate::proofs::RowsX::low_is_below))]
+#[tactic(auto, using(crate::proofs::TableX::is_place_of))]
 pub fn encode_x(insn: &Insn) -> Option<LongWord>
     // Words come exactly where it is a long instruction in its range.
     ensures listed { IsSome result ↔ IsListedX insn.now }
@@ -65,14 +61,24 @@ pub fn encode_x(insn: &Insn) -> Option<LongWord>
     ensures within_l { IfSome result (λ long. long.l < 2 ^ 41) }
     ensures within_word { IfSome result (λ long. long.word < 2 ^ 41) }
 {
-    if is_listed_x(insn) {
-        Some(LongWord {
-            l: writing::write_l(insn.op),
-            word: writing::write(insn),
-        })
-    } else {
-        None
+    if !is_within(&insn.op) {
+        return None;
     }
+    let part = slot_part(insn);
+    match encode_with(rows::rows(), places::place_of(opcode_of(&part.op)), &part) {
+        Some(word) => Some(LongWord {
+            l: low_of(&insn.op),
+            word,
+        }),
+        None => None,
+    }
+}
+
+/// Whether the instruction is a long one whose operands are in their ranges: whether it has words.
+pub fn is_listed_x(insn: &Insn) -> bool
+    ensures { IsTrue result ↔ IsListedX insn.now }
+{
+    encode_x(insn).is_some()
 }
 
 /// The law that two words are those of at most one long instruction. It does nothing.

@@ -1,6 +1,6 @@
 -- Worked examples.
 use Rattle.std.proofs.Common.{◌≡◌, ◌+◌, ◌*◌, ◌^◌, Some, None, refl}
-use Rattle.ia_insn.specs.declared.ending.FaultKind.TheVariants as kind
+use Rattle.ia_program.specs.declared.ending.FaultKind.TheVariants as kind
 use Rattle.ia_meaning.specs.declared.state.FrameShape.{FrameShape}
 use Rattle.ia_meaning.specs.Frames.{with_sizes, marked_frame, is_frame, has_zero_bases}
 use Rattle.frame_shapes.specs.declared.fault.StackFault.TheVariants.{BadFrame, Underflow, StackLimit, ReservedField}

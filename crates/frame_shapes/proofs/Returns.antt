@@ -2,7 +2,7 @@
 use Rattle.std.proofs.Common.{◌≡◌, ℕ, ◌+◌, ◌-◌, ◌≤◌, Bool, true, false, not, if◌then◌else◌, nat_lt, Option, Some, None, refl, ◌∙◌, arith}
 use Rattle.std.specs.Option.{option_map}
 use Rattle.ia_meaning.specs.declared.limits.TheConstants.{STACK_LIMIT}
-use Rattle.ia_insn.specs.declared.ending.FaultKind.TheVariants as kind
+use Rattle.ia_program.specs.declared.ending.FaultKind.TheVariants as kind
 use Rattle.ia_meaning.specs.declared.state.FrameShape.{FrameShape}
 use Rattle.ia_meaning.specs.State.{IsFrame}
 use Rattle.ia_meaning.specs.Frames.{is_frame, marked_frame, return_fault, returned_frame}

@@ -1,8 +1,8 @@
 -- Why `alloc` and returns are refused (volume 1, chapter 4, register stack).
 use Rattle.std.specs.Prelude.{◌≡◌, ℕ, ◌+◌, ◌-◌, not, ◌&&◌, ◌==◌, if◌then◌else◌, Option, Some, None, nat_lt}
 use Rattle.std.specs.Option.{option_map}
-use Rattle.ia_insn.specs.declared.ending.FaultKind.{FaultKind}
-use Rattle.ia_insn.specs.declared.ending.FaultKind.TheVariants as kind
+use Rattle.ia_program.specs.declared.ending.FaultKind.{FaultKind}
+use Rattle.ia_program.specs.declared.ending.FaultKind.TheVariants as kind
 use Rattle.ia_meaning.specs.declared.limits.TheConstants.{STACK_LIMIT}
 use Rattle.ia_meaning.specs.declared.state.FrameShape.{FrameShape}
 use Rattle.ia_meaning.specs.Frames.{has_zero_bases, is_frame, return_fault}

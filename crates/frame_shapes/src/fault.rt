@@ -3,7 +3,7 @@
 ghost use Rattle.std.specs.Prelude.{◌≡◌};
 ghost use Rattle.frame_shapes.specs.Faults.{kind_of};
 
-use ia_insn::FaultKind;
+use ia_program::FaultKind;
 
 /// Why a call of the register stack is refused.
 #[derive(Clone, Copy, Debug, PartialEq, Eq)]

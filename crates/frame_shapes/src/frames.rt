@@ -9,9 +9,10 @@ ghost use Rattle.ia_meaning.specs.Frames.{has_zero_bases, with_sizes, rotated, c
 ghost use Rattle.frame_shapes.specs.Faults.{alloc_fault, alloc_fault_within};
 
 use crate::fault::StackFault;
-use ia_insn::{FaultKind, Gr};
+use ia_insn::Gr;
 use ia_meaning::limits::STACK_LIMIT;
 use ia_meaning::{FrameShape, Rrbs};
+use ia_program::FaultKind;
 
 /// The number of the cell of a stacked register, r32 to r127, in a frame whose cells end at 65,536 or before;
 /// None exactly outside the frame.

@@ -8,9 +8,9 @@ ghost use Rattle.ia_meaning.specs.Frames.{frame_marker, marked_frame, is_frame, 
 ghost use Rattle.frame_shapes.specs.Faults.{return_fault_within};
 
 use crate::fault::StackFault;
-use ia_insn::FaultKind;
 use ia_meaning::limits::STACK_LIMIT;
 use ia_meaning::{FrameShape, Rrbs};
+use ia_program::FaultKind;
 
 /// The marker of a frame, a number of 38 bits: sof in bits 6:0, sol in 13:7, sor in 17:14, and the rename bases of
 /// the general registers in 24:18, of the floating-point registers in 31:25 and of the predicates in 37:32.

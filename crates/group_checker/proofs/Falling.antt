@@ -5,12 +5,12 @@ use Rattle.std.proofs.lemmas.Bool.{cases_lt, cases_eq}
 use Rattle.std.proofs.lemmas.Bool.Decides.{nat_tests}
 use Rattle.std.proofs.lemmas.Option.{same_Some, slice_get_cases}
 use Rattle.ia_insn.specs.declared.insn.Insn.{Insn}
-use Rattle.ia_insn.specs.declared.place.Place.{Place}
-use Rattle.ia_insn.specs.Bundles.{Bundle}
-use Rattle.ia_insn.specs.Places.{place_number, insn_at, IsBefore, IsNext, IsPlaceOf}
-use Rattle.ia_insn.specs.Programs.{Program}
-use Rattle.ia_insn.proofs.InOrder.{slot_small}
-use Rattle.ia_insn.proofs.Reaching.{same_place}
+use Rattle.ia_program.specs.declared.place.Place.{Place}
+use Rattle.ia_program.specs.Bundles.{Bundle}
+use Rattle.ia_program.specs.Places.{place_number, insn_at, IsBefore, IsNext, IsPlaceOf}
+use Rattle.ia_program.specs.Programs.{Program}
+use Rattle.ia_program.proofs.InOrder.{slot_small}
+use Rattle.ia_program.proofs.Reaching.{same_place}
 use Rattle.ia_meaning.specs.Sequence.{first_of, next_of}
 use Rattle.ia_meaning.proofs.Follows.{next_is}
 use Rattle.resource_sets.proofs.Members.{not_in_none, cases_in}

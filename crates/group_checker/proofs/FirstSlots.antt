@@ -2,10 +2,10 @@
 use Rattle.std.proofs.Common.{◌≡◌, ℕ, zero, suc, ◌+◌, ◌<◌, ◌⊎◌, inl, inr, Bool, true, false, List, [], ◌∷◌, ◌++◌, Option, Some, None, length, refl, sym, ◌∙◌, ap, subst, true≢false}
 use Rattle.std.specs.List.{AllByRecursion as Each}
 use Rattle.ia_insn.specs.declared.insn.Insn.{Insn}
-use Rattle.ia_insn.specs.declared.place.Place.{Place}
-use Rattle.ia_insn.specs.Listed.{IsListed}
-use Rattle.ia_insn.specs.Places.{insn_at}
-use Rattle.ia_insn.specs.Programs.{Program, IsProgram}
+use Rattle.ia_program.specs.declared.place.Place.{Place}
+use Rattle.ia_program.specs.Listed.{IsListed}
+use Rattle.ia_program.specs.Places.{insn_at}
+use Rattle.ia_program.specs.Programs.{Program, IsProgram}
 use Rattle.ia_meaning.specs.declared.next.Next.{Next as NextWay}
 use Rattle.ia_meaning.specs.declared.next.Next.TheVariants as next
 use Rattle.ia_meaning.specs.declared.state.Cell.{Cell}
@@ -34,7 +34,7 @@ use Rattle.resource_sets.proofs.Coverage.{covered, cells_inside}
 use Rattle.resource_sets.proofs.AllocWrites.{frame_first}
 use Rattle.resource_sets.proofs.Regularity.{in_range, guarded, alloc_writes, guards_in_range}
 use Rattle.state_laws.proofs.StateKept.{keeps_state}
-use Rattle.ia_insn.proofs.ListedSlots.{listed_at}
+use Rattle.ia_program.proofs.ListedSlots.{listed_at}
 use Rattle.flow_facts.specs.Walks.{Walk}
 use Rattle.group_checker.specs.Reports.{IsFree}
 use Rattle.group_checker.specs.Traces.{IsKnown}

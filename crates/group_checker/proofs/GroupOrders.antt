@@ -4,13 +4,13 @@ use Rattle.std.specs.Prelude.{Contains}
 use Rattle.std.proofs.lemmas.List.{append-nil}
 use Rattle.std.proofs.lemmas.Bool.{false_from_ne_true}
 use Rattle.ia_insn.specs.declared.insn.Insn.{Insn}
-use Rattle.ia_insn.specs.declared.place.Place.{Place}
-use Rattle.ia_insn.specs.declared.ending.End.{End}
-use Rattle.ia_insn.specs.declared.ending.How.{How}
-use Rattle.ia_insn.specs.declared.ending.How.TheVariants as how
-use Rattle.ia_insn.specs.Listed.{IsListed}
-use Rattle.ia_insn.specs.Places.{insn_at, IsBefore}
-use Rattle.ia_insn.specs.Programs.{Program, IsProgram}
+use Rattle.ia_program.specs.declared.place.Place.{Place}
+use Rattle.ia_program.specs.declared.ending.End.{End}
+use Rattle.ia_program.specs.declared.ending.How.{How}
+use Rattle.ia_program.specs.declared.ending.How.TheVariants as how
+use Rattle.ia_program.specs.Listed.{IsListed}
+use Rattle.ia_program.specs.Places.{insn_at, IsBefore}
+use Rattle.ia_program.specs.Programs.{Program, IsProgram}
 use Rattle.ia_meaning.specs.declared.next.Next.{Next as NextWay}
 use Rattle.ia_meaning.specs.declared.next.Next.TheVariants as next
 use Rattle.ia_meaning.specs.State.{Registers, Memory, State, IsFrame}
@@ -33,7 +33,7 @@ use Rattle.group_checker.specs.Reports.{IsFree}
 use Rattle.group_checker.specs.Traces.{walk_after, IsKnown, group_after}
 use Rattle.ia_meaning.proofs.StepHere.{step_here, insn_here}
 use Rattle.group_checker.proofs.Walked.{steps_known, walks_group}
-use Rattle.ia_insn.proofs.ListedSlots.{listed_at}
+use Rattle.ia_program.proofs.ListedSlots.{listed_at}
 use Rattle.ia_meaning.specs.WriteOrders.{arranged}
 use Rattle.ia_meaning.specs.Views.{view}
 use Rattle.ia_meaning.specs.ParallelGroups.{Gathered, now_of, outcome_from, slot_outcome, gathers, GatheredGroup, ends_with, one_more, gathered_by, gathered_within, made}

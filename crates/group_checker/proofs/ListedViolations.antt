@@ -4,7 +4,7 @@ use Rattle.std.specs.Prelude.{Contains}
 use Rattle.std.specs.declared.cmp.Ordering.TheVariants.{Less}
 use Rattle.std.proofs.lemmas.List.Elements.{Contains-append_left, Contains-append_right, Contains-append_cases}
 use Rattle.std.proofs.lemmas.List.{length-map}
-use Rattle.ia_insn.specs.declared.place.Place.{Place}
+use Rattle.ia_program.specs.declared.place.Place.{Place}
 use Rattle.resource_sets.specs.declared.access.Resource.{Resource}
 use Rattle.resource_sets.specs.declared.sets.ResourceSet.{ResourceSet}
 use Rattle.resource_sets.specs.declared.clashes.Rule.{Rule}

@@ -1,7 +1,7 @@
 -- What is known on a set of walks, and past one more instruction.
 use Rattle.std.proofs.Common.{◌≡◌, ℕ, false, Option, None, Some, sym, ap, ◌∙◌, subst}
 use Rattle.ia_insn.specs.declared.insn.Insn.{Insn}
-use Rattle.ia_insn.specs.declared.place.Place.{Place}
+use Rattle.ia_program.specs.declared.place.Place.{Place}
 use Rattle.predicate_rel.specs.declared.edge.Edge.TheVariants.{Falls}
 use Rattle.predicate_rel.specs.Pairs.{Pairs, IsWithin}
 use Rattle.predicate_rel.specs.Rules.{pairs_after}

@@ -1,6 +1,6 @@
 -- The examples of groups in two orders, computed.
 use Rattle.std.proofs.Common.{◌≡◌, true, refl, ap, inl, ◌∷◌, [], arith, rules}
-use Rattle.ia_insn.specs.Places.{insn_at}
+use Rattle.ia_program.specs.Places.{insn_at}
 use Rattle.ia_meaning.specs.declared.state.Cell.{Cell}
 use Rattle.ia_meaning.specs.State.{IsStart, zero_registers}
 use Rattle.ia_meaning.specs.declared.write.Write.TheVariants.{SetPredicate}

@@ -3,8 +3,8 @@ use Rattle.std.proofs.Common.{◌≡◌, ℕ, zero, suc, ◌<◌, ◌≤◌, Boo
 use Rattle.std.specs.List.{AllByRecursion as Each, list_any}
 use Rattle.std.proofs.lemmas.Bool.Decides.{nat_tests}
 use Rattle.std.proofs.lemmas.List.{get_or-take}
-use Rattle.ia_insn.specs.declared.relations.Relation.{Relation}
-use Rattle.ia_insn.specs.Programs.{Program, IsProgram, relation_at, relations_at}
+use Rattle.ia_program.specs.declared.relations.Relation.{Relation}
+use Rattle.ia_program.specs.Programs.{Program, IsProgram, relation_at, relations_at}
 use Rattle.ia_meaning.specs.State.{Registers}
 use Rattle.ia_meaning.specs.Names.{holds}
 use Rattle.ia_meaning.specs.Landings.{are_both_one, breaks_relation}

@@ -5,10 +5,10 @@ use Rattle.std.proofs.lemmas.List.{take_all, take_more, append-nil, map-append}
 use Rattle.std.proofs.lemmas.Bool.{cases_eq, ne_eqb}
 use Rattle.std.proofs.Math.Seq.{take-append-add}
 use Rattle.std.proofs.lemmas.List.Elements.{Contains-append_left, Contains-append_right, Contains-append_cases}
-use Rattle.ia_insn.specs.declared.place.Place.{Place}
-use Rattle.ia_insn.specs.Places.{place_number, IsBefore, IsNext, IsPlaceOf}
-use Rattle.ia_insn.specs.Programs.{Program, IsProgram}
-use Rattle.ia_insn.proofs.InOrder.{bundle_small, slot_small}
+use Rattle.ia_program.specs.declared.place.Place.{Place}
+use Rattle.ia_program.specs.Places.{place_number, IsBefore, IsNext, IsPlaceOf}
+use Rattle.ia_program.specs.Programs.{Program, IsProgram}
+use Rattle.ia_program.proofs.InOrder.{bundle_small, slot_small}
 use Rattle.ia_meaning.specs.Sequence.{first_of, next_of, is_stopped}
 use Rattle.ia_meaning.proofs.Follows.{next_is}
 use Rattle.ia_meaning.proofs.Sequences.{next_fits}

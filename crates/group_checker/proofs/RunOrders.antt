@@ -1,9 +1,9 @@
 -- A program without violations leaves the same in all orders, for any number of groups.
 use Rattle.std.proofs.Common.{◌≡◌, ℕ, zero, suc, List, Option, Some, None, refl, ◌∙◌, ap, subst, ◌-◌}
-use Rattle.ia_insn.specs.declared.limits.TheConstants.{RUN_LIMIT}
-use Rattle.ia_insn.specs.declared.ending.End.{End}
-use Rattle.ia_insn.specs.declared.ending.How.{How}
-use Rattle.ia_insn.specs.Programs.{Program, IsProgram}
+use Rattle.ia_program.specs.declared.limits.TheConstants.{RUN_LIMIT}
+use Rattle.ia_program.specs.declared.ending.End.{End}
+use Rattle.ia_program.specs.declared.ending.How.{How}
+use Rattle.ia_program.specs.Programs.{Program, IsProgram}
 use Rattle.ia_meaning.specs.State.{State}
 use Rattle.ia_meaning.specs.Steps.{seq_step, Group, group_by, group_within, seq_group, seq_run, event_of, run_by, run_from}
 use Rattle.ia_meaning.proofs.WholeRuns.{step_goes_on}

@@ -1,7 +1,7 @@
 -- What a slot gives a general register is there after the group, in every order of the writes.
 use Rattle.std.proofs.Common.{◌≡◌, ℕ, ◌<◌, inl, inr, true, List, [], ◌∷◌, ◌-◌, Some, length, refl, sym, ◌∙◌, ap, subst, arith}
 use Rattle.std.specs.List.{AllByRecursion as Each}
-use Rattle.ia_insn.specs.declared.limits.TheConstants.{RUN_LIMIT}
+use Rattle.ia_program.specs.declared.limits.TheConstants.{RUN_LIMIT}
 use Rattle.ia_meaning.specs.declared.state.FrameShape.{FrameShape}
 use Rattle.ia_meaning.specs.State.{Registers}
 use Rattle.ia_meaning.specs.declared.write.Write.{Write}

@@ -1,6 +1,6 @@
 -- What is violated at a place, and the first violation there and of all.
 use Rattle.std.specs.Prelude.{◌≡◌, ◌⊎◌, Bool}
-use Rattle.ia_insn.specs.declared.place.Place.{Place}
+use Rattle.ia_program.specs.declared.place.Place.{Place}
 use Rattle.flow_facts.specs.Graphs.{Graph}
 use Rattle.group_checker.specs.declared.violation.Violation.{Violation}
 use Rattle.group_checker.specs.Violations.{ViolatesIn}

@@ -1,10 +1,10 @@
 -- The slots of a group, in order, as the group is gathered (volume 1, chapter 3, instruction groups).
 use Rattle.std.specs.Prelude.{◌≡◌, ℕ, zero, suc, Bool, true, false, ◌&&◌, if◌then◌else◌, List, [], ◌∷◌, ◌++◌, Option, None, Some}
-use Rattle.ia_insn.specs.declared.limits.TheConstants.{RUN_LIMIT}
 use Rattle.ia_insn.specs.declared.insn.Insn.{Insn}
-use Rattle.ia_insn.specs.declared.place.Place.{Place}
-use Rattle.ia_insn.specs.Places.{insn_at}
-use Rattle.ia_insn.specs.Programs.{Program}
+use Rattle.ia_program.specs.declared.limits.TheConstants.{RUN_LIMIT}
+use Rattle.ia_program.specs.declared.place.Place.{Place}
+use Rattle.ia_program.specs.Places.{insn_at}
+use Rattle.ia_program.specs.Programs.{Program}
 use Rattle.ia_meaning.specs.declared.next.Next.{Next}
 use Rattle.ia_meaning.specs.declared.next.Next.TheVariants.{Falls, Goes}
 use Rattle.ia_meaning.specs.State.{State}

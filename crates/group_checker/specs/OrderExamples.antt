@@ -13,12 +13,12 @@ use Rattle.ia_insn.specs.declared.choices.StoreKind.TheVariants as store
 use Rattle.ia_insn.specs.declared.choices.Update.TheVariants as update
 use Rattle.ia_insn.specs.declared.registers.Ar.{Ar}
 use Rattle.ia_insn.specs.declared.registers.Ar.TheVariants.{Unat, Pfs, Lc, Ec}
-use Rattle.ia_insn.specs.declared.ending.FaultKind.TheVariants.{OutOfFrame, BadLanding, BadRelation}
-use Rattle.ia_insn.specs.declared.ending.End.TheVariants as end
-use Rattle.ia_insn.specs.declared.ending.How.TheVariants.{Taken}
-use Rattle.ia_insn.specs.declared.bundle.Slots.TheVariants.{Three}
-use Rattle.ia_insn.specs.Bundles.{Bundle}
-use Rattle.ia_insn.specs.Programs.{Program}
+use Rattle.ia_program.specs.declared.ending.FaultKind.TheVariants.{OutOfFrame, BadLanding, BadRelation}
+use Rattle.ia_program.specs.declared.ending.End.TheVariants as end
+use Rattle.ia_program.specs.declared.ending.How.TheVariants.{Taken}
+use Rattle.ia_program.specs.declared.bundle.Slots.TheVariants.{Three}
+use Rattle.ia_program.specs.Bundles.{Bundle}
+use Rattle.ia_program.specs.Programs.{Program}
 use Rattle.ia_meaning.specs.declared.next.Next.TheVariants as next
 use Rattle.ia_meaning.specs.declared.state.Cell.{Cell}
 use Rattle.ia_meaning.specs.State.{zero_cell, zero_registers, Registers, State, zero_state}

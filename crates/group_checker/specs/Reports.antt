@@ -1,6 +1,6 @@
 -- Verdicts and what they report.
 use Rattle.std.specs.Prelude.{◌≡◌, ◌≤◌, List, length, take}
-use Rattle.ia_insn.specs.Programs.{Program}
+use Rattle.ia_program.specs.Programs.{Program}
 use Rattle.group_checker.specs.declared.violation.Violation.{Violation}
 use Rattle.group_checker.specs.declared.report.TheConstants.{SHOWN_LIMIT}
 use Rattle.group_checker.specs.declared.report.Verdict.{Verdict}

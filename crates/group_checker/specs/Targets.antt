@@ -2,7 +2,7 @@
 -- dependencies).
 use Rattle.std.specs.Prelude.{◌≡◌, ℕ, ◌+◌, ◌<◌, false, List, ◌∷◌, ◌++◌, get_or}
 use Rattle.std.specs.List.{AllByRecursion as Each}
-use Rattle.ia_insn.specs.Programs.{Program, IsProgram}
+use Rattle.ia_program.specs.Programs.{Program, IsProgram}
 use Rattle.ia_meaning.specs.State.{zero_cell, Registers, State, IsStart}
 use Rattle.ia_meaning.specs.declared.write.Write.{Write}
 use Rattle.ia_meaning.specs.declared.write.Write.TheVariants.{SetStatic, SetCell}

@@ -2,8 +2,8 @@
 -- chapter 5, resource and dependency semantics).
 use Rattle.std.specs.Prelude.{◌≡◌, Bool, true, false, Option, None, Some, Contains}
 use Rattle.ia_insn.specs.declared.insn.Insn.{Insn}
-use Rattle.ia_insn.specs.declared.place.Place.{Place}
-use Rattle.ia_insn.specs.Programs.{Program}
+use Rattle.ia_program.specs.declared.place.Place.{Place}
+use Rattle.ia_program.specs.Programs.{Program}
 use Rattle.ia_meaning.specs.declared.action.Action.{Action}
 use Rattle.ia_meaning.specs.declared.action.Action.TheVariants.{ClearBases}
 use Rattle.ia_meaning.specs.Actions.{insn_action, allocates}

@@ -1,9 +1,9 @@
 -- What windows and groups have to do with falls and stops (volume 1, chapter 3, instruction groups and instruction
 -- sequencing).
 use Rattle.std.specs.Prelude.{◌≡◌, Bool, true, List, [], Some, Contains}
-use Rattle.ia_insn.specs.declared.place.Place.{Place}
-use Rattle.ia_insn.specs.Places.{IsBefore}
-use Rattle.ia_insn.specs.Programs.{Program}
+use Rattle.ia_program.specs.declared.place.Place.{Place}
+use Rattle.ia_program.specs.Places.{IsBefore}
+use Rattle.ia_program.specs.Programs.{Program}
 use Rattle.ia_meaning.specs.Sequence.{first_of, is_stopped}
 use Rattle.predicate_rel.specs.declared.edge.Edge.TheVariants.{Falls}
 use Rattle.slot_table.specs.declared.slot.Slot.{Slot}

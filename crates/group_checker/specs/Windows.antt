@@ -1,8 +1,8 @@
 -- What is known, at the place under way, of the earlier slots of its group.
 use Rattle.std.specs.Prelude.{◌≡◌, ◌<◌, ◌≤◌, ℕ, ◌+◌, Bool, true, false, not, ◌&&◌, Some, MatchOption, List, Contains, length, slice_index_or, bit_or}
-use Rattle.ia_insn.specs.declared.place.Place.{Place}
-use Rattle.ia_insn.specs.Places.{place_number, IsBefore}
 use Rattle.ia_insn.specs.declared.insn.Insn.{Insn}
+use Rattle.ia_program.specs.declared.place.Place.{Place}
+use Rattle.ia_program.specs.Places.{place_number, IsBefore}
 use Rattle.ia_meaning.specs.Actions.{insn_action}
 use Rattle.resource_sets.specs.declared.access.Access.{Access}
 use Rattle.resource_sets.specs.Clashes.{may_write_guard}

@@ -8,7 +8,7 @@ ghost use Rattle.group_checker.specs.declared.violation.Violation.{Violation};
 ghost use Rattle.group_checker.specs.Broken.{is_broken, violations_by, violations_of, Gains};
 
 use crate::violation::Violation;
-use ia_insn::Place;
+use ia_program::Place;
 use resource_sets::{Resource, ResourceSet, Rule};
 
 /// Of each rule the resources on which two slots break it.

@@ -1,8 +1,8 @@
 //! The check of a program.
 
 ghost use Rattle.std.specs.Prelude.{◌≡◌, ℕ, ◌+◌, ◌*◌, ◌^◌, ◌≤◌, ◌<◌, length, IfOk, OnOk};
-ghost use Rattle.ia_insn.specs.Places.{place_number};
-ghost use Rattle.ia_insn.specs.Programs.{Program, IsProgram};
+ghost use Rattle.ia_program.specs.Places.{place_number};
+ghost use Rattle.ia_program.specs.Programs.{Program, IsProgram};
 ghost use Rattle.ia_meaning.specs.OrderIndependence.{IsRobust};
 ghost use Rattle.ia_meaning.specs.Sequence.{is_stopped};
 ghost use Rattle.flow_facts.specs.Graphs.{over_program};
@@ -14,7 +14,7 @@ use crate::pairs::{are_apart, pair_broken};
 use crate::report::{Report, SHOWN_LIMIT, Verdict};
 use crate::window::{EarlierSlot, Window};
 use flow_facts::solve;
-use ia_insn::{Place, Program};
+use ia_program::{Place, Program};
 use resource_sets::{Masks, masks_of};
 use slot_table::{Slot, SlotTable};
 use std::alloc::{AllocError, Global};

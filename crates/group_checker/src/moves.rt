@@ -1,7 +1,7 @@
 //! The step from the slot under way to the next one.
 
 ghost use Rattle.std.specs.Prelude.{◌≡◌, ℕ, Bool, true, length};
-ghost use Rattle.ia_insn.specs.declared.place.Place.{Place};
+ghost use Rattle.ia_program.specs.declared.place.Place.{Place};
 ghost use Rattle.predicate_rel.specs.declared.edge.Edge.TheVariants.{Falls};
 ghost use Rattle.predicate_rel.specs.Rules.{one, action_rule};
 ghost use Rattle.flow_facts.specs.Graphs.{Graph};

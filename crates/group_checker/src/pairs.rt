@@ -1,7 +1,7 @@
 //! What two slots of one group break.
 
 ghost use Rattle.std.specs.Prelude.{◌≡◌, ◌<◌, ◌↔◌, Bool, true, false, IsTrue, length, ◌&&◌, MatchOption};
-ghost use Rattle.ia_insn.specs.declared.place.Place.{Place};
+ghost use Rattle.ia_program.specs.declared.place.Place.{Place};
 ghost use Rattle.ia_meaning.specs.Actions.{is_alloc};
 ghost use Rattle.slot_table.specs.declared.slot.Slot.{Slot};
 ghost use Rattle.flow_facts.specs.Graphs.{Graph};
@@ -14,8 +14,9 @@ ghost use Rattle.group_checker.specs.Findings.{IsNthPair, IsPairViolated, IsFirs
 use crate::broken::Broken;
 use crate::violation::Violation;
 use crate::window::EarlierSlot;
-use ia_insn::{Place, Pr};
+use ia_insn::Pr;
 use ia_meaning::Action;
+use ia_program::Place;
 use predicate_rel::has_bit;
 use resource_sets::{AccessSet, Masks, Rule, clash_of, may_clash};
 use slot_table::Slot;

@@ -7,7 +7,7 @@ ghost use Rattle.group_checker.specs.Progress.{pair_bound};
 
 use crate::broken::Broken;
 use crate::violation::Violation;
-use ia_insn::Place;
+use ia_program::Place;
 use resource_sets::{RESOURCE_COUNT, Resource, ResourceSet, Rule};
 use std::alloc::{AllocError, Global};
 use std::marker::Model;

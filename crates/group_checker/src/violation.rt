@@ -1,6 +1,6 @@
 //! Violations.
 
-use ia_insn::Place;
+use ia_program::Place;
 use resource_sets::{Resource, Rule};
 
 /// Two slots of one group that break a rule on a resource, on some walk (volume 1, chapter 3, instruction

@@ -2,7 +2,7 @@
 
 ghost use Rattle.std.specs.Prelude.{◌≡◌, ◌↔◌, Bool, List, [], Some, IsTrue, MatchOption, OnOk};
 ghost use Rattle.std.specs.Option.{option_copied};
-ghost use Rattle.ia_insn.specs.declared.place.Place.{Place};
+ghost use Rattle.ia_program.specs.declared.place.Place.{Place};
 ghost use Rattle.flow_facts.specs.Graphs.{Graph, next_in};
 ghost use Rattle.group_checker.specs.Firsts.{IsViolatedAt, IsFirstAt};
 ghost use Rattle.group_checker.specs.Windows.{IsWindow, HasWindow, IsKnownAt};
@@ -10,7 +10,7 @@ ghost use Rattle.group_checker.specs.Windows.{IsWindow, HasWindow, IsKnownAt};
 use crate::moves::{advance, clears, joins};
 use crate::pairs::{breaks_rule, first_of_pair};
 use crate::violation::Violation;
-use ia_insn::Place;
+use ia_program::Place;
 use predicate_rel::{Edge, Facts};
 use resource_sets::Masks;
 use slot_table::Slot;

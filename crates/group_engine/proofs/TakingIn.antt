@@ -1,8 +1,8 @@
 -- What a group takes in of a slot.
 use Rattle.std.proofs.Common.{◌≡◌, ℕ, Bool, true, false, List, [], ◌∷◌, ◌++◌, refl, sym, ap, ◌∙◌, subst}
 use Rattle.ia_insn.specs.declared.insn.Insn.{Insn}
-use Rattle.ia_insn.specs.declared.place.Place.{Place}
-use Rattle.ia_insn.specs.Programs.{Program}
+use Rattle.ia_program.specs.declared.place.Place.{Place}
+use Rattle.ia_program.specs.Programs.{Program}
 use Rattle.ia_meaning.specs.declared.next.Next.{Next}
 use Rattle.ia_meaning.specs.declared.next.Next.TheVariants.{Falls}
 use Rattle.ia_meaning.specs.declared.write.Write.{Write}

@@ -1,8 +1,8 @@
 -- What contracts see of the engine, and what groups leave of it.
 use Rattle.std.specs.Prelude.{ℕ, zero, suc, ◌+◌, length, Option, Some, None}
-use Rattle.ia_insn.specs.declared.ending.End.{End}
-use Rattle.ia_insn.specs.declared.ending.End.TheVariants.{Limit}
-use Rattle.ia_insn.specs.Programs.{Program}
+use Rattle.ia_program.specs.declared.ending.End.{End}
+use Rattle.ia_program.specs.declared.ending.End.TheVariants.{Limit}
+use Rattle.ia_program.specs.Programs.{Program}
 use Rattle.ia_meaning.specs.declared.state.Rse.{Rse}
 use Rattle.ia_meaning.specs.State.{State, zero_state}
 use Rattle.ia_meaning.specs.Steps.{Group, Run}

@@ -1,8 +1,8 @@
 -- A group of the engine as far as its slots are gathered.
 use Rattle.std.specs.Prelude.{◌≡◌, ℕ, ◌+◌, Bool, true, false, List, [], ◌∷◌, Option, IsSome}
-use Rattle.ia_insn.specs.declared.ending.End.{End}
 use Rattle.ia_insn.specs.declared.insn.Insn.{Insn}
-use Rattle.ia_insn.specs.Programs.{Program}
+use Rattle.ia_program.specs.declared.ending.End.{End}
+use Rattle.ia_program.specs.Programs.{Program}
 use Rattle.ia_meaning.specs.declared.state.FrameShape.{FrameShape}
 use Rattle.ia_meaning.specs.State.{Memory, State}
 use Rattle.ia_meaning.specs.ParallelGroups.{Gathered, GatheredGroup, now_of, frame_ahead, after_frame, gathered_within}

@@ -1,6 +1,6 @@
 -- What is seen of the engine, and what is true of it.
-use Rattle.ia_insn.specs.Places.{IsPlaceOf}
-use Rattle.ia_insn.specs.Programs.{IsProgram}
+use Rattle.ia_program.specs.Places.{IsPlaceOf}
+use Rattle.ia_program.specs.Programs.{IsProgram}
 use Rattle.group_engine.specs.declared.machine.GroupMachine.TheInside.{Inside}
 use Rattle.group_engine.specs.Groups.{state_of}
 use Rattle.group_engine.specs.Engine.{Engine}

@@ -1,10 +1,10 @@
 //! A group whose slots are gathered.
 
 ghost use Rattle.std.specs.Prelude.{◌≡◌, ◌≤◌, ◌%◌, ◌+◌, ℕ, suc, true, false, ◌&&◌, Some, None, [], ◌++◌, length, MatchOption, IfOk, IfNone};
-ghost use Rattle.ia_insn.specs.declared.limits.TheConstants.{DATA_LIMIT};
 ghost use Rattle.ia_insn.specs.declared.insn.Insn.{Insn};
-ghost use Rattle.ia_insn.specs.Places.{insn_at, IsPlaceOf};
-ghost use Rattle.ia_insn.specs.Programs.{IsProgram};
+ghost use Rattle.ia_program.specs.declared.limits.TheConstants.{DATA_LIMIT};
+ghost use Rattle.ia_program.specs.Places.{insn_at, IsPlaceOf};
+ghost use Rattle.ia_program.specs.Programs.{IsProgram};
 ghost use Rattle.ia_meaning.specs.State.{zero_registers};
 ghost use Rattle.ia_meaning.specs.Writes.{apply, frame_changes};
 ghost use Rattle.ia_meaning.specs.WriteOrders.{arranged};
@@ -25,9 +25,9 @@ use crate::making::{make, range_ahead};
 use crate::registers::GroupRegisters;
 use crate::thread::Thread;
 use crate::view::{View, is_branch, sight};
-use ia_insn::limits::RUN_LIMIT;
-use ia_insn::{End, FaultKind, Place};
 use ia_meaning::{Action, FrameCause, FrameShape, Next, Rse, Write, groups_end};
+use ia_program::limits::RUN_LIMIT;
+use ia_program::{End, FaultKind, Place};
 use slot_effects::{Change, SlotEffect, effect};
 use slot_table::{Slot, SlotTable};
 use std::alloc::{AllocError, Global};

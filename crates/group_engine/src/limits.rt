@@ -1,6 +1,6 @@
 //! The limits of a group.
 
-use ia_insn::limits::RUN_LIMIT;
+use ia_program::limits::RUN_LIMIT;
 
 /// How many writes a slot has at most: a move to the predicates writes 63 of them.
 pub const SLOT_WRITE_LIMIT: usize = 63;

@@ -7,8 +7,8 @@ ghost use Rattle.group_engine.specs.Engine.{begun, after_run, after_group, group
 
 use crate::gathering::Gathering;
 use frame_shapes::zero_range;
-use ia_insn::{End, Place, Program};
 use ia_meaning::{Rse, end_or};
+use ia_program::{End, Place, Program};
 use slot_table::SlotTable;
 use std::alloc::{AllocError, Global};
 use std::marker::Model;

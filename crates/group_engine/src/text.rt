@@ -6,7 +6,7 @@ ghost use Rattle.group_engine.specs.Engine.{end_of};
 
 use crate::machine::GroupMachine;
 use crate::view::View;
-use ia_insn::End;
+use ia_program::End;
 use std::alloc::{AllocError, Global};
 
 /// The state of an engine as it is printed, in the lines of [`state_text`](state_lines::state_text). The end is

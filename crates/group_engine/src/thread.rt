@@ -1,7 +1,7 @@
 //! What goes from slot to slot of a group: it keeps program order.
 
 ghost use Rattle.std.specs.Prelude.{◌≡◌, ◌%◌, ◌≤◌, ℕ, if◌then◌else◌, Some, None, IfOk, [], length};
-ghost use Rattle.ia_insn.specs.declared.limits.TheConstants.{DATA_LIMIT};
+ghost use Rattle.ia_program.specs.declared.limits.TheConstants.{DATA_LIMIT};
 ghost use Rattle.ia_meaning.specs.Names.{spot};
 ghost use Rattle.ia_meaning.specs.Loads.{stored, untouched, unat_bit};
 ghost use Rattle.ia_meaning.specs.ParallelGroups.{unat_after};

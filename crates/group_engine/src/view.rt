@@ -12,8 +12,9 @@ ghost use Rattle.group_engine.specs.Views.{seen_by, target_register};
 use crate::registers::GroupRegisters;
 use crate::steering::Steering;
 use crate::thread::Thread;
-use ia_insn::{Ar, Br, FaultKind, Gr, Pr};
+use ia_insn::{Ar, Br, Gr, Pr};
 use ia_meaning::{Action, AlatKey, Cell, Goal};
+use ia_program::FaultKind;
 use nat_alat::{Alat, DataMem};
 use slot_effects::{Sees, predicate_word};
 

@@ -16,7 +16,7 @@ use Rattle.ia64_top.specs.Inputs.{IsReadOf}
 use Rattle.ia64_top.specs.Watching.{RanNothing, IsNotRun, HaveWatched, HaveWatchedPart}
 use Rattle.watch_seam.specs.Watchers.{WatchState}
 use Rattle.watch_seam.specs.Watching.{staying}
-use Rattle.ia_insn.specs.Programs.{Program}
+use Rattle.ia_program.specs.Programs.{Program}
 use Rattle.image_form.specs.Images.{Spells, BeginsAsImage}
 use Rattle.image_form.specs.Laws.{ImageSize}
 use Rattle.group_checker.specs.Reports.{IsFree}

@@ -3,7 +3,7 @@ use Rattle.std.proofs.Common.{◌≡◌, inl, inr, ℕ, ◌<◌, List, length, O
 use Rattle.std.specs.Prelude.{◌↔◌, ◌⊎◌, ◌+◌, IfSome, false}
 use Rattle.std.specs.Io.KnownBytes.{Appends}
 use Rattle.std.proofs.lemmas.Bool.{lt-ltb}
-use Rattle.ia_insn.specs.Programs.{Program}
+use Rattle.ia_program.specs.Programs.{Program}
 use Rattle.image_form.specs.Images.{IsImage, Written}
 use Rattle.image_form.specs.declared.version.Version.TheVariants.{Two}
 use Rattle.image_form.specs.Laws.{NoFaultWhereSpelled, NoFaultWhereRaw}

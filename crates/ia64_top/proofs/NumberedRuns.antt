@@ -2,9 +2,9 @@
 use Rattle.std.proofs.Common.{◌≡◌, ℕ, ◌<◌, ◌≤◌, inl, inr, List, length, Option, Some, refl, sym, ap, ◌∙◌, subst, arith}
 use Rattle.std.specs.Prelude.{◌+◌, IfNone, IfSome, decimal}
 use Rattle.std.specs.Io.KnownBytes.{Appends}
-use Rattle.ia_insn.specs.declared.ending.End.{End}
-use Rattle.ia_insn.specs.declared.ending.End.TheVariants as end
-use Rattle.ia_insn.specs.Programs.{Program, IsProgram}
+use Rattle.ia_program.specs.declared.ending.End.{End}
+use Rattle.ia_program.specs.declared.ending.End.TheVariants as end
+use Rattle.ia_program.specs.Programs.{Program, IsProgram}
 use Rattle.ia_meaning.specs.State.{zero_state, ZeroIsStart}
 use Rattle.ia_meaning.specs.Steps.{Run as WholeRun}
 use Rattle.ia_meaning.specs.StateText.{state_text}

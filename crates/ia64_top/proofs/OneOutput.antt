@@ -2,8 +2,8 @@
 use Rattle.std.proofs.Common.{◌≡◌, ℕ, ◌+◌, inl, inr, List, [], ◌∷◌, ◌++◌, Option, None, Some, Bool, true, false, refl, sym, ap, ◌∙◌, subst}
 use Rattle.std.specs.Prelude.{◌+◌, IfSome, MatchOption, MatchBool}
 use Rattle.std.specs.Io.KnownBytes.{Appends}
-use Rattle.ia_insn.specs.Bundles.{Bundle}
-use Rattle.ia_insn.specs.Programs.{Program}
+use Rattle.ia_program.specs.Bundles.{Bundle}
+use Rattle.ia_program.specs.Programs.{Program}
 use Rattle.insn_codec.specs.Laws.{OneSpelling}
 use Rattle.image_form.specs.Images.{IsImage, written_version, Written}
 use Rattle.image_form.specs.declared.version.Version.TheVariants.{Two}

@@ -2,7 +2,7 @@
 use Rattle.std.proofs.Common.{◌≡◌, ℕ, List, Option, Some, None, refl, sym, ap, ◌∙◌, subst}
 use Rattle.std.specs.Prelude.{◌+◌, IfSome}
 use Rattle.std.specs.Io.KnownBytes.{Appends}
-use Rattle.ia_insn.specs.Programs.{Program, IsProgram}
+use Rattle.ia_program.specs.Programs.{Program, IsProgram}
 use Rattle.ia_meaning.specs.State.{zero_state, ZeroIsStart}
 use Rattle.ia_meaning.specs.Steps.{Run as WholeRun}
 use Rattle.ia_meaning.specs.OrderIndependence.{IsRobust}

@@ -1,7 +1,7 @@
 -- What is stated of what an input is read as.
 use Rattle.std.proofs.Common.{◌≡◌, ℕ, inl, inr, List, sym, ap, ◌∙◌, subst}
 use Rattle.std.specs.Prelude.{◌⊎◌, IfOk, MatchResult, Result, Ok, Err}
-use Rattle.ia_insn.specs.Programs.{Program}
+use Rattle.ia_program.specs.Programs.{Program}
 use Rattle.image_form.specs.Laws.{OneProgram, NoFaultWhereSpelled, NoFaultWhereRaw}
 use Rattle.asm_build.specs.Laws.{OneTextProgram, NoFaultWhereRead}
 use Rattle.stop_placer.specs.Packed.{Packed}

@@ -2,10 +2,10 @@
 use Rattle.std.proofs.Common.{◌≡◌, ℕ, inl, inr, List, refl, sym, ap, ◌∙◌, subst}
 use Rattle.std.specs.Prelude.{◌↔◌, ◌⊎◌, ◌+◌}
 use Rattle.std.proofs.lemmas.Option.{same_Some}
-use Rattle.ia_insn.specs.Programs.{Program}
-use Rattle.ia_insn.specs.declared.ending.End.{End}
-use Rattle.ia_insn.specs.declared.ending.End.TheVariants as end
-use Rattle.ia_insn.specs.Programs.{IsProgram}
+use Rattle.ia_program.specs.Programs.{Program}
+use Rattle.ia_program.specs.declared.ending.End.{End}
+use Rattle.ia_program.specs.declared.ending.End.TheVariants as end
+use Rattle.ia_program.specs.Programs.{IsProgram}
 use Rattle.ia_meaning.specs.declared.state.Rse.{Rse}
 use Rattle.ia_meaning.specs.State.{State, zero_state}
 use Rattle.ia_meaning.specs.Progress.{Progress, begun, groups_further, end_of}

@@ -1,6 +1,6 @@
 -- The verdict on a program, as `check` prints it, and `run`, `watch` and `trace` where they run nothing.
 use Rattle.std.specs.Prelude.{◌≡◌, ℕ, List}
-use Rattle.ia_insn.specs.Programs.{Program, IsProgram}
+use Rattle.ia_program.specs.Programs.{Program, IsProgram}
 use Rattle.group_checker.specs.declared.report.Verdict.{Verdict}
 use Rattle.group_checker.specs.declared.report.Verdict.TheVariants.{Accepted, Violations}
 use Rattle.group_checker.specs.Reports.{IsReport, IsVerdict}

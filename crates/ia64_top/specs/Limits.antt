@@ -1,6 +1,6 @@
 -- The limits: definitions and clauses cite the code's constants, and here it is said which numbers these are.
 use Rattle.std.specs.Prelude.{◌≡◌}
-use Rattle.ia_insn.specs.declared.limits.TheConstants.{BUNDLE_LIMIT, ENTRY_LIMIT, DATA_LIMIT, RELATION_LIMIT, RUN_LIMIT}
+use Rattle.ia_program.specs.declared.limits.TheConstants.{BUNDLE_LIMIT, ENTRY_LIMIT, DATA_LIMIT, RELATION_LIMIT, RUN_LIMIT}
 use Rattle.image_form.specs.declared.version.TheConstants.{VERSION_1_BUNDLE_LIMIT}
 use Rattle.ia_meaning.specs.declared.limits.TheConstants.{STACK_LIMIT, ALAT_LIMIT}
 use Rattle.group_checker.specs.declared.report.TheConstants.{SHOWN_LIMIT}

@@ -1,7 +1,7 @@
 -- What a name means in `movl` is where the program finds it (`movl` of a label).
 use Rattle.std.specs.Prelude.{◌≡◌, ℕ, ◌<◌, List, length, get_or, Some, None}
 use Rattle.ia_insn.specs.declared.insn.Op.TheVariants as op
-use Rattle.ia_insn.specs.Programs.{Program, IsEntry}
+use Rattle.ia_program.specs.Programs.{Program, IsEntry}
 use Rattle.ia_meaning.specs.Landings.{landing}
 use Rattle.ia_meaning.specs.Loads.{access_fault, loaded}
 use Rattle.asm_build.specs.Addresses.{of_bundle, of_byte, addressed}

@@ -6,7 +6,7 @@ use Rattle.ia64_top.specs.declared.words.Command.{Command}
 use Rattle.ia64_top.specs.declared.words.Command.TheVariants as command
 use Rattle.ia64_top.specs.declared.status.Status.{Status}
 use Rattle.ia64_top.specs.declared.status.Status.TheVariants.{Done, Violated, Words, Refused, TooLong, Limit, Faulted}
-use Rattle.ia_insn.specs.Programs.{Program, IsProgram}
+use Rattle.ia_program.specs.Programs.{Program, IsProgram}
 use Rattle.image_form.specs.Images.{IsImage, Written, BeginsAsImage}
 use Rattle.image_form.specs.declared.version.Version.TheVariants.{Two}
 use Rattle.asm_build.specs.CanonicalText.{canonical_text}

@@ -1,6 +1,6 @@
 -- What an input is read as: a program, or its first fault. Each command reads in one of these ways.
 use Rattle.std.specs.Prelude.{◌≡◌, ℕ, ◌⊎◌, List}
-use Rattle.ia_insn.specs.Programs.{Program}
+use Rattle.ia_program.specs.Programs.{Program}
 use Rattle.image_form.specs.declared.fault.ImageFault.{ImageFault}
 use Rattle.image_form.specs.Images.{Spells, RawSpells, BeginsAsImage}
 use Rattle.image_form.specs.Faults.{HasImageFault, HasRawFault}

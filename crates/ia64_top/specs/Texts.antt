@@ -1,7 +1,8 @@
 -- What is printed. Every line ends with a line feed.
 use Rattle.std.specs.Prelude.{ℕ, List, [], ◌∷◌, ◌++◌, codes, decimal, flat_map}
-use Rattle.ia_insn.specs.declared.place.Place.{Place}
-use Rattle.ia_insn.specs.Texts.{gr_text, pr_text, br_text, place_text}
+use Rattle.ia_insn.specs.RegisterTexts.{gr_text, pr_text, br_text}
+use Rattle.ia_program.specs.declared.place.Place.{Place}
+use Rattle.ia_program.specs.Texts.{place_text}
 use Rattle.ia_meaning.specs.StateText.{line}
 use Rattle.resource_sets.specs.declared.access.Resource.{Resource}
 use Rattle.resource_sets.specs.declared.access.Resource.TheVariants.{Gr, Pr, Br, Unat, Pfs, Lc, Ec, Cfm}

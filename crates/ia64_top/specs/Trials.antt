@@ -1,8 +1,8 @@
 -- What `trial` prints and answers of its program.
 use Rattle.std.specs.Prelude.{◌≡◌, ℕ, ◌%◌, ◌^◌, List, ◌∷◌, ◌++◌, length, map, sum_by, Option, Some, None, codes, decimal}
 use Rattle.std.specs.List.{range_with_len}
-use Rattle.ia_insn.specs.declared.ending.End.{End}
-use Rattle.ia_insn.specs.Programs.{IsProgram}
+use Rattle.ia_program.specs.declared.ending.End.{End}
+use Rattle.ia_program.specs.Programs.{IsProgram}
 use Rattle.ia_meaning.specs.declared.state.Cell.{Cell}
 use Rattle.ia_meaning.specs.State.{Registers}
 use Rattle.ia_meaning.specs.Names.{look}

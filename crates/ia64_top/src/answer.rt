@@ -30,8 +30,8 @@ use asm_build::{
 use emulator::Machine;
 use group_checker::{Verdict, check, law_orders};
 use group_engine::{GroupMachine, group_text};
-use ia_insn::{End, Program};
 use ia_meaning::progress_is_run;
+use ia_program::{End, Program};
 use image_form::{
     ImageFault, is_image, no_fault_where_spelled, one_program, read_image, wrap_raw, write_image,
     write_image_2,

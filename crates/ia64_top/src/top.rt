@@ -10,7 +10,7 @@ ghost use Rattle.ia64_top.specs.declared.limits.TheConstants.{INPUT_LIMIT};
 ghost use Rattle.ia64_top.specs.Words.{command_of, run_words, Judges, groups_of, IsTrial, IsWatch};
 ghost use Rattle.ia64_top.specs.Statuses.{IsAnswer, TellsOfProgram, TellsAccepted, EndsTrial};
 ghost use Rattle.ia64_top.specs.Inputs.{IsReadOf};
-ghost use Rattle.ia_insn.specs.Programs.{Program};
+ghost use Rattle.ia_program.specs.Programs.{Program};
 ghost use Rattle.ia_meaning.specs.OrderIndependence.{IsRobust};
 ghost use Rattle.group_checker.specs.Reports.{IsFree};
 ghost use Rattle.ia64_top.specs.Runs.{run_of, numbered_run_of, end_status};

@@ -1,5 +1,5 @@
 -- The ranges of the operands of an instruction (volume 3, chapter 4).
-use Rattle.std.specs.Prelude.{◌≡◌, ◌≢◌, ◌⊎◌, ℕ, ℤ, unsigned_abs, ◌*◌, ◌%◌, ◌<◌, ◌≤◌, ◌^◌, IsSome}
+use Rattle.std.specs.Prelude.{◌≡◌, ◌≢◌, ◌⊎◌, ℕ, ℤ, unsigned_abs, ◌*◌, ◌%◌, ◌<◌, ◌≤◌, ◌^◌}
 use Rattle.bundle_bits.specs.Words.{bits}
 use Rattle.ia_insn.specs.Signed.{twos, FitsSigned}
 use Rattle.ia_insn.specs.declared.insn.Op.{Op}
@@ -14,7 +14,51 @@ use Rattle.ia_insn.specs.declared.choices.Update.{Update}
 use Rattle.ia_insn.specs.declared.choices.Update.TheVariants as updates
 use Rattle.ia_insn.specs.declared.choices.BranchKind.{BranchKind}
 use Rattle.ia_insn.specs.declared.choices.BranchKind.TheVariants.{Cloop, Cexit, Ctop}
-use Rattle.ia_insn.specs.FormatsA.{imm8_codes, compare, parallel_op, zero_codes}
+use Rattle.ia_insn.specs.declared.choices.AluFn.{AluFn}
+use Rattle.ia_insn.specs.declared.choices.AluFn.TheVariants as alu
+use Rattle.ia_insn.specs.declared.choices.Rel.{Rel}
+use Rattle.ia_insn.specs.declared.choices.Rel.TheVariants as rels
+use Rattle.ia_insn.specs.declared.choices.CmpKind.{CmpKind}
+use Rattle.ia_insn.specs.declared.choices.CmpKind.TheVariants as kinds
+
+-- an operation on an immediate of 8 bits and a register
+abbrev pub IsImmediateFn : AluFn → Type 0
+IsImmediateFn alu.Sub = Unit {0}
+IsImmediateFn alu.And = Unit {0}
+IsImmediateFn alu.Andcm = Unit {0}
+IsImmediateFn alu.Or = Unit {0}
+IsImmediateFn alu.Xor = Unit {0}
+IsImmediateFn f = ⊥
+
+-- a compare of two registers, or of an immediate and a register
+abbrev pub IsCompare : CmpKind → Rel → Type 0
+IsCompare kinds.Normal rels.Lt = Unit {0}
+IsCompare kinds.Normal rels.Ltu = Unit {0}
+IsCompare kinds.Normal rels.Eq = Unit {0}
+IsCompare kinds.Unc rels.Lt = Unit {0}
+IsCompare kinds.Unc rels.Ltu = Unit {0}
+IsCompare kinds.Unc rels.Eq = Unit {0}
+IsCompare kinds.And rels.Eq = Unit {0}
+IsCompare kinds.And rels.Ne = Unit {0}
+IsCompare kinds.Or rels.Eq = Unit {0}
+IsCompare kinds.Or rels.Ne = Unit {0}
+IsCompare kinds.OrAndcm rels.Eq = Unit {0}
+IsCompare kinds.OrAndcm rels.Ne = Unit {0}
+IsCompare kind rel = ⊥
+
+-- the type and the relation of a compare of r0 and a register
+abbrev pub IsParallel : CmpKind → Type 0
+IsParallel kinds.And = Unit {0}
+IsParallel kinds.Or = Unit {0}
+IsParallel kinds.OrAndcm = Unit {0}
+IsParallel kind = ⊥
+
+abbrev pub IsZeroRelation : Rel → Type 0
+IsZeroRelation rels.Gt = Unit {0}
+IsZeroRelation rels.Ge = Unit {0}
+IsZeroRelation rels.Lt = Unit {0}
+IsZeroRelation rels.Le = Unit {0}
+IsZeroRelation rel = ⊥
 
 -- the position and the length of a field of a register, of at most so many bits
 pub record IsBitField (pos len most : ℕ) : Type 0 where
@@ -80,18 +124,17 @@ IsCheckOf M = Unit {0}
 IsCheckOf I = Unit {0}
 IsCheckOf unit = ⊥
 
--- r0 is no target and two predicate targets differ; each number has its range, and each choice is one
--- that the formats have a code for. Which units and updates an operation has is said by the rows of fields, too: here it is
--- said of the operands alone, and `ranges` of `is_listed` says that the two agree.
+-- What the tables of rows say of the operands of a listed instruction: r0 is no target and two predicate targets differ; each
+-- number has its range, and each choice is one that a format has a code for.
 abbrev pub HasRanges : Op → Type 0
 HasRanges (ops.Alu f r1 r2 r3) = r1 ≢ 0
 HasRanges (ops.ShlAdd p4 r1 r2 count r3) = (r1 ≢ 0) × (1 ≤ count) × (count ≤ 4)
-HasRanges (ops.AluImm8 f r1 imm r3) = (r1 ≢ 0) × FitsSigned 8 imm × IsSome (imm8_codes f)
+HasRanges (ops.AluImm8 f r1 imm r3) = (r1 ≢ 0) × FitsSigned 8 imm × IsImmediateFn f
 HasRanges (ops.AddImm14 p4 r1 imm r3) = (r1 ≢ 0) × FitsSigned 14 imm
 HasRanges (ops.AddImm22 r1 imm r3) = (r1 ≢ 0) × FitsSigned 22 imm × (r3 ≤ 3)
-HasRanges (ops.Cmp four rel kind p1 p2 r2 r3) = (p1 ≢ p2) × IsSome (compare kind rel)
-HasRanges (ops.CmpZero four rel kind p1 p2 r3) = (p1 ≢ p2) × IsSome (parallel_op kind) × IsSome (zero_codes rel)
-HasRanges (ops.CmpImm four rel kind p1 p2 imm r3) = (p1 ≢ p2) × FitsSigned 8 imm × IsSome (compare kind rel)
+HasRanges (ops.Cmp four rel kind p1 p2 r2 r3) = (p1 ≢ p2) × IsCompare kind rel
+HasRanges (ops.CmpZero four rel kind p1 p2 r3) = (p1 ≢ p2) × IsParallel kind × IsZeroRelation rel
+HasRanges (ops.CmpImm four rel kind p1 p2 imm r3) = (p1 ≢ p2) × FitsSigned 8 imm × IsCompare kind rel
 HasRanges (ops.Lane f size r1 r2 r3) = (r1 ≢ 0) × IsPartSize size
 HasRanges (ops.ShiftVar f r1 value count) = r1 ≢ 0
 HasRanges (ops.Popcnt r1 r3) = r1 ≢ 0

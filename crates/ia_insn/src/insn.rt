@@ -522,6 +522,24 @@ pub enum Op {
     },
 }
 
+impl Op {
+    ghost use Rattle.ia_insn.specs.Displacements.{displacement};
+
+    /// How many bundles from its own the target of a direct branch or check is. None exactly for
+    /// other operations.
+    pub fn displacement(&self) -> Option<i32>
+        ensures { result ≡ displacement self.now }
+    {
+        match self {
+            Op::ChkS { disp, .. }
+            | Op::ChkA { disp, .. }
+            | Op::Br { disp, .. }
+            | Op::BrCall { disp, .. } => Some(*disp),
+            _ => None,
+        }
+    }
+}
+
 impl Default for Insn {
     ghost use Rattle.ia_insn.specs.declared.insn.Op.TheVariants.{Nop};
     ghost use Rattle.ia_insn.specs.declared.choices.Unit.TheVariants.{M};

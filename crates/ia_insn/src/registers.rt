@@ -2,7 +2,7 @@
 
 ghost use Rattle.std.specs.Prelude.{◌≡◌, ℕ, ◌<◌, ◌^◌, ◌↔◌, IsTrue, Some, Option};
 ghost use Rattle.std.specs.Option.{SomeIff};
-ghost use Rattle.ia_insn.specs.Texts.{gr_text, pr_text, br_text};
+ghost use Rattle.ia_insn.specs.RegisterTexts.{gr_text, pr_text, br_text};
 
 use std::fmt;
 use std::marker::Model;
@@ -59,11 +59,6 @@ impl Gr {
     {
         self.number == 0
     }
-
-    /// The law that its number has seven bits. It does nothing.
-    pub(crate) fn has_seven_bits(self)
-        ensures { self < 2 ^ 7 }
-    {}
 }
 
 impl Default for Gr {
@@ -133,11 +128,6 @@ impl Pr {
     {
         self.number == 0
     }
-
-    /// The law that its number has six bits. It does nothing.
-    pub(crate) fn has_six_bits(self)
-        ensures { self < 2 ^ 6 }
-    {}
 }
 
 impl Default for Pr {
@@ -237,21 +227,4 @@ pub enum Ar {
     Lc,
     /// `ar.ec`, register 66, which I slots move.
     Ec,
-}
-
-impl Ar {
-    ghost use Rattle.ia_insn.specs.FormatsI.{ar_number};
-
-    /// Its number, 36 or 64 to 66.
-    pub fn number(self) -> u64
-        ensures value { result ≡ ar_number self }
-        ensures within { result < 2 ^ 7 }
-    {
-        match self {
-            Ar::Unat => 36,
-            Ar::Pfs => 64,
-            Ar::Lc => 65,
-            Ar::Ec => 66,
-        }
-    }
 }

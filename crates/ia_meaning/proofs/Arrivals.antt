@@ -4,9 +4,9 @@ use Rattle.std.proofs.lemmas.Bool.{and_parts}
 use Rattle.std.proofs.lemmas.List.{get_or-replicate}
 use Rattle.std.specs.Prelude.{IfSome, IfOk, IsTrue, ◌↔◌}
 use Rattle.std.specs.List.{list_any}
-use Rattle.ia_insn.specs.declared.ending.FaultKind.TheVariants.{BadRelation}
-use Rattle.ia_insn.specs.declared.relations.Relation.{Relation}
-use Rattle.ia_insn.specs.Programs.{Program, IsProgram, relation_at, relations_at}
+use Rattle.ia_program.specs.declared.ending.FaultKind.TheVariants.{BadRelation}
+use Rattle.ia_program.specs.declared.relations.Relation.{Relation}
+use Rattle.ia_program.specs.Programs.{Program, IsProgram, relation_at, relations_at}
 use Rattle.ia_meaning.specs.Landings.{breaks_relation, are_both_one, arrived, IsBroken}
 
 -- where a branch arrives it breaks no relation, and what holds of the entry whose address it is holds of it

@@ -1,8 +1,8 @@
 -- Where the addresses of bundles and data bytes lead.
 use Rattle.std.proofs.Common.{◌≡◌, ℕ, ◌+◌, ◌-◌, ◌/◌, ◌%◌, ◌<◌, true, ◌==◌, nat_le, List, length, get_or, Some, None, refl, arith}
 use Rattle.std.proofs.lemmas.Bool.Decides.{nat_tests}
-use Rattle.ia_insn.specs.Programs.{Program, IsEntry}
-use Rattle.ia_insn.specs.Addresses.{data_base, bundle_address, data_address}
+use Rattle.ia_program.specs.Programs.{Program, IsEntry}
+use Rattle.ia_program.specs.Addresses.{data_base, bundle_address, data_address}
 use Rattle.ia_meaning.specs.Landings.{is_entry, landing}
 use Rattle.ia_meaning.specs.Loads.{access_fault, loaded}
 use Rattle.ia_meaning.proofs.Sequences.{entry_decides}

@@ -1,9 +1,9 @@
 -- An instruction that accesses no memory leaves its bytes.
 use Rattle.std.proofs.Common.{◌≡◌, ℕ, true, false, List, Option, None, refl}
 use Rattle.ia_insn.specs.declared.insn.Insn.{Insn}
-use Rattle.ia_insn.specs.declared.place.Place.{Place}
 use Rattle.ia_insn.specs.declared.registers.Ar.{Ar}
 use Rattle.ia_insn.specs.declared.registers.Ar.TheVariants.{Pfs}
+use Rattle.ia_program.specs.declared.place.Place.{Place}
 use Rattle.ia_meaning.specs.declared.next.Next.{Next}
 use Rattle.ia_meaning.specs.declared.next.Next.TheVariants.{Falls}
 use Rattle.ia_meaning.specs.declared.action.Action.{Action}

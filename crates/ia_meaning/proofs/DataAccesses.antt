@@ -3,8 +3,8 @@ use Rattle.std.proofs.Common.{◌≡◌, ◌≢◌, ◌⊎◌, inl, inr, sym, ap
 use Rattle.std.proofs.lemmas.Nat.{mod-pow-add}
 use Rattle.std.proofs.lemmas.List.{get_or-set_same, get_or-set_other}
 use Rattle.std.proofs.lemmas.Bool.Decides.{nat_tests}
-use Rattle.ia_insn.specs.declared.ending.FaultKind.TheVariants.{Unaligned, BadAddress}
-use Rattle.ia_insn.specs.Addresses.{data_base}
+use Rattle.ia_program.specs.declared.ending.FaultKind.TheVariants.{Unaligned, BadAddress}
+use Rattle.ia_program.specs.Addresses.{data_base}
 use Rattle.ia_meaning.specs.Loads.{access_fault, bytes_at, loaded, with_bytes, stored}
 
 -- an access without a fault is aligned and in the data

@@ -12,12 +12,6 @@ use Rattle.ia_insn.specs.declared.choices.LaneFn.TheVariants.{Padd, Psub, PcmpEq
 use Rattle.ia_insn.specs.declared.choices.ShiftFn.TheVariants.{Shr, ShrU, Shl}
 use Rattle.ia_insn.specs.declared.choices.Unit.TheVariants.{M}
 use Rattle.ia_insn.specs.declared.insn.Insn.{Insn}
-use Rattle.ia_insn.specs.declared.place.Place.{Place}
-use Rattle.ia_insn.specs.declared.bundle.Slots.TheVariants.{Three, Long}
-use Rattle.ia_insn.specs.Bundles.{Bundle}
-use Rattle.ia_insn.specs.Programs.{Program}
-use Rattle.ia_insn.specs.Places.{insn_at}
-use Rattle.ia_insn.specs.declared.ending.End.TheVariants.{Fault}
 use Rattle.ia_insn.specs.declared.choices.LoadKind.{LoadKind}
 use Rattle.ia_insn.specs.declared.choices.LoadKind.TheVariants as load
 use Rattle.ia_insn.specs.declared.choices.StoreKind.TheVariants as store
@@ -25,7 +19,13 @@ use Rattle.ia_insn.specs.declared.choices.Update.TheVariants as update
 use Rattle.ia_insn.specs.declared.choices.BranchKind.{BranchKind}
 use Rattle.ia_insn.specs.declared.choices.BranchKind.TheVariants.{Cond, Wexit, Wtop, Cloop, Cexit, Ctop}
 use Rattle.ia_insn.specs.declared.registers.Ar.TheVariants.{Pfs, Ec}
-use Rattle.ia_insn.specs.declared.ending.FaultKind.TheVariants.{OutOfFrame, NatConsumed, ReservedField, BadFrame, Underflow, StackLimit, BadLanding, BadRelation, Unaligned, BadAddress, FellOff}
+use Rattle.ia_program.specs.declared.place.Place.{Place}
+use Rattle.ia_program.specs.declared.bundle.Slots.TheVariants.{Three, Long}
+use Rattle.ia_program.specs.Bundles.{Bundle}
+use Rattle.ia_program.specs.Programs.{Program}
+use Rattle.ia_program.specs.Places.{insn_at}
+use Rattle.ia_program.specs.declared.ending.End.TheVariants.{Fault}
+use Rattle.ia_program.specs.declared.ending.FaultKind.TheVariants.{OutOfFrame, NatConsumed, ReservedField, BadFrame, Underflow, StackLimit, BadLanding, BadRelation, Unaligned, BadAddress, FellOff}
 use Rattle.ia_meaning.specs.declared.state.Cell.{Cell}
 use Rattle.ia_meaning.specs.declared.state.FrameShape.{FrameShape}
 use Rattle.ia_meaning.specs.declared.state.AlatKey.{AlatKey}

@@ -3,14 +3,14 @@ use Rattle.std.proofs.Common.{◌≡◌, ℕ, ◌<◌, Bool, true, false, ◌&&�
 use Rattle.std.specs.Prelude.{ℤ, pos, ◌+ℤ◌, ◌≤ℤ◌, ◌<ℤ◌, nat_abs, nat_le, IfSome, IfOk}
 use Rattle.std.proofs.lemmas.Int.{ints}
 use Rattle.std.proofs.lemmas.Result.{IfOk-weaker}
-use Rattle.ia_insn.specs.declared.place.Place.{Place}
-use Rattle.ia_insn.specs.Bundles.{Bundle}
-use Rattle.ia_insn.specs.Places.{IsNext, IsStopped}
-use Rattle.ia_insn.specs.Programs.{Program}
-use Rattle.ia_insn.specs.Targets.{IsBundleAt}
+use Rattle.ia_program.specs.declared.place.Place.{Place}
+use Rattle.ia_program.specs.Bundles.{Bundle}
+use Rattle.ia_program.specs.Places.{IsNext, IsStopped}
+use Rattle.ia_program.specs.Programs.{Program}
+use Rattle.ia_program.specs.Targets.{IsBundleAt}
 use Rattle.ia_meaning.proofs.Arrivals.{arrived_keeps}
 use Rattle.ia_meaning.proofs.Sequences.{entry_decides, next_fits, stop_decides}
-use Rattle.ia_insn.specs.Addresses.{bundle_address}
+use Rattle.ia_program.specs.Addresses.{bundle_address}
 use Rattle.ia_meaning.specs.Landings.{target_of, is_entry, landing, arrival}
 use Rattle.ia_meaning.specs.Sequence.{next_of, is_stopped}
 

@@ -1,11 +1,11 @@
 -- Runs under way stay so, and their groups end.
 use Rattle.std.proofs.Common.{◌≡◌, ℕ, zero, suc, ◌+◌, ◌<◌, ◌≤◌, ◌⊎◌, inl, inr, Bool, true, false, [], ◌∷◌, Option, Some, None, refl, ap, ◌∙◌, arith, if◌then◌else◌}
 use Rattle.std.specs.Prelude.{◌==◌}
-use Rattle.ia_insn.specs.declared.limits.TheConstants.{RUN_LIMIT}
-use Rattle.ia_insn.specs.declared.ending.End.{End}
-use Rattle.ia_insn.specs.declared.ending.How.{How}
-use Rattle.ia_insn.specs.Places.{IsPlaceOf}
-use Rattle.ia_insn.specs.Programs.{Program, IsProgram}
+use Rattle.ia_program.specs.declared.limits.TheConstants.{RUN_LIMIT}
+use Rattle.ia_program.specs.declared.ending.End.{End}
+use Rattle.ia_program.specs.declared.ending.How.{How}
+use Rattle.ia_program.specs.Places.{IsPlaceOf}
+use Rattle.ia_program.specs.Programs.{Program, IsProgram}
 use Rattle.ia_meaning.specs.State.{State, zero_state}
 use Rattle.ia_meaning.specs.Steps.{seq_step}
 use Rattle.ia_meaning.specs.Progress.{Progress, begun, opened, stepped, advanced_unless, advanced, rest_by, to_group_end, group_further, groups_further}

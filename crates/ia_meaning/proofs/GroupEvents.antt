@@ -1,10 +1,10 @@
 -- The groups of a run under way as events.
 use Rattle.std.proofs.Common.{◌≡◌, ℕ, zero, suc, ◌+◌, Option, Some, None, refl, ap, ◌∙◌, subst, arith, ◌-◌}
-use Rattle.ia_insn.specs.declared.limits.TheConstants.{RUN_LIMIT}
-use Rattle.ia_insn.specs.declared.place.Place.{Place}
-use Rattle.ia_insn.specs.declared.ending.How.{How}
-use Rattle.ia_insn.specs.declared.ending.GroupEvent.{GroupEvent}
-use Rattle.ia_insn.specs.Programs.{Program}
+use Rattle.ia_program.specs.declared.limits.TheConstants.{RUN_LIMIT}
+use Rattle.ia_program.specs.declared.place.Place.{Place}
+use Rattle.ia_program.specs.declared.ending.How.{How}
+use Rattle.ia_program.specs.declared.ending.GroupEvent.{GroupEvent}
+use Rattle.ia_program.specs.Programs.{Program}
 use Rattle.ia_meaning.specs.State.{State}
 use Rattle.ia_meaning.specs.Steps.{Step, seq_step, Group, group_by, group_within, seq_group, how_of, event_of}
 use Rattle.ia_meaning.specs.Progress.{Progress, opened, slots_after, stepped, advanced}

@@ -1,14 +1,14 @@
 -- A group that begins at a place of a program is over within its RUN_LIMIT slots.
 use Rattle.std.proofs.Common.{◌≡◌, ℕ, zero, suc, ◌+◌, ◌≤◌, Bool, true, false, ◌&&◌, List, [], ◌∷◌, length, Option, Some, None, refl, sym, subst, arith, if◌then◌else◌}
 use Rattle.std.specs.Prelude.{IsSome}
-use Rattle.ia_insn.specs.declared.limits.TheConstants.{RUN_LIMIT}
 use Rattle.ia_insn.specs.declared.insn.Insn.{Insn}
-use Rattle.ia_insn.specs.declared.place.Place.{Place}
-use Rattle.ia_insn.specs.declared.ending.How.{How}
-use Rattle.ia_insn.specs.declared.ending.How.TheVariants as how
-use Rattle.ia_insn.specs.Places.{insn_at, IsPlaceOf}
-use Rattle.ia_insn.specs.Programs.{Program, IsProgram}
-use Rattle.ia_insn.specs.Runs.{StandBefore}
+use Rattle.ia_program.specs.declared.limits.TheConstants.{RUN_LIMIT}
+use Rattle.ia_program.specs.declared.place.Place.{Place}
+use Rattle.ia_program.specs.declared.ending.How.{How}
+use Rattle.ia_program.specs.declared.ending.How.TheVariants as how
+use Rattle.ia_program.specs.Places.{insn_at, IsPlaceOf}
+use Rattle.ia_program.specs.Programs.{Program, IsProgram}
+use Rattle.ia_program.specs.Runs.{StandBefore}
 use Rattle.ia_meaning.specs.declared.next.Next.{Next}
 use Rattle.ia_meaning.specs.declared.next.Next.TheVariants.{Falls}
 use Rattle.ia_meaning.specs.State.{State}

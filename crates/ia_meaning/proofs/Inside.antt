@@ -2,13 +2,14 @@
 use Rattle.std.proofs.Common.{◌≡◌, ℕ, ◌<◌, Bool, true, false, List, length, Option, Some, None, take, refl, subst, inl, inr, arith}
 use Rattle.std.specs.Prelude.{ℤ, IfSome, IsSome}
 use Rattle.ia_insn.specs.declared.insn.Insn.{Insn}
-use Rattle.ia_insn.specs.declared.place.Place.{Place}
-use Rattle.ia_insn.specs.Bundles.{Bundle}
-use Rattle.ia_insn.specs.Places.{insn_at, IsPlaceOf, IsNext}
-use Rattle.ia_insn.specs.Programs.{Program, IsProgram}
-use Rattle.ia_insn.specs.Runs.{IsLeaving, EndsRun}
-use Rattle.ia_insn.specs.Targets.{displacement, IsBundleAt, IsTargetInside}
-use Rattle.ia_insn.proofs.InOrder.{is_place, get_some}
+use Rattle.ia_insn.specs.Displacements.{displacement}
+use Rattle.ia_program.specs.declared.place.Place.{Place}
+use Rattle.ia_program.specs.Bundles.{Bundle}
+use Rattle.ia_program.specs.Places.{insn_at, IsPlaceOf, IsNext}
+use Rattle.ia_program.specs.Programs.{Program, IsProgram}
+use Rattle.ia_program.specs.Runs.{IsLeaving, EndsRun}
+use Rattle.ia_program.specs.Targets.{IsBundleAt, IsTargetInside}
+use Rattle.ia_program.proofs.InOrder.{is_place, get_some}
 use Rattle.ia_meaning.specs.declared.next.Next.{Next}
 use Rattle.ia_meaning.specs.declared.next.Next.TheVariants.{Falls, Goes}
 use Rattle.ia_meaning.specs.State.{Registers, Memory, State}

@@ -1,6 +1,6 @@
 -- Runs whose orders have numbers are runs all at once.
 use Rattle.std.proofs.Common.{◌≡◌, ℕ, zero, suc, ◌+◌, ◌-◌, List, [], get_or, refl, sym, ap, ◌∙◌, arith}
-use Rattle.ia_insn.specs.Programs.{Program}
+use Rattle.ia_program.specs.Programs.{Program}
 use Rattle.ia_meaning.specs.State.{State}
 use Rattle.ia_meaning.specs.Steps.{Group, Run, event_of, run_by, run_from}
 use Rattle.ia_meaning.specs.ParallelGroups.{par_group, code_of, par_run}

@@ -3,7 +3,7 @@ use Rattle.std.proofs.Common.{◌≡◌, ℕ, ◌+◌, ◌-◌, ◌≤◌, Bool,
 use Rattle.std.specs.Prelude.{IsTrue}
 use Rattle.std.proofs.lemmas.Bool.Decides.{nat_tests}
 use Rattle.ia_meaning.specs.declared.limits.TheConstants.{STACK_LIMIT}
-use Rattle.ia_insn.specs.declared.ending.FaultKind.TheVariants.{BadFrame, Underflow, StackLimit}
+use Rattle.ia_program.specs.declared.ending.FaultKind.TheVariants.{BadFrame, Underflow, StackLimit}
 use Rattle.ia_meaning.specs.declared.state.FrameShape.{FrameShape}
 use Rattle.ia_meaning.specs.State.{IsFrame}
 use Rattle.ia_meaning.specs.Frames.{is_frame, marked_frame, return_fault}

@@ -1,11 +1,11 @@
 -- The events and the frame changes of runs under way are those of whole runs.
 use Rattle.std.proofs.Common.{◌≡◌, ℕ, zero, suc, ◌+◌, List, [], ◌∷◌, ◌++◌, Option, Some, None, refl, ap, ◌∙◌, subst, append-nil, arith}
-use Rattle.ia_insn.specs.declared.limits.TheConstants.{RUN_LIMIT}
-use Rattle.ia_insn.specs.declared.ending.End.{End}
-use Rattle.ia_insn.specs.declared.ending.How.{How}
-use Rattle.ia_insn.specs.declared.ending.GroupEvent.{GroupEvent}
-use Rattle.ia_insn.specs.Places.{IsPlaceOf}
-use Rattle.ia_insn.specs.Programs.{Program, IsProgram}
+use Rattle.ia_program.specs.declared.limits.TheConstants.{RUN_LIMIT}
+use Rattle.ia_program.specs.declared.ending.End.{End}
+use Rattle.ia_program.specs.declared.ending.How.{How}
+use Rattle.ia_program.specs.declared.ending.GroupEvent.{GroupEvent}
+use Rattle.ia_program.specs.Places.{IsPlaceOf}
+use Rattle.ia_program.specs.Programs.{Program, IsProgram}
 use Rattle.ia_meaning.specs.State.{State}
 use Rattle.ia_meaning.specs.Steps.{Step, seq_step, Group, group_by, group_within, seq_group, event_of, Run, run_by, run_from, seq_run}
 use Rattle.ia_meaning.specs.Progress.{Progress, begun, opened, stepped, advanced, group_further}

@@ -4,15 +4,15 @@ use Rattle.std.proofs.lemmas.Bool.Decides.{nat_tests, same_from_decides, Decides
 use Rattle.std.specs.Prelude.{Decides, IsTrue, ◌↔◌, slice_get, Contains, IsSomeAnd, MatchOption}
 use Rattle.ia_insn.specs.declared.insn.Op.{Op}
 use Rattle.ia_insn.specs.declared.insn.Op.TheVariants.{BrCall, BrCallInd}
-use Rattle.ia_insn.specs.declared.place.Place.{Place}
-use Rattle.ia_insn.specs.declared.bundle.Slots.{Slots}
-use Rattle.ia_insn.specs.declared.bundle.Slots.TheVariants.{Three, Long}
-use Rattle.ia_insn.specs.Templates.{stops_of}
-use Rattle.ia_insn.specs.Bundles.{Bundle, last_slot, IsStopAfter}
-use Rattle.ia_insn.specs.Places.{IsPlaceOf, IsBefore, IsNext, IsStopped}
-use Rattle.ia_insn.specs.Programs.{Program, IsEntry, IsCall, HasCall, IsAfterCall}
-use Rattle.ia_insn.proofs.InOrder.{next_slot, next_bundle, no_next, none_beyond}
-use Rattle.ia_insn.proofs.Reaching.{same_place}
+use Rattle.ia_program.specs.declared.place.Place.{Place}
+use Rattle.ia_program.specs.declared.bundle.Slots.{Slots}
+use Rattle.ia_program.specs.declared.bundle.Slots.TheVariants.{Three, Long}
+use Rattle.ia_program.specs.Templates.{stops_of}
+use Rattle.ia_program.specs.Bundles.{Bundle, last_slot, IsStopAfter}
+use Rattle.ia_program.specs.Places.{IsPlaceOf, IsBefore, IsNext, IsStopped}
+use Rattle.ia_program.specs.Programs.{Program, IsEntry, IsCall, HasCall, IsAfterCall}
+use Rattle.ia_program.proofs.InOrder.{next_slot, next_bundle, no_next, none_beyond}
+use Rattle.ia_program.proofs.Reaching.{same_place}
 use Rattle.ia_meaning.specs.Landings.{is_one_of, is_call, has_call, holds_call, is_entry}
 use Rattle.ia_meaning.specs.Sequence.{first_of, next_in, next_of, stops_after, stopped_in, is_stopped}
 

@@ -3,7 +3,7 @@ use Rattle.std.proofs.Common.{refl, inl, inr, arith, rules}
 use Rattle.std.proofs.lemmas.Bool.Decides.{nat_tests}
 use Rattle.std.proofs.lemmas.List.Elements.{All-replicate}
 use Rattle.std.specs.Prelude.{IsTrue, ◌↔◌}
-use Rattle.ia_insn.specs.Programs.{Program, IsProgram, IsEntry}
+use Rattle.ia_program.specs.Programs.{Program, IsProgram, IsEntry}
 use Rattle.ia_meaning.specs.declared.state.FrameShape.{FrameShape}
 use Rattle.ia_meaning.specs.State.{IsWord, IsFrame, AreRegisters, IsMemory, IsStart, zero_cell, zero_frame, zero_registers, zero_state}
 use Rattle.ia_meaning.specs.Frames.{is_frame}

@@ -2,8 +2,8 @@
 use Rattle.std.proofs.Common.{◌≡◌, Option, Some, None, refl, sym, ap, subst}
 use Rattle.std.specs.Prelude.{IsSome}
 use Rattle.ia_insn.specs.declared.insn.Insn.{Insn}
-use Rattle.ia_insn.specs.Places.{insn_at, IsPlaceOf}
-use Rattle.ia_insn.specs.Programs.{Program}
+use Rattle.ia_program.specs.Places.{insn_at, IsPlaceOf}
+use Rattle.ia_program.specs.Programs.{Program}
 use Rattle.ia_meaning.specs.State.{State}
 use Rattle.ia_meaning.specs.Steps.{Step, step_of, seq_step}
 

@@ -1,8 +1,8 @@
 -- The effect of a slot: of each action once (volume 3, chapter 2).
 use Rattle.std.specs.Prelude.{ℕ, Bool, true, false, if◌then◌else◌, List, [], ◌∷◌, get_or, take, Result}
 use Rattle.ia_insn.specs.declared.insn.Insn.{Insn}
-use Rattle.ia_insn.specs.declared.ending.FaultKind.{FaultKind}
-use Rattle.ia_insn.specs.Programs.{Program}
+use Rattle.ia_program.specs.declared.ending.FaultKind.{FaultKind}
+use Rattle.ia_program.specs.Programs.{Program}
 use Rattle.ia_meaning.specs.declared.action.Goal.{Goal}
 use Rattle.ia_meaning.specs.declared.action.Goal.TheVariants.{Direct, Indirect}
 use Rattle.ia_meaning.specs.declared.action.Action.{Action}

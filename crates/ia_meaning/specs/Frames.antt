@@ -2,9 +2,9 @@
 -- stack and register rotation, and volume 3, chapter 2, `alloc`, `br` and `clrrrb`).
 use Rattle.std.specs.Prelude.{ℕ, ◌+◌, ◌-◌, ◌*◌, ◌/◌, ◌%◌, ◌^◌, Bool, false, not, ◌&&◌, ◌||◌, ◌==◌, if◌then◌else◌, List, [], ◌∷◌, Option, Some, None, Result, Ok, Err, nat_lt, IsTrue, ◌↔◌}
 use Rattle.ia_meaning.specs.declared.limits.TheConstants.{STACK_LIMIT}
-use Rattle.ia_insn.specs.declared.ending.FaultKind.{FaultKind}
-use Rattle.ia_insn.specs.declared.ending.FaultKind.TheVariants.{OutOfFrame, BadFrame, ReservedField, Underflow, StackLimit}
-use Rattle.ia_insn.specs.Addresses.{bundle_address}
+use Rattle.ia_program.specs.declared.ending.FaultKind.{FaultKind}
+use Rattle.ia_program.specs.declared.ending.FaultKind.TheVariants.{OutOfFrame, BadFrame, ReservedField, Underflow, StackLimit}
+use Rattle.ia_program.specs.Addresses.{bundle_address}
 use Rattle.ia_meaning.specs.declared.state.FrameShape.{FrameShape}
 use Rattle.ia_meaning.specs.declared.state.AlatKey.{AlatKey as Spot}
 use Rattle.ia_meaning.specs.State.{zero_bases, Memory, IsFrame}

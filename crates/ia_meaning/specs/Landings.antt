@@ -2,16 +2,16 @@
 -- lands, where what they declare of predicates holds. The tests are those of the definitions of programs (`entry_test`).
 use Rattle.std.specs.Prelude.{◌≡◌, ℕ, ℤ, pos, ◌+ℤ◌, nat_abs, ◌-◌, ◌/◌, ◌<◌, Bool, true, false, ◌&&◌, ◌||◌, ◌==◌, if◌then◌else◌, List, [], ◌∷◌, length, slice_get, get_or, Option, Some, None, Result, Ok, Err, nat_lt, nat_le, IsTrue, ◌↔◌}
 use Rattle.std.specs.List.{list_any}
-use Rattle.ia_insn.specs.declared.ending.FaultKind.{FaultKind}
-use Rattle.ia_insn.specs.declared.ending.FaultKind.TheVariants.{BadLanding, BadRelation}
 use Rattle.ia_insn.specs.declared.insn.Op.{Op}
 use Rattle.ia_insn.specs.declared.insn.Op.TheVariants.{BrCall, BrCallInd}
-use Rattle.ia_insn.specs.declared.bundle.Slots.{Slots}
-use Rattle.ia_insn.specs.declared.bundle.Slots.TheVariants.{Three, Long}
-use Rattle.ia_insn.specs.declared.relations.Relation.{Relation}
-use Rattle.ia_insn.specs.Bundles.{Bundle}
-use Rattle.ia_insn.specs.Programs.{Program, IsEntry, relation_at, relations_at}
-use Rattle.ia_insn.specs.Addresses.{bundle_address}
+use Rattle.ia_program.specs.declared.ending.FaultKind.{FaultKind}
+use Rattle.ia_program.specs.declared.ending.FaultKind.TheVariants.{BadLanding, BadRelation}
+use Rattle.ia_program.specs.declared.bundle.Slots.{Slots}
+use Rattle.ia_program.specs.declared.bundle.Slots.TheVariants.{Three, Long}
+use Rattle.ia_program.specs.declared.relations.Relation.{Relation}
+use Rattle.ia_program.specs.Bundles.{Bundle}
+use Rattle.ia_program.specs.Programs.{Program, IsEntry, relation_at, relations_at}
+use Rattle.ia_program.specs.Addresses.{bundle_address}
 
 -- The bundle that is so many from this one. A program's targets are its bundles, so the sum isn't negative; of a negative
 -- one it is the distance.

@@ -7,10 +7,10 @@ use Rattle.ia_insn.specs.declared.choices.StoreKind.{StoreKind}
 use Rattle.ia_insn.specs.declared.choices.StoreKind.TheVariants as store
 use Rattle.ia_insn.specs.declared.choices.Update.{Update}
 use Rattle.ia_insn.specs.declared.choices.Update.TheVariants as update
-use Rattle.ia_insn.specs.declared.ending.FaultKind.{FaultKind}
-use Rattle.ia_insn.specs.declared.ending.FaultKind.TheVariants.{OutOfFrame, NatConsumed, Unaligned, BadAddress}
-use Rattle.ia_insn.specs.Addresses.{data_base, data_address}
 use Rattle.ia_insn.specs.NewValues.{exchanged}
+use Rattle.ia_program.specs.declared.ending.FaultKind.{FaultKind}
+use Rattle.ia_program.specs.declared.ending.FaultKind.TheVariants.{OutOfFrame, NatConsumed, Unaligned, BadAddress}
+use Rattle.ia_program.specs.Addresses.{data_base, data_address}
 use Rattle.ia_meaning.specs.declared.limits.TheConstants.{ALAT_LIMIT}
 use Rattle.ia_meaning.specs.declared.state.Cell.{Cell}
 use Rattle.ia_meaning.specs.declared.state.AlatKey.{AlatKey as Spot}

@@ -4,8 +4,8 @@ use Rattle.ia_insn.specs.declared.choices.CmpKind.{CmpKind}
 use Rattle.ia_insn.specs.declared.choices.CmpKind.TheVariants.{Normal, Unc, And, Or, OrAndcm}
 use Rattle.ia_insn.specs.declared.registers.Ar.{Ar}
 use Rattle.ia_insn.specs.declared.registers.Ar.TheVariants.{Unat, Pfs, Lc, Ec}
-use Rattle.ia_insn.specs.declared.ending.FaultKind.TheVariants.{OutOfFrame, NatConsumed, ReservedField}
-use Rattle.ia_insn.specs.Addresses.{bundle_address}
+use Rattle.ia_program.specs.declared.ending.FaultKind.TheVariants.{OutOfFrame, NatConsumed, ReservedField}
+use Rattle.ia_program.specs.Addresses.{bundle_address}
 use Rattle.ia_meaning.specs.declared.state.Cell.{Cell}
 use Rattle.ia_meaning.specs.declared.state.AlatKey.{AlatKey as Spot}
 use Rattle.ia_meaning.specs.declared.action.FetchSource.{FetchSource}

@@ -1,7 +1,7 @@
 -- Runs all at once whose orders have numbers (volume 1, chapter 3, instruction groups and instruction dependencies): a
 -- number is read in a base that falls with the writes that are left, digit by digit.
 use Rattle.std.specs.Prelude.{◌≡◌, ℕ, zero, suc, ◌%◌, ◌/◌, List, [], ◌∷◌, length}
-use Rattle.ia_insn.specs.Programs.{Program}
+use Rattle.ia_program.specs.Programs.{Program}
 use Rattle.ia_meaning.specs.State.{State}
 use Rattle.ia_meaning.specs.Steps.{Group, Run, run_from}
 use Rattle.ia_meaning.specs.WriteOrders.{arranged}

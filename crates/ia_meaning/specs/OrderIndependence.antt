@@ -1,7 +1,7 @@
 -- What the order of the writes in a group doesn't change (volume 1, chapter 3, instruction groups and instruction
 -- dependencies).
 use Rattle.std.specs.Prelude.{◌≡◌, ℕ, List}
-use Rattle.ia_insn.specs.Programs.{Program}
+use Rattle.ia_program.specs.Programs.{Program}
 use Rattle.ia_meaning.specs.State.{State, IsStart}
 use Rattle.ia_meaning.specs.Steps.{seq_run}
 use Rattle.ia_meaning.specs.ParallelGroups.{par_run}

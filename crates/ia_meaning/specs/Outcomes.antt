@@ -1,6 +1,6 @@
 -- What a slot does.
 use Rattle.std.specs.Prelude.{ℕ, Bool, List, [], Option, Some, None}
-use Rattle.ia_insn.specs.declared.ending.FaultKind.{FaultKind}
+use Rattle.ia_program.specs.declared.ending.FaultKind.{FaultKind}
 use Rattle.ia_meaning.specs.declared.next.Next.{Next}
 use Rattle.ia_meaning.specs.declared.next.Next.TheVariants.{Falls, Goes, Breaks, Faults}
 use Rattle.ia_meaning.specs.State.{Memory}

@@ -2,15 +2,15 @@
 -- writes of registers come at the end, in some order (volume 1, chapter 3, instruction groups and instruction
 -- dependencies). A group is gathered first, and then its writes are made.
 use Rattle.std.specs.Prelude.{ℕ, zero, suc, ◌-◌, Bool, true, false, ◌&&◌, if◌then◌else◌, List, [], ◌∷◌, ◌++◌, get_or, Option, Some, None}
-use Rattle.ia_insn.specs.declared.limits.TheConstants.{RUN_LIMIT}
 use Rattle.ia_insn.specs.declared.insn.Insn.{Insn}
-use Rattle.ia_insn.specs.declared.place.Place.{Place}
-use Rattle.ia_insn.specs.declared.ending.End.{End}
-use Rattle.ia_insn.specs.declared.ending.End.TheVariants as end
-use Rattle.ia_insn.specs.declared.ending.How.{How}
-use Rattle.ia_insn.specs.declared.ending.How.TheVariants as how
-use Rattle.ia_insn.specs.Places.{insn_at}
-use Rattle.ia_insn.specs.Programs.{Program}
+use Rattle.ia_program.specs.declared.limits.TheConstants.{RUN_LIMIT}
+use Rattle.ia_program.specs.declared.place.Place.{Place}
+use Rattle.ia_program.specs.declared.ending.End.{End}
+use Rattle.ia_program.specs.declared.ending.End.TheVariants as end
+use Rattle.ia_program.specs.declared.ending.How.{How}
+use Rattle.ia_program.specs.declared.ending.How.TheVariants as how
+use Rattle.ia_program.specs.Places.{insn_at}
+use Rattle.ia_program.specs.Programs.{Program}
 use Rattle.ia_meaning.specs.declared.next.Next.{Next}
 use Rattle.ia_meaning.specs.declared.next.Next.TheVariants.{Falls, Goes, Breaks, Faults}
 use Rattle.ia_meaning.specs.State.{Registers, Memory, State}

@@ -1,14 +1,14 @@
 -- Runs under way and whole runs: their groups end, and both are the same (volume 1, chapter 3, instruction sequencing).
 use Rattle.std.specs.Prelude.{◌≡◌, ◌≢◌, ℕ, zero, suc, ◌+◌, ◌<◌, ◌⊎◌, List, [], ◌∷◌, ◌++◌, length, Option, Some, None, IsSome}
-use Rattle.ia_insn.specs.declared.limits.TheConstants.{RUN_LIMIT}
-use Rattle.ia_insn.specs.declared.place.Place.{Place}
-use Rattle.ia_insn.specs.declared.ending.End.{End}
-use Rattle.ia_insn.specs.declared.ending.How.{How}
-use Rattle.ia_insn.specs.declared.ending.How.TheVariants as how
-use Rattle.ia_insn.specs.declared.ending.GroupEvent.{GroupEvent}
-use Rattle.ia_insn.specs.Places.{IsPlaceOf}
-use Rattle.ia_insn.specs.Programs.{Program, IsProgram}
-use Rattle.ia_insn.specs.Runs.{StandBefore}
+use Rattle.ia_program.specs.declared.limits.TheConstants.{RUN_LIMIT}
+use Rattle.ia_program.specs.declared.place.Place.{Place}
+use Rattle.ia_program.specs.declared.ending.End.{End}
+use Rattle.ia_program.specs.declared.ending.How.{How}
+use Rattle.ia_program.specs.declared.ending.How.TheVariants as how
+use Rattle.ia_program.specs.declared.ending.GroupEvent.{GroupEvent}
+use Rattle.ia_program.specs.Places.{IsPlaceOf}
+use Rattle.ia_program.specs.Programs.{Program, IsProgram}
+use Rattle.ia_program.specs.Runs.{StandBefore}
 use Rattle.ia_meaning.specs.State.{State}
 use Rattle.ia_meaning.specs.ResidentRange.{zero_range, range_of}
 use Rattle.ia_meaning.specs.Steps.{Run, seq_step, seq_group, event_of, seq_run}

@@ -1,12 +1,12 @@
 -- Places in order, as functions (volume 1, chapter 3, instruction sequencing). They are those of the definitions of programs
 -- (`next_place`, `stop_test`).
 use Rattle.std.specs.Prelude.{ℕ, ◌+◌, Bool, false, ◌&&◌, ◌==◌, if◌then◌else◌, List, length, slice_get, Option, Some, None, MatchOption, nat_lt, IsTrue, ◌↔◌}
-use Rattle.ia_insn.specs.declared.place.Place.{Place}
-use Rattle.ia_insn.specs.declared.bundle.Slots.{Slots}
-use Rattle.ia_insn.specs.declared.bundle.Slots.TheVariants.{Three, Long}
-use Rattle.ia_insn.specs.Templates.{stops_of}
-use Rattle.ia_insn.specs.Bundles.{Bundle, last_slot}
-use Rattle.ia_insn.specs.Places.{IsPlaceOf, IsBefore, IsNext, IsStopped}
+use Rattle.ia_program.specs.declared.place.Place.{Place}
+use Rattle.ia_program.specs.declared.bundle.Slots.{Slots}
+use Rattle.ia_program.specs.declared.bundle.Slots.TheVariants.{Three, Long}
+use Rattle.ia_program.specs.Templates.{stops_of}
+use Rattle.ia_program.specs.Bundles.{Bundle, last_slot}
+use Rattle.ia_program.specs.Places.{IsPlaceOf, IsBefore, IsNext, IsStopped}
 use Rattle.ia_meaning.specs.Landings.{is_one_of}
 
 -- the first place of a bundle

@@ -1,12 +1,12 @@
 -- The state of the machine (volume 1, chapter 3, application register state, and chapter 4).
 use Rattle.std.specs.Prelude.{◌≡◌, ◌≢◌, ℕ, ◌+◌, ◌*◌, ◌/◌, ◌%◌, ◌<◌, ◌≤◌, ◌^◌, ◌⊎◌, Bool, true, false, List, [], ◌∷◌, length, replicate, get_or, take, AllPairs, All}
 use Rattle.ia_meaning.specs.declared.limits.TheConstants.{ALAT_LIMIT, STACK_LIMIT}
-use Rattle.ia_insn.specs.declared.place.Place.{Place}
-use Rattle.ia_insn.specs.Places.{IsPlaceOf}
+use Rattle.ia_program.specs.declared.place.Place.{Place}
+use Rattle.ia_program.specs.Places.{IsPlaceOf}
 use Rattle.ia_meaning.specs.Landings.{breaks_relation}
-use Rattle.ia_insn.specs.Programs.{Program, IsProgram, IsEntry, AreBytes}
 use Rattle.ia_insn.specs.Ranges.{IsAccessSize}
-use Rattle.ia_insn.specs.Addresses.{data_base}
+use Rattle.ia_program.specs.Programs.{Program, IsProgram, IsEntry, AreBytes}
+use Rattle.ia_program.specs.Addresses.{data_base}
 use Rattle.ia_meaning.specs.declared.state.Cell.{Cell}
 use Rattle.ia_meaning.specs.declared.state.Rrbs.{Rrbs}
 use Rattle.ia_meaning.specs.declared.state.FrameShape.{FrameShape}

@@ -1,10 +1,11 @@
 -- The state as it is printed. Every line ends with a line feed.
 use Rattle.std.specs.Prelude.{ℕ, zero, suc, ◌+◌, ◌-◌, ◌*◌, ◌/◌, false, ◌==◌, if◌then◌else◌, List, [], ◌∷◌, ◌++◌, length, replicate, get_or, Option, Some, None, codes, decimal, flat_map}
 use Rattle.std.specs.Fmt.{digits}
-use Rattle.ia_insn.specs.Texts.{gr_text, br_text, place_text, fault_name}
-use Rattle.ia_insn.specs.declared.ending.End.{End}
-use Rattle.ia_insn.specs.declared.ending.End.TheVariants.{Break, Limit, Fault}
-use Rattle.ia_insn.specs.Addresses.{data_base}
+use Rattle.ia_insn.specs.RegisterTexts.{gr_text, br_text}
+use Rattle.ia_program.specs.Texts.{place_text, fault_name}
+use Rattle.ia_program.specs.declared.ending.End.{End}
+use Rattle.ia_program.specs.declared.ending.End.TheVariants.{Break, Limit, Fault}
+use Rattle.ia_program.specs.Addresses.{data_base}
 use Rattle.ia_meaning.specs.declared.state.Cell.{Cell}
 use Rattle.ia_meaning.specs.declared.state.FrameShape.{FrameShape}
 use Rattle.ia_meaning.specs.declared.state.Rse.{Rse}

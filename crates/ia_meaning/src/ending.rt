@@ -3,7 +3,7 @@
 ghost use Rattle.std.specs.Prelude.{◌≡◌};
 ghost use Rattle.ia_meaning.specs.Progress.{end_or};
 
-use ia_insn::{End, Place};
+use ia_program::{End, Place};
 
 /// How a run ends that has come to this end, or that stands at this place without one: by the limit of groups
 /// there.

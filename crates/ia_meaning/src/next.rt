@@ -1,6 +1,6 @@
 //! How a run goes on after a slot.
 
-use ia_insn::FaultKind;
+use ia_program::FaultKind;
 
 /// How the run goes on after a slot (volume 1, chapter 3, instruction sequencing).
 #[derive(Clone, Copy, Debug, PartialEq, Eq)]

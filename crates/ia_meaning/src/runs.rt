@@ -3,7 +3,7 @@
 ghost use Rattle.ia_meaning.specs.Runs.{StaysInside, SeqGroupEnds, ParGroupEnds, BeginsUnderWay, AdvancesUnderWay, GoesOnUnderWay, HasFewSlots, GroupsEnd, ProgressIsRun, EventIsOfGroup, RestOfGroup, EventsAreOfRun, FramesAreOfRun, ProgressTextIsRunText};
 
 /// A run of a program stays at its places, and each of its groups ends: it has at most
-/// [`RUN_LIMIT`](ia_insn::limits::RUN_LIMIT) slots (volume 1, chapter 3, instruction sequencing).
+/// [`RUN_LIMIT`](ia_program::limits::RUN_LIMIT) slots (volume 1, chapter 3, instruction sequencing).
 pub fn groups_end()
     ensures inside { StaysInside }
     ensures one_by_one { SeqGroupEnds }

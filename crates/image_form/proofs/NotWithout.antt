@@ -5,15 +5,15 @@ use Rattle.bundle_bits.specs.RawBundle.{AreBytes as AreSixteen}
 use Rattle.first_fault.specs.Stages.{Stage, ArePassed}
 use Rattle.first_fault.proofs.Firsts.{none_first}
 use Rattle.first_fault.proofs.Laws.{IsNotOpen, AreNotOpen, unless_not_open, not_without}
-use Rattle.ia_insn.specs.declared.place.Place.{Place}
-use Rattle.ia_insn.specs.declared.relations.Relation.{Relation}
-use Rattle.ia_insn.specs.Bundles.{Bundle}
-use Rattle.ia_insn.specs.Places.{place_number, place_at, IsPlaceOf, IsBefore, EachPlace, IsFirstBad}
-use Rattle.ia_insn.specs.Runs.{IsWithinRun}
-use Rattle.ia_insn.specs.Targets.{IsTargetInside}
-use Rattle.ia_insn.specs.Programs.{Program, IsEntryAt, IsProgram, AreBytes, AreInRange}
-use Rattle.ia_insn.proofs.InOrder.{slot_small, bundle_small}
-use Rattle.ia_insn.proofs.Reaching.{place_at-number}
+use Rattle.ia_program.specs.declared.place.Place.{Place}
+use Rattle.ia_program.specs.declared.relations.Relation.{Relation}
+use Rattle.ia_program.specs.Bundles.{Bundle}
+use Rattle.ia_program.specs.Places.{place_number, place_at, IsPlaceOf, IsBefore, EachPlace, IsFirstBad}
+use Rattle.ia_program.specs.Runs.{IsWithinRun}
+use Rattle.ia_program.specs.Targets.{IsTargetInside}
+use Rattle.ia_program.specs.Programs.{Program, IsEntryAt, IsProgram, AreBytes, AreInRange}
+use Rattle.ia_program.proofs.InOrder.{slot_small, bundle_small}
+use Rattle.ia_program.proofs.Reaching.{place_at-number}
 use Rattle.insn_codec.specs.Laws as codec
 use Rattle.image_form.specs.declared.fault.ImageFault.{ImageFault}
 use Rattle.image_form.specs.declared.fault.ImageFault.TheVariants.{Short, Magic, Counts, Length, Target, LongRun}

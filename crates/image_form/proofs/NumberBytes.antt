@@ -5,7 +5,7 @@ use Rattle.std.specs.Int.{w32, to_le_bytes, from_le_bytes}
 use Rattle.std.proofs.Math.Seq.{take-add}
 use Rattle.std.proofs.lemmas.Nat.{le_bytes_4, from_le_bytes-to_le_bytes_4}
 use Rattle.std.proofs.lemmas.List.{drop-drop, length-take, length-drop, get_or-drop, flat_map_more, take_more}
-use Rattle.ia_insn.specs.Programs.{AreBytes}
+use Rattle.ia_program.specs.Programs.{AreBytes}
 use Rattle.image_form.specs.Images.{number_bytes}
 use Rattle.image_form.specs.Parts.{number_at, numbers}
 

@@ -2,7 +2,7 @@
 use Rattle.std.proofs.Common.{◌≡◌, ℕ, ◌/◌, ◌%◌, ◌<◌, List, ◌++◌, length, refl, sym, ap, ◌∙◌, subst, arith}
 use Rattle.first_fault.specs.Stages.{ArePassed}
 use Rattle.first_fault.proofs.Laws.{no_fault}
-use Rattle.ia_insn.specs.Programs.{Program, AreInRange, AreEntries, AreRelations}
+use Rattle.ia_program.specs.Programs.{Program, AreInRange, AreEntries, AreRelations}
 use Rattle.insn_codec.specs.Laws as codec
 use Rattle.image_form.specs.declared.version.Version.{Version}
 use Rattle.image_form.specs.Images.{number_bytes, written_relations, head_bytes, IsImage, RawSpells}

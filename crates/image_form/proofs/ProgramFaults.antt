@@ -3,14 +3,14 @@ use Rattle.std.proofs.Common.{◌≡◌, inl, inr, ℕ, min, List, [], ◌∷◌
 use Rattle.std.specs.Prelude.{MatchOption, unwrap_or}
 use Rattle.std.proofs.lemmas.Bool.{cases_lt}
 use Rattle.first_fault.specs.Stages.{Stage, IsFirstFault}
-use Rattle.ia_insn.specs.declared.program.ProgramFault.{ProgramFault}
-use Rattle.ia_insn.specs.declared.program.ProgramFault.TheVariants as program
-use Rattle.ia_insn.specs.declared.relations.Relation.{Relation}
-use Rattle.ia_insn.specs.Bundles.{Bundle}
-use Rattle.ia_insn.specs.Places.{EachPlace}
-use Rattle.ia_insn.specs.Runs.{IsWithinRun}
-use Rattle.ia_insn.specs.Targets.{IsTargetInside}
-use Rattle.ia_insn.specs.Programs.{Program, IsProgram, AreInRange, AreEntries, IsFirstMisdeclared, HasProgramFault}
+use Rattle.ia_program.specs.declared.program.ProgramFault.{ProgramFault}
+use Rattle.ia_program.specs.declared.program.ProgramFault.TheVariants as program
+use Rattle.ia_program.specs.declared.relations.Relation.{Relation}
+use Rattle.ia_program.specs.Bundles.{Bundle}
+use Rattle.ia_program.specs.Places.{EachPlace}
+use Rattle.ia_program.specs.Runs.{IsWithinRun}
+use Rattle.ia_program.specs.Targets.{IsTargetInside}
+use Rattle.ia_program.specs.Programs.{Program, IsProgram, AreInRange, AreEntries, IsFirstMisdeclared, HasProgramFault}
 use Rattle.image_form.specs.declared.fault.ImageFault.{ImageFault}
 use Rattle.image_form.specs.declared.fault.ImageFault.TheVariants.{Relation as RelationFault}
 use Rattle.image_form.specs.Images.{AreSpelled}

@@ -5,9 +5,9 @@ use Rattle.std.specs.Int.{w32, from_le_bytes}
 use Rattle.std.proofs.Math.Seq.{take-add}
 use Rattle.std.proofs.lemmas.Nat.{from_le_bytes-to_le_bytes_4}
 use Rattle.std.proofs.lemmas.List.{drop-drop, length-drop, get_or-drop, flat_map_more, take_more}
-use Rattle.ia_insn.specs.declared.relations.Relation.{Relation}
-use Rattle.ia_insn.specs.Programs.{AreBytes, relation_at}
-use Rattle.ia_insn.proofs.DeclaredRelations.{same_relation}
+use Rattle.ia_program.specs.declared.relations.Relation.{Relation}
+use Rattle.ia_program.specs.Programs.{AreBytes, relation_at}
+use Rattle.ia_program.proofs.DeclaredRelations.{same_relation}
 use Rattle.image_form.specs.Images.{eight_bytes, written_relations}
 use Rattle.image_form.specs.Parts.{relation_in, relations_in, IsPadded, ArePadded}
 use Rattle.image_form.proofs.NumberBytes.{bytes_drop, first_four}

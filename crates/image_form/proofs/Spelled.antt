@@ -3,8 +3,8 @@ use Rattle.std.proofs.Common.{◌≡◌, ℕ, zero, suc, ◌+◌, ◌*◌, ◌<�
 use Rattle.std.specs.Prelude.{slice_index_or}
 use Rattle.std.proofs.Math.Seq.{take-add}
 use Rattle.std.proofs.lemmas.List.{append-nil, take_at, drop_at, take_more, take-append-drop, drop-drop, nil_from_length}
-use Rattle.ia_insn.specs.Templates.{units_of}
-use Rattle.ia_insn.specs.Bundles.{Bundle, AreBundles}
+use Rattle.ia_program.specs.Templates.{units_of}
+use Rattle.ia_program.specs.Bundles.{Bundle, AreBundles}
 use Rattle.insn_codec.specs.declared.bundle.SlotFault.{SlotFault}
 use Rattle.insn_codec.specs.Spelling.{IsSpelled}
 use Rattle.insn_codec.specs.SlotFaults.{HasSlotFault}

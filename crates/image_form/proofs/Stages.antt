@@ -5,14 +5,14 @@ use Rattle.std.proofs.lemmas.List.{append-nil}
 use Rattle.first_fault.specs.Stages.{Stage, IsFirstFault}
 use Rattle.first_fault.proofs.Laws.{IsSound, AreSound, unless_sound}
 use Rattle.first_fault.proofs.Firsts.{one_first}
-use Rattle.ia_insn.specs.declared.place.Place.{Place}
-use Rattle.ia_insn.specs.declared.relations.Relation.{Relation}
-use Rattle.ia_insn.specs.Bundles.{Bundle}
-use Rattle.ia_insn.specs.Places.{EachPlace, IsFirstBad}
-use Rattle.ia_insn.specs.Runs.{IsWithinRun}
-use Rattle.ia_insn.specs.Targets.{IsTargetInside}
-use Rattle.ia_insn.specs.Programs.{AreEntries, AreInRange}
-use Rattle.ia_insn.proofs.ProgramFaults.{one_first_bad, misplaced_sound}
+use Rattle.ia_program.specs.declared.place.Place.{Place}
+use Rattle.ia_program.specs.declared.relations.Relation.{Relation}
+use Rattle.ia_program.specs.Bundles.{Bundle}
+use Rattle.ia_program.specs.Places.{EachPlace, IsFirstBad}
+use Rattle.ia_program.specs.Runs.{IsWithinRun}
+use Rattle.ia_program.specs.Targets.{IsTargetInside}
+use Rattle.ia_program.specs.Programs.{AreEntries, AreInRange}
+use Rattle.ia_program.proofs.ProgramFaults.{one_first_bad, misplaced_sound}
 use Rattle.insn_codec.specs.Spelling.{IsSpelled}
 use Rattle.insn_codec.specs.SlotFaults.{HasSlotFault}
 use Rattle.insn_codec.specs.Laws as codec

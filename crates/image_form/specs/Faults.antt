@@ -1,15 +1,15 @@
 -- The first fault of bytes that are no image, and of those that are no bare bundles.
 use Rattle.std.specs.Prelude.{◌≡◌, ℕ, ◌+◌, ◌*◌, ◌/◌, ◌%◌, ◌<◌, ◌≤◌, List, [], ◌∷◌, length, take, drop, ⊤}
 use Rattle.first_fault.specs.Stages.{Stage, unless, first, IsFirstFault}
-use Rattle.ia_insn.specs.Bundles.{Bundle}
-use Rattle.ia_insn.specs.declared.place.Place.{Place}
-use Rattle.ia_insn.specs.declared.program.ProgramFault.{ProgramFault}
-use Rattle.ia_insn.specs.declared.program.ProgramFault.TheVariants as program
-use Rattle.ia_insn.specs.declared.relations.Relation.{Relation}
-use Rattle.ia_insn.specs.Places.{EachPlace, IsFirstBad}
-use Rattle.ia_insn.specs.Runs.{IsWithinRun}
-use Rattle.ia_insn.specs.Targets.{IsTargetInside}
-use Rattle.ia_insn.specs.Programs.{AreInRange, AreEntries, IsFirstMisplaced, IsRelationAt}
+use Rattle.ia_program.specs.Bundles.{Bundle}
+use Rattle.ia_program.specs.declared.place.Place.{Place}
+use Rattle.ia_program.specs.declared.program.ProgramFault.{ProgramFault}
+use Rattle.ia_program.specs.declared.program.ProgramFault.TheVariants as program
+use Rattle.ia_program.specs.declared.relations.Relation.{Relation}
+use Rattle.ia_program.specs.Places.{EachPlace, IsFirstBad}
+use Rattle.ia_program.specs.Runs.{IsWithinRun}
+use Rattle.ia_program.specs.Targets.{IsTargetInside}
+use Rattle.ia_program.specs.Programs.{AreInRange, AreEntries, IsFirstMisplaced, IsRelationAt}
 use Rattle.insn_codec.specs.declared.bundle.SlotFault.{SlotFault}
 use Rattle.insn_codec.specs.Spelling.{IsSpelled}
 use Rattle.insn_codec.specs.SlotFaults.{HasSlotFault}

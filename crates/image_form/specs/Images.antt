@@ -2,10 +2,10 @@
 use Rattle.std.specs.Prelude.{◌≡◌, ℕ, Bool, List, [], ◌∷◌, ◌++◌, ◌&&◌, nat_le, if◌then◌else◌, IsTrue, length, take, codes}
 use Rattle.std.specs.Int.{w32, to_le_bytes}
 use Rattle.std.specs.List.{flat_map}
-use Rattle.ia_insn.specs.declared.limits.TheConstants.{BUNDLE_LIMIT, RELATION_LIMIT}
-use Rattle.ia_insn.specs.declared.relations.Relation.{Relation}
-use Rattle.ia_insn.specs.Bundles.{Bundle}
-use Rattle.ia_insn.specs.Programs.{Program, IsProgram}
+use Rattle.ia_program.specs.declared.limits.TheConstants.{BUNDLE_LIMIT, RELATION_LIMIT}
+use Rattle.ia_program.specs.declared.relations.Relation.{Relation}
+use Rattle.ia_program.specs.Bundles.{Bundle}
+use Rattle.ia_program.specs.Programs.{Program, IsProgram}
 use Rattle.insn_codec.specs.Spelling.{IsSpelled}
 use Rattle.image_form.specs.declared.version.TheConstants.{VERSION_1_BUNDLE_LIMIT}
 use Rattle.image_form.specs.declared.version.Version.{Version}

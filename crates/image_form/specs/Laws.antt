@@ -1,7 +1,7 @@
 -- Images of a version and programs for which it has room correspond one to one, and so do bare bundles and programs of
 -- them. Bytes are an image of a program or have one first fault.
 use Rattle.std.specs.Prelude.{◌≡◌, ℕ, ◌+◌, ◌*◌, List, length}
-use Rattle.ia_insn.specs.Programs.{Program, AreBytes}
+use Rattle.ia_program.specs.Programs.{Program, AreBytes}
 use Rattle.image_form.specs.declared.fault.ImageFault.{ImageFault}
 use Rattle.image_form.specs.declared.version.Version.{Version}
 use Rattle.image_form.specs.Images.{IsImage, Spells, RawSpells}

@@ -1,8 +1,8 @@
 -- The parts of bytes that are to be an image.
 use Rattle.std.specs.Prelude.{◌≡◌, ℕ, zero, suc, ◌+◌, ◌*◌, ◌<◌, ◌≤◌, List, [], ◌∷◌, length, take, drop, slice_index, IsTrue}
 use Rattle.std.specs.Int.{w32, from_le_bytes}
-use Rattle.ia_insn.specs.declared.relations.Relation.{Relation}
-use Rattle.ia_insn.specs.Programs.{AreInRange}
+use Rattle.ia_program.specs.declared.relations.Relation.{Relation}
+use Rattle.ia_program.specs.Programs.{AreInRange}
 use Rattle.image_form.specs.declared.head.Head.{Head}
 use Rattle.image_form.specs.declared.version.Version.{Version}
 use Rattle.image_form.specs.Images.{has_room, Begins}

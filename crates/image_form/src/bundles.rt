@@ -6,7 +6,7 @@ ghost use Rattle.image_form.specs.Images.{AreSpelled};
 ghost use Rattle.image_form.specs.Faults.{spelling_stage};
 
 use crate::fault::ImageFault;
-use ia_insn::BundleOf;
+use ia_program::BundleOf;
 use insn_codec::{decode_bundle, encode_bundle};
 use std::alloc::{AllocError, Global};
 

@@ -4,7 +4,7 @@ ghost use Rattle.std.specs.Prelude.{◌≡◌};
 ghost use Rattle.image_form.specs.declared.fault.ImageFault.TheVariants.{Memory};
 ghost use Rattle.image_form.specs.Faults.{image_fault};
 
-use ia_insn::{Place, ProgramFault};
+use ia_program::{Place, ProgramFault};
 use insn_codec::SlotFault;
 use std::alloc::AllocError;
 use thiserror::Error;
@@ -20,7 +20,7 @@ pub enum ImageFault {
     Magic,
     /// A number of the head is out of its range, which is that of its version: in version 1 the last
     /// is zero. Of bare bundles: there are none, or more whole ones than
-    /// [`BUNDLE_LIMIT`](ia_insn::limits::BUNDLE_LIMIT).
+    /// [`BUNDLE_LIMIT`](ia_program::limits::BUNDLE_LIMIT).
     #[error("a number that is out of its range")]
     Counts,
     /// The number of bytes isn't the one that the head says. Of bare bundles: bytes are left over.
@@ -46,7 +46,7 @@ pub enum ImageFault {
         /// The place of the branch.
         place: Place,
     },
-    /// More than [`RUN_LIMIT`](ia_insn::limits::RUN_LIMIT) slots follow one another without a stop or
+    /// More than [`RUN_LIMIT`](ia_program::limits::RUN_LIMIT) slots follow one another without a stop or
     /// another end of a run.
     #[error("{place} is the 193rd slot of a run")]
     LongRun {

@@ -8,7 +8,7 @@ ghost use Rattle.image_form.specs.Faults.{HasImageFault};
 use crate::fault::ImageFault;
 use crate::numbers::{number_at, push_numbers};
 use crate::version::Version;
-use ia_insn::{Program, are_in_range};
+use ia_program::{Program, are_in_range};
 use std::alloc::AllocError;
 
 /// How many bytes an image's head has.

@@ -2,7 +2,7 @@
 
 ghost use Rattle.std.specs.Prelude.{◌≡◌, ◌≢◌, ◌⊎◌, ◌/◌, ◌<◌, ◌^◌, ℕ, List, [], ◌∷◌, length, Ok, Err, IfOk, IfErr};
 ghost use Rattle.first_fault.specs.Stages.{IsFirstFault};
-ghost use Rattle.ia_insn.specs.Programs.{Program as Parts, AreInRange, AreEntries, IsProgram};
+ghost use Rattle.ia_program.specs.Programs.{Program as Parts, AreInRange, AreEntries, IsProgram};
 ghost use Rattle.image_form.specs.declared.fault.ImageFault.{ImageFault as FaultOf};
 ghost use Rattle.image_form.specs.Images.{AreSpelled, Spells, RawSpells};
 ghost use Rattle.image_form.specs.Parts.{numbers, ArePadded};
@@ -17,7 +17,7 @@ use crate::laws::{
 };
 use crate::numbers::read_numbers;
 use crate::relations::{read_relations, unpadded_relation};
-use ia_insn::{BundleOf, Program, ProgramFault, Relation, are_in_range, misplaced_entry};
+use ia_program::{BundleOf, Program, ProgramFault, Relation, are_in_range, misplaced_entry};
 use std::alloc::Global;
 
 /// The declared entries of an image of so many bundles, or the first that is misplaced.

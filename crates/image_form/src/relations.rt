@@ -6,7 +6,7 @@ ghost use Rattle.image_form.specs.Images.{written_relations};
 ghost use Rattle.image_form.specs.Parts.{relation_in, relations_in, IsPadded, ArePadded, IsFirstUnpadded};
 
 use crate::numbers::number_at;
-use ia_insn::Relation;
+use ia_program::Relation;
 use std::alloc::{AllocError, Global};
 
 /// How many bytes a relation has.

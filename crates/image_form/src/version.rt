@@ -4,7 +4,7 @@ ghost use Rattle.std.specs.Prelude.{◌≡◌, ◌↔◌, IsTrue, MatchOption};
 ghost use Rattle.image_form.specs.declared.version.Version.{Version as VersionOf};
 ghost use Rattle.image_form.specs.Images.{magic, bundle_limit, relation_limit, has_room, Begins, BeginsAsImage};
 
-use ia_insn::limits::{BUNDLE_LIMIT, RELATION_LIMIT};
+use ia_program::limits::{BUNDLE_LIMIT, RELATION_LIMIT};
 
 /// What an image of version 1 begins with.
 pub(crate) const MAGIC_1: &[u8; 8] = b"IA64IMG1";

@@ -9,7 +9,7 @@ use crate::head::Head;
 use crate::numbers::push_numbers;
 use crate::relations::push_relations;
 use crate::version::Version;
-use ia_insn::Program;
+use ia_program::Program;
 use std::alloc::{AllocError, Global};
 
 /// The image of a program in a version that has room for it.

@@ -1,7 +1,7 @@
 -- What is known of an answer that is a bundle of the bytes, or their first fault.
 use Rattle.std.proofs.Common.{◌≡◌, inl, inr, ℕ, List, Result, Ok, Err, ap}
 use Rattle.std.specs.Prelude.{IfOk, IfErr}
-use Rattle.ia_insn.specs.Bundles.{Bundle}
+use Rattle.ia_program.specs.Bundles.{Bundle}
 use Rattle.insn_codec.specs.declared.bundle.SlotFault.{SlotFault}
 use Rattle.insn_codec.specs.Spelling.{IsSpelled}
 use Rattle.insn_codec.specs.SlotFaults.{HasSlotFault}

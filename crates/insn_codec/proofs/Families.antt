@@ -1,32 +1,28 @@
 -- No instruction is of two families.
-use Rattle.std.proofs.Common.{ℕ, ◌⊎◌, inl, inr}
+use Rattle.std.proofs.Common.{ℕ, arith}
 use Rattle.ia_insn.specs.declared.insn.Insn.{Insn}
 use Rattle.ia_insn.specs.declared.insn.Op.{Op}
-use Rattle.ia_insn.specs.declared.insn.Op.TheVariants.{Alu, ShlAdd, AluImm8, AddImm14, AddImm22, Cmp, CmpZero, CmpImm, Lane}
-use Rattle.ia_insn.specs.FormatsA as a
-use Rattle.ia_insn.specs.FormatsI as i
-use Rattle.ia_insn.specs.FormatsM as m
-use Rattle.ia_insn.specs.Listed.{HasFields, IsListedA, IsListedI, IsListedM}
-
-neither : ⊥ ⊎ ⊥ → ⊥
-neither (inl h) = h
-neither (inr h) = h
+use Rattle.insn_rows.specs.Arms.{opcode_of}
+use Rattle.insn_rows.proofs.Laws.{AsRow}
+use Rattle.formats_a.specs.Listed.{rows as rows_a, IsListedA}
+use Rattle.formats_a.specs.Places.{place_of as place_a}
+use Rattle.formats_a.proofs.Words.{row_a}
+use Rattle.formats_i.specs.Listed.{rows as rows_i, IsListedI}
+use Rattle.formats_i.specs.Places.{place_of as place_i}
+use Rattle.formats_i.proofs.Words.{row_i}
+use Rattle.formats_m.specs.Listed.{rows as rows_m, IsListedM}
+use Rattle.formats_m.specs.Places.{place_of as place_m}
+use Rattle.formats_m.proofs.Words.{row_m}
 
 -- an A instruction is no M and no I instruction
-not_common : (qp : ℕ) (op : Op) → HasFields (a.fields qp op) → HasFields (m.fields qp op) ⊎ HasFields (i.fields qp op) → ⊥
-not_common qp (Alu f r1 r2 r3) common own = neither own
-not_common qp (ShlAdd p4 r1 r2 count r3) common own = neither own
-not_common qp (AluImm8 f r1 imm r3) common own = neither own
-not_common qp (AddImm14 p4 r1 imm r3) common own = neither own
-not_common qp (AddImm22 r1 imm r3) common own = neither own
-not_common qp (Cmp four rel kind p1 p2 r2 r3) common own = neither own
-not_common qp (CmpZero four rel kind p1 p2 r3) common own = neither own
-not_common qp (CmpImm four rel kind p1 p2 imm r3) common own = neither own
-not_common qp (Lane f size r1 r2 r3) common own = neither own
-not_common qp op common own = common
+a_or_m : (qp : ℕ) (x : Op) → AsRow rows_a (place_a (opcode_of x)) (record { qp = qp; op = x }) → AsRow rows_m (place_m (opcode_of x)) (record { qp = qp; op = x }) → ⊥
+a_or_m qp x common own = grind arith
+
+a_or_i : (qp : ℕ) (x : Op) → AsRow rows_a (place_a (opcode_of x)) (record { qp = qp; op = x }) → AsRow rows_i (place_i (opcode_of x)) (record { qp = qp; op = x }) → ⊥
+a_or_i qp x common own = grind arith
 
 pub not_a_and_m : (insn : Insn) → IsListedA insn → IsListedM insn → ⊥
-not_a_and_m insn common own = not_common insn.qp insn.op common.row (inl own.row)
+not_a_and_m insn common own = a_or_m insn.qp insn.op (row_a insn common) (row_m insn own)
 
 pub not_a_and_i : (insn : Insn) → IsListedA insn → IsListedI insn → ⊥
-not_a_and_i insn common own = not_common insn.qp insn.op common.row (inr own.row)
+not_a_and_i insn common own = a_or_i insn.qp insn.op (row_a insn common) (row_i insn own)

@@ -7,9 +7,9 @@ use Rattle.bundle_bits.specs.declared.bundle.RawBundle.{RawBundle}
 use Rattle.bundle_bits.specs.Laws.{OneRaw, SomeRaw}
 use Rattle.ia_insn.specs.declared.choices.Unit.{Unit as ExecutionUnit}
 use Rattle.ia_insn.specs.declared.choices.Unit.TheVariants.{L}
-use Rattle.ia_insn.specs.declared.bundle.Slots.{Slots}
-use Rattle.ia_insn.specs.declared.bundle.Slots.TheVariants.{Three, Long}
-use Rattle.ia_insn.specs.Templates.{IsTemplate, units_of}
+use Rattle.ia_program.specs.declared.bundle.Slots.{Slots}
+use Rattle.ia_program.specs.declared.bundle.Slots.TheVariants.{Three, Long}
+use Rattle.ia_program.specs.Templates.{IsTemplate, units_of}
 use Rattle.insn_codec.specs.declared.bundle.SlotFault.{SlotFault}
 use Rattle.insn_codec.specs.declared.bundle.SlotFault.TheVariants.{ReservedTemplate, Unlisted}
 use Rattle.insn_codec.specs.Spelling.{StandIn, IsRawOf}
@@ -17,6 +17,16 @@ use Rattle.insn_codec.specs.SlotFaults.{HasInsn, HasLongInsn, slot_stages, bundl
 use Rattle.insn_codec.specs.Laws.{OneFault, NoFaultWhereSpelled, FaultWhereNoneSpelled}
 use Rattle.insn_codec.proofs.Slots.{template_units, parts_of}
 use Rattle.insn_codec.proofs.Spellings.{same_raw}
+
+-- slot 1 is the first without an instruction: of a long one,
+pub long_unlisted : (u v w : ExecutionUnit) (words : List ℕ) (f : SlotFault) → v ≡ L → HasInsn u 0 words → f ≡ Unlisted 1 → ¬ HasLongInsn words → IsFirstFault (slot_stages (u ∷ v ∷ w ∷ []) words) f
+long_unlisted u L w words f long first e fails = inr (first, inl (tt, e, fails))
+long_unlisted u v w words f long first e fails = absurd (cc)
+
+-- or of three
+pub second_unlisted : (u v w : ExecutionUnit) (words : List ℕ) (f : SlotFault) → v ≢ L → HasInsn u 0 words → f ≡ Unlisted 1 → ¬ HasInsn v 1 words → IsFirstFault (slot_stages (u ∷ v ∷ w ∷ []) words) f
+second_unlisted u L w words f short first e fails = absurd (short refl)
+second_unlisted u v w words f short first e fails = inr (first, inl (tt, e, fails))
 
 -- slot 2 is the first without an instruction
 pub third_unlisted : (u v w : ExecutionUnit) (words : List ℕ) (f : SlotFault) → v ≢ L → HasInsn u 0 words → HasInsn v 1 words → f ≡ Unlisted 2 → ¬ HasInsn w 2 words → IsFirstFault (slot_stages (u ∷ v ∷ w ∷ []) words) f

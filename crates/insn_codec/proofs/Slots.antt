@@ -6,11 +6,11 @@ use Rattle.bundle_bits.specs.RawBundle.{bundle_number}
 use Rattle.ia_insn.specs.declared.insn.Insn.{Insn}
 use Rattle.ia_insn.specs.declared.choices.Unit.{Unit as ExecutionUnit}
 use Rattle.ia_insn.specs.declared.choices.Unit.TheVariants.{L}
-use Rattle.ia_insn.specs.declared.bundle.Slots.{Slots}
-use Rattle.ia_insn.specs.declared.bundle.Slots.TheVariants.{Three, Long}
-use Rattle.ia_insn.specs.Templates.{Shape, shape, shape_of, no_shape, IsTemplate, units_of}
-use Rattle.ia_insn.specs.Fits.{Fits}
-use Rattle.ia_insn.specs.Bundles.{Bundle, FitUnits}
+use Rattle.ia_program.specs.declared.bundle.Slots.{Slots}
+use Rattle.ia_program.specs.declared.bundle.Slots.TheVariants.{Three, Long}
+use Rattle.ia_program.specs.Templates.{Shape, shape, shape_of, no_shape, IsTemplate, units_of}
+use Rattle.ia_program.specs.Fits.{Fits}
+use Rattle.ia_program.specs.Bundles.{Bundle, FitUnits}
 use Rattle.insn_codec.specs.Slots.{UnitCode}
 use Rattle.insn_codec.specs.Spelling.{StandIn, IsSpelled}
 

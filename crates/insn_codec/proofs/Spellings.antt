@@ -4,10 +4,10 @@ use Rattle.std.specs.Prelude.{slice_index}
 use Rattle.bundle_bits.specs.declared.bundle.RawBundle.{RawBundle}
 use Rattle.bundle_bits.specs.Laws.{OneRaw, OneBytes}
 use Rattle.ia_insn.specs.declared.choices.Unit.{Unit as ExecutionUnit}
-use Rattle.ia_insn.specs.declared.bundle.Slots.{Slots}
-use Rattle.ia_insn.specs.declared.bundle.Slots.TheVariants.{Three, Long}
-use Rattle.ia_insn.specs.Templates.{units_of}
-use Rattle.ia_insn.specs.Codes.{OneLongInstruction, OneLongWord}
+use Rattle.formats_b.specs.ListedX.{OneLongInstruction, OneLongWord}
+use Rattle.ia_program.specs.declared.bundle.Slots.{Slots}
+use Rattle.ia_program.specs.declared.bundle.Slots.TheVariants.{Three, Long}
+use Rattle.ia_program.specs.Templates.{units_of}
 use Rattle.insn_codec.specs.Spelling.{StandIn, IsRawOf}
 use Rattle.insn_codec.specs.Laws.{OneInstructionOfUnit, OneWordOfUnit, OneBundle, OneSpelling}
 use Rattle.insn_codec.proofs.Slots.{not_of_l, three_items, parts_of, same_bundle, same_number}

@@ -2,7 +2,12 @@
 use Rattle.std.proofs.Common.{◌≡◌, ℕ, ◌⊎◌, inl, inr, arith}
 use Rattle.ia_insn.specs.declared.insn.Insn.{Insn}
 use Rattle.ia_insn.specs.declared.choices.Unit.TheVariants.{M, I, F, B}
-use Rattle.ia_insn.specs.Codes.{CodeA, CodeI, CodeM, CodeB, CodeF, OneInstruction, OneWord, OpcodeIsHigh, OpcodeIsLow}
+use Rattle.formats_a.specs.Listed.{CodeA}
+use Rattle.formats_i.specs.Listed.{CodeI}
+use Rattle.formats_m.specs.Listed.{CodeM}
+use Rattle.formats_b.specs.ListedB.{CodeB}
+use Rattle.formats_b.specs.ListedF.{CodeF}
+use Rattle.insn_rows.specs.Laws.{OneInstruction, OneWord, OpcodeIsHigh, OpcodeIsLow}
 use Rattle.insn_codec.specs.Laws.{OneInstructionOfUnit, OneWordOfUnit}
 use Rattle.insn_codec.proofs.Families.{not_a_and_m, not_a_and_i}
 
@@ -30,8 +35,8 @@ one_instruction high low_m low_i one_a one_m one_i one_f one_b unit word = λ x 
 
 -- an instruction has at most one word of a unit
 pub one_word : OneWord CodeA → OneWord CodeM → OneWord CodeI → OneWord CodeF → OneWord CodeB → OneWordOfUnit
-one_word one_a one_m one_i one_f one_b M x = one_of_two (CodeA x) (CodeM x) (one_a x) (one_m x) (λ v w p r. not_a_and_m x p.listed r.listed)
-one_word one_a one_m one_i one_f one_b I x = one_of_two (CodeA x) (CodeI x) (one_a x) (one_i x) (λ v w p r. not_a_and_i x p.listed r.listed)
+one_word one_a one_m one_i one_f one_b M x = one_of_two (CodeA x) (CodeM x) (one_a x) (one_m x) (λ v w p r. not_a_and_m x (v, p) (w, r))
+one_word one_a one_m one_i one_f one_b I x = one_of_two (CodeA x) (CodeI x) (one_a x) (one_i x) (λ v w p r. not_a_and_i x (v, p) (w, r))
 one_word one_a one_m one_i one_f one_b F x = one_f x
 one_word one_a one_m one_i one_f one_b B x = one_b x
 one_word one_a one_m one_i one_f one_b unit x = λ v w p r. absurd p

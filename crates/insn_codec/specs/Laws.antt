@@ -2,9 +2,9 @@
 -- first fault.
 use Rattle.std.specs.Prelude.{◌≡◌, ◌⊎◌, ℕ, List}
 use Rattle.bundle_bits.specs.RawBundle.{AreBytes}
-use Rattle.ia_insn.specs.Codes.{OneInstruction, OneWord}
+use Rattle.insn_rows.specs.Laws.{OneInstruction, OneWord}
 use Rattle.ia_insn.specs.declared.choices.Unit.{Unit as ExecutionUnit}
-use Rattle.ia_insn.specs.Bundles.{Bundle}
+use Rattle.ia_program.specs.Bundles.{Bundle}
 use Rattle.insn_codec.specs.declared.bundle.SlotFault.{SlotFault}
 use Rattle.insn_codec.specs.Slots.{UnitCode}
 use Rattle.insn_codec.specs.Spelling.{IsSpelled}

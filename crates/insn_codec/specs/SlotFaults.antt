@@ -5,7 +5,7 @@ use Rattle.bundle_bits.specs.declared.bundle.RawBundle.{RawBundle}
 use Rattle.ia_insn.specs.declared.insn.Insn.{Insn}
 use Rattle.ia_insn.specs.declared.choices.Unit.{Unit as ExecutionUnit}
 use Rattle.ia_insn.specs.declared.choices.Unit.TheVariants.{L}
-use Rattle.ia_insn.specs.Templates.{IsTemplate, units_of}
+use Rattle.ia_program.specs.Templates.{IsTemplate, units_of}
 use Rattle.insn_codec.specs.declared.bundle.SlotFault.{SlotFault}
 use Rattle.insn_codec.specs.declared.bundle.SlotFault.TheVariants.{ReservedTemplate, Unlisted}
 use Rattle.insn_codec.specs.Slots.{IsInSlot, IsInSlots}

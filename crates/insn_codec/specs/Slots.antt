@@ -3,9 +3,13 @@ use Rattle.std.specs.Prelude.{ℕ, ◌⊎◌}
 use Rattle.ia_insn.specs.declared.insn.Insn.{Insn}
 use Rattle.ia_insn.specs.declared.choices.Unit.{Unit as ExecutionUnit}
 use Rattle.ia_insn.specs.declared.choices.Unit.TheVariants.{M, I, F, B, L}
-use Rattle.ia_insn.specs.Listed.{IsListedA, IsListedI, IsListedM, IsListedB, IsListedF}
-use Rattle.ia_insn.specs.Codes.{CodeA, CodeI, CodeM, CodeB, CodeF, CodeX}
-use Rattle.ia_insn.specs.Fits.{Fits}
+use Rattle.formats_a.specs.Listed.{IsListedA, CodeA}
+use Rattle.formats_i.specs.Listed.{IsListedI, CodeI}
+use Rattle.formats_m.specs.Listed.{IsListedM, CodeM}
+use Rattle.formats_b.specs.ListedB.{IsListedB, CodeB}
+use Rattle.formats_b.specs.ListedF.{IsListedF, CodeF}
+use Rattle.formats_b.specs.ListedX.{CodeX}
+use Rattle.ia_program.specs.Fits.{Fits}
 
 -- An instruction of the unit has this word. A instructions are those of M and of I. In an L and an X
 -- slot no instruction has a word of its own.

@@ -5,10 +5,10 @@ use Rattle.bundle_bits.specs.declared.bundle.RawBundle.{RawBundle}
 use Rattle.bundle_bits.specs.RawBundle.{bundle_number, HasWidths, AreBytes}
 use Rattle.ia_insn.specs.declared.choices.Unit.{Unit as ExecutionUnit}
 use Rattle.ia_insn.specs.declared.choices.Unit.TheVariants.{L}
-use Rattle.ia_insn.specs.declared.bundle.Slots.{Slots}
-use Rattle.ia_insn.specs.declared.bundle.Slots.TheVariants.{Three, Long}
-use Rattle.ia_insn.specs.Templates.{IsTemplate, units_of}
-use Rattle.ia_insn.specs.Bundles.{Bundle}
+use Rattle.ia_program.specs.declared.bundle.Slots.{Slots}
+use Rattle.ia_program.specs.declared.bundle.Slots.TheVariants.{Three, Long}
+use Rattle.ia_program.specs.Templates.{IsTemplate, units_of}
+use Rattle.ia_program.specs.Bundles.{Bundle}
 use Rattle.insn_codec.specs.Slots.{IsInSlot, IsInSlots}
 
 -- The slots of these units have the words of the instructions.

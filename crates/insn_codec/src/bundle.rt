@@ -2,8 +2,8 @@
 
 ghost use Rattle.std.specs.Prelude.{◌≡◌, ◌≢◌, ◌<◌, ◌^◌, List, [], ◌∷◌, slice_index, ℕ, Ok, Err, IfOk, IfErr};
 ghost use Rattle.first_fault.specs.Stages.{IsFirstFault};
-ghost use Rattle.ia_insn.specs.Bundles.{Bundle, FitUnits};
 ghost use Rattle.ia_insn.specs.declared.choices.Unit.TheVariants.{X};
+ghost use Rattle.ia_program.specs.Bundles.{Bundle, FitUnits};
 ghost use Rattle.insn_codec.specs.declared.bundle.SlotFault.{SlotFault as SlotFaultOf};
 ghost use Rattle.insn_codec.specs.Slots.{IsInSlot, IsInSlots};
 ghost use Rattle.insn_codec.specs.Spelling.{StandIn, IsSpelled};
@@ -13,7 +13,8 @@ use crate::laws::{no_fault_where_spelled, one_bundle, one_fault, one_spelling};
 use crate::slot::{read_unit, write_long, write_unit};
 use bundle_bits::{RawBundle, join, split};
 use formats_b::decode_x;
-use ia_insn::{BundleOf, Insn, Slots, Template, Unit};
+use ia_insn::{Insn, Unit};
+use ia_program::{BundleOf, Slots, Template};
 
 /// Why sixteen bytes are no bundle.
 #[derive(Clone, Copy, Debug, PartialEq, Eq)]

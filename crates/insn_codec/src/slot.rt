@@ -2,8 +2,7 @@
 
 ghost use Rattle.std.specs.Prelude.{◌≡◌, ◌^◌, ◌<◌, Some, IfSome};
 ghost use Rattle.ia_insn.specs.declared.insn.Insn.{Insn};
-ghost use Rattle.ia_insn.specs.Listed.{IsListedX};
-ghost use Rattle.ia_insn.specs.Codes.{CodeX};
+ghost use Rattle.formats_b.specs.ListedX.{IsListedX, CodeX};
 ghost use Rattle.ia_insn.specs.declared.choices.Unit.TheVariants.{B};
 ghost use Rattle.insn_codec.specs.Slots.{UnitCode, IsOfUnit, IsInSlot};
 
@@ -11,7 +10,8 @@ use formats_a::{decode_a, encode_a, opcode_is_high};
 use formats_b::{LongWord, decode_b, decode_f, encode_b, encode_f, encode_x};
 use formats_i::{decode_i, encode_i};
 use formats_m::{decode_m, encode_m};
-use ia_insn::{Insn, Unit, is_branch_slot};
+use ia_insn::{Insn, Unit};
+use ia_program::is_branch_slot;
 
 /// The least word whose major opcode, the top four of its 41 bits, is 8: in M and I slots the A
 /// instructions have the words from here on, and the unit's own those below (volume 3, chapter 4,
@@ -25,8 +25,14 @@ fn read_branch(slot: u8, word: u64) -> Option<Insn>
     ensures only { (i : Insn) → IsInSlot B slot i word → result ≡ Some i }
 {
     match decode_b(word) {
-        Some(insn) if is_branch_slot(insn.op, slot) => Some(insn),
-        _ => None,
+        Some(insn) => {
+            if is_branch_slot(insn.op, slot) {
+                Some(insn)
+            } else {
+                None
+            }
+        }
+        None => None,
     }
 }
 

@@ -3,7 +3,7 @@ use Rattle.std.proofs.Common.{◌≡◌, ◌⊎◌, ◌∙◌, refl, sym, ap, su
 use Rattle.std.specs.Prelude.{is_some, if◌then◌else◌}
 use Rattle.std.proofs.lemmas.Bool.{cases_lt}
 use Rattle.std.proofs.lemmas.List.{length-append, length_push}
-use Rattle.ia_insn.specs.declared.limits.TheConstants.{BUNDLE_LIMIT}
+use Rattle.ia_program.specs.declared.limits.TheConstants.{BUNDLE_LIMIT}
 use Rattle.ia_meaning.specs.Landings.{is_call}
 use Rattle.slot_layouts.specs.declared.layout.Wanted.{Wanted}
 use Rattle.slot_layouts.specs.Layouts.{laid_out}

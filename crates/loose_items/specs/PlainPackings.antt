@@ -1,6 +1,6 @@
 -- The plain packing, kept instruction by instruction.
 use Rattle.std.specs.Prelude.{◌≡◌, ℕ, ◌+◌, ◌*◌, ◌≤◌, List, [], ◌∷◌, ◌++◌, length, Option, Some, None}
-use Rattle.ia_insn.specs.declared.limits.TheConstants.{BUNDLE_LIMIT}
+use Rattle.ia_program.specs.declared.limits.TheConstants.{BUNDLE_LIMIT}
 use Rattle.slot_layouts.specs.declared.layout.Wanted.{Wanted}
 use Rattle.loose_items.specs.declared.item.Item.{Item}
 use Rattle.loose_items.specs.declared.packing.Held.{Held}

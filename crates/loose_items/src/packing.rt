@@ -1,8 +1,8 @@
 //! Packing instructions into bundles in order.
 
 ghost use Rattle.std.specs.Prelude.{◌≡◌, ◌↔◌, ◌<◌, ◌≤◌, true, false, IsTrue, MatchOption, IfSome, Some, List, [], ◌∷◌, ◌++◌, length};
-ghost use Rattle.ia_insn.specs.declared.limits.TheConstants.{BUNDLE_LIMIT};
-ghost use Rattle.ia_insn.specs.Programs.{IsCall};
+ghost use Rattle.ia_program.specs.declared.limits.TheConstants.{BUNDLE_LIMIT};
+ghost use Rattle.ia_program.specs.Programs.{IsCall};
 ghost use Rattle.ia_meaning.specs.Landings.{is_call};
 ghost use Rattle.loose_items.specs.Packings.{wanted_as, joins, plain_of};
 ghost use Rattle.loose_items.specs.PlainPackings.{held, IsPacked, ArePacked};
@@ -10,7 +10,7 @@ ghost use Rattle.loose_items.specs.declared.item.Item.{Item as ItemOf};
 
 use crate::item::Item;
 use ia_insn::Op;
-use ia_insn::limits::BUNDLE_LIMIT;
+use ia_program::limits::BUNDLE_LIMIT;
 use slot_layouts::{Wanted, class_of, laid_out};
 
 /// Whether it is a call.

@@ -3,7 +3,7 @@ use Rattle.std.proofs.Common.{◌≡◌, ◌∙◌, refl, subst, ℕ, zero, suc,
 use Rattle.std.specs.Prelude.{is_some, IfSome, slice_get, if◌then◌else◌}
 use Rattle.ia_insn.specs.declared.insn.Op.{Op}
 use Rattle.ia_insn.specs.declared.insn.Op.TheVariants as op
-use Rattle.ia_insn.specs.Targets.{displacement}
+use Rattle.ia_insn.specs.Displacements.{displacement}
 use Rattle.asm_build.specs.declared.address.Address.{Address}
 use Rattle.asm_build.specs.declared.address.Address.TheVariants as address
 use Rattle.asm_build.specs.Addresses.{addressed, IsInside}

@@ -8,8 +8,8 @@ use Rattle.std.specs.Cmp.Lexicographic.{slice_cmp}
 use Rattle.std.specs.Ordering.{nat_cmp}
 use Rattle.std.proofs.lemmas.List.{length-append, length-replicate}
 use Rattle.first_fault.specs.Stages.{ArePassed}
-use Rattle.ia_insn.specs.declared.limits.TheConstants.{DATA_LIMIT}
-use Rattle.ia_insn.specs.Listed.{IsListed}
+use Rattle.ia_program.specs.declared.limits.TheConstants.{DATA_LIMIT}
+use Rattle.ia_program.specs.Listed.{IsListed}
 use Rattle.asm_reading.specs.declared.line.Line.{Line}
 use Rattle.asm_reading.specs.declared.line.Line.TheVariants as line
 use Rattle.asm_reading.specs.Lines.{IsListedLine}

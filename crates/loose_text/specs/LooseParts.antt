@@ -1,10 +1,10 @@
 -- What the lines of a loose text say, one after the other.
 use Rattle.std.specs.Prelude.{◌≡◌, ℕ, ◌<◌, ◌≤◌, Bool, true, false, IsTrue, ◌||◌, if◌then◌else◌, List, [], ◌∷◌, ◌++◌, map, length, ⊤, ◌⊎◌}
 use Rattle.first_fault.specs.Stages.{Stage, unless, IsFirstFault}
-use Rattle.ia_insn.specs.declared.limits.TheConstants.{BUNDLE_LIMIT}
 use Rattle.ia_insn.specs.declared.insn.Insn.{Insn}
 use Rattle.ia_insn.specs.declared.insn.Op.{Op}
 use Rattle.ia_insn.specs.declared.insn.Op.TheVariants as op
+use Rattle.ia_program.specs.declared.limits.TheConstants.{BUNDLE_LIMIT}
 use Rattle.asm_reading.specs.declared.line.Draft.{Draft}
 use Rattle.asm_reading.specs.declared.line.Line.{Line}
 use Rattle.asm_reading.specs.declared.line.Line.TheVariants as line

@@ -2,8 +2,8 @@
 use Rattle.std.specs.Prelude.{◌≡◌, ℕ, ◌≤◌, Bool, true, false, List, [], ◌∷◌, ◌++◌, map, length, get_or}
 use Rattle.std.specs.List.{AllByRecursion}
 use Rattle.std.specs.Map.{values_of}
-use Rattle.ia_insn.specs.declared.limits.TheConstants.{DATA_LIMIT}
-use Rattle.ia_insn.specs.Listed.{IsListed}
+use Rattle.ia_program.specs.declared.limits.TheConstants.{DATA_LIMIT}
+use Rattle.ia_program.specs.Listed.{IsListed}
 use Rattle.asm_build.specs.declared.address.Address.{Address}
 use Rattle.asm_build.specs.declared.address.Address.TheVariants.{Bundle, Byte}
 use Rattle.asm_build.specs.declared.text_parts.RelationLine.{RelationLine}

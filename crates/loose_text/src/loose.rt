@@ -1,11 +1,11 @@
 //! Loose texts.
 
 ghost use Rattle.std.specs.Prelude.{◌≡◌};
-ghost use Rattle.ia_insn.specs.Programs.{AreBytes};
+ghost use Rattle.ia_program.specs.Programs.{AreBytes};
 ghost use Rattle.loose_text.specs.LooseTexts.{Loose, IsLoose};
 
 use asm_build::Address;
-use ia_insn::Relation;
+use ia_program::Relation;
 use loose_items::Item;
 use std::marker::Model;
 

@@ -2,7 +2,7 @@
 
 ghost use Rattle.std.specs.Prelude.{◌≡◌, ◌↔◌, ◌*◌, ◌≤◌, ◌<◌, ◌^◌, IsTrue, OnOk, IfErr, length};
 ghost use Rattle.first_fault.specs.Stages.{ArePassed};
-ghost use Rattle.ia_insn.specs.declared.limits.TheConstants.{BUNDLE_LIMIT};
+ghost use Rattle.ia_program.specs.declared.limits.TheConstants.{BUNDLE_LIMIT};
 ghost use Rattle.asm_reading.specs.declared.line.Line.TheVariants as line;
 ghost use Rattle.asm_build.specs.TextParts.{AreLabelsBelow};
 ghost use Rattle.loose_text.specs.LooseParts.{LooseParts as PartsOf, start, items_of, after, value_stages, IsValueError, IsNarrow};

@@ -7,7 +7,7 @@ ghost use Rattle.asm_build.specs.Relations.{related, all_related, relation_stage
 ghost use Rattle.loose_text.specs.LooseTexts.{IsAfterCall, IsItemEntry};
 
 use asm_build::{Reason, RelationLine, TextError, fault, relate_line};
-use ia_insn::Relation;
+use ia_program::Relation;
 use loose_items::{Item, is_call};
 use std::alloc::Global;
 use std::collections::BTreeSet;

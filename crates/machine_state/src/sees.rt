@@ -2,8 +2,9 @@
 
 use crate::state::MachineState;
 use frame_shapes::StackFault;
-use ia_insn::{Ar, Br, FaultKind, Gr, Pr};
+use ia_insn::{Ar, Br, Gr, Pr};
 use ia_meaning::{AlatKey, Cell};
+use ia_program::FaultKind;
 use nat_alat::{Alat, DataMem};
 use slot_effects::Sees;
 

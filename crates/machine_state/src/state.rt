@@ -2,7 +2,7 @@
 
 ghost use Rattle.std.specs.Prelude.{◌≡◌, ◌<◌, ◌≤◌, ◌%◌, length, get_or, take, IfOk};
 ghost use Rattle.std.specs.Option.{option_map};
-ghost use Rattle.ia_insn.specs.declared.limits.TheConstants.{DATA_LIMIT};
+ghost use Rattle.ia_program.specs.declared.limits.TheConstants.{DATA_LIMIT};
 ghost use Rattle.ia_meaning.specs.Names.{spot, look, predicate_place, holds};
 ghost use Rattle.ia_meaning.specs.Moves.{predicate_word, application};
 ghost use Rattle.ia_meaning.specs.Frames.{marked_frame, return_fault};

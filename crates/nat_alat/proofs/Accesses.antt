@@ -1,7 +1,7 @@
 -- The places of accesses without a fault.
 use Rattle.std.proofs.Common.{◌≡◌, ℕ, ◌+◌, ◌-◌, ◌*◌, ◌%◌, ◌^◌, ◌<◌, ◌≤◌, ◌⊎◌, inl, inr, List, [], ◌++◌, length, take, drop, get_or, None, sym, ap, ◌∙◌, arith}
 use Rattle.std.proofs.lemmas.List.{append-nil, drop_all, take_all}
-use Rattle.ia_insn.specs.Addresses.{data_base}
+use Rattle.ia_program.specs.Addresses.{data_base}
 use Rattle.ia_meaning.specs.Loads.{access_fault, loaded, stored, bytes_at, with_bytes}
 use Rattle.ia_meaning.proofs.DataAccesses.{is_access, length-with_bytes, other_byte}
 

@@ -2,9 +2,9 @@
 
 ghost use Rattle.std.specs.Prelude.{◌≡◌, ◌==◌, ◌&&◌, ◌+◌, ◌%◌, ◌≤◌, length, nat_le, IfOk, IfErr, OnOk, OnErr, Some, None};
 ghost use Rattle.std.specs.Option.{option_map};
-ghost use Rattle.ia_insn.specs.declared.limits.TheConstants.{DATA_LIMIT};
 ghost use Rattle.ia_insn.specs.Ranges.{IsAccessSize};
-ghost use Rattle.ia_insn.specs.Addresses.{data_base};
+ghost use Rattle.ia_program.specs.declared.limits.TheConstants.{DATA_LIMIT};
+ghost use Rattle.ia_program.specs.Addresses.{data_base};
 ghost use Rattle.ia_meaning.specs.Arithmetic.{bit};
 ghost use Rattle.ia_meaning.specs.Loads.{access_fault, loaded, stored, unat_bit};
 ghost use Rattle.ia_meaning.specs.Steps.{with_bit};
@@ -13,8 +13,8 @@ ghost use Rattle.nat_alat.specs.Faults.{fault_of};
 use crate::bytes::{number_at, put_number};
 use crate::fault::MemFault;
 use crate::unat::{unat_bit, with_bit};
-use ia_insn::DATA_BASE;
 use ia_meaning::Cell;
+use ia_program::DATA_BASE;
 use integer_ops::bit;
 use std::alloc::{AllocError, Global};
 use std::marker::Model;
@@ -73,7 +73,7 @@ pub struct DataMem {
 
 impl Model for DataMem {
     ghost use Rattle.std.specs.Prelude.{◌≡◌, ◌%◌, ◌≤◌, List, ℕ, length};
-    ghost use Rattle.ia_insn.specs.declared.limits.TheConstants.{DATA_LIMIT};
+    ghost use Rattle.ia_program.specs.declared.limits.TheConstants.{DATA_LIMIT};
 
     ghost Value = { List ℕ };
 

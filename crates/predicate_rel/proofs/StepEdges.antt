@@ -4,17 +4,17 @@ use Rattle.std.specs.Prelude.{ℤ, IfSome, IsSomeAnd}
 use Rattle.std.proofs.lemmas.Bool.Decides.{nat_tests}
 use Rattle.std.proofs.lemmas.Result.{IfOk-weaker}
 use Rattle.ia_insn.specs.declared.choices.BranchKind.TheVariants.{Cond}
-use Rattle.ia_insn.specs.declared.ending.FaultKind.TheVariants.{BadLanding}
-use Rattle.ia_insn.specs.declared.ending.How.TheVariants as how
 use Rattle.ia_insn.specs.declared.insn.Insn.{Insn}
 use Rattle.ia_insn.specs.declared.insn.Op.{Op}
 use Rattle.ia_insn.specs.declared.insn.Op.TheVariants as op
-use Rattle.ia_insn.specs.declared.place.Place.{Place}
-use Rattle.ia_insn.specs.Addresses.{bundle_address}
-use Rattle.ia_insn.specs.Places.{insn_at}
-use Rattle.ia_insn.specs.Programs.{Program, IsProgram, IsEntry}
-use Rattle.ia_insn.specs.Runs.{IsLeaving}
-use Rattle.ia_insn.specs.Targets.{displacement}
+use Rattle.ia_insn.specs.Displacements.{displacement}
+use Rattle.ia_program.specs.declared.ending.FaultKind.TheVariants.{BadLanding}
+use Rattle.ia_program.specs.declared.ending.How.TheVariants as how
+use Rattle.ia_program.specs.declared.place.Place.{Place}
+use Rattle.ia_program.specs.Addresses.{bundle_address}
+use Rattle.ia_program.specs.Places.{insn_at}
+use Rattle.ia_program.specs.Programs.{Program, IsProgram, IsEntry}
+use Rattle.ia_program.specs.Runs.{IsLeaving}
 use Rattle.ia_meaning.specs.declared.next.Next.{Next}
 use Rattle.ia_meaning.specs.declared.next.Next.TheVariants as next
 use Rattle.ia_meaning.specs.State.{Registers, Memory, State}

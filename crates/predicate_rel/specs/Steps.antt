@@ -2,10 +2,10 @@
 -- sequencing and predication).
 use Rattle.std.specs.Prelude.{◌≡◌, ◌⊎◌, Option, Some, None, IsSomeAnd, IsTrue}
 use Rattle.ia_insn.specs.declared.insn.Insn.{Insn}
-use Rattle.ia_insn.specs.declared.ending.How.{How}
-use Rattle.ia_insn.specs.declared.ending.How.TheVariants as how
-use Rattle.ia_insn.specs.Places.{insn_at}
-use Rattle.ia_insn.specs.Programs.{Program, IsProgram}
+use Rattle.ia_program.specs.declared.ending.How.{How}
+use Rattle.ia_program.specs.declared.ending.How.TheVariants as how
+use Rattle.ia_program.specs.Places.{insn_at}
+use Rattle.ia_program.specs.Programs.{Program, IsProgram}
 use Rattle.ia_meaning.specs.State.{State, IsState, IsStart}
 use Rattle.ia_meaning.specs.Actions.{insn_action, is_indirect}
 use Rattle.ia_meaning.specs.Steps.{seq_step}

@@ -1,7 +1,7 @@
 -- What an `alloc` writes.
 use Rattle.std.proofs.Common.{◌≡◌, ℕ, ◌*◌, ◌≤◌, ◌<◌, ◌⊎◌, inl, inr, true, false, [], refl, sym, arith, true≢false}
 use Rattle.std.proofs.lemmas.Bool.Decides.{nat_tests}
-use Rattle.ia_insn.proofs.OperandRanges.{ranges_of_listed}
+use Rattle.ia_program.proofs.OperandRanges.{ranges_of_listed}
 use Rattle.ia_meaning.specs.declared.state.FrameShape.{FrameShape}
 use Rattle.ia_meaning.specs.declared.action.Action.{Action}
 use Rattle.ia_meaning.specs.declared.action.Action.TheVariants.{Allocate}

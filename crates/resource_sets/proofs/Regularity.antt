@@ -11,14 +11,9 @@ use Rattle.ia_insn.specs.declared.choices.CmpKind.TheVariants as cmp
 use Rattle.ia_insn.specs.declared.choices.BranchKind.{BranchKind}
 use Rattle.ia_insn.specs.declared.choices.BranchKind.TheVariants as branch
 use Rattle.ia_insn.specs.declared.choices.Update.{Update}
-use Rattle.ia_insn.specs.declared.choices.Update.TheVariants as update
 use Rattle.ia_insn.specs.declared.registers.Ar.{Ar}
 use Rattle.ia_insn.specs.declared.registers.Ar.TheVariants as ar
 use Rattle.ia_insn.specs.declared.insn.Insn.{Insn}
-use Rattle.ia_insn.specs.declared.insn.Op.{Op}
-use Rattle.ia_insn.specs.declared.insn.Op.TheVariants as ops
-use Rattle.ia_insn.specs.declared.choices.Unit.TheVariants.{M}
-use Rattle.ia_insn.specs.Listed.{IsListed}
 use Rattle.ia_meaning.specs.declared.action.FetchSource.TheVariants as source
 use Rattle.ia_meaning.specs.declared.action.Goal.{Goal}
 use Rattle.ia_meaning.specs.declared.action.Goal.TheVariants as goal
@@ -27,10 +22,11 @@ use Rattle.ia_meaning.specs.declared.action.Action.{Action}
 use Rattle.ia_meaning.specs.declared.action.Action.TheVariants as action
 use Rattle.ia_meaning.specs.State.{Registers}
 use Rattle.ia_meaning.specs.Names.{is_stacked, is_rotating, holds}
-use Rattle.ia_meaning.specs.Actions.{action_of, is_branch, is_indirect, is_alloc, insn_action}
+use Rattle.ia_meaning.specs.Actions.{is_branch, is_indirect, is_alloc, insn_action}
 use Rattle.ia_meaning.specs.Loads.{update_register}
+use Rattle.ia_meaning.proofs.ListedNames.{HasNames, all_names}
 use Rattle.resource_sets.specs.declared.access.Resource.{Resource}
-use Rattle.resource_sets.specs.declared.access.Resource.TheVariants.{Pr, Br, Unat, Cfm}
+use Rattle.resource_sets.specs.declared.access.Resource.TheVariants.{Pr, Unat, Cfm}
 use Rattle.resource_sets.specs.declared.access.Kind.{Kind}
 use Rattle.resource_sets.specs.declared.access.Kind.TheVariants.{Read, BranchRead, Write, AllocWrite, LoopWrite, OrWrite, AndWrite, Spill, Fill}
 use Rattle.resource_sets.specs.declared.access.Access.{Access}
@@ -480,44 +476,31 @@ guards_written insn a g h w x =
     by_part (inl k) = named_write insn a g (regular insn a k) w x
     by_part (inr k) = placed_write insn a g k.kind w x
 
--- The range of predicates: the qualifying predicate and the targets of tests. The clauses before the last tell apart the
--- operations whose fields are not of one shape.
-record AreBelow (qp : ℕ) (f : Action) : Type 0 where
-  guard : qp < 64
-  targets : (p : ℕ) → IsTarget f p → p < 64
+-- The range of predicates: the qualifying predicate and the targets of tests.
+target_below : (qp p : ℕ) (f : Action) → HasNames qp f → IsTarget f p → p < 64
+target_below qp p f n t = grind arith
 
-below : (qp : ℕ) (op : Op) → IsListed (record { qp = qp; op = op }) → AreBelow qp (action_of op)
-below qp (ops.ChkS M r2 disp) l = record { guard = grind arith; targets = λ p t. grind arith }
-below qp (ops.MovToAr ar.Unat r2) l = record { guard = grind arith; targets = λ p t. grind arith }
-below qp (ops.MovToArImm ar.Unat imm) l = record { guard = grind arith; targets = λ p t. grind arith }
-below qp (ops.MovFromAr r1 ar.Unat) l = record { guard = grind arith; targets = λ p t. grind arith }
-below qp (ops.Load size kind hint r1 r3 update.None) l = record { guard = grind arith; targets = λ p t. grind arith }
-below qp (ops.Store size kind hint r3 r2 update.None) l = record { guard = grind arith; targets = λ p t. grind arith }
-below qp (ops.Br branch.Cond wh many clr disp) l = record { guard = grind arith; targets = λ p t. grind arith }
-below qp (ops.Break M imm) l = record { guard = grind arith; targets = λ p t. grind arith }
-below qp (ops.Nop M imm) l = record { guard = grind arith; targets = λ p t. grind arith }
-below qp (ops.Hint M imm) l = record { guard = grind arith; targets = λ p t. grind arith }
-below qp _ l = record { guard = grind arith; targets = λ p t. grind arith }
-
-name_in_range : (qp : ℕ) (f : Action) (q : Resource) → AreBelow qp f → IsName qp f q → IsInRange q
-name_in_range qp f (Pr p) b h = (h.0, by_name h.1)
+name_in_range : (qp : ℕ) (f : Action) (q : Resource) → qp < 64 → HasNames qp f → IsName qp f q → IsInRange q
+name_in_range qp f (Pr p) b n h = (h.0, by_name h.1)
   where
     by_name : (p ≡ qp) ⊎ (IsTarget f p ⊎ (IsLoop f × (p ≡ 63))) → p < 64
-    by_name (inl e) = rw e b.guard
-    by_name (inr (inl t)) = b.targets p t
+    by_name (inl e) = rw e b
+    by_name (inr (inl t)) = target_below qp p f n t
     by_name (inr (inr e)) = omega (arith, e.1)
-name_in_range qp f _ b h = tt
+name_in_range qp f _ b n h = tt
 
 pub in_range : AccessesAreInRange
 in_range insn a listed h = by_part (named_or_placed insn a h)
   where
     by_part : HasNamedAccess insn a ⊎ IsAccessByPlace insn a → IsInRange a.resource
-    by_part (inl k) = name_in_range insn.qp (insn_action insn) a.resource (below insn.qp insn.op listed) (regular insn a k).name
+    by_part (inl k) =
+        let n = all_names insn.qp insn.op listed in
+        name_in_range insn.qp (insn_action insn) a.resource n.0 n.1 (regular insn a k).name
     by_part (inr k) = rw k.resource (k.some, k.below)
 
 -- the qualifying predicate is p0 or in the range
 pub guards_in_range : GuardsAreInRange
-guards_in_range insn listed = by_number insn.qp (below insn.qp insn.op listed).guard
+guards_in_range insn listed = by_number insn.qp (all_names insn.qp insn.op listed).0
   where
     by_number : (p : ℕ) → p < 64 → (p ≡ 0) ⊎ IsInRange (Pr p)
     by_number zero h = inl refl

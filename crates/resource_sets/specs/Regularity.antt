@@ -1,7 +1,7 @@
 -- What kinds of accesses there are (volume 3, chapter 5, resource and dependency semantics).
 use Rattle.std.specs.Prelude.{◌≡◌, ◌≢◌, ◌⊎◌, ◌↔◌, ℕ, ◌<◌, ◌≤◌, true, false, List, Contains, take, Some, None}
 use Rattle.ia_insn.specs.declared.insn.Insn.{Insn}
-use Rattle.ia_insn.specs.Listed.{IsListed}
+use Rattle.ia_program.specs.Listed.{IsListed}
 use Rattle.ia_meaning.specs.declared.action.FetchSource.TheVariants.{Predicates}
 use Rattle.ia_meaning.specs.declared.action.Goal.TheVariants.{Indirect}
 use Rattle.ia_meaning.specs.declared.action.Action.{Action}

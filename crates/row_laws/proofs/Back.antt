@@ -3,9 +3,9 @@ use Rattle.std.proofs.Common.{◌≡◌, ℕ, ◌+◌, ◌<◌, Bool, true, fals
 use Rattle.std.specs.Prelude.{Contains}
 use Rattle.std.proofs.lemmas.Bool.{true≢false}
 use Rattle.std.proofs.lemmas.Option.{same_Some}
-use Rattle.ia_insn.specs.declared.place.Place.{Place}
-use Rattle.ia_insn.specs.Places.{IsBefore, IsNext, IsPlaceOf}
-use Rattle.ia_insn.specs.Programs.{Program, IsProgram, IsEntry}
+use Rattle.ia_program.specs.declared.place.Place.{Place}
+use Rattle.ia_program.specs.Places.{IsBefore, IsNext, IsPlaceOf}
+use Rattle.ia_program.specs.Programs.{Program, IsProgram, IsEntry}
 use Rattle.ia_meaning.specs.Sequence.{first_of}
 use Rattle.resource_sets.proofs.Members.{not_in_none}
 use Rattle.predicate_rel.specs.declared.edge.Edge.TheVariants.{Falls, Taken}

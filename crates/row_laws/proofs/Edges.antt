@@ -2,10 +2,10 @@
 use Rattle.std.proofs.Common.{◌≡◌, ℕ, List, Option, Some, None, refl, sym, ap, ◌∙◌, subst}
 use Rattle.std.specs.Prelude.{ℤ, MatchOption}
 use Rattle.ia_insn.specs.declared.insn.Insn.{Insn}
-use Rattle.ia_insn.specs.declared.place.Place.{Place}
-use Rattle.ia_insn.specs.Bundles.{Bundle}
-use Rattle.ia_insn.specs.Places.{insn_at, IsBefore, IsNext, IsPlaceOf}
-use Rattle.ia_insn.specs.Programs.{Program}
+use Rattle.ia_program.specs.declared.place.Place.{Place}
+use Rattle.ia_program.specs.Bundles.{Bundle}
+use Rattle.ia_program.specs.Places.{insn_at, IsBefore, IsNext, IsPlaceOf}
+use Rattle.ia_program.specs.Programs.{Program}
 use Rattle.ia_meaning.specs.Actions.{insn_action}
 use Rattle.ia_meaning.specs.Landings.{target_of}
 use Rattle.ia_meaning.specs.Sequence.{first_of, next_of}

@@ -2,10 +2,10 @@
 use Rattle.std.proofs.Common.{◌≡◌, ℕ, zero, suc, ◌+◌, ◌<◌, ◌≤◌, Bool, false, ◌⊎◌, inl, inr, length, refl, sym, ap, ◌∙◌, subst, arith}
 use Rattle.std.specs.Prelude.{Contains}
 use Rattle.std.proofs.lemmas.Option.{same_Some}
-use Rattle.ia_insn.specs.declared.place.Place.{Place}
-use Rattle.ia_insn.specs.Places.{IsBefore, IsNext, IsPlaceOf, place_number}
-use Rattle.ia_insn.specs.Programs.{Program, IsProgram}
-use Rattle.ia_insn.proofs.InOrder.{slot_small}
+use Rattle.ia_program.specs.declared.place.Place.{Place}
+use Rattle.ia_program.specs.Places.{IsBefore, IsNext, IsPlaceOf, place_number}
+use Rattle.ia_program.specs.Programs.{Program, IsProgram}
+use Rattle.ia_program.proofs.InOrder.{slot_small}
 use Rattle.ia_meaning.specs.Sequence.{first_of}
 use Rattle.ia_meaning.proofs.Follows.{next_is}
 use Rattle.resource_sets.proofs.Members.{not_in_none}

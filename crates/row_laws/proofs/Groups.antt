@@ -1,7 +1,7 @@
 -- The group of a walk of a program or a row, and its latest place.
 use Rattle.std.proofs.Common.{◌≡◌, Bool, true, false, cond, ◌⊎◌, inl, inr, List, [], ◌∷◌, refl}
 use Rattle.std.specs.Prelude.{Contains}
-use Rattle.ia_insn.specs.declared.place.Place.{Place}
+use Rattle.ia_program.specs.declared.place.Place.{Place}
 use Rattle.resource_sets.proofs.Members.{not_in_none, cases_in, in_head, in_tail, head_in}
 use Rattle.predicate_rel.specs.declared.edge.Edge.TheVariants.{Falls}
 use Rattle.flow_facts.specs.Walks.{Walk, goes_on, end_of, group_since}

@@ -5,8 +5,8 @@ use Rattle.std.proofs.lemmas.Bool.{lt-ltb}
 use Rattle.std.proofs.lemmas.Bool.Decides.{nat_tests}
 use Rattle.std.proofs.lemmas.Option.{slice_get_within}
 use Rattle.ia_insn.specs.declared.insn.Insn.{Insn}
-use Rattle.ia_insn.specs.declared.place.Place.{Place}
-use Rattle.ia_insn.proofs.Reaching.{same_place}
+use Rattle.ia_program.specs.declared.place.Place.{Place}
+use Rattle.ia_program.proofs.Reaching.{same_place}
 use Rattle.ia_meaning.specs.Sequence.{first_of}
 use Rattle.predicate_rel.specs.declared.edge.Edge.TheVariants.{Falls}
 use Rattle.flow_facts.specs.Graphs.{InsnRow, over_row, row_insn, row_next, HasRowEdge}

@@ -1,7 +1,7 @@
 -- What is known and violated in a row is known and violated in the program that has its instructions.
 use Rattle.std.specs.Prelude.{ℕ, ◌<◌, Bool, length}
-use Rattle.ia_insn.specs.declared.place.Place.{Place}
-use Rattle.ia_insn.specs.Programs.{Program, IsProgram}
+use Rattle.ia_program.specs.declared.place.Place.{Place}
+use Rattle.ia_program.specs.Programs.{Program, IsProgram}
 use Rattle.ia_meaning.specs.Sequence.{first_of}
 use Rattle.flow_facts.specs.Graphs.{InsnRow, over_program, over_row}
 use Rattle.flow_facts.specs.Walks.{Known}

@@ -4,9 +4,9 @@ use Rattle.std.specs.Prelude.{◌≡◌, ◌⊎◌, ℕ, ◌+◌, ◌<◌, Bool,
 use Rattle.ia_insn.specs.declared.insn.Insn.{Insn}
 use Rattle.ia_insn.specs.declared.insn.Op.TheVariants.{Nop}
 use Rattle.ia_insn.specs.declared.choices.Unit.{Unit as ExecutionUnit}
-use Rattle.ia_insn.specs.declared.place.Place.{Place}
-use Rattle.ia_insn.specs.Places.{insn_at, IsPlaceOf, IsBefore}
-use Rattle.ia_insn.specs.Programs.{Program, IsEntry}
+use Rattle.ia_program.specs.declared.place.Place.{Place}
+use Rattle.ia_program.specs.Places.{insn_at, IsPlaceOf, IsBefore}
+use Rattle.ia_program.specs.Programs.{Program, IsEntry}
 use Rattle.ia_meaning.specs.Actions.{insn_action, is_alloc}
 use Rattle.ia_meaning.specs.Sequence.{first_of, next_of}
 use Rattle.resource_sets.specs.Accesses.{accesses}

@@ -1,7 +1,7 @@
 -- The frames of `alloc`.
 use Rattle.std.proofs.Common.{ℕ, ◌≡◌, ◌+◌, ◌<◌, ◌≤◌, false, ◌∷◌, [], refl, arith}
 use Rattle.std.specs.Prelude.{◌≢◌, Option, Some, None}
-use Rattle.ia_insn.specs.declared.ending.FaultKind.{FaultKind}
+use Rattle.ia_program.specs.declared.ending.FaultKind.{FaultKind}
 use Rattle.ia_meaning.specs.declared.state.AlatKey.{AlatKey}
 use Rattle.ia_meaning.specs.declared.state.FrameShape.{FrameShape}
 use Rattle.ia_meaning.specs.State.{Memory}

@@ -13,8 +13,9 @@ use crate::loops::turn;
 use crate::moves::{compute, fetch, skip_test, test, to_application, to_branch, to_predicates};
 use crate::sees::Sees;
 use crate::slot_effect::SlotEffect;
-use ia_insn::{Pr, Program};
+use ia_insn::Pr;
 use ia_meaning::{Action, target_of};
+use ia_program::Program;
 
 /// What an instruction does that is executed.
 #[inline(always)]

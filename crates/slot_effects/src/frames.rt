@@ -13,8 +13,9 @@ use crate::change::Change;
 use crate::landings::arrival;
 use crate::sees::Sees;
 use crate::slot_effect::SlotEffect;
-use ia_insn::{Br, FaultKind, Gr, Program, bundle_address};
+use ia_insn::{Br, Gr};
 use ia_meaning::{Goal, target_of};
+use ia_program::{FaultKind, Program, bundle_address};
 
 /// `alloc`. Its target is named in the new frame.
 #[tactic(auto, using(crate::proofs::NewFrames::outside_new, crate::proofs::NewFrames::inside_new, crate::proofs::NewFrames::allocated_fits, crate::proofs::NewFrames::allocated_fails))]

@@ -15,8 +15,9 @@ use crate::change::Change;
 use crate::operands::operands;
 use crate::sees::Sees;
 use crate::slot_effect::SlotEffect;
-use ia_insn::{FaultKind, Gr, LoadKind, StoreKind, Update};
+use ia_insn::{Gr, LoadKind, StoreKind, Update};
 use ia_meaning::{AlatEntry, Cell, target_of, update_register};
+use ia_program::FaultKind;
 use nat_alat::MemFault;
 use sem_ops::exchanged;
 

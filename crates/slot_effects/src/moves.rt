@@ -13,8 +13,9 @@ use crate::change::Change;
 use crate::operands::operands;
 use crate::sees::Sees;
 use crate::slot_effect::SlotEffect;
-use ia_insn::{Ar, Br, CmpKind, FaultKind, Gr, Pr, bundle_address};
+use ia_insn::{Ar, Br, CmpKind, Gr, Pr};
 use ia_meaning::{Cell, Condition, FetchSource, Function, MovedWord};
+use ia_program::{FaultKind, bundle_address};
 use integer_ops::{moved, result_of, value_of};
 
 /// A computation.

@@ -7,8 +7,9 @@ ghost use Rattle.ia_meaning.specs.Moves.{predicate_word, application};
 ghost use Rattle.ia_meaning.specs.Frames.{with_sizes, marked_frame, return_fault};
 ghost use Rattle.frame_shapes.specs.Faults.{alloc_fault};
 
-use ia_insn::{Ar, Br, FaultKind, Gr, Pr};
+use ia_insn::{Ar, Br, Gr, Pr};
 use ia_meaning::{AlatKey, Cell};
+use ia_program::FaultKind;
 use nat_alat::{Alat, DataMem};
 
 /// What a slot sees: registers, the memory, and the UNAT that fills use. Where slots run one by one, these are

@@ -5,8 +5,8 @@ ghost use Rattle.ia_meaning.specs.declared.next.Next.TheVariants.{Falls, Goes, B
 ghost use Rattle.slot_effects.specs.declared.change.Change.TheVariants.{Nothing};
 
 use crate::change::Change;
-use ia_insn::FaultKind;
 use ia_meaning::Next;
+use ia_program::FaultKind;
 
 /// What a slot does: what it writes, and how the run goes on.
 #[derive(Clone, Copy)]

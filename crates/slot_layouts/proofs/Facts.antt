@@ -4,9 +4,9 @@ use Rattle.std.specs.Prelude.{option_map}
 use Rattle.std.proofs.lemmas.Bool.{eqb-true}
 use Rattle.ia_insn.specs.declared.choices.Unit.{Unit as ExecutionUnit}
 use Rattle.ia_insn.specs.declared.choices.Unit.TheVariants as units
-use Rattle.ia_insn.specs.Templates.{units_of}
-use Rattle.ia_insn.specs.Bundles.{Bundle, last_slot}
-use Rattle.ia_insn.proofs.Tests.{all_below, left, right}
+use Rattle.ia_program.specs.Templates.{units_of}
+use Rattle.ia_program.specs.Bundles.{Bundle, last_slot}
+use Rattle.ia_program.proofs.Tests.{all_below, left, right}
 use Rattle.slot_layouts.specs.declared.classes.SlotClass.{SlotClass}
 use Rattle.slot_layouts.specs.declared.classes.SlotClass.TheVariants.{A, M, B}
 use Rattle.slot_layouts.specs.declared.layout.Wanted.{Wanted}

@@ -1,5 +1,5 @@
 -- What the bundle of a template holds that is filled by instructions in given slots.
-use Rattle.std.proofs.Common.{arith, rules, ◌≡◌, ℕ, zero, suc, ◌<◌, ◌≤◌, inr, refl, sym, subst, Bool, true, false, ◌&&◌, ◌||◌, eqb, is_none, ◌/◌, List, [], ◌∷◌, Option, Some, None, slice_get, lit<, if◌then◌else◌, IsSome}
+use Rattle.std.proofs.Common.{arith, ◌≡◌, ℕ, zero, suc, ◌<◌, ◌≤◌, inr, refl, sym, subst, Bool, true, false, ◌&&◌, ◌||◌, eqb, is_none, ◌/◌, List, [], ◌∷◌, Option, Some, None, slice_get, lit<, if◌then◌else◌, IsSome}
 use Rattle.std.specs.Prelude.{◌≢◌}
 use Rattle.std.proofs.lemmas.Bool.{eqb-true, eq-eqb, ltb-true}
 use Rattle.std.proofs.lemmas.Bool.Decides.{nat_tests}
@@ -7,12 +7,23 @@ use Rattle.std.proofs.lemmas.Option.{same_Some}
 use Rattle.ia_insn.specs.declared.insn.Insn.{Insn}
 use Rattle.ia_insn.specs.declared.choices.Unit.{Unit as ExecutionUnit}
 use Rattle.ia_insn.specs.declared.choices.Unit.TheVariants as units
-use Rattle.ia_insn.specs.declared.bundle.Slots.{Slots}
-use Rattle.ia_insn.specs.Templates.{IsTemplate, Shape, shape_of, units_of}
-use Rattle.ia_insn.specs.Fits.{Fits}
-use Rattle.ia_insn.specs.Bundles.{IsBundle, FitUnits, slot_insn, last_slot}
-use Rattle.ia_insn.proofs.TemplateCodes.{code_small}
-use Rattle.ia_insn.proofs.Tests.{left, right, all_below, below}
+use Rattle.insn_rows.specs.Rows.{listed}
+use Rattle.formats_i.specs.Listed.{rows as rows_i}
+use Rattle.formats_i.proofs.Words.{of_row_i}
+use Rattle.formats_m.specs.Listed.{rows as rows_m}
+use Rattle.formats_m.proofs.Words.{of_row_m}
+use Rattle.formats_b.specs.ListedB.{rows as rows_b}
+use Rattle.formats_b.proofs.WordsB.{of_row_b}
+use Rattle.formats_b.specs.ListedF.{rows as rows_f}
+use Rattle.formats_b.proofs.WordsF.{of_row_f}
+use Rattle.formats_b.specs.ListedX.{rows as rows_x}
+use Rattle.formats_b.proofs.WordsX.{of_row_x}
+use Rattle.ia_program.specs.declared.bundle.Slots.{Slots}
+use Rattle.ia_program.specs.Templates.{IsTemplate, Shape, shape_of, units_of}
+use Rattle.ia_program.specs.Fits.{Fits}
+use Rattle.ia_program.specs.Bundles.{IsBundle, FitUnits, slot_insn, last_slot}
+use Rattle.ia_program.proofs.TemplateCodes.{code_small}
+use Rattle.ia_program.proofs.Tests.{left, right, all_below, below}
 use Rattle.ia_meaning.specs.Sequence.{stops_after}
 use Rattle.slot_layouts.specs.declared.layout.Wanted.{Wanted}
 use Rattle.slot_layouts.specs.Classes.{has_place}
@@ -119,15 +130,17 @@ content-other u slot (k ∷ ks) (i ∷ is) none = of (eqb slot k) refl (content-
 
 -- nops fit
 nop_fits : (u : ExecutionUnit) (k : ℕ) → k < 3 → is_narrow u ≡ true → Fits (nop_of u) u k
-nop_fits units.M k h narrow = record { place = h; kind = inr (record { row = tt; ranges = lit< tt; qualifier = tt; fit = search rules }) }
-nop_fits units.I k h narrow = record { place = h; kind = inr (record { row = tt; ranges = lit< tt; qualifier = tt; fit = search rules }) }
-nop_fits units.F k h narrow = record { place = h; kind = record { row = tt; ranges = lit< tt; qualifier = tt; fit = search rules } }
-nop_fits units.B k h narrow = record { place = h; kind = (record { row = tt; ranges = lit< tt; qualifier = tt; fit = search rules }, tt) }
+unfolding rows_m rows_i rows_f rows_b listed
+nop_fits units.M k h narrow = record { place = h; kind = inr (of_row_m _ (grind arith)) }
+nop_fits units.I k h narrow = record { place = h; kind = inr (of_row_i _ (grind arith)) }
+nop_fits units.F k h narrow = record { place = h; kind = of_row_f _ (grind arith) }
+nop_fits units.B k h narrow = record { place = h; kind = (of_row_b _ (grind arith), tt) }
 nop_fits units.L k h narrow = absurd (cc)
 nop_fits units.X k h narrow = absurd (cc)
 
 long_nop_fits : Fits (nop_of units.L) units.L 1
-long_nop_fits = record { place = lit< tt; kind = (record { row = tt; ranges = lit< tt; qualifier = tt; fit = search rules }, refl) }
+unfolding rows_x listed
+long_nop_fits = record { place = lit< tt; kind = (of_row_x _ (grind arith) (lit< tt), refl) }
 
 -- what stands in a slot fits it, where the nop does
 content_fits : (us : List ExecutionUnit) (ws : List Wanted) (ks : List ℕ) (is : List Insn) (k : ℕ) (u : ExecutionUnit) → slice_get us k ≡ Some u → k < 3

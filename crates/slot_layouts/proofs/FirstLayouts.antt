@@ -6,10 +6,10 @@ use Rattle.ia_insn.specs.declared.choices.Unit.{Unit as ExecutionUnit}
 use Rattle.ia_insn.specs.declared.choices.Unit.TheVariants.{M}
 use Rattle.ia_insn.specs.declared.insn.Insn.{Insn}
 use Rattle.ia_insn.specs.declared.insn.Op.TheVariants.{Nop}
-use Rattle.ia_insn.specs.declared.bundle.Slots.TheVariants.{Three}
-use Rattle.ia_insn.specs.Bundles.{Bundle}
-use Rattle.ia_insn.specs.Templates.{IsTemplate, Shape, shape_of, no_shape, units_of, stops_of}
-use Rattle.ia_insn.proofs.Tests.{left, right, last_or_below}
+use Rattle.ia_program.specs.declared.bundle.Slots.TheVariants.{Three}
+use Rattle.ia_program.specs.Bundles.{Bundle}
+use Rattle.ia_program.specs.Templates.{IsTemplate, Shape, shape_of, no_shape, units_of, stops_of}
+use Rattle.ia_program.proofs.Tests.{left, right, last_or_below}
 use Rattle.ia_meaning.specs.Landings.{is_one_of}
 use Rattle.ia_meaning.specs.Sequence.{is_stopped}
 use Rattle.ia_meaning.proofs.Sequences.{stop_same}

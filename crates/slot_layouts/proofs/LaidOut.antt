@@ -5,9 +5,9 @@ use Rattle.std.specs.Cmp.Derive.{both_true}
 use Rattle.std.proofs.lemmas.Bool.{eqb-true, leb-true, le-leb, ltb-true, not-true}
 use Rattle.std.proofs.lemmas.Option.{same_Some}
 use Rattle.ia_insn.specs.declared.insn.Insn.{Insn}
-use Rattle.ia_insn.specs.Templates.{units_of}
-use Rattle.ia_insn.specs.Bundles.{slot_insn, last_slot}
-use Rattle.ia_insn.proofs.Tests.{left, right, below}
+use Rattle.ia_program.specs.Templates.{units_of}
+use Rattle.ia_program.specs.Bundles.{slot_insn, last_slot}
+use Rattle.ia_program.proofs.Tests.{left, right, below}
 use Rattle.slot_layouts.specs.declared.classes.SlotClass.TheVariants.{A, M, B}
 use Rattle.slot_layouts.specs.declared.layout.Wanted.{Wanted}
 use Rattle.slot_layouts.specs.Layouts.{are_rising, laid_out}

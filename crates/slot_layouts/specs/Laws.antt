@@ -3,10 +3,10 @@
 use Rattle.std.specs.Prelude.{◌≡◌, ◌≢◌, ℕ, ◌+◌, ◌<◌, ◌≤◌, ◌⊎◌, ◌↔◌, Bool, true, false, IsTrue, List, [], ◌∷◌, ◌++◌, length, slice_get, Some, IsSome, option_map}
 use Rattle.ia_insn.specs.declared.insn.Insn.{Insn}
 use Rattle.ia_insn.specs.declared.choices.Unit.{Unit as ExecutionUnit}
-use Rattle.ia_insn.specs.Listed.{IsListed}
-use Rattle.ia_insn.specs.Fits.{Fits}
-use Rattle.ia_insn.specs.Templates.{IsTemplate, units_of}
-use Rattle.ia_insn.specs.Bundles.{Bundle, IsBundle, slot_insn, last_slot}
+use Rattle.ia_program.specs.Listed.{IsListed}
+use Rattle.ia_program.specs.Fits.{Fits}
+use Rattle.ia_program.specs.Templates.{IsTemplate, units_of}
+use Rattle.ia_program.specs.Bundles.{Bundle, IsBundle, slot_insn, last_slot}
 use Rattle.ia_meaning.specs.Sequence.{stops_after}
 use Rattle.slot_layouts.specs.declared.classes.SlotClass.TheVariants.{A, M, B}
 use Rattle.slot_layouts.specs.declared.layout.Wanted.{Wanted}

@@ -3,7 +3,6 @@
 ghost use Rattle.slot_layouts.specs.Laws.{PlaceIsFit, LaidOutIsLayout, FilledIsBundle, LaidOutHoldsInOrder, LaidOutHasStopsAsWanted, FirstStandsInSlot0, StopIsRightBeforeM, LastBStandsLast, NextStandsRightBehindB, OneIsLaidOut, FrontIsLaidOut, EndTakesNextCode};
 
 /// Of a listed instruction, the places of its class are those that it fits.
-#[tactic(auto, using(crate::proofs::Families::place_is_fit))]
 pub fn place_is_fit()
     ensures { PlaceIsFit }
 {}

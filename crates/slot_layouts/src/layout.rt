@@ -1,13 +1,14 @@
 //! Layouts: the slots of a template that instructions take.
 
 ghost use Rattle.std.specs.Prelude.{◌≡◌, ℕ, List, ◌<◌, option_map};
-ghost use Rattle.ia_insn.specs.Templates.{stops_of};
+ghost use Rattle.ia_program.specs.Templates.{stops_of};
 ghost use Rattle.ia_meaning.specs.Landings.{is_one_of};
 ghost use Rattle.slot_layouts.specs.Layouts.{all_fit, are_rising, is_stop_between, stops_between, has_stop_where, stops_are_wanted, has_none_before, is_layout, least_slots, laid_out};
 
 use crate::classes::SlotClass;
 use arrayvec::ArrayVec;
-use ia_insn::{Template, Unit};
+use ia_insn::Unit;
+use ia_program::Template;
 use std::marker::Model;
 
 /// An instruction that a bundle is to hold.

@@ -5,13 +5,13 @@ use Rattle.std.proofs.lemmas.Bool.{cases_lt}
 use Rattle.std.proofs.lemmas.Option.{same_Some}
 use Rattle.std.proofs.lemmas.List.{get_or_past}
 use Rattle.ia_insn.specs.declared.insn.Insn.{Insn}
-use Rattle.ia_insn.specs.declared.place.Place.{Place}
-use Rattle.ia_insn.specs.Bundles.{Bundle}
-use Rattle.ia_insn.specs.Places.{place_at, insn_at, IsPlaceOf}
-use Rattle.ia_insn.specs.Programs.{Program, IsProgram}
-use Rattle.ia_insn.proofs.InOrder.{bundle_small, slot_small}
-use Rattle.ia_insn.proofs.OperandRanges.{ranges_of_listed}
-use Rattle.ia_insn.proofs.ListedSlots.{listed_at}
+use Rattle.ia_program.specs.declared.place.Place.{Place}
+use Rattle.ia_program.specs.Bundles.{Bundle}
+use Rattle.ia_program.specs.Places.{place_at, insn_at, IsPlaceOf}
+use Rattle.ia_program.specs.Programs.{Program, IsProgram}
+use Rattle.ia_program.proofs.InOrder.{bundle_small, slot_small}
+use Rattle.ia_program.proofs.OperandRanges.{ranges_of_listed}
+use Rattle.ia_program.proofs.ListedSlots.{listed_at}
 use Rattle.ia_meaning.specs.Actions.{insn_action}
 use Rattle.ia_meaning.specs.ActionRanges.{HasActionRanges}
 use Rattle.ia_meaning.proofs.ActionRanges.{action_ranges}

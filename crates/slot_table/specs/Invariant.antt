@@ -1,7 +1,7 @@
 -- What is true of a table of slots.
 use Rattle.std.specs.Prelude.{◌≡◌, ℕ, None, slice_index_or}
-use Rattle.ia_insn.specs.Places.{place_at}
-use Rattle.ia_insn.specs.Programs.{IsProgram}
+use Rattle.ia_program.specs.Places.{place_at}
+use Rattle.ia_program.specs.Programs.{IsProgram}
 use Rattle.slot_table.specs.declared.table.SlotTable.TheInside.{Inside}
 use Rattle.slot_table.specs.Slots.{slot_at}
 

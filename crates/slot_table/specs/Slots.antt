@@ -2,9 +2,9 @@
 -- sequencing).
 use Rattle.std.specs.Prelude.{List, Option, None, option_map, if◌then◌else◌}
 use Rattle.ia_insn.specs.declared.insn.Insn.{Insn}
-use Rattle.ia_insn.specs.declared.place.Place.{Place}
-use Rattle.ia_insn.specs.Bundles.{Bundle}
-use Rattle.ia_insn.specs.Places.{insn_at}
+use Rattle.ia_program.specs.declared.place.Place.{Place}
+use Rattle.ia_program.specs.Bundles.{Bundle}
+use Rattle.ia_program.specs.Places.{insn_at}
 use Rattle.ia_meaning.specs.Actions.{insn_action}
 use Rattle.ia_meaning.specs.Sequence.{next_of, is_stopped}
 use Rattle.predicate_rel.specs.declared.edge.Edge.{Edge}

@@ -4,8 +4,9 @@ ghost use Rattle.std.specs.Prelude.{◌≡◌, ◌^◌, ◌<◌, ◌==◌, ◌&&
 ghost use Rattle.ia_meaning.specs.Sequence.{next_of, is_stopped};
 ghost use Rattle.predicate_rel.specs.Edges.{leaves, displacement_of, target_at};
 
-use ia_insn::{Place, Pr, Program};
+use ia_insn::Pr;
 use ia_meaning::{Action, Goal, target_of};
+use ia_program::{Place, Program};
 
 /// Whether it is a `br.cond`, `br.call` or `br.ret`, direct or indirect, or a `break`: where the
 /// qualifying predicate is 1, control doesn't fall through.

@@ -1,9 +1,9 @@
 //! Places by their numbers.
 
 ghost use Rattle.std.specs.Prelude.{◌≡◌};
-ghost use Rattle.ia_insn.specs.Places.{place_number, place_at};
+ghost use Rattle.ia_program.specs.Places.{place_number, place_at};
 
-use ia_insn::Place;
+use ia_program::Place;
 
 /// The number of a place: the three slots of a bundle follow those of the bundle before it.
 pub fn place_number(place: Place) -> usize

@@ -4,8 +4,9 @@ ghost use Rattle.std.specs.Prelude.{◌≡◌};
 ghost use Rattle.slot_table.specs.Slots.{slot_at, edge_from};
 
 use crate::edges::{is_stopped, may_fall, next, target};
-use ia_insn::{Place, Pr, Program};
+use ia_insn::Pr;
 use ia_meaning::{Action, action_of};
+use ia_program::{Place, Program};
 use predicate_rel::Edge;
 
 /// What can be said of the instruction at a place before it runs.

@@ -2,14 +2,14 @@
 
 ghost use Rattle.std.specs.Prelude.{◌≡◌, ◌*◌, ◌<◌, ℕ, None, IfOk, length, slice_index_or};
 ghost use Rattle.std.specs.Option.{option_copied};
-ghost use Rattle.ia_insn.specs.declared.place.Place.{Place};
-ghost use Rattle.ia_insn.specs.Places.{place_at};
-ghost use Rattle.ia_insn.specs.Programs.{IsProgram};
+ghost use Rattle.ia_program.specs.declared.place.Place.{Place};
+ghost use Rattle.ia_program.specs.Places.{place_at};
+ghost use Rattle.ia_program.specs.Programs.{IsProgram};
 ghost use Rattle.slot_table.specs.Slots.{slot_at};
 
 use crate::places::{place_at, place_number};
 use crate::slot::Slot;
-use ia_insn::{Place, Program};
+use ia_program::{Place, Program};
 use std::alloc::{AllocError, Global};
 use std::marker::Model;
 
@@ -21,7 +21,7 @@ pub struct SlotTable<'a> {
 }
 
 impl<'a> Model for SlotTable<'a> {
-    ghost use Rattle.ia_insn.specs.Programs.{Program as Parts};
+    ghost use Rattle.ia_program.specs.Programs.{Program as Parts};
 
     ghost Value = { Parts };
 

@@ -8,13 +8,13 @@ use Rattle.std.proofs.lemmas.List.{get_or_past}
 use Rattle.std.proofs.lemmas.List.Elements.{All-nil, All-cons, All-append, All-drop, All-filter, filter_passes}
 use Rattle.std.proofs.lemmas.List.Kept.{AllPairs-filter}
 use Rattle.std.proofs.lemmas.List.Quantifiers.{all_pairs_push}
-use Rattle.ia_insn.specs.Programs.{Program, AreBytes}
 use Rattle.ia_insn.specs.declared.choices.LoadKind.{LoadKind}
 use Rattle.ia_insn.specs.declared.choices.LoadKind.TheVariants as load
+use Rattle.ia_program.specs.Programs.{Program, AreBytes}
 use Rattle.ia_meaning.specs.declared.state.AlatKey.{AlatKey as Spot}
 use Rattle.ia_meaning.specs.declared.state.AlatKey.TheVariants.{Static, Stacked}
 use Rattle.ia_meaning.specs.declared.state.AlatEntry.{AlatEntry}
-use Rattle.ia_insn.specs.Addresses.{data_base}
+use Rattle.ia_program.specs.Addresses.{data_base}
 use Rattle.ia_meaning.specs.State.{Memory, IsAlatEntry, IsMemory}
 use Rattle.ia_meaning.specs.Loads.{with_bytes, stored, is_spot, is_apart, forgotten, entered, untouched, load_alat}
 use Rattle.ia_meaning.proofs.AlatLists.{untouched_is_filter, forgotten_is_filter}

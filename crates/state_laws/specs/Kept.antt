@@ -1,5 +1,5 @@
 -- What a sequential step keeps (volume 1, chapter 3, instruction sequencing).
-use Rattle.ia_insn.specs.Programs.{Program, IsProgram}
+use Rattle.ia_program.specs.Programs.{Program, IsProgram}
 use Rattle.ia_meaning.specs.State.{State, IsState}
 use Rattle.ia_meaning.specs.Steps.{seq_step}
 

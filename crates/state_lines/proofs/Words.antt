@@ -2,7 +2,7 @@
 use Rattle.std.proofs.Common.{◌≡◌, ℕ, ◌^◌, ◌+◌, ◌-◌, ◌*◌, List, false, [], ap, length, arith}
 use Rattle.std.proofs.lemmas.List.{append-nil}
 use Rattle.std.specs.Fmt.{digits, padded_integral, format_spec, char_count, number_padding}
-use Rattle.ia_insn.specs.Addresses.{data_base}
+use Rattle.ia_program.specs.Addresses.{data_base}
 use Rattle.ia_meaning.specs.Loads.{bytes_at, loaded}
 use Rattle.ia_meaning.specs.StateText.{word_text}
 

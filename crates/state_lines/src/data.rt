@@ -5,7 +5,7 @@ ghost use Rattle.ia_meaning.specs.Loads.{bytes_at};
 ghost use Rattle.ia_meaning.specs.StateText.{word_text, word_line, data_lines};
 
 use crate::word::WordText;
-use ia_insn::DATA_BASE;
+use ia_program::DATA_BASE;
 use std::alloc::AllocError;
 
 /// The word that eight bytes spell, the lowest first.

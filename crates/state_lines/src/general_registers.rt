@@ -1,7 +1,7 @@
 //! The lines of the general registers.
 
 ghost use Rattle.std.specs.Prelude.{◌≡◌, ◌≤◌, ◌++◌, OnOk, Some, string_bytes};
-ghost use Rattle.ia_insn.specs.Texts.{gr_text};
+ghost use Rattle.ia_insn.specs.RegisterTexts.{gr_text};
 ghost use Rattle.ia_meaning.specs.StateText.{cell_line, gr_line, gr_lines};
 
 use crate::word::WordText;

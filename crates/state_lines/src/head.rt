@@ -3,8 +3,8 @@
 ghost use Rattle.std.specs.Prelude.{◌≡◌, ◌++◌, OnOk, OnErr, Some, codes, decimal, string_bytes};
 ghost use Rattle.ia_meaning.specs.StateText.{line, end_text, frame_text, range_text};
 
-use ia_insn::End;
 use ia_meaning::{FrameShape, Rse};
+use ia_program::End;
 use std::alloc::AllocError;
 use std::fmt;
 

@@ -1,7 +1,7 @@
 //! The lines of the predicates, the branch registers and the application registers.
 
 ghost use Rattle.std.specs.Prelude.{◌≡◌, ◌++◌, OnOk, codes, string_bytes};
-ghost use Rattle.ia_insn.specs.Texts.{br_text};
+ghost use Rattle.ia_insn.specs.RegisterTexts.{br_text};
 ghost use Rattle.ia_meaning.specs.Moves.{predicate_word};
 ghost use Rattle.ia_meaning.specs.StateText.{line, word_text, word_line, br_lines, application_lines};
 

@@ -8,7 +8,7 @@ ghost use Rattle.ia_meaning.specs.Progress.{end_of};
 ghost use Rattle.ia_meaning.specs.StateText.{line, end_text, state_text};
 
 use emulator::Machine;
-use ia_insn::End;
+use ia_program::End;
 pub use state_lines::WordText;
 use std::alloc::{AllocError, Global};
 

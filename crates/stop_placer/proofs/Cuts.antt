@@ -1,8 +1,8 @@
 -- A program without one of its stops: what stands at its places, and the first violation that it has.
 use Rattle.std.proofs.Common.{◌≡◌, ◌⊎◌, ◌==◌, ◌&&◌, not, eq-eqb, Bool, true, false, [], None, Some, refl, sym, ap, ◌∙◌, subst, inl, inr}
-use Rattle.ia_insn.specs.declared.place.Place.{Place}
-use Rattle.ia_insn.specs.Places.{IsPlaceOf, IsBefore}
-use Rattle.ia_insn.specs.Programs.{Program, IsProgram}
+use Rattle.ia_program.specs.declared.place.Place.{Place}
+use Rattle.ia_program.specs.Places.{IsPlaceOf, IsBefore}
+use Rattle.ia_program.specs.Programs.{Program, IsProgram}
 use Rattle.ia_meaning.specs.Sequence.{first_of, next_of, is_stopped}
 use Rattle.ia_meaning.proofs.Follows.{next_is}
 use Rattle.ia_meaning.proofs.Sequences.{next_fits}

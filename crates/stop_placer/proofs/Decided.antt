@@ -5,8 +5,8 @@ use Rattle.std.specs.Bool.{Decides}
 use Rattle.std.proofs.lemmas.Bool.{cases_lt}
 use Rattle.std.proofs.lemmas.List.{length_push, take-append-le, take_at, get_or-take, get_or_append_left, get_or_past, length-take, get_or_push}
 use Rattle.std.proofs.lemmas.Option.{same_Some, slice_get_within, slice_get-get_or}
-use Rattle.ia_insn.specs.declared.place.Place.{Place}
-use Rattle.ia_insn.specs.Places.{IsBefore}
+use Rattle.ia_program.specs.declared.place.Place.{Place}
+use Rattle.ia_program.specs.Places.{IsBefore}
 use Rattle.ia_meaning.specs.Sequence.{first_of}
 use Rattle.group_checker.specs.WindowLaws.{AgreeBefore}
 use Rattle.loose_items.specs.declared.item.Item.{Item}

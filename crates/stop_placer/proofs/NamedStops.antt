@@ -4,9 +4,9 @@ use Rattle.std.specs.Prelude.{Contains, Option, Some, slice_get}
 use Rattle.std.specs.Cmp.{IsTotalOrder}
 use Rattle.std.proofs.lemmas.Bool.{cases_lt, cases_order}
 use Rattle.std.proofs.lemmas.Option.{same_Some, slice_get_within, slice_get-get_or}
-use Rattle.ia_insn.specs.declared.place.Place.{Place}
-use Rattle.ia_insn.specs.Places.{IsBefore}
-use Rattle.ia_insn.specs.Programs.{Program}
+use Rattle.ia_program.specs.declared.place.Place.{Place}
+use Rattle.ia_program.specs.Places.{IsBefore}
+use Rattle.ia_program.specs.Programs.{Program}
 use Rattle.resource_sets.proofs.Members.{not_in_none, cases_in, in_tail, head_in, from_map}
 use Rattle.flow_facts.specs.Graphs.{Graph, over_program}
 use Rattle.group_checker.specs.contracts.violation.ViolationOrd.TheImpl.Laws as laws

@@ -4,7 +4,7 @@ use Rattle.std.specs.Prelude.{Option, is_some}
 use Rattle.std.specs.Bool.{one_answer}
 use Rattle.std.proofs.lemmas.Bool.{cases_order}
 use Rattle.std.proofs.lemmas.List.{length_push, length-append, length-drop, length-take, length-reverse, take_at, take-take, take-append-drop}
-use Rattle.ia_insn.specs.declared.limits.TheConstants.{BUNDLE_LIMIT}
+use Rattle.ia_program.specs.declared.limits.TheConstants.{BUNDLE_LIMIT}
 use Rattle.loose_items.specs.declared.item.Item.{Item}
 use Rattle.loose_text.specs.LooseTexts.{Loose}
 use Rattle.loose_items.specs.Packings.{wanted_as, joins}

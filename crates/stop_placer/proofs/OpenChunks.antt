@@ -5,7 +5,7 @@ use Rattle.std.specs.Option.{option_map}
 use Rattle.std.proofs.lemmas.List.{length-take, take_at, drop_at, take-append-le, drop-append-le, append-nil}
 use Rattle.ia_insn.specs.declared.insn.Op.{Op}
 use Rattle.ia_insn.specs.declared.insn.Op.TheVariants.{BrCall, BrCallInd}
-use Rattle.ia_insn.specs.Programs.{IsCall}
+use Rattle.ia_program.specs.Programs.{IsCall}
 use Rattle.slot_layouts.specs.declared.layout.Wanted.{Wanted}
 use Rattle.slot_layouts.specs.Layouts.{laid_out}
 use Rattle.slot_layouts.proofs.Facts.{one_is_laid_out, end_takes_next_code}

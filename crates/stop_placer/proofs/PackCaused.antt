@@ -2,11 +2,11 @@
 use Rattle.std.proofs.Common.{◌≡◌, ◌<◌, ◌≤◌, ℕ, zero, suc, Bool, true, false, List, [], ◌∷◌, ◌++◌, length, length-append, refl, sym, ◌∙◌, subst, arith, inl, inr}
 use Rattle.std.specs.Prelude.{Option, Some, None, IsSome, slice_get, slice_index_or, ◌⊎◌}
 use Rattle.std.proofs.lemmas.Option.{slice_get_cases}
-use Rattle.ia_insn.specs.declared.limits.TheConstants.{BUNDLE_LIMIT}
 use Rattle.ia_insn.specs.declared.insn.Insn.{Insn}
-use Rattle.ia_insn.specs.declared.place.Place.{Place}
-use Rattle.ia_insn.specs.Places.{IsPlaceOf}
-use Rattle.ia_insn.specs.Programs.{Program}
+use Rattle.ia_program.specs.declared.limits.TheConstants.{BUNDLE_LIMIT}
+use Rattle.ia_program.specs.declared.place.Place.{Place}
+use Rattle.ia_program.specs.Places.{IsPlaceOf}
+use Rattle.ia_program.specs.Programs.{Program}
 use Rattle.ia_meaning.specs.Sequence.{is_stopped}
 use Rattle.flow_facts.specs.Graphs.{over_program}
 use Rattle.group_checker.specs.declared.violation.Violation.{Violation}

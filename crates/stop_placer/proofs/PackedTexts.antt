@@ -5,9 +5,9 @@ use Rattle.std.specs.Prelude.{Contains, Some}
 use Rattle.std.proofs.lemmas.List.{get_or_default}
 use Rattle.std.proofs.lemmas.Option.{same_Some}
 use Rattle.ia_insn.specs.declared.insn.Insn.{Insn}
-use Rattle.ia_insn.specs.declared.limits.TheConstants.{BUNDLE_LIMIT}
-use Rattle.ia_insn.specs.declared.place.Place.{Place}
-use Rattle.ia_insn.specs.Programs.{Program, IsProgram}
+use Rattle.ia_program.specs.declared.limits.TheConstants.{BUNDLE_LIMIT}
+use Rattle.ia_program.specs.declared.place.Place.{Place}
+use Rattle.ia_program.specs.Programs.{Program, IsProgram}
 use Rattle.ia_meaning.specs.Sequence.{first_of}
 use Rattle.group_checker.specs.Reports.{IsFree}
 use Rattle.asm_build.specs.declared.reason.Reason.TheVariants.{Limit}

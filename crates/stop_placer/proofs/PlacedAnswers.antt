@@ -2,9 +2,9 @@
 use Rattle.std.proofs.Common.{◌≡◌, ◌⊎◌, ◌<◌, ◌≤◌, List, ◌∷◌, Bool, length, Result, Ok, Err, ap, subst, arith, inl, inr}
 use Rattle.std.specs.Prelude.{ℕ, Option, IfOk, IfErr}
 use Rattle.std.proofs.lemmas.List.{length-reverse}
-use Rattle.ia_insn.specs.declared.limits.TheConstants.{BUNDLE_LIMIT}
-use Rattle.ia_insn.specs.declared.place.Place.{Place}
-use Rattle.ia_insn.specs.Programs.{Program}
+use Rattle.ia_program.specs.declared.limits.TheConstants.{BUNDLE_LIMIT}
+use Rattle.ia_program.specs.declared.place.Place.{Place}
+use Rattle.ia_program.specs.Programs.{Program}
 use Rattle.asm_build.specs.declared.reason.TextError.{TextError}
 use Rattle.asm_build.specs.declared.reason.TextError.TheVariants.{Memory}
 use Rattle.bundling.specs.Bundled.{places_of, place_of}

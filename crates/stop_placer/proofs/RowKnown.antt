@@ -1,7 +1,7 @@
 -- What is known before each instruction of a text's row, by a program that has them.
 use Rattle.std.proofs.Common.{◌≡◌, List, length, slice_index_or, sym, ap, ◌∙◌, subst}
-use Rattle.ia_insn.specs.declared.place.Place.{Place}
-use Rattle.ia_insn.specs.Programs.{IsProgram}
+use Rattle.ia_program.specs.declared.place.Place.{Place}
+use Rattle.ia_program.specs.Programs.{IsProgram}
 use Rattle.ia_meaning.specs.Sequence.{first_of}
 use Rattle.flow_facts.specs.Graphs.{over_row}
 use Rattle.flow_facts.specs.Walks.{Known, known_at, IsSolution}

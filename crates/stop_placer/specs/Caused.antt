@@ -1,9 +1,9 @@
 -- Where the stops of a packed program come from, in words about the program, the places of its instructions and the reasons
 -- of their gaps.
 use Rattle.std.specs.Prelude.{◌≡◌, ◌⊎◌, ℕ, ◌+◌, ◌<◌, ◌≤◌, true, false, List, [], ◌∷◌, ◌++◌, length, slice_get, slice_index_or, Option, Some}
-use Rattle.ia_insn.specs.declared.place.Place.{Place}
-use Rattle.ia_insn.specs.Places.{IsPlaceOf, IsBefore}
-use Rattle.ia_insn.specs.Programs.{Program}
+use Rattle.ia_program.specs.declared.place.Place.{Place}
+use Rattle.ia_program.specs.Places.{IsPlaceOf, IsBefore}
+use Rattle.ia_program.specs.Programs.{Program}
 use Rattle.ia_meaning.specs.Sequence.{first_of, next_of, is_stopped}
 use Rattle.slot_table.specs.declared.slot.Slot.{Slot}
 use Rattle.flow_facts.specs.Graphs.{over_program}

@@ -1,6 +1,6 @@
 -- What is known before each instruction of a row, by a program that has its instructions.
 use Rattle.std.specs.Prelude.{◌≡◌, ℕ, ◌<◌, List, length, slice_index_or}
-use Rattle.ia_insn.specs.declared.place.Place.{Place}
+use Rattle.ia_program.specs.declared.place.Place.{Place}
 use Rattle.ia_meaning.specs.Sequence.{first_of}
 use Rattle.flow_facts.specs.Graphs.{InsnRow, over_row}
 use Rattle.flow_facts.specs.Walks.{Known, known_at}

@@ -1,9 +1,9 @@
 -- The laws of packed texts.
 use Rattle.std.specs.Prelude.{◌≡◌, ◌⊎◌, ℕ, ◌<◌, List, length, Contains, slice_get, slice_index_or, Some}
 use Rattle.ia_insn.specs.declared.insn.Insn.{Insn}
-use Rattle.ia_insn.specs.declared.place.Place.{Place}
-use Rattle.ia_insn.specs.Places.{insn_at, IsBefore}
-use Rattle.ia_insn.specs.Programs.{IsProgram}
+use Rattle.ia_program.specs.declared.place.Place.{Place}
+use Rattle.ia_program.specs.Places.{insn_at, IsBefore}
+use Rattle.ia_program.specs.Programs.{IsProgram}
 use Rattle.ia_meaning.specs.Sequence.{first_of}
 use Rattle.group_checker.specs.Reports.{IsFree}
 use Rattle.asm_build.specs.declared.reason.TextError.{TextError}

@@ -4,7 +4,7 @@ ghost use Rattle.std.specs.Prelude.{◌≡◌};
 ghost use Rattle.stop_placer.specs.Packed.{Packed as PackedOf};
 
 use group_checker::Violation;
-use ia_insn::{Place, Program};
+use ia_program::{Place, Program};
 use std::marker::Model;
 
 /// Why a stop stands where it does.

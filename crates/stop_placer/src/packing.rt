@@ -1,7 +1,7 @@
 //! Instructions packed into bundles, one after the other.
 
 ghost use Rattle.std.specs.Prelude.{◌≡◌, ◌∷◌, ◌++◌, ◌<◌, [], false, OnOk, IfOk, is_some, length};
-ghost use Rattle.ia_insn.specs.declared.limits.TheConstants.{BUNDLE_LIMIT};
+ghost use Rattle.ia_program.specs.declared.limits.TheConstants.{BUNDLE_LIMIT};
 ghost use Rattle.ia_meaning.specs.Sequence.{first_of};
 ghost use Rattle.loose_items.specs.Packings.{wanted_as};
 ghost use Rattle.bundling.specs.Chunks.{has_no_gap};

@@ -3,8 +3,8 @@
 ghost use Rattle.std.specs.Prelude.{◌≡◌, ◌^◌, ◌<◌, ◌⊎◌, [], false, Bool, Some, if◌then◌else◌, IfOk, IfErr, length, slice_index_or};
 ghost use Rattle.std.specs.Bool.{Decides};
 ghost use Rattle.std.specs.Option.{option_copied};
-ghost use Rattle.ia_insn.specs.declared.limits.TheConstants.{BUNDLE_LIMIT};
-ghost use Rattle.ia_insn.specs.declared.place.Place.{Place};
+ghost use Rattle.ia_program.specs.declared.limits.TheConstants.{BUNDLE_LIMIT};
+ghost use Rattle.ia_program.specs.declared.place.Place.{Place};
 ghost use Rattle.ia_meaning.specs.Sequence.{first_of};
 ghost use Rattle.flow_facts.specs.Graphs.{Graph, insn_in};
 ghost use Rattle.flow_facts.specs.Walks.{known_at};
@@ -24,9 +24,10 @@ use bundling::{
 };
 use flow_facts::{InFacts, solve};
 use group_checker::Window;
-use ia_insn::limits::BUNDLE_LIMIT;
-use ia_insn::{Insn, Place};
+use ia_insn::Insn;
 use ia_meaning::action_of;
+use ia_program::Place;
+use ia_program::limits::BUNDLE_LIMIT;
 use loose_text::{Item, LooseText};
 use predicate_rel::Facts;
 use resource_sets::{Masks, masks_of};

@@ -1,8 +1,8 @@
 //! The stops of a packed program, and why each stands where it does.
 
 ghost use Rattle.std.specs.Prelude.{◌≡◌, ◌+◌, ◌<◌, Some, if◌then◌else◌, IfOk, OnOk, length};
-ghost use Rattle.ia_insn.specs.Places.{IsBefore};
-ghost use Rattle.ia_insn.specs.Programs.{IsProgram, Program};
+ghost use Rattle.ia_program.specs.Places.{IsBefore};
+ghost use Rattle.ia_program.specs.Programs.{IsProgram, Program};
 ghost use Rattle.slot_table.specs.Slots.{slot_at};
 ghost use Rattle.flow_facts.specs.Graphs.{over_program};
 ghost use Rattle.flow_facts.specs.Walks.{IsSolution};
@@ -15,7 +15,7 @@ use crate::packed::{StopWhy, Why};
 use crate::packing::Cause;
 use flow_facts::{InFacts, solve};
 use group_checker::{Violation, Window};
-use ia_insn::{Place, Program};
+use ia_program::{Place, Program};
 use resource_sets::masks_of;
 use slot_table::{Slot, SlotTable};
 use std::alloc::{AllocError, Global};

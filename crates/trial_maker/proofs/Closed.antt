@@ -2,15 +2,16 @@
 use Rattle.std.proofs.Common.{◌≡◌, ◌⊎◌, ℕ, ◌+◌, ◌<◌, ◌≤◌, inl, inr, List, [], ◌∷◌, length, Option, Some, None, subst, sym, refl, arith}
 use Rattle.std.proofs.lemmas.Bool.{cases_lt}
 use Rattle.std.specs.Prelude.{IfSome, IsSomeAnd, slice_get}
-use Rattle.ia_insn.specs.declared.limits.TheConstants.{BUNDLE_LIMIT}
 use Rattle.ia_insn.specs.declared.insn.Insn.{Insn}
-use Rattle.ia_insn.specs.declared.place.Place.{Place}
-use Rattle.ia_insn.specs.Bundles.{Bundle, IsBundle, slot_insn, last_slot, IsStopAfter}
-use Rattle.ia_insn.specs.Places.{bundle_insn, insn_at, IsPlaceOf, IsBefore, IsNext, EachPlace}
-use Rattle.ia_insn.specs.Runs.{EndsRun, StandBefore, IsWithinRun}
-use Rattle.ia_insn.specs.Targets.{displacement, IsBundleAt, IsTargetInside}
-use Rattle.ia_insn.specs.Programs.{IsProgram}
-use Rattle.ia_insn.proofs.InOrder.{lies_in, is_place, slot_small}
+use Rattle.ia_insn.specs.Displacements.{displacement}
+use Rattle.ia_program.specs.declared.limits.TheConstants.{BUNDLE_LIMIT}
+use Rattle.ia_program.specs.declared.place.Place.{Place}
+use Rattle.ia_program.specs.Bundles.{Bundle, IsBundle, slot_insn, last_slot, IsStopAfter}
+use Rattle.ia_program.specs.Places.{bundle_insn, insn_at, IsPlaceOf, IsBefore, IsNext, EachPlace}
+use Rattle.ia_program.specs.Runs.{EndsRun, StandBefore, IsWithinRun}
+use Rattle.ia_program.specs.Targets.{IsBundleAt, IsTargetInside}
+use Rattle.ia_program.specs.Programs.{IsProgram}
+use Rattle.ia_program.proofs.InOrder.{lies_in, is_place, slot_small}
 
 -- The bundle's instructions fit, none of them has a target, and a stop follows the third.
 pub record IsClosed (b : Bundle) : Type 0 where

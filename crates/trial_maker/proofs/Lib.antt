@@ -1,3 +1,4 @@
 mod Examples
+mod Fitting
 pub mod Closed
 pub mod TrialPrograms

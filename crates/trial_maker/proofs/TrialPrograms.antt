@@ -4,14 +4,15 @@ use Rattle.std.specs.Prelude.{◌==◌, ◌%◌, if◌then◌else◌}
 use Rattle.std.proofs.lemmas.Bool.Decides.{nat_tests}
 use Rattle.std.specs.List.{range_with_len}
 use Rattle.std.proofs.lemmas.List.FromFn.{length-map-range_with_len, map-range_with_len_more}
-use Rattle.ia_insn.specs.declared.limits.TheConstants.{BUNDLE_LIMIT}
 use Rattle.ia_insn.specs.declared.insn.Insn.{Insn}
-use Rattle.ia_insn.specs.Bundles.{Bundle, IsBundle}
-use Rattle.ia_insn.specs.Targets.{displacement}
-use Rattle.ia_insn.specs.Programs.{IsProgram}
+use Rattle.ia_insn.specs.Displacements.{displacement}
+use Rattle.ia_program.specs.declared.limits.TheConstants.{BUNDLE_LIMIT}
+use Rattle.ia_program.specs.Bundles.{Bundle, IsBundle}
+use Rattle.ia_program.specs.Programs.{IsProgram}
 use Rattle.trial_maker.specs.declared.draws.Trio.{Trio}
 use Rattle.trial_maker.specs.Draws.{third_state, state_before, draws_of}
 use Rattle.trial_maker.specs.Trials.{mii, bundle_of, last_bundle, first_bundles, trial_program}
+use Rattle.trial_maker.proofs.Fitting.{sets_fit, changes_fit, last_fits}
 use Rattle.trial_maker.proofs.Closed.{IsClosed, AreClosed, closed_program}
 
 -- a bundle of M, I and I with a stop at its end is closed, if its instructions fit and have no target
@@ -25,10 +26,10 @@ either false x y p q = q
 
 bundle_closed : (number : ℕ) (draws : Trio) → IsClosed (bundle_of number draws)
 bundle_closed number draws =
-    either (number % 4 == 0) _ _ (mii_closed _ _ _ (search rules) refl refl refl) (mii_closed _ _ _ (search rules) refl refl refl)
+    either (number % 4 == 0) _ _ (mii_closed _ _ _ (sets_fit number draws) refl refl refl) (mii_closed _ _ _ (changes_fit draws) refl refl refl)
 
 last_closed : IsClosed last_bundle
-last_closed = mii_closed _ _ _ (search rules) refl refl refl
+last_closed = mii_closed _ _ _ last_fits refl refl refl
 
 -- closed bundles of numbers, and one more
 all_closed : (f : ℕ → Bundle) → ((n : ℕ) → IsClosed (f n)) → (last : Bundle) → IsClosed last → (from count : ℕ) → AreClosed (map f (range_with_len from count) ++ last ∷ [])

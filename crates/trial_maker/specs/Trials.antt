@@ -11,9 +11,9 @@ use Rattle.ia_insn.specs.declared.choices.Rel.TheVariants.{Lt}
 use Rattle.ia_insn.specs.declared.choices.CmpKind.TheVariants.{Normal}
 use Rattle.ia_insn.specs.declared.choices.Unit.{Unit as ExecutionUnit}
 use Rattle.ia_insn.specs.declared.choices.Unit.TheVariants.{M, I}
-use Rattle.ia_insn.specs.declared.bundle.Slots.TheVariants.{Three}
-use Rattle.ia_insn.specs.Bundles.{Bundle}
-use Rattle.ia_insn.specs.Programs.{Program}
+use Rattle.ia_program.specs.declared.bundle.Slots.TheVariants.{Three}
+use Rattle.ia_program.specs.Bundles.{Bundle}
+use Rattle.ia_program.specs.Programs.{Program}
 use Rattle.trial_maker.specs.declared.draws.Trio.{Trio}
 use Rattle.trial_maker.specs.Draws.{draws_of}
 

@@ -1,13 +1,14 @@
 //! The bundles of the programs.
 
 ghost use Rattle.std.specs.Prelude.{◌≡◌};
-ghost use Rattle.ia_insn.specs.Templates.{units_of};
-ghost use Rattle.ia_insn.specs.Bundles.{FitUnits};
-ghost use Rattle.ia_insn.specs.declared.bundle.Slots.TheVariants.{Three};
+ghost use Rattle.ia_program.specs.Templates.{units_of};
+ghost use Rattle.ia_program.specs.Bundles.{FitUnits};
+ghost use Rattle.ia_program.specs.declared.bundle.Slots.TheVariants.{Three};
 ghost use Rattle.trial_maker.specs.Trials.{changed_register, filled_register, operation_of, always, nop, compare, addition, operation, mii, bundle_of, last_bundle};
 
 use crate::draws::Trio;
-use ia_insn::{AluFn, BundleOf, CmpKind, Gr, Insn, Op, Pr, Rel, Slots, Template, Unit};
+use ia_insn::{AluFn, CmpKind, Gr, Insn, Op, Pr, Rel, Unit};
+use ia_program::{BundleOf, Slots, Template};
 
 /// The operations, which draws name.
 const OPERATIONS: [AluFn; 9] = [

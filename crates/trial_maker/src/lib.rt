@@ -9,15 +9,15 @@ mod bundles;
 mod draws;
 
 ghost use Rattle.std.specs.Prelude.{◌≡◌, ◌≤◌, IfOk};
-ghost use Rattle.ia_insn.specs.declared.limits.TheConstants.{BUNDLE_LIMIT};
+ghost use Rattle.ia_program.specs.declared.limits.TheConstants.{BUNDLE_LIMIT};
 ghost use Rattle.trial_maker.specs.Trials.{first_bundles, trial_program};
 
 use crate::bundles::{bundle, last_bundle};
 use crate::draws::Draws;
-use ia_insn::{BundleOf, Program};
+use ia_program::{BundleOf, Program};
 use std::alloc::{AllocError, Global};
 
-/// The program of a seed with so many bundles, 1 to [`BUNDLE_LIMIT`](ia_insn::limits::BUNDLE_LIMIT),
+/// The program of a seed with so many bundles, 1 to [`BUNDLE_LIMIT`](ia_program::limits::BUNDLE_LIMIT),
 /// the last included. It has no declared entries, no data and no declared relations.
 ///
 /// # Errors

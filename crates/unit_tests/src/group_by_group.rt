@@ -5,7 +5,7 @@ ghost use Rattle.group_engine.specs.Engine.{end_of};
 
 use crate::program::program_of;
 use group_engine::{GroupMachine, group_text};
-use ia_insn::{End, Place};
+use ia_program::{End, Place};
 use std::alloc::Global;
 use std::process::Abort;
 use std::test::Fail;

@@ -1,7 +1,7 @@
 //! A program of a text.
 
 use asm_build::assemble;
-use ia_insn::Program;
+use ia_program::Program;
 use std::alloc::Global;
 use std::process::Abort;
 use std::test::Fail;

@@ -2,7 +2,8 @@
 
 use crate::program::program_of;
 use emulator::Machine;
-use ia_insn::{Ar, Br, End, Gr, GroupEvent, How, Place};
+use ia_insn::{Ar, Br, Gr};
+use ia_program::{End, GroupEvent, How, Place};
 use nat_alat::{AlatEntry, AlatKey};
 use reg_stack::StackFault;
 use std::process::Abort;

@@ -3,7 +3,7 @@
 ghost use Rattle.std.specs.Prelude.{map};
 ghost use Rattle.watch_seam.specs.Watching.{AwaitGroups};
 
-use ia_insn::GroupEvent;
+use ia_program::GroupEvent;
 use ia64_top::{Status, Words, ia64};
 use io_seam::{MemSink, MemSource};
 use std::alloc::{AllocError, Global};

@@ -4,7 +4,8 @@ ghost use Rattle.std.specs.Prelude.{◌↔◌, IsTrue};
 ghost use Rattle.asm_printing.specs.SlotTexts.{HasTarget};
 
 use asm_printing::{print_slot, push_decimal};
-use ia_insn::{BundleOf, Insn, Op, Place, is_listed};
+use ia_insn::{Insn, Op};
+use ia_program::{BundleOf, Place, is_listed};
 use std::alloc::{AllocError, Global};
 
 /// The number of the bundle as its text has it: no target is before bundle 0.

@@ -3,7 +3,7 @@
 ghost use Rattle.std.specs.Prelude.{◌↔◌, IsTrue};
 ghost use Rattle.insn_codec.specs.Spelling.{IsSpelled};
 
-use ia_insn::BundleOf;
+use ia_program::BundleOf;
 use insn_codec::encode_bundle;
 
 /// Whether the bundle has these bytes.

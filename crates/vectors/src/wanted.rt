@@ -1,10 +1,11 @@
 //! What the text of a slot has to be read as.
 
 ghost use Rattle.std.specs.Prelude.{◌≡◌, IfSome, Some};
-ghost use Rattle.ia_insn.specs.Bundles.{slot_insn};
+ghost use Rattle.ia_program.specs.Bundles.{slot_insn};
 
 use crate::spelling::is_spelled;
-use ia_insn::{BundleOf, Insn, Op, Slots, Unit};
+use ia_insn::{Insn, Op, Unit};
+use ia_program::{BundleOf, Slots};
 
 /// A slot of a bundle.
 #[derive(Drop)]

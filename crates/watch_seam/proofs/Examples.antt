@@ -2,9 +2,9 @@
 use Rattle.std.proofs.Common.{◌≡◌, ◌++◌, ℕ, refl}
 use Rattle.std.specs.Prelude.{codes}
 use Rattle.std.specs.Fmt.{digits}
-use Rattle.ia_insn.specs.declared.ending.GroupEvent.{GroupEvent}
-use Rattle.ia_insn.specs.declared.ending.How.{How}
-use Rattle.ia_insn.specs.declared.ending.How.TheVariants.{Falls, Ends}
+use Rattle.ia_program.specs.declared.ending.GroupEvent.{GroupEvent}
+use Rattle.ia_program.specs.declared.ending.How.{How}
+use Rattle.ia_program.specs.declared.ending.How.TheVariants.{Falls, Ends}
 use Rattle.watch_seam.specs.declared.watch.Keep.TheVariants.{Stay, Full}
 use Rattle.watch_seam.specs.Watchers.{Sort, counter, tracer, WatchState, fresh, after, keep_of, line, report_text}
 

@@ -4,7 +4,7 @@ use Rattle.std.specs.List.{enumerate_from, range_with_len}
 use Rattle.std.proofs.Math.Seq.{take-length}
 use Rattle.std.proofs.lemmas.List.{length-map}
 use Rattle.std.proofs.lemmas.List.FromFn.{length-range_with_len}
-use Rattle.ia_insn.specs.declared.ending.GroupEvent.{GroupEvent}
+use Rattle.ia_program.specs.declared.ending.GroupEvent.{GroupEvent}
 use Rattle.watch_seam.specs.Watchers.{WatchState, after, is_full}
 use Rattle.watch_seam.specs.Watching.{AwaitsGroups, Numbered, numbered, numbered_report, reports_after, left_after, reports, after_all, staying, IsAmidGroup, IsCutShort}
 

@@ -3,9 +3,9 @@ use Rattle.std.proofs.Common.{◌≡◌, ℕ, zero, suc, ◌+◌, ◌/◌, ◌%�
 use Rattle.std.specs.Prelude.{codes, decimal}
 use Rattle.std.proofs.lemmas.List.Sums.{sum_by-append}
 use Rattle.std.specs.Fmt.{digit_glyph, digits, digits_onto}
-use Rattle.ia_insn.specs.declared.ending.GroupEvent.{GroupEvent}
-use Rattle.ia_insn.specs.declared.ending.How.{How}
-use Rattle.ia_insn.specs.declared.ending.How.TheVariants.{Falls, Taken, Ends}
+use Rattle.ia_program.specs.declared.ending.GroupEvent.{GroupEvent}
+use Rattle.ia_program.specs.declared.ending.How.{How}
+use Rattle.ia_program.specs.declared.ending.How.TheVariants.{Falls, Taken, Ends}
 use Rattle.watch_seam.specs.Watchers.{Sort, WatchState, HasALineAGroup, fresh, after, line, line_count, how_text, event_text}
 
 joined : (a b : List ℕ) → line_count (a ++ b) ≡ line_count a + line_count b

@@ -5,7 +5,7 @@ use Rattle.std.proofs.Math.Seq.{get_or-append_seam, set-append_seam, drop-cons}
 use native.Mathlib.Numerals.{unary_clauses}
 use Rattle.std.proofs.lemmas.List.{map-append, append-nil, length-map, nil_from_length}
 use Rattle.std.proofs.lemmas.List.Edits.{length-remove}
-use Rattle.ia_insn.specs.declared.ending.GroupEvent.{GroupEvent}
+use Rattle.ia_program.specs.declared.ending.GroupEvent.{GroupEvent}
 use Rattle.watch_seam.specs.declared.watch.Keep.TheVariants.{Stay, Full}
 use Rattle.watch_seam.specs.Watchers.{WatchState, after, is_full, keep_of}
 use Rattle.watch_seam.specs.Watching.{AwaitsGroups, IsAmidGroup, left_after, numbered_report, reports_after}

@@ -1,9 +1,9 @@
 -- What a watcher has seen of a run, and what it reports. Every line ends with a line feed.
 use Rattle.std.specs.Prelude.{◌≡◌, ℕ, ◌+◌, Bool, ◌==◌, nat_le, if◌then◌else◌, List, [], ◌∷◌, ◌++◌, codes, count_by, decimal}
-use Rattle.ia_insn.specs.Texts.{place_text}
-use Rattle.ia_insn.specs.declared.ending.GroupEvent.{GroupEvent}
-use Rattle.ia_insn.specs.declared.ending.How.{How}
-use Rattle.ia_insn.specs.declared.ending.How.TheVariants as how
+use Rattle.ia_program.specs.Texts.{place_text}
+use Rattle.ia_program.specs.declared.ending.GroupEvent.{GroupEvent}
+use Rattle.ia_program.specs.declared.ending.How.{How}
+use Rattle.ia_program.specs.declared.ending.How.TheVariants as how
 use Rattle.watch_seam.specs.declared.watch.Keep.{Keep}
 use Rattle.watch_seam.specs.declared.watch.Keep.TheVariants.{Stay, Full}
 

@@ -1,7 +1,7 @@
 -- Lists of watchers: what each has seen of the groups of a run, what they report together, and which of them stay.
 use Rattle.std.specs.Prelude.{◌≡◌, ◌⊎◌, ℕ, suc, ◌<◌, All, Bool, true, not, List, [], ◌∷◌, ◌++◌, codes, decimal, filter, flat_map, fold, map, take}
 use Rattle.std.specs.List.{enumerate_from}
-use Rattle.ia_insn.specs.declared.ending.GroupEvent.{GroupEvent}
+use Rattle.ia_program.specs.declared.ending.GroupEvent.{GroupEvent}
 use Rattle.watch_seam.specs.Watchers.{WatchState, after, is_full, line, report_text}
 
 -- there are groups that a watcher is still to see

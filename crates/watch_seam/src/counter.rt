@@ -5,7 +5,7 @@ ghost use Rattle.watch_seam.specs.declared.limits.TheConstants.{FILL_LIMIT};
 ghost use Rattle.watch_seam.specs.Watchers.{after, counter, fresh, keep_of};
 
 use crate::watch::{Keep, Watch};
-use ia_insn::{GroupEvent, How};
+use ia_program::{GroupEvent, How};
 use std::alloc::AllocError;
 use std::marker::Model;
 

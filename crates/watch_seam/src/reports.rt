@@ -6,7 +6,7 @@ ghost use Rattle.watch_seam.specs.Watchers.{after, counter, fresh, keep_of, repo
 ghost use Rattle.watch_seam.specs.Watching.{AwaitGroups, IsAmidGroup, left_after, numbered_report, reports_after};
 
 use crate::watch::{Keep, Watch};
-use ia_insn::GroupEvent;
+use ia_program::GroupEvent;
 use std::alloc::{AllocError, Global};
 use std::marker::Model;
 

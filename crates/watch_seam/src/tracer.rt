@@ -6,7 +6,7 @@ ghost use Rattle.watch_seam.specs.Watchers.{line, event_text, fresh, tracer};
 
 use crate::counter::Counter;
 use crate::watch::{Keep, Watch};
-use ia_insn::{GroupEvent, How};
+use ia_program::{GroupEvent, How};
 use std::alloc::{AllocError, Global};
 use std::fmt;
 use std::marker::Model;

@@ -1,10 +1,10 @@
 //! What a watcher does.
 
 ghost use Rattle.std.specs.Prelude.{◌≡◌, ℕ, ◌++◌, ◌<◌, IfOk, OnOk, OnErr};
-ghost use Rattle.ia_insn.specs.declared.ending.GroupEvent.{GroupEvent};
+ghost use Rattle.ia_program.specs.declared.ending.GroupEvent.{GroupEvent};
 ghost use Rattle.watch_seam.specs.Watchers.{HasALineAGroup, Sort, WatchState, after, fresh, keep_of, report_text};
 
-use ia_insn::GroupEvent;
+use ia_program::GroupEvent;
 use std::alloc::AllocError;
 
 /// Whether a watcher sees the next group too.

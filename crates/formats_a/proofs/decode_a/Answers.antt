@@ -1,6 +1,9 @@
-use Rattle.std.proofs.Common.{arith}
-use Rattle.formats_a.proofs.RowsA.{opcode_is_high}
+use Rattle.std.proofs.Common.{List, sym, subst}
+use Rattle.insn_rows.specs.declared.row.Row.{Row}
+use Rattle.insn_rows.specs.Codes.{HasRow}
 use Rattle.formats_a.proofs.decode_a.Goals as goal
 
-pub returns-then-has_word-clause-opcode : goal.returns-then-has_word-clause-opcode
-returns-then-has_word-clause-opcode c low = absurd (omega (arith, low, opcode_is_high c.read-insn.result c.args.word (c.has_word.ensures.0 c.if-has_word.true)))
+pub returns-clause-only : goal.returns-clause-only
+returns-clause-only c = λ i code.
+    let P : List Row → Type 0 = λ rows. HasRow rows i c.args.word in
+    c.decode_with.ensures.only i (subst P (sym c.rows.ensures.value) code)

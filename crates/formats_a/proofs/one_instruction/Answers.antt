@@ -1,5 +1,5 @@
-use Rattle.formats_a.proofs.RowsA.{only_instruction}
+use Rattle.formats_a.proofs.Words.{one_insn}
 use Rattle.formats_a.proofs.one_instruction.Goals as goal
 
 pub returns : goal.returns
-returns c = only_instruction
+returns c = one_insn

@@ -1,5 +1,5 @@
 use Rattle.std.proofs.Common.{rules, ◌≡◌, None, sym, ap, subst, length, ◌≤◌, ◌∙◌, []}
-use Rattle.ia_insn.specs.Programs.{AreRelations, IsEntryOf}
+use Rattle.ia_program.specs.Programs.{AreRelations, IsEntryOf}
 use Rattle.asm_build.specs.Relations.{all_related, AreRelationsOf}
 use Rattle.asm_build.specs.TextParts.{AreLabelsInside}
 use Rattle.asm_build.proofs.Finishing.{AreRelated, AreParts, related_of, parts_in_range, parts_rise, parts_inside, run_reported}

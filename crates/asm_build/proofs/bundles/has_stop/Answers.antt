@@ -1,5 +1,5 @@
 use Rattle.asm_build.proofs.Marking.{same_test}
-use Rattle.ia_insn.specs.Templates.{stops_of}
+use Rattle.ia_program.specs.Templates.{stops_of}
 use Rattle.asm_build.proofs.bundles.has_stop.Goals as goal
 
 pub returns : goal.returns

@@ -1,5 +1,5 @@
 use Rattle.std.proofs.Common.{arith}
-use Rattle.ia_insn.specs.Templates.{units_of}
+use Rattle.ia_program.specs.Templates.{units_of}
 use Rattle.asm_build.proofs.Naming.{fit_named}
 use Rattle.asm_build.proofs.names.bundle_named.Goals as goal
 

@@ -1,6 +1,6 @@
 use Rattle.std.proofs.Common.{arith}
 use Rattle.std.proofs.lemmas.Grind.{common_steps}
-use Rattle.ia_insn.specs.Bundles.{AreBundles}
+use Rattle.ia_program.specs.Bundles.{AreBundles}
 use Rattle.asm_build.proofs.Naming.{one_more_fits}
 use Rattle.asm_build.proofs.names.bundles_named.Goals as goal
 

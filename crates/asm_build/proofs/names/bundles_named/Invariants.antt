@@ -1,5 +1,5 @@
 use Rattle.std.proofs.Common.{◌≡◌, ◌-◌, ◌++◌, drop, length}
-use Rattle.ia_insn.specs.Bundles.{AreBundles}
+use Rattle.ia_program.specs.Bundles.{AreBundles}
 use Rattle.asm_build.specs.Names.{bundles_named, unnamed_bundle}
 use Rattle.asm_build.proofs.names.bundles_named.Given as goal
 

@@ -1,6 +1,6 @@
 use Rattle.std.proofs.Common.{rules, ◌≡◌, ◌⊎◌, ◌∙◌, ◌+◌, [], ap, subst, sym, drop}
 use Rattle.first_fault.specs.Stages.{ArePassed, IsFirstFault}
-use Rattle.ia_insn.specs.Programs.{IsEntryOf}
+use Rattle.ia_program.specs.Programs.{IsEntryOf}
 use Rattle.asm_build.specs.declared.reason.TextError.TheVariants as error
 use Rattle.asm_build.specs.Relations.{all_related, relation_stages}
 use Rattle.asm_build.proofs.RelationFaults.{line_passed, later_fault, next_fault}

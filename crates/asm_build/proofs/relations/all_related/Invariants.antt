@@ -1,6 +1,6 @@
 use Rattle.std.proofs.Common.{◌≡◌, [], drop}
 use Rattle.first_fault.specs.Stages.{ArePassed, IsFirstFault}
-use Rattle.ia_insn.specs.Programs.{IsEntryOf}
+use Rattle.ia_program.specs.Programs.{IsEntryOf}
 use Rattle.asm_build.specs.declared.reason.TextError.{TextError}
 use Rattle.asm_build.specs.Relations.{all_related, relation_stages, AreRelationsOf}
 use Rattle.asm_build.proofs.relations.all_related.Given as goal

@@ -1,5 +1,5 @@
 use Rattle.std.proofs.Common.{rules}
-use Rattle.ia_insn.specs.Programs.{IsEntryOf}
+use Rattle.ia_program.specs.Programs.{IsEntryOf}
 use Rattle.asm_build.proofs.RelationSets.{line_stays}
 use Rattle.asm_build.proofs.relations.relate_by.Goals as goal
 

@@ -1,9 +1,9 @@
 use Rattle.std.proofs.Common.{arith, rules, ◌≡◌, ◌∙◌, ◌<◌, ℕ, sym, ap, subst, List, length}
-use Rattle.ia_insn.specs.declared.limits.TheConstants.{BUNDLE_LIMIT}
 use Rattle.ia_insn.specs.declared.insn.Insn.{Insn}
-use Rattle.ia_insn.specs.declared.place.Place.{Place}
-use Rattle.ia_insn.specs.Bundles.{AreBundles}
-use Rattle.ia_insn.specs.Programs.{Program, IsProgram}
+use Rattle.ia_program.specs.declared.limits.TheConstants.{BUNDLE_LIMIT}
+use Rattle.ia_program.specs.declared.place.Place.{Place}
+use Rattle.ia_program.specs.Bundles.{AreBundles}
+use Rattle.ia_program.specs.Programs.{Program, IsProgram}
 use Rattle.bundling.specs.Bundled.{bundle_in, bundles_from, places_of, targeted, program_of}
 use Rattle.bundling.proofs.Locating.{AreLayouts}
 use Rattle.bundling.proofs.Targeting.{length-targeted}

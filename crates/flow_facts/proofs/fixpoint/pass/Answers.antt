@@ -1,6 +1,6 @@
 use Rattle.std.proofs.Common.{length, arith, sym, None, Some}
 use Rattle.std.proofs.lemmas.Bool.{ne_eqb}
-use Rattle.ia_insn.specs.Places.{place_at}
+use Rattle.ia_program.specs.Places.{place_at}
 use Rattle.slot_table.proofs.SlotLaws.{slot_edges, not_place}
 use Rattle.flow_facts.proofs.Numbering.{number_below}
 use Rattle.flow_facts.proofs.Passing.{passed_none, passed_same, passed_changed, comes_along, come_by_slot, edge_number}

@@ -1,5 +1,5 @@
-use Rattle.formats_b.proofs.RowsX.{only_instruction}
+use Rattle.formats_b.proofs.WordsX.{one_insn}
 use Rattle.formats_b.proofs.family_x.one_instruction_x.Goals as goal
 
 pub returns : goal.returns
-returns c = only_instruction
+returns c = one_insn

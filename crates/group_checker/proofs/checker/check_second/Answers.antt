@@ -1,5 +1,5 @@
 use Rattle.std.proofs.Common.{◌≡◌, ◌+◌, ◌*◌, ℕ, length, subst, arith}
-use Rattle.ia_insn.specs.Places.{place_number}
+use Rattle.ia_program.specs.Places.{place_number}
 use Rattle.group_checker.specs.Progress.{HasReported, IsEarlierPair, IsUpTo, pair_bound, second_bound}
 use Rattle.group_checker.proofs.Reporting.{none_of_second, second_reported, bounded}
 use Rattle.group_checker.proofs.checker.check_second.Goals as goal

@@ -1,6 +1,6 @@
 use Rattle.std.proofs.Common.{◌+◌, ◌*◌, ◌≤◌, length}
-use Rattle.ia_insn.specs.Places.{place_number}
-use Rattle.ia_insn.specs.Programs.{Program}
+use Rattle.ia_program.specs.Places.{place_number}
+use Rattle.ia_program.specs.Programs.{Program}
 use Rattle.ia_meaning.specs.Sequence.{is_stopped}
 use Rattle.flow_facts.specs.Graphs.{over_program}
 use Rattle.group_checker.specs.declared.report.TheConstants.{SHOWN_LIMIT}

@@ -1,5 +1,5 @@
 use Rattle.std.proofs.Common.{◌≡◌, ◌<◌, ◌*◌, Some, length, sym, ap, ◌∙◌, arith}
-use Rattle.ia_insn.specs.Places.{place_number}
+use Rattle.ia_program.specs.Places.{place_number}
 use Rattle.ia_meaning.specs.Sequence.{first_of, next_of, is_stopped}
 use Rattle.ia_meaning.proofs.Inside.{first_is_place}
 use Rattle.slot_table.proofs.SlotLaws.{not_place}

@@ -1,5 +1,5 @@
 use Rattle.std.proofs.Common.{◌-◌, ◌*◌}
-use Rattle.ia_insn.specs.Places.{place_number, IsPlaceOf}
+use Rattle.ia_program.specs.Places.{place_number, IsPlaceOf}
 use Rattle.ia_meaning.specs.Sequence.{is_stopped}
 use Rattle.flow_facts.specs.Graphs.{over_program}
 use Rattle.group_checker.specs.Windows.{IsWindow}

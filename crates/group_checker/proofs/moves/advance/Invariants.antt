@@ -1,5 +1,5 @@
 use Rattle.std.proofs.Common.{Bool}
-use Rattle.ia_insn.specs.declared.place.Place.{Place}
+use Rattle.ia_program.specs.declared.place.Place.{Place}
 use Rattle.flow_facts.specs.Graphs.{Graph}
 use Rattle.group_checker.specs.Windows.{Describes, HasAdvanced}
 use Rattle.group_checker.proofs.moves.advance.Given as goal

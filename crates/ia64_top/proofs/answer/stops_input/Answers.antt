@@ -1,5 +1,5 @@
 use Rattle.std.proofs.Common.{rules, refl}
-use Rattle.ia_insn.specs.Programs.{IsProgram}
+use Rattle.ia_program.specs.Programs.{IsProgram}
 use Rattle.ia64_top.specs.Output.{IsPackedText}
 use Rattle.ia64_top.specs.Readings.{as_loose}
 use Rattle.ia64_top.proofs.Outputs.{if_ok, is_refusal}

@@ -1,7 +1,7 @@
 use Rattle.std.proofs.Common.{◌≡◌, ℕ, get_or, subst}
 use Rattle.std.specs.Prelude.{Some, None}
 use Rattle.ia_insn.specs.declared.insn.Op.TheVariants as op
-use Rattle.ia_insn.specs.Addresses.{bundle_address, data_address}
+use Rattle.ia_program.specs.Addresses.{bundle_address, data_address}
 use Rattle.ia_meaning.specs.Landings.{landing}
 use Rattle.ia_meaning.specs.Loads.{access_fault, loaded}
 use Rattle.ia64_top.proofs.laws.law_names.Goals as goal

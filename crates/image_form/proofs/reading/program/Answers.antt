@@ -1,7 +1,7 @@
 use Rattle.std.proofs.Common.{◌≡◌, ◌∙◌, ℕ, List, [], ◌∷◌, Option, min, ap, sym, subst}
 use Rattle.std.specs.Prelude.{MatchOption, unwrap_or}
-use Rattle.ia_insn.specs.declared.program.ProgramFault.TheVariants as program
-use Rattle.ia_insn.specs.Programs.{Program, IsProgram, HasProgramFault}
+use Rattle.ia_program.specs.declared.program.ProgramFault.TheVariants as program
+use Rattle.ia_program.specs.Programs.{Program, IsProgram, HasProgramFault}
 use Rattle.image_form.specs.declared.fault.ImageFault.TheVariants.{Relation as RelationFault}
 use Rattle.first_fault.specs.Stages.{IsFirstFault}
 use Rattle.image_form.specs.Parts.{ArePadded, IsFirstUnpadded}

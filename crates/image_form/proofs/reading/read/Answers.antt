@@ -1,6 +1,6 @@
 use Rattle.std.proofs.Common.{◌≡◌, ◌∙◌, ◌/◌, ℕ, List, length, ap, sym, subst, arith}
 use Rattle.std.proofs.lemmas.Result.{err_from_is_err_and, IfOk-weaker, IfErr-weaker}
-use Rattle.ia_insn.specs.Programs.{Program, IsProgram, AreEntries}
+use Rattle.ia_program.specs.Programs.{Program, IsProgram, AreEntries}
 use Rattle.image_form.specs.Images.{Spells}
 use Rattle.image_form.specs.Parts.{bundle_count, bundle_bytes, entries_of}
 use Rattle.image_form.proofs.Wholes.{length-relation_bytes, length-bundle_bytes, entries_read, parts_read, padded_read, counts_right, entries_right, image_of_parts}

@@ -1,4 +1,4 @@
-use Rattle.ia_insn.specs.Programs.{Program}
+use Rattle.ia_program.specs.Programs.{Program}
 use Rattle.image_form.specs.Images.{Spells}
 use Rattle.image_form.specs.Faults.{HasImageFault}
 use Rattle.image_form.proofs.Answered.{only_program, only_fault}

@@ -1,6 +1,6 @@
 use Rattle.std.proofs.Common.{rules, inr, ◌≡◌, ◌/◌, ◌%◌, [], length}
 use Rattle.std.proofs.lemmas.Result.{err_from_is_err_and}
-use Rattle.ia_insn.specs.Programs.{AreInRange}
+use Rattle.ia_program.specs.Programs.{AreInRange}
 use Rattle.image_form.proofs.Wholes.{raw_counts}
 use Rattle.image_form.proofs.Stages.{fault_of_spelling}
 use Rattle.image_form.proofs.reading.wrap.Goals as goal

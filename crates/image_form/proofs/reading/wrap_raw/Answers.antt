@@ -1,4 +1,4 @@
-use Rattle.ia_insn.specs.Programs.{Program}
+use Rattle.ia_program.specs.Programs.{Program}
 use Rattle.image_form.specs.Images.{RawSpells}
 use Rattle.image_form.specs.Faults.{HasRawFault}
 use Rattle.image_form.proofs.Answered.{only_program, only_fault}

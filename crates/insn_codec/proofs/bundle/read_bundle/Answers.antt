@@ -1,7 +1,7 @@
 use Rattle.std.proofs.Common.{rules, ◌≡◌, ◌∙◌, length, ap}
 use Rattle.std.proofs.lemmas.Result.{err_from_is_err_and}
 use Rattle.ia_insn.specs.declared.choices.Unit.TheVariants.{M}
-use Rattle.ia_insn.specs.Templates.{IsTemplate, units_of}
+use Rattle.ia_program.specs.Templates.{IsTemplate, units_of}
 use Rattle.insn_codec.proofs.Slots.{three_items}
 use Rattle.insn_codec.proofs.Faults.{slot_fault}
 use Rattle.insn_codec.proofs.bundle.read_bundle.Goals as goal

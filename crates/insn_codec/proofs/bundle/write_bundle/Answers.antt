@@ -2,8 +2,8 @@ use Rattle.std.proofs.Common.{rules, ◌≡◌, ◌∙◌, List, length, sym, ap
 use Rattle.bundle_bits.specs.RawBundle.{HasWidths, AreBytes}
 use Rattle.ia_insn.specs.declared.choices.Unit.{Unit as ExecutionUnit}
 use Rattle.ia_insn.specs.declared.choices.Unit.TheVariants.{M}
-use Rattle.ia_insn.specs.declared.bundle.Slots.{Slots}
-use Rattle.ia_insn.specs.Templates.{IsTemplate, units_of}
+use Rattle.ia_program.specs.declared.bundle.Slots.{Slots}
+use Rattle.ia_program.specs.Templates.{IsTemplate, units_of}
 use Rattle.insn_codec.specs.Spelling.{StandIn}
 use Rattle.insn_codec.proofs.Slots.{three_items, parts}
 use Rattle.insn_codec.proofs.bundle.write_bundle.Goals as goal

@@ -1,6 +1,6 @@
 use Rattle.std.proofs.Common.{rules, ◌≡◌, ◌⊎◌, ◌∙◌, ◌*◌, ◌≤◌, sym, ap, length, []}
 use Rattle.first_fault.specs.Stages.{IsFirstFault}
-use Rattle.ia_insn.specs.declared.limits.TheConstants.{BUNDLE_LIMIT}
+use Rattle.ia_program.specs.declared.limits.TheConstants.{BUNDLE_LIMIT}
 use Rattle.asm_build.specs.declared.reason.TextError.TheVariants as error
 use Rattle.asm_build.specs.Relations.{all_related, AreRelationsOf}
 use Rattle.asm_build.specs.TextParts.{AreLabelsBelow}

@@ -1,4 +1,4 @@
-use Rattle.std.proofs.Common.{arith, ◌≡◌, ◌∙◌}
+use Rattle.std.proofs.Common.{arith, ◌∙◌}
 use Rattle.std.proofs.lemmas.Grind.{common_steps}
 use Rattle.slot_layouts.specs.Layouts.{is_layout}
 use Rattle.slot_layouts.proofs.FirstLayouts.{passed}

@@ -1,5 +1,5 @@
 use Rattle.std.proofs.Common.{◌≡◌, length, take, filter, [], ◌∷◌}
-use Rattle.ia_insn.specs.Templates.{stops_of}
+use Rattle.ia_program.specs.Templates.{stops_of}
 use Rattle.slot_layouts.specs.Layouts.{is_stop_between}
 use Rattle.slot_layouts.proofs.layout.stops_between.Given as goal
 

@@ -1,6 +1,6 @@
 use Rattle.std.proofs.Common.{◌+◌, ◌*◌, ◌++◌, ◌∙◌, ap, refl, arith, ℕ}
 use Rattle.std.specs.Prelude.{string_bytes, codes}
-use Rattle.ia_insn.specs.Addresses.{data_base}
+use Rattle.ia_program.specs.Addresses.{data_base}
 use Rattle.ia_meaning.specs.StateText.{word_text, word_line, data_line}
 use Rattle.state_lines.proofs.Counting.{one_more}
 use Rattle.state_lines.proofs.Words.{word_of_data}

@@ -1,5 +1,5 @@
 use Rattle.std.proofs.Common.{◌≡◌, ◌<◌, Some, None, sym, ◌∙◌, arith}
-use Rattle.ia_insn.specs.Places.{place_number}
+use Rattle.ia_program.specs.Places.{place_number}
 use Rattle.ia_meaning.specs.Sequence.{next_of}
 use Rattle.slot_table.proofs.SlotLaws.{not_place}
 use Rattle.flow_facts.specs.Graphs.{over_program}

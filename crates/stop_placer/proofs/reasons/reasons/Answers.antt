@@ -1,8 +1,8 @@
 use Rattle.std.proofs.Common.{◌≡◌, ◌<◌, None, Some, List, get_or, sym, ap, ◌∙◌, subst, arith}
 use Rattle.std.specs.Prelude.{slice_get}
 use Rattle.std.proofs.lemmas.Option.{slice_get-get_or}
-use Rattle.ia_insn.specs.Places.{place_number, IsBefore}
-use Rattle.ia_insn.specs.Programs.{Program, IsProgram}
+use Rattle.ia_program.specs.Places.{place_number, IsBefore}
+use Rattle.ia_program.specs.Programs.{Program, IsProgram}
 use Rattle.ia_meaning.specs.Sequence.{first_of, next_of}
 use Rattle.ia_meaning.proofs.Inside.{first_is_place}
 use Rattle.slot_table.specs.Slots.{slot_at}

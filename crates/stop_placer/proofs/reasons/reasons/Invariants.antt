@@ -1,5 +1,5 @@
 use Rattle.std.proofs.Common.{◌-◌}
-use Rattle.ia_insn.specs.Places.{place_number, IsPlaceOf, IsBefore}
+use Rattle.ia_program.specs.Places.{place_number, IsPlaceOf, IsBefore}
 use Rattle.group_checker.specs.Progress.{place_bound}
 use Rattle.stop_placer.specs.Caused.{place_in, IsLastBefore}
 use Rattle.stop_placer.proofs.Naming.{NamesAmong, IsFrom}

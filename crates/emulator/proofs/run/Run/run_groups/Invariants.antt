@@ -1,6 +1,6 @@
 use Rattle.std.proofs.Common.{◌≡◌, ◌-◌, ◌*◌, ◌<◌, ◌≤◌}
 use Rattle.std.specs.Prelude.{None}
-use Rattle.ia_insn.specs.declared.limits.TheConstants.{RUN_LIMIT}
+use Rattle.ia_program.specs.declared.limits.TheConstants.{RUN_LIMIT}
 use Rattle.ia_meaning.specs.Progress.{groups_further}
 use Rattle.ia_meaning.specs.Runs.{IsUnderWay, event_further}
 use Rattle.emulator.specs.Progress.{progress_of}

@@ -1,5 +1,5 @@
 use Rattle.std.proofs.Common.{◌≡◌, ◌-◌, suc, ◌==◌, true, subst, arith}
-use Rattle.ia_insn.specs.declared.limits.TheConstants.{RUN_LIMIT}
+use Rattle.ia_program.specs.declared.limits.TheConstants.{RUN_LIMIT}
 use Rattle.ia_meaning.specs.ParallelGroups.{gathered_from}
 use Rattle.group_engine.specs.Groups.{gathered_of, state_of, rest_of, HasGathered, HasRestOf}
 use Rattle.group_engine.proofs.Groups.{over_from, comes_to_end}

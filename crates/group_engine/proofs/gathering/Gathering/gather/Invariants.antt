@@ -1,6 +1,6 @@
 use Rattle.std.proofs.Common.{◌≡◌, ◌≤◌, ◌*◌, ◌-◌, true, false, ◌==◌, [], length}
-use Rattle.ia_insn.specs.declared.limits.TheConstants.{RUN_LIMIT}
-use Rattle.ia_insn.specs.Places.{IsPlaceOf}
+use Rattle.ia_program.specs.declared.limits.TheConstants.{RUN_LIMIT}
+use Rattle.ia_program.specs.Places.{IsPlaceOf}
 use Rattle.ia_meaning.specs.ParallelGroups.{gathered_from, now_of}
 use Rattle.group_engine.specs.declared.limits.TheConstants.{SLOT_WRITE_LIMIT}
 use Rattle.group_engine.specs.Kept.{steering_of}

@@ -1,6 +1,6 @@
 use Rattle.std.proofs.Common.{rules, ◌≡◌, ◌≤◌, ◌++◌, ◌∷◌, [], length, sym, ap, inl, inr, refl, false}
 use Rattle.std.specs.Prelude.{IsTrue}
-use Rattle.ia_insn.specs.declared.limits.TheConstants.{BUNDLE_LIMIT}
+use Rattle.ia_program.specs.declared.limits.TheConstants.{BUNDLE_LIMIT}
 use Rattle.asm_build.specs.declared.reason.Reason.TheVariants.{Limit}
 use Rattle.asm_build.specs.declared.text_parts.Section.TheVariants as section
 use Rattle.asm_build.specs.TextParts.{IsIn}

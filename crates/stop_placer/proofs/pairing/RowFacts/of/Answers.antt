@@ -1,5 +1,5 @@
 use Rattle.std.proofs.Common.{◌≡◌, sym, ◌∙◌, subst}
-use Rattle.ia_insn.specs.Programs.{Program}
+use Rattle.ia_program.specs.Programs.{Program}
 use Rattle.flow_facts.specs.Walks.{IsSolution}
 use Rattle.bundling.specs.Bundled.{program_of}
 use Rattle.bundling.specs.Chunks.{AreChunksOf, HasNoLongQuiet}

@@ -1,7 +1,0 @@
-use Rattle.std.proofs.Common.{◌≡◌, ℕ, ◌<◌}
-use Rattle.ia_insn.specs.Programs.{relation_before, IsRelationAt}
-use Rattle.ia_insn.proofs.relations.misdeclared_relation.Given as goal
-
-abbrev pub invariant-loop-n : goal.invariant-loop-n
-invariant-loop-n l =
-    (l.before ≡ relation_before l.relations l.n) × ((k : ℕ) → k < l.n → IsRelationAt l.bundles l.entries l.relations k)

@@ -1,0 +1,10 @@
+pub mod Listed
+pub mod Fits
+pub mod Templates
+pub mod Bundles
+pub mod Places
+pub mod Runs
+pub mod Targets
+pub mod Programs
+pub mod Addresses
+pub mod Texts

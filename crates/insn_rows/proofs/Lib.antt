@@ -1,0 +1,14 @@
+pub mod Numbers
+pub mod Spread
+pub mod Gathering
+pub mod Masks
+pub mod CodesBack
+pub mod Back
+pub mod Parts
+pub mod Cover
+pub mod RowWords
+pub mod RowBack
+pub mod Places
+pub mod Laws
+pub mod Decided
+pub mod DecidedRows

@@ -1,0 +1,10 @@
+pub mod Values
+pub mod Scattered
+pub mod Codings
+pub mod Arms
+pub mod ArmsBack
+pub mod Rows
+pub mod Reading
+pub mod WellMade
+pub mod Codes
+pub mod Laws

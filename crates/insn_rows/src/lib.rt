@@ -1,0 +1,29 @@
+//! Rows of instructions: of each the opcode, the format and the bits of its word that are no operand's. What goes from
+//! instructions to words and back by a row is written once, for all rows.
+//!
+//! A format is the manual's picture (volume 3, chapter 4, instruction formats): which operand stands in which bits of a
+//! word. An operand has a coding, which says the values that it may have and their codes. A row adds an opcode and the
+//! other bits of the word, which are the same in each word of the row. The families' tables of rows stand in the crates
+//! above; here are the types, what makes a list of rows a table, and the two ways between an instruction and its word.
+//!
+//! Nothing here takes memory.
+#![tactic(auto)]
+
+mod arms;
+mod bits;
+mod codec;
+mod coding;
+pub mod fields;
+pub mod formats;
+mod opcode;
+mod operands;
+mod row;
+mod value;
+
+pub use arms::{insn_of, opcode_of, values_of};
+pub use bits::{BitField, Bits};
+pub use codec::{decode_with, encode_with};
+pub use coding::{code_of, value_of};
+pub use opcode::{Opcode, UpdateKind};
+pub use row::{Check, Coding, Format, Operand, OperandList, Row};
+pub use value::{Value, Values};
