@@ -418,8 +418,8 @@ ROWS = [
     Row("B", "BrCallInd", "br.call$wh$many$clr $b1=$b2", "9-11 16-31 36", b1=BR, b2=BR,
         **AFTER_BRANCH),
     # B8: the assembler takes it only last in its group
-    Row("B", "Clrrrb", "clrrrb$pred", "0-26 33-36", qualified=False, gnu=last_of_a_group,
-        pred=choice("", ".pr")),
+    Row("B", "Clrrrb", "clrrrb$pred_only", "0-26 33-36", qualified=False, gnu=last_of_a_group,
+        pred_only=choice("", ".pr")),
     # B9
     Row("B", "Break", "break.b $imm", "26 33-35", imm=NUMBER),
     Row("B", "Nop", "nop.b $imm", "26 33-35", imm=NUMBER),

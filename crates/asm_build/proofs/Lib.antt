@@ -28,6 +28,7 @@ pub mod RelationSets
 mod RelationsSoFar
 pub mod RelationFaults
 mod NamedTemplates
+mod NextSlots
 mod OpenBundles
 mod UntargetedSlots
 mod WrittenBundles

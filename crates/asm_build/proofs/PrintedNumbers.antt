@@ -15,7 +15,7 @@ use Rattle.asm_forms.specs.declared.choices.AccessSize.TheVariants as size
 use Rattle.asm_forms.specs.declared.items.NumberField.TheVariants as field
 use Rattle.asm_reading.specs.declared.line.Line.TheVariants as line
 use Rattle.asm_reading.specs.Lines.{KindAndText, tokens, agreed_data, numbers_of, data_of, is_colon, value_of}
-use Rattle.asm_text.proofs.Short.{hex_is_short}
+use Rattle.asm_printing.proofs.Rooms.{hex_is_short}
 use Rattle.asm_text.proofs.SlotLines.{read_plain}
 use Rattle.asm_build.specs.TextReading.{Says}
 use Rattle.asm_build.proofs.DataBack.{AreWords}

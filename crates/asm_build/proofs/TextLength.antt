@@ -19,7 +19,7 @@ use Rattle.asm_reading.specs.declared.line.TemplateName.{TemplateName}
 use Rattle.asm_reading.specs.declared.line.TemplateName.TheVariants as template_name
 use Rattle.asm_printing.specs.declared.limits.TheConstants.{SLOT_LINE_LIMIT}
 use Rattle.asm_printing.specs.SlotTexts.{label_text, slot_text}
-use Rattle.asm_text.proofs.Short.{hex_is_short}
+use Rattle.asm_printing.proofs.Rooms.{hex_is_short}
 use Rattle.asm_build.specs.CanonicalText.{line as text_line, has_stop, is_among, unit_letter, relation_text, relations_text, head_text, slots_text, bundle_text, bundles_text, targets_from, words_of, words_text, data_text, canonical_text}
 use Rattle.asm_build.specs.Marks.{AreSound}
 use Rattle.asm_build.specs.RoundTrip.{CanonicalTextIsShort, CanonicalTextFits}

@@ -24,7 +24,7 @@ use crate::names::bundles_named;
 use crate::reason::{Reason, TextError, fault, reason_of};
 use crate::relations::all_related;
 use crate::text_parts::TextParts;
-use asm_text::{LineBuffers, read_line_with};
+use asm_text::{Line, LineBuffers, read_line_into};
 use asm_words::limits::LINE_LIMIT;
 use bstr::ByteSlice;
 use ia_program::{BundleOf, Place, Program, Relation, long_run};
@@ -44,8 +44,9 @@ fn take_line(
     if line.len() > LINE_LIMIT {
         return Err(fault(n, Reason::Limit));
     }
-    match read_line_with(line, buffers) {
-        Ok(value) => parts.take(n, value),
+    let mut value = Line::Empty;
+    match read_line_into(line, buffers, &mut value) {
+        Ok(()) => parts.take(n, value),
         Err(why) => Err(fault(n, reason_of(why))),
     }
 }

@@ -39,7 +39,8 @@ fn push_slot(
     ensures { OnOk result (out.new.items ≡ out.old.items ++ line (slot_text insn.now place.bundle stop)) }
 {
     print_slot(insn, place, stop, out)?;
-    push_bytes(out, b"\n")
+    out.push(b'\n')?;
+    Ok(())
 }
 
 /// The lines of a bundle's instructions. The stop of a long one follows slot 2 of its template.
@@ -109,10 +110,12 @@ fn push_head(out: &mut Vec<u8>, template: Template) -> Result<(), AllocError>
     ensures { OnOk result (out.new.items ≡ out.old.items ++ head_text template) }
 {
     let [first, second, third] = template.units();
-    push_bytes(out, b"{ .")?;
     push_bytes(
         out,
         &[
+            b'{',
+            b' ',
+            b'.',
             unit_letter(first),
             unit_letter(second),
             unit_letter(third),

@@ -2,6 +2,7 @@
 
 ghost use Rattle.std.specs.Prelude.{◌≡◌, ◌↔◌, true, Some, IfSome, MatchOption, IsTrue};
 ghost use Rattle.ia_program.specs.Bundles.{IsBundle};
+ghost use Rattle.ia_program.specs.Listed.{IsListed};
 ghost use Rattle.asm_reading.specs.declared.line.TemplateName.TheVariants as template_name;
 ghost use Rattle.asm_build.specs.declared.draft.SlotLines.TheVariants as slots;
 ghost use Rattle.asm_build.specs.Drafts.{OpenBundle, AreFitting, letter_of, lettered, completed, count_of, one_more, last_stopped, HasSlot, HasSlotRoom, next_unit, FitsNext, added, stopped, closed_as, closed, IsWhole};
@@ -12,6 +13,7 @@ use asm_text::{Draft, TemplateName};
 use asm_words::Name;
 use ia_insn::{Insn, Op, Unit};
 use ia_program::{BundleOf, Slots, fits};
+use slot_layouts::{class_of, place_is_fit};
 use std::marker::Model;
 
 /// A slot line within its bundle.
@@ -221,12 +223,20 @@ impl Open {
         }
     }
 
-    /// Whether the instruction fits the next slot.
+    /// Whether the instruction, which is listed, fits the next slot. One without its unit's letter is asked for anew with
+    /// it, and of the others the class says it.
     pub fn fits_next(&self, draft: &Draft) -> bool
+        requires { IsListed draft.now.insn }
         ensures { IsTrue result ↔ FitsNext self.now draft.now }
     {
         let unit = self.next_unit();
-        fits(&completed(draft, unit), unit, self.slots.count())
+        let slot = self.slots.count();
+        if draft.bare {
+            fits(&completed(draft, unit), unit, slot)
+        } else {
+            place_is_fit();
+            slot < 3 && class_of(&draft.insn.op).has_place(unit, slot)
+        }
     }
 
     /// The bundle with one more slot line, where there is room for its instruction, which fits.

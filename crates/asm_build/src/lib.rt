@@ -33,7 +33,7 @@ pub use laws::{
     canonical_texts_are_read_back, no_fault_where_read, one_text_fault, one_text_program,
     text_or_fault, texts_mean_their_lines,
 };
-pub use listing::list;
+pub use listing::{list, list_of};
 pub use reason::{Reason, TextError, fault, reason_of};
 pub use relations::relate_line;
 pub use text_parts::{EntryLine, RelationLine, Section, TextParts};

@@ -3,6 +3,8 @@
 ghost use Rattle.std.specs.Prelude.{◌≡◌, ◌++◌, ◌≤◌, length, map, IfOk, OnOk};
 ghost use Rattle.ia_program.specs.declared.limits.TheConstants.{BUNDLE_LIMIT};
 ghost use Rattle.hex.specs.Hex.{encode_lower};
+ghost use Rattle.insn_codec.specs.Spelling.{IsSpelled};
+ghost use Rattle.image_form.specs.Images.{AreSpelled};
 ghost use Rattle.ia_program.specs.Templates.{units_of};
 ghost use Rattle.asm_build.specs.CanonicalText.{unit_letter};
 ghost use Rattle.asm_build.specs.Listing.{head_listed, IsBundleListing, AreBundleListings, IsListing, IsAppended};
@@ -12,7 +14,7 @@ use crate::bundles::{push_slots, unit_letter};
 use asm_text::{push_bytes, push_decimal};
 use hex::encode_to_slice;
 use ia_program::{BundleOf, Program, Template};
-use insn_codec::encode_bundle;
+use image_form::spell_bundles;
 use std::alloc::{AllocError, Global};
 
 /// The digits of a bundle's bytes, the first byte first.
@@ -54,26 +56,38 @@ fn push_head(
     push_bytes(out, b"\n")
 }
 
-/// The lines of the n-th bundle.
-fn push_bundle(out: &mut Vec<u8>, count: usize, n: u32, bundle: &BundleOf) -> Result<(), AllocError>
-    requires { AreSound count n bundle.now.slots }
+/// The lines of the n-th bundle, which has these bytes.
+fn push_bundle(
+    out: &mut Vec<u8>,
+    count: usize,
+    n: u32,
+    bundle: &BundleOf,
+    bytes: [u8; 16],
+) -> Result<(), AllocError>
+    requires sound { AreSound count n bundle.now.slots }
+    requires spelled { IsSpelled bundle.now bytes }
     ensures { OnOk result (IsAppended out.old.items out.new.items (IsBundleListing n bundle.now)) }
 {
-    let bytes = encode_bundle(bundle);
     push_head(out, n, bytes, bundle.template())?;
     push_slots(out, count, n, bundle.template(), bundle.slots())
 }
 
-/// The lines of bundles.
+/// The lines of bundles, which have these bytes.
 #[tactic(auto, using(crate::proofs::Listed::none_listed))]
-fn push_listed(out: &mut Vec<u8>, bundles: &[BundleOf]) -> Result<(), AllocError>
+fn push_listed(out: &mut Vec<u8>, bundles: &[BundleOf], bytes: &[u8]) -> Result<(), AllocError>
     requires few { length bundles.now ≤ BUNDLE_LIMIT }
     requires sound { AreAllSound (length bundles.now) bundles.now }
+    requires spelled { AreSpelled bundles.now bytes.now }
     ensures { OnOk result (IsAppended out.old.items out.new.items (AreBundleListings 0 bundles.now)) }
 {
     let mut n = 0;
+    let mut rest = bytes;
     while n < bundles.len() {
-        push_bundle(out, bundles.len(), n as u32, &bundles[n])?;
+        let Some((chunk, after)) = rest.split_first_chunk::<16>() else {
+            unreachable!();
+        };
+        push_bundle(out, bundles.len(), n as u32, &bundles[n], *chunk)?;
+        rest = after;
         n += 1;
     }
     Ok(())
@@ -82,12 +96,22 @@ fn push_listed(out: &mut Vec<u8>, bundles: &[BundleOf]) -> Result<(), AllocError
 /// The listing of a program: for each bundle in order a line with its number, its sixteen bytes in
 /// hexadecimal as they stand in memory and its template's name, and then the lines of its slots as in the
 /// canonical text. The error is want of memory.
-#[tactic(auto, using(crate::proofs::Soundness::all_sound))]
 pub fn list(alloc: Global, program: &Program) -> Result<Vec<u8>, AllocError>
     ensures { IfOk result (λ text. IsListing program.now text.items) }
 {
     program.is_program();
+    list_of(alloc, program, &spell_bundles(alloc, program.bundles())?)
+}
+
+/// The listing of a program, where the bytes of its bundles are known. No bundle is encoded. The error is
+/// want of memory.
+#[tactic(auto, using(crate::proofs::Soundness::all_sound))]
+pub fn list_of(alloc: Global, program: &Program, bundles: &[u8]) -> Result<Vec<u8>, AllocError>
+    requires { AreSpelled program.now.bundles bundles.now }
+    ensures { IfOk result (λ text. IsListing program.now text.items) }
+{
+    program.is_program();
     let mut out = Vec::new(alloc);
-    push_listed(&mut out, program.bundles())?;
+    push_listed(&mut out, program.bundles(), bundles)?;
     Ok(out)
 }

@@ -2,7 +2,9 @@
 
 ghost use Rattle.std.specs.Prelude.{◌≡◌, ◌↔◌, ◌≤◌, ◌+◌, ◌++◌, None, IsTrue, OnOk, IfOk, IfErr, length};
 ghost use Rattle.first_fault.specs.Stages.{ArePassed};
+ghost use Rattle.ia_program.specs.Listed.{IsListed};
 ghost use Rattle.asm_reading.specs.declared.line.Line.TheVariants as line;
+ghost use Rattle.asm_reading.specs.Lines.{IsListedLine};
 ghost use Rattle.asm_build.specs.declared.reason.Reason.TheVariants as reason;
 ghost use Rattle.asm_build.specs.declared.reason.TextError.TheVariants as error;
 ghost use Rattle.asm_build.specs.TextParts.{TextParts as PartsOf, start, IsWithinLimits, after, value_stages, IsValueError, AreLabelsBelow, AreLabelsInside, here, place_before, turned, with_label, with_relation, IsIn, numbers_bytes};
@@ -97,6 +99,7 @@ impl TextParts {
     /// The first fault of the line after those before it, or want of memory. Nothing is said of what stands here then,
     /// and nothing more is taken.
     pub(crate) fn take(&mut self, n: u32, value: Line) -> Result<(), TextError>
+        requires { IsListedLine value }
         ensures ok { OnOk result (ArePassed (value_stages self.old value) × (self.new ≡ after self.old n value)) }
         ensures err { IfErr result (IsValueError self.old n value) }
     {
@@ -316,6 +319,7 @@ impl TextParts {
     }
 
     fn slot(&mut self, n: u32, draft: Draft, stop: bool) -> Result<(), TextError>
+        requires { IsListed draft.insn }
         ensures ok { OnOk result (ArePassed (value_stages self.old (line.Slot draft stop)) × (self.new ≡ after self.old n (line.Slot draft stop))) }
         ensures err { IfErr result (IsValueError self.old n (line.Slot draft stop)) }
     {

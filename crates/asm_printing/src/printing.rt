@@ -1,53 +1,65 @@
 //! The canonical slot line.
 
-ghost use Rattle.std.specs.Prelude.{◌≡◌, ◌++◌, ◌∷◌, ◌<◌, OnOk, OnErr, Some, false, decimal, flat_map};
+ghost use Rattle.std.specs.Prelude.{◌≡◌, ◌+◌, ◌*◌, ◌++◌, ◌∷◌, ◌<◌, ◌≤◌, codes, length, vec_len, vec_capacity, OnOk, OnErr, Some, false, decimal, flat_map};
 ghost use Rattle.std.specs.Io.{StartsWith};
 ghost use Rattle.asm_forms.specs.Completers.{text_of};
+ghost use Rattle.asm_forms.specs.Items.{mark_token};
 ghost use Rattle.ia_program.specs.Listed.{IsListed};
 ghost use Rattle.asm_canonical.specs.Canonical.{syntax_of};
 ghost use Rattle.asm_printing.specs.SlotTexts.{is_hex, ar_text, number_text, token_text, operands_text, spaced, mnemonic_text, predicate_text, stop_text, target_of, or_zero, HasTarget, line_text, slot_text};
 
-use crate::numerals::{push_bytes, push_decimal, push_hex};
+use crate::numerals::{push_bytes, put_bytes, put_decimal, put_hex};
 use asm_canonical::{Syntax, syntax_of};
-use asm_forms::{Completer, Form, FormItem, Kind, NumberField, mark_token, text};
+use asm_forms::{Completer, Form, FormItem, Kind, Mark, NumberField, mark_token, text};
 use asm_words::Token;
 use ia_insn::{Ar, Insn, Op, Pr};
 use ia_program::Place;
 use std::alloc::AllocError;
 
-#[tactic(auto, using(crate::proofs::Kept::kept_before))]
-fn push_number(
-    out: &mut Vec<u8>,
-    hex: bool,
-    negative: bool,
-    magnitude: u64,
-) -> Result<(), AllocError>
-    ensures ok { OnOk result (out.new.items ≡ out.old.items ++ number_text hex negative magnitude) }
-    ensures err { OnErr result (StartsWith out.new.items out.old.items) }
+/// How many bytes an operand or a mark has at most: a sign and the digits of a number.
+const ITEM_ROOM: usize = 21;
+
+/// How many bytes the operands and the marks of a form have at most, with the space before them.
+const OPERANDS_ROOM: usize = 1 + 16 * ITEM_ROOM;
+
+/// How many bytes there are at most before a mnemonic.
+const START_ROOM: usize = 26;
+
+/// Puts a number as an operand has it, where there is room for an operand.
+#[tactic(auto, using(crate::proofs::Rooms::decimal_is_short, crate::proofs::Rooms::hex_fits, std::proofs::lemmas::Grind::common_steps))]
+fn put_number(out: &mut Vec<u8>, hex: bool, negative: bool, magnitude: u64)
+    requires { vec_len out.old + ITEM_ROOM ≤ vec_capacity out.old }
+    ensures items { out.new.items ≡ out.old.items ++ number_text hex negative magnitude }
+    ensures len { vec_len out.new ≤ vec_len out.old + ITEM_ROOM }
+    ensures capacity { vec_capacity out.new ≡ vec_capacity out.old }
 {
     if negative {
-        push_bytes(out, b"-")?;
+        out.push_reserved(b'-');
     }
     if hex {
-        push_bytes(out, b"0x")?;
-        push_hex(out, magnitude)
+        out.push_reserved(b'0');
+        out.push_reserved(b'x');
+        put_hex(out, magnitude);
     } else {
-        push_decimal(out, magnitude)
+        put_decimal(out, magnitude);
     }
 }
 
-/// A letter and a number, as a register or a label has them.
-#[tactic(auto, using(crate::proofs::Kept::kept_before))]
-fn push_named(out: &mut Vec<u8>, letter: u8, number: u64) -> Result<(), AllocError>
-    ensures ok { OnOk result (out.new.items ≡ out.old.items ++ letter ∷ decimal number) }
-    ensures err { OnErr result (StartsWith out.new.items out.old.items) }
+/// Puts a letter and a number, as a register or a label has them, where there is room for an operand.
+#[tactic(auto, using(crate::proofs::Rooms::decimal_is_short, std::proofs::lemmas::Grind::common_steps))]
+fn put_named(out: &mut Vec<u8>, letter: u8, number: u64)
+    requires { vec_len out.old + ITEM_ROOM ≤ vec_capacity out.old }
+    ensures items { out.new.items ≡ out.old.items ++ letter ∷ decimal number }
+    ensures len { vec_len out.new ≤ vec_len out.old + ITEM_ROOM }
+    ensures capacity { vec_capacity out.new ≡ vec_capacity out.old }
 {
-    push_bytes(out, &[letter])?;
-    push_decimal(out, number)
+    out.push_reserved(letter);
+    put_decimal(out, number);
 }
 
 fn ar_text(ar: Ar) -> &'static [u8]
-    ensures { result.now ≡ ar_text ar }
+    ensures text { result.now ≡ ar_text ar }
+    ensures short { length result.now ≤ ITEM_ROOM }
 {
     match ar {
         Ar::Unat => b"ar.unat",
@@ -57,29 +69,45 @@ fn ar_text(ar: Ar) -> &'static [u8]
     }
 }
 
-/// An operand, where a name is the label of the target.
-fn push_token(out: &mut Vec<u8>, target: u64, hex: bool, token: Token) -> Result<(), AllocError>
-    ensures ok { OnOk result (out.new.items ≡ out.old.items ++ token_text target hex token) }
-    ensures err { OnErr result (StartsWith out.new.items out.old.items) }
+/// Puts an operand, where a name is the label of the target and there is room for an operand.
+fn put_token(out: &mut Vec<u8>, target: u64, hex: bool, token: Token)
+    requires { vec_len out.old + ITEM_ROOM ≤ vec_capacity out.old }
+    ensures items { out.new.items ≡ out.old.items ++ token_text target hex token }
+    ensures len { vec_len out.new ≤ vec_len out.old + ITEM_ROOM }
+    ensures capacity { vec_capacity out.new ≡ vec_capacity out.old }
 {
     match token {
-        Token::Gr(r) => push_named(out, b'r', u64::from(r.number())),
-        Token::Pr(p) => push_named(out, b'p', u64::from(p.number())),
-        Token::Br(b) => push_named(out, b'b', u64::from(b.number())),
-        Token::Ar(ar) => push_bytes(out, ar_text(ar)),
-        Token::Predicates => push_bytes(out, b"pr"),
-        Token::RotatingPredicates => push_bytes(out, b"pr.rot"),
-        Token::Ip => push_bytes(out, b"ip"),
+        Token::Gr(r) => put_named(out, b'r', u64::from(r.number())),
+        Token::Pr(p) => put_named(out, b'p', u64::from(p.number())),
+        Token::Br(b) => put_named(out, b'b', u64::from(b.number())),
+        Token::Ar(ar) => put_bytes(out, ar_text(ar)),
+        Token::Predicates => put_bytes(out, b"pr"),
+        Token::RotatingPredicates => put_bytes(out, b"pr.rot"),
+        Token::Ip => put_bytes(out, b"ip"),
         Token::Number {
             negative,
             magnitude,
-        } => push_number(out, hex, negative, magnitude),
-        Token::Name => push_named(out, b'L', target),
-        Token::Equals => push_bytes(out, b"="),
-        Token::Comma => push_bytes(out, b","),
-        Token::OpenBracket => push_bytes(out, b"["),
-        Token::CloseBracket => push_bytes(out, b"]"),
-        _ => Ok(()),
+        } => put_number(out, hex, negative, magnitude),
+        Token::Name => put_named(out, b'L', target),
+        Token::Equals => out.push_reserved(b'='),
+        Token::Comma => out.push_reserved(b','),
+        Token::OpenBracket => out.push_reserved(b'['),
+        Token::CloseBracket => out.push_reserved(b']'),
+        _ => {}
+    }
+}
+
+/// Puts a mark, where there is room for an operand.
+fn put_mark(out: &mut Vec<u8>, target: u64, mark: Mark)
+    requires { vec_len out.old + ITEM_ROOM ≤ vec_capacity out.old }
+    ensures items { out.new.items ≡ out.old.items ++ token_text target false (mark_token mark) }
+    ensures len { vec_len out.new ≤ vec_len out.old + ITEM_ROOM }
+    ensures capacity { vec_capacity out.new ≡ vec_capacity out.old }
+{
+    match mark {
+        Mark::Comma => out.push_reserved(b','),
+        Mark::Equals => out.push_reserved(b'='),
+        _ => put_token(out, target, false, mark_token(mark)),
     }
 }
 
@@ -97,28 +125,23 @@ fn is_hex(kind: Kind) -> bool
     }
 }
 
-/// The marks and the operands of a form, item by item.
-#[tactic(auto, using(crate::proofs::Kept::kept_before))]
-fn push_items(
-    out: &mut Vec<u8>,
-    target: u64,
-    items: &[FormItem],
-    operands: &[Token],
-) -> Result<(), AllocError>
-    ensures ok { OnOk result (out.new.items ≡ out.old.items ++ operands_text target items.now operands.now) }
-    ensures err { OnErr result (StartsWith out.new.items out.old.items) }
+/// Puts the marks and the operands of a form, item by item, where there is room for each.
+fn put_items(out: &mut Vec<u8>, target: u64, items: &[FormItem], operands: &[Token])
+    requires { vec_len out.old + length items.now * ITEM_ROOM ≤ vec_capacity out.old }
+    ensures items { out.new.items ≡ out.old.items ++ operands_text target items.now operands.now }
+    ensures capacity { vec_capacity out.new ≡ vec_capacity out.old }
 {
     match items {
-        [] => Ok(()),
+        [] => {}
         [FormItem::Is(mark), items @ ..] => {
-            push_token(out, target, false, mark_token(*mark))?;
-            push_items(out, target, items, operands)
+            put_mark(out, target, *mark);
+            put_items(out, target, items, operands);
         }
         [FormItem::Takes(kind), items @ ..] => match operands {
-            [] => Ok(()),
+            [] => {}
             [operand, operands @ ..] => {
-                push_token(out, target, is_hex(*kind), *operand)?;
-                push_items(out, target, items, operands)
+                put_token(out, target, is_hex(*kind), *operand);
+                put_items(out, target, items, operands);
             }
         },
     }
@@ -159,18 +182,23 @@ fn target_of(bundle: u32, op: &Op) -> Option<u64>
     }
 }
 
-/// The qualifying predicate, where it isn't p0.
-#[tactic(auto, using(crate::proofs::Kept::kept_before))]
-fn push_predicate(out: &mut Vec<u8>, qp: Pr) -> Result<(), AllocError>
-    ensures ok { OnOk result (out.new.items ≡ out.old.items ++ predicate_text qp) }
+/// Two spaces, and the qualifying predicate, where it isn't p0.
+#[tactic(auto, using(crate::proofs::Rooms::decimal_is_short, crate::proofs::Kept::kept_before))]
+fn push_start(out: &mut Vec<u8>, qp: Pr) -> Result<(), AllocError>
+    ensures ok { OnOk result (out.new.items ≡ out.old.items ++ (codes "  " ++ predicate_text qp)) }
     ensures err { OnErr result (StartsWith out.new.items out.old.items) }
 {
-    if qp.number() == 0 {
-        return Ok(());
+    out.reserve(START_ROOM)?;
+    out.push_reserved(b' ');
+    out.push_reserved(b' ');
+    if qp.number() != 0 {
+        out.push_reserved(b'(');
+        out.push_reserved(b'p');
+        put_decimal(out, u64::from(qp.number()));
+        out.push_reserved(b')');
+        out.push_reserved(b' ');
     }
-    push_bytes(out, b"(p")?;
-    push_decimal(out, u64::from(qp.number()))?;
-    push_bytes(out, b") ")
+    Ok(())
 }
 
 /// The marks and the operands after one space, where there are any.
@@ -181,13 +209,15 @@ fn push_operands(
     items: &[FormItem],
     operands: &[Token],
 ) -> Result<(), AllocError>
+    requires { length items.now ≤ 16 }
     ensures ok { OnOk result (out.new.items ≡ out.old.items ++ spaced (operands_text target items.now operands.now)) }
     ensures err { OnErr result (StartsWith out.new.items out.old.items) }
 {
+    out.reserve(OPERANDS_ROOM)?;
     let before = out.len();
-    push_bytes(out, b" ")?;
+    out.push_reserved(b' ');
     let start = out.len();
-    push_items(out, target, items, operands)?;
+    put_items(out, target, items, operands);
     if out.len() == start {
         out.truncate(before);
     }
@@ -217,8 +247,7 @@ fn push_syntax(
     ensures ok { OnOk result (out.new.items ≡ out.old.items ++ line_text target qp syntax.now.form syntax.now.completers syntax.now.operands stop) }
     ensures err { OnErr result (StartsWith out.new.items out.old.items) }
 {
-    push_bytes(out, b"  ")?;
-    push_predicate(out, qp)?;
+    push_start(out, qp)?;
     push_mnemonic(out, syntax.form(), syntax.completers())?;
     push_operands(out, target, syntax.form().items(), syntax.operands())?;
     push_stop(out, stop)

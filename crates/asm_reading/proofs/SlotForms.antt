@@ -115,3 +115,8 @@ pub slot_if_read : (name : List ℕ) (before after : List KindAndText) (qp : ℕ
     → completers f name ≡ Some cs → o ≡ slot_line qp f cs (tokens after) after → IfSome o (λ value. worded name before after ≡ Ok value)
 slot_if_read name before after qp f cs None plain guarded found named is = tt
 slot_if_read name before after qp f cs (Some value) plain guarded found named is = slot_read name before after qp f cs value plain guarded found named (sym is)
+
+-- what holds of a value that is made holds of it where it is put
+pub put_there : {A : Type 0} (P : Line → Type 0) (r : Option A) (value : Line) → IfSome (option_map (λ x. value) r) P → IfSome r (λ x. P value)
+put_there P None value h = tt
+put_there P (Some x) value h = h

@@ -1,5 +1,6 @@
 -- What the words of a line say, by how many there are and by the place of the leading one.
-use Rattle.std.proofs.Common.{◌≡◌, ◌≤◌, ◌<◌, ◌∙◌, sym, ap, refl, ℕ, ◌+◌, true, List, [], ◌∷◌, length, take, drop, get_or, slice_get, slice_range, Some, Err, Result, arith}
+use Rattle.std.proofs.Common.{◌≡◌, ◌≤◌, ◌<◌, ◌∙◌, sym, ap, refl, ℕ, suc, ◌+◌, true, List, [], ◌∷◌, length, take, drop, get_or, slice_get, slice_range, Some, None, Err, Result, false, add-one, arith}
+use Rattle.std.proofs.Math.Seq.{drop-cons}
 use Rattle.std.proofs.lemmas.List.{take-map, drop-map}
 use Rattle.std.proofs.lemmas.Option.{slice_get-map, slice_get-get_or}
 use Rattle.asm_words.specs.declared.word.Word.{Word}
@@ -8,9 +9,11 @@ use Rattle.asm_words.specs.declared.word.WordKind.TheVariants as kind
 use Rattle.asm_words.specs.declared.fault.LineFault.{LineFault}
 use Rattle.asm_words.specs.declared.fault.LineFault.TheVariants as fault
 use Rattle.asm_words.specs.Bytes.{has_only_plain}
+use Rattle.asm_forms.specs.declared.items.FormItem.{FormItem}
+use Rattle.asm_forms.specs.Items.{is_label_item}
 use Rattle.asm_words.specs.Words.{words_from}
 use Rattle.asm_reading.specs.declared.line.Line.{Line}
-use Rattle.asm_reading.specs.Lines.{KindAndText, texts, value_of, led, led_at, led_by, worded, label_of, reading_of}
+use Rattle.asm_reading.specs.Lines.{KindAndText, AreParts, texts, value_of, led, led_at, led_by, worded, label_of, label_name, reading_of}
 
 -- a label has nothing after its colon
 pub label_alone : (text line : List ℕ) (ws : List Word) → 1 ≤ length ws → Err fault.Form ≡ label_of text (texts line ws)
@@ -40,3 +43,20 @@ led_name k text part before after r e t h = h ∙ ap (λ w. worded w before afte
 -- the words of a line are read by their kinds and texts
 pub read_by_text : (line : List ℕ) (ws : List Word) → ws ≡ words_from 0 0 line → has_only_plain line ≡ true → value_of (texts line ws) ≡ reading_of line
 read_by_text line ws e plain = rw (e, plain) refl
+
+-- the name of the label is not among the words where they end before it
+pub label_missing : (line : List ℕ) (is : List FormItem) (ws : List Word) → length ws < 1 → None ≡ label_name is (texts line ws)
+label_missing line [] [] few = refl
+label_missing line (i ∷ is) [] few = refl
+label_missing line is (w ∷ ws) few = absurd (omega (arith, few))
+
+-- and is among the words after one at another item
+pub label_later : (line : List ℕ) (is : List FormItem) (ws rest : List Word) (k : ℕ) (d : FormItem) → k < length is → 1 ≤ length ws → is_label_item (get_or is k d) ≡ false → rest ≡ drop 1 ws
+    → label_name (drop (k + 1) is) (texts line rest) ≡ label_name (drop k is) (texts line ws)
+label_later line is [] rest k d there some other e = absurd (omega (arith, some))
+label_later line is (w ∷ ws) rest k d there some other e = rw (e, add-one, drop-cons is k d there, other) refl
+
+-- those after the first are parts of the line too
+pub parts_later : (line : List ℕ) (ws rest : List Word) → AreParts line ws → rest ≡ drop 1 ws → AreParts line rest
+parts_later line [] rest all e = rw e (λ k d there. absurd (omega (arith, there)))
+parts_later line (w ∷ ws) rest all e = rw e (λ k d there. all (suc k) d (omega (arith, there)))

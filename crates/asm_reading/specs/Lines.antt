@@ -52,6 +52,11 @@ abbrev pub or_fault : {A : Type 0} → Option A → LineFault → Result A LineF
 or_fault None e = Err e
 or_fault (Some x) e = Ok x
 
+-- what is said where a value is put into a place: the value there, or the fault
+abbrev pub put : {A : Type 0} → Result A LineFault → Line → Result Line LineFault
+put (Ok x) value = Ok value
+put (Err e) value = Err e
+
 -- a word by its kind and its text
 abbrev pub KindAndText : Type 0
 KindAndText = WordKind × List ℕ

@@ -1,10 +1,11 @@
 //! Reading a line: from its words to its value or its first fault.
 
-ghost use Rattle.std.specs.Prelude.{◌≡◌, ◌≤◌, ◌<◌, ◌+◌, ◌-◌, ◌*◌, ◌^◌, ◌↔◌, IsTrue, IfOk, IfErr, IfSome, length, take, drop, slice_range, Some, Ok, true, false};
+ghost use Rattle.std.specs.Prelude.{◌≡◌, ◌≤◌, ◌<◌, ◌+◌, ◌-◌, ◌*◌, ◌^◌, ◌↔◌, IsTrue, IfOk, IfErr, OnOk, IfSome, length, take, drop, slice_range, Some, Ok, true, false};
+ghost use Rattle.std.specs.Option.{option_map};
 ghost use Rattle.asm_words.specs.declared.limits.TheConstants.{LINE_LIMIT};
 ghost use Rattle.asm_words.specs.Tokens.{token_of};
 ghost use Rattle.asm_words.specs.Words.{pick};
-ghost use Rattle.asm_reading.specs.Lines.{AreParts, texts, tokens, name_of, label_name, lead_at, past_parenthesis, ends_in_stop, without_stop, predicate_of, is_bare, completers_or_none, slot_under, slot_of, directive_value, directive_of, alone, data_of, relation_of, among, worded, marked, template_name_of, opened, led_by, led, is_colon, is_open, is_close, label_of, value_of, reading_of, IsListedLine, LineOf, FaultOf};
+ghost use Rattle.asm_reading.specs.Lines.{put, AreParts, texts, tokens, name_of, label_name, lead_at, past_parenthesis, ends_in_stop, without_stop, predicate_of, is_bare, completers_or_none, slot_under, slot_of, directive_value, directive_of, alone, data_of, relation_of, among, worded, marked, template_name_of, opened, led_by, led, is_colon, is_open, is_close, label_of, value_of, reading_of, IsListedLine, LineOf, FaultOf};
 ghost use Rattle.asm_reading.specs.SlotReading.{slot_line, is_directive_name};
 
 use crate::buffers::{LineBuffers, Tokens};
@@ -13,8 +14,8 @@ use crate::line::{Draft, Line};
 use crate::relation::relation_of;
 use crate::template_name::template_name_of;
 use asm_forms::{
-    AccessSize, Completer, Completers, Form, FormItem, Kind, Spelled, completers, find_spelled,
-    named, taken,
+    AccessSize, Completer, Completers, Form, FormItem, Spelled, completers, find_spelled,
+    is_label_item, named, taken,
 };
 use asm_instructions::{is_present_at, op_of, u32_at};
 use asm_matching::read_form;
@@ -161,14 +162,21 @@ fn label_name(line: &[u8], items: &[FormItem], words: &[Word]) -> Option<Name>
     requires { AreParts line.now words.now }
     ensures { result ≡ label_name items.now (texts line.now words.now) }
 {
-    match (items, words) {
-        ([FormItem::Takes(Kind::Label), ..], [word, ..]) => name_of(word.text(line)),
-        ([_, items @ ..], [_, words @ ..]) => label_name(line, items, words),
-        _ => None,
+    let mut left = words;
+    for item in items {
+        let [word, rest @ ..] = left else {
+            return None;
+        };
+        if is_label_item(*item) {
+            return name_of(word.text(line));
+        }
+        left = rest;
     }
+    None
 }
 
-/// The slot line of this form, with these completers and the tokens after its name.
+/// Puts the slot line of this form, with these completers and the tokens after its name, into `value`. None where
+/// they make no instruction.
 fn slot_line(
     qp: Pr,
     form: Form,
@@ -176,21 +184,22 @@ fn slot_line(
     tokens: &[Token],
     line: &[u8],
     words: &[Word],
-) -> Option<Line>
+    value: &mut Line,
+) -> Option<()>
     requires { AreParts line.now words.now }
-    ensures { result ≡ slot_line qp form completers.now tokens.now (texts line.now words.now) }
+    ensures { option_map (λ x. value.new) result ≡ slot_line qp form completers.now tokens.now (texts line.now words.now) }
 {
     let items = form.items();
     let op = op_of(form, completers, &taken(items, without_stop(tokens)))?;
-    let draft = Draft {
-        insn: Insn { qp, op },
-        target: label_name(line, items, words),
-        bare: is_bare(form, completers),
-    };
-    Some(Line::Slot {
-        draft,
+    *value = Line::Slot {
+        draft: Draft {
+            insn: Insn { qp, op },
+            target: label_name(line, items, words),
+            bare: is_bare(form, completers),
+        },
         stop: ends_in_stop(tokens),
-    })
+    };
+    Some(())
 }
 
 /// A slot line under a predicate by its name and the tokens after that.
@@ -207,8 +216,9 @@ fn slot_under(
 {
     let form = read_form(forms, without_stop(tokens), tokens)?;
     let completers = completers_or_none(form, name);
-    match slot_line(qp, form, &completers, tokens, line, words) {
-        Some(value) => Ok(value),
+    let mut value = Line::Empty;
+    match slot_line(qp, form, &completers, tokens, line, words, &mut value) {
+        Some(()) => Ok(value),
         None => Err(LineFault::Form),
     }
 }
@@ -371,18 +381,20 @@ fn is_directive_name(name: &[u8]) -> bool
     matches!(name, [b'.', ..] | [b'd', b'a', ..])
 }
 
-/// A slot line that has no fault, by the one row that its name and its operands spell; None where it has a fault.
+/// Puts a slot line that has no fault into `value`, by the one row that its name and its operands spell. None where it
+/// has a fault.
 fn slot_without_fault(
     name: &[u8],
     line: &[u8],
     before: &[Word],
     after: &[Word],
     buffer: &mut Tokens,
-) -> Option<Line>
+    value: &mut Line,
+) -> Option<()>
     requires few { (length before.now ≤ LINE_LIMIT) × (length after.now ≤ LINE_LIMIT) }
     requires parts { AreParts line.now before.now × AreParts line.now after.now }
     requires slot { is_directive_name name.now ≡ false }
-    ensures { IfSome result (λ value. worded name.now (texts line.now before.now) (texts line.now after.now) ≡ Ok value) }
+    ensures { IfSome result (λ x. worded name.now (texts line.now before.now) (texts line.now after.now) ≡ Ok value.new) }
 {
     let Ok(qp) = predicate(line, before, buffer) else {
         return None;
@@ -392,74 +404,86 @@ fn slot_without_fault(
     let Some(Spelled { form, completers }) = find_spelled(name, without_stop(tokens)) else {
         return None;
     };
-    slot_line(qp, form, &completers, tokens, line, after)
+    slot_line(qp, form, &completers, tokens, line, after, value)
 }
 
-/// A line that a name leads. All forms of the name are asked for only where a slot line has a fault.
+/// Puts a line that a name leads into `value`. All forms of the name are asked for only where a slot line has a fault.
 fn worded(
     name: &[u8],
     line: &[u8],
     before: &[Word],
     after: &[Word],
     buffer: &mut Tokens,
-) -> Result<Line, LineFault>
+    value: &mut Line,
+) -> Result<(), LineFault>
     requires few { (length before.now ≤ LINE_LIMIT) × (length after.now ≤ LINE_LIMIT) }
     requires parts { AreParts line.now before.now × AreParts line.now after.now }
-    ensures { result ≡ worded name.now (texts line.now before.now) (texts line.now after.now) }
+    ensures { put result value.new ≡ worded name.now (texts line.now before.now) (texts line.now after.now) }
 {
     if !is_directive_name(name) {
-        if let Some(value) = slot_without_fault(name, line, before, after, buffer) {
-            return Ok(value);
+        if let Some(()) = slot_without_fault(name, line, before, after, buffer, value) {
+            return Ok(());
         }
     }
-    among(&named(name), name, line, before, after, buffer)
+    *value = among(&named(name), name, line, before, after, buffer)?;
+    Ok(())
 }
 
-/// A mark that stands alone.
-fn marked(value: Line, line: &[u8], before: &[Word], after: &[Word]) -> Result<Line, LineFault>
-    ensures { result ≡ marked value (texts line.now before.now) (texts line.now after.now) }
+/// Puts what a mark that stands alone says into `value`.
+fn marked(
+    said: Line,
+    line: &[u8],
+    before: &[Word],
+    after: &[Word],
+    value: &mut Line,
+) -> Result<(), LineFault>
+    ensures { put result value.new ≡ marked said (texts line.now before.now) (texts line.now after.now) }
 {
     match (before, after) {
-        ([], []) => Ok(value),
+        ([], []) => {
+            *value = said;
+            Ok(())
+        }
         _ => Err(LineFault::Form),
     }
 }
 
-/// `{` and a template name.
-fn opened(line: &[u8], before: &[Word], after: &[Word]) -> Result<Line, LineFault>
+/// Puts `{` and a template name into `value`.
+fn opened(line: &[u8], before: &[Word], after: &[Word], value: &mut Line) -> Result<(), LineFault>
     requires { AreParts line.now after.now }
-    ensures { result ≡ opened (texts line.now before.now) (texts line.now after.now) }
+    ensures { put result value.new ≡ opened (texts line.now before.now) (texts line.now after.now) }
 {
     match after {
         [word, rest @ ..] => match template_name_of(word.text(line)) {
-            Some(name) => marked(Line::Open { name }, line, before, rest),
+            Some(name) => marked(Line::Open { name }, line, before, rest, value),
             None => Err(LineFault::Name),
         },
         [] => Err(LineFault::Name),
     }
 }
 
-/// A line that this word leads.
+/// Puts a line that this word leads into `value`.
 fn led_by(
     word: &Word,
     line: &[u8],
     before: &[Word],
     after: &[Word],
     buffer: &mut Tokens,
-) -> Result<Line, LineFault>
+    value: &mut Line,
+) -> Result<(), LineFault>
     requires few { (length before.now ≤ LINE_LIMIT) × (length after.now ≤ LINE_LIMIT) }
     requires parts { AreParts line.now before.now × AreParts line.now after.now }
     requires word { (word.now.start ≤ word.now.end) × (word.now.end ≤ length line.now) }
-    ensures { result ≡ led_by (word.now.kind, slice_range line.now word.now.start word.now.end) (texts line.now before.now) (texts line.now after.now) }
+    ensures { put result value.new ≡ led_by (word.now.kind, slice_range line.now word.now.start word.now.end) (texts line.now before.now) (texts line.now after.now) }
 {
     let text = word.text(line);
     match word.kind {
-        WordKind::Name => worded(text, line, before, after, buffer),
+        WordKind::Name => worded(text, line, before, after, buffer, value),
         WordKind::Number | WordKind::Quoted => Err(LineFault::Name),
         WordKind::Mark => match token(WordKind::Mark, text) {
-            Token::Stop => marked(Line::Stop, line, before, after),
-            Token::CloseBrace => marked(Line::Close, line, before, after),
-            Token::OpenBrace => opened(line, before, after),
+            Token::Stop => marked(Line::Stop, line, before, after, value),
+            Token::CloseBrace => marked(Line::Close, line, before, after, value),
+            Token::OpenBrace => opened(line, before, after, value),
             _ => Err(LineFault::Name),
         },
     }
@@ -481,11 +505,11 @@ fn from(words: &[Word], at: usize) -> &[Word]
     &words[at..]
 }
 
-/// A line that is no label.
-fn led(line: &[u8], words: &[Word], buffer: &mut Tokens) -> Result<Line, LineFault>
+/// Puts a line that is no label into `value`.
+fn led(line: &[u8], words: &[Word], buffer: &mut Tokens, value: &mut Line) -> Result<(), LineFault>
     requires few { length words.now ≤ LINE_LIMIT }
     requires parts { AreParts line.now words.now }
-    ensures { result ≡ led (texts line.now words.now) }
+    ensures { put result value.new ≡ led (texts line.now words.now) }
 {
     let Some(lead) = lead_at(line, words) else {
         return Err(LineFault::Name);
@@ -499,6 +523,7 @@ fn led(line: &[u8], words: &[Word], buffer: &mut Tokens) -> Result<Line, LineFau
         before(words, lead),
         from(words, lead + 1),
         buffer,
+        value,
     )
 }
 
@@ -536,32 +561,41 @@ fn is_colon(word: &Word, line: &[u8]) -> bool
     !is_name(word) && matches!(token(word.kind, word.text(line)), Token::Colon)
 }
 
-/// What the words of a line say.
-fn value_of(line: &[u8], words: &[Word], buffer: &mut Tokens) -> Result<Line, LineFault>
+/// Puts what the words of a line say into `value`.
+fn value_of(
+    line: &[u8],
+    words: &[Word],
+    buffer: &mut Tokens,
+    value: &mut Line,
+) -> Result<(), LineFault>
     requires few { length words.now ≤ LINE_LIMIT }
     requires parts { AreParts line.now words.now }
-    ensures { result ≡ value_of (texts line.now words.now) }
+    ensures { put result value.new ≡ value_of (texts line.now words.now) }
 {
     match words {
-        [] => Ok(Line::Empty),
-        [_] => led(line, words, buffer),
+        [] => {
+            *value = Line::Empty;
+            Ok(())
+        }
+        [_] => led(line, words, buffer, value),
         [name, colon, rest @ ..] => {
             if is_name(name) && is_colon(colon, line) {
-                label_of(name.text(line), line, rest)
+                *value = label_of(name.text(line), line, rest)?;
+                Ok(())
             } else {
-                led(line, words, buffer)
+                led(line, words, buffer, value)
             }
         }
     }
 }
 
-/// What a line says, but for whether its instruction is listed.
-fn reading_of(line: &[u8], buffers: &mut LineBuffers) -> Result<Line, LineFault>
+/// Puts what a line says, but for whether its instruction is listed, into `value`.
+fn reading_of(line: &[u8], buffers: &mut LineBuffers, value: &mut Line) -> Result<(), LineFault>
     requires { length line.now ≤ LINE_LIMIT }
-    ensures { result ≡ reading_of line.now }
+    ensures { put result value.new ≡ reading_of line.now }
 {
     words_into(line, &mut buffers.words)?;
-    value_of(line, buffers.words.as_slice(), &mut buffers.tokens)
+    value_of(line, buffers.words.as_slice(), &mut buffers.tokens, value)
 }
 
 /// Whether the instruction of a slot line is listed.
@@ -596,9 +630,26 @@ pub fn read_line_with(line: &[u8], buffers: &mut LineBuffers) -> Result<Line, Li
     ensures ok { IfOk result (LineOf line.now) }
     ensures err { IfErr result (FaultOf line.now) }
 {
-    let reading = reading_of(line, buffers);
-    match &reading {
-        Ok(value) if !is_listed_line(value) => Err(LineFault::Form),
-        _ => reading,
+    let mut value = Line::Empty;
+    read_line_into(line, buffers, &mut value)?;
+    Ok(value)
+}
+
+/// Puts what a line says, as [`read_line_with`] has it, into `value`, in the place of what it held, so that one value
+/// serves many lines. After a fault nothing is said of what it holds.
+pub fn read_line_into(
+    line: &[u8],
+    buffers: &mut LineBuffers,
+    value: &mut Line,
+) -> Result<(), LineFault>
+    requires { length line.now ≤ LINE_LIMIT }
+    ensures ok { OnOk result (LineOf line.now value.new) }
+    ensures err { IfErr result (FaultOf line.now) }
+{
+    reading_of(line, buffers, value)?;
+    if is_listed_line(value) {
+        Ok(())
+    } else {
+        Err(LineFault::Form)
     }
 }

@@ -1,19 +1,17 @@
 -- A canonical slot line has at most 119 bytes: two spaces, a predicate of at most 6, a mnemonic and operands of at
 -- most 107 together, a space between them, and a stop of at most 3.
-use Rattle.std.proofs.Common.{◌≡◌, refl, ap, ℕ, suc, zero, ◌+◌, ◌*◌, ◌/◌, ◌%◌, ◌<◌, ◌≤◌, ◌^◌, Bool, true, false, cond, leb, eqb, List, [], ◌∷◌, ◌++◌, length, Option, Some, None, arith, codes, lit<}
+use Rattle.std.proofs.Common.{◌≡◌, refl, ℕ, suc, ◌+◌, ◌<◌, ◌≤◌, ◌^◌, Bool, true, false, cond, leb, eqb, List, [], ◌∷◌, ◌++◌, length, Option, Some, None, arith, codes, lit<}
 use Rattle.std.specs.Prelude.{flat_map, IfSome}
 use Rattle.std.specs.List.{AllByRecursion, list_all}
-use Rattle.std.specs.Fmt.{decimal, digits, digit_glyph}
+use Rattle.std.specs.Fmt.{decimal}
 use Rattle.std.proofs.lemmas.Fmt.{length-decimal-le}
-use Rattle.std.proofs.lemmas.Bool.{leb-true, leb-false}
+use Rattle.std.proofs.lemmas.Bool.{leb-true}
 use Rattle.std.proofs.lemmas.List.{length-append}
-use native.Mathlib.Nat.{pow-suc}
 use Rattle.ia_insn.specs.declared.insn.Insn.{Insn}
 use Rattle.ia_insn.specs.declared.registers.Ar.TheVariants as ar
 use Rattle.ia_program.proofs.Tests.{left, right}
 use Rattle.asm_words.specs.declared.tokens.Token.{Token}
 use Rattle.asm_words.specs.declared.tokens.Token.TheVariants as t
-use Rattle.asm_words.proofs.HexDigits.{hex_one, hex_step}
 use Rattle.asm_forms.specs.declared.completer.Completer.{Completer}
 use Rattle.asm_forms.specs.declared.form.Form.{Form}
 use Rattle.asm_forms.specs.declared.items.FormItem.{FormItem}
@@ -28,6 +26,7 @@ use Rattle.asm_forms.proofs.Clear.{products}
 use Rattle.asm_forms.proofs.RowBack.{of_products}
 use Rattle.asm_forms.proofs.RowFacts.{of_row}
 use Rattle.asm_printing.specs.declared.limits.TheConstants.{SLOT_LINE_LIMIT}
+use Rattle.asm_printing.proofs.Rooms.{decimal_is_short, hex_is_short}
 use Rattle.asm_printing.specs.SlotTexts.{is_hex, token_text, operands_text, or_zero, spaced, predicate_text, mnemonic_text, stop_text, slot_text, target_of}
 use Rattle.asm_text.proofs.Mnemonic.{name_of_op}
 use Rattle.asm_canonical.proofs.Written.{form_of, completers_of, operands_of, items_of, tokens_of, IsPrinted}
@@ -78,26 +77,6 @@ row_is_short f cs h =
     let all = leb-true _ _ (of_products (λ ds. leb (length (row_of f).word + length (flat_map text_of ds) + items_room (row_of f).items) 107) (row_of f).sets (flat_map text_of cs) cs each h) in
     let both = length-append (row_of f).word (flat_map text_of cs) in
     omega (arith, all, both)
-
--- A number of 64 bits has at most 20 decimal digits.
-decimal_is_short : (n : ℕ) → n < 2 ^ 64 → length (decimal n) ≤ 20
-decimal_is_short n l = length-decimal-le 20 n (lit< tt) (omega arith) l
-
--- a hexadecimal digit more than those of the number divided by 16, or one alone
-hex_either : (b : Bool) (n most : ℕ) → leb 16 n ≡ b → n < 2 ^ 64 → length (digits 16 false (n / 16)) ≤ most → length (digits 16 false n) ≤ suc most
-hex_either true n most e l s =
-    let d = ap length (hex_step n (leb-true 16 n e) (omega (arith, l))) in
-    let both = length-append (digits 16 false (n / 16)) (digit_glyph false (n % 16) ∷ []) in
-    omega (arith, d, both, s)
-hex_either false n most e l s = let d = ap length (hex_one n (leb-false 16 n e)) in omega (arith, d)
-
--- A number below a power of 16 has no more hexadecimal digits than the exponent.
-pub hex_is_short : (k n : ℕ) → n < 16 ^ suc k → n < 2 ^ 64 → length (digits 16 false n) ≤ suc k
-hex_is_short zero n h l = let d = ap length (hex_one n (omega (arith, h))) in omega (arith, d)
-hex_is_short (suc k) n h l =
-    let p : 16 ^ suc (suc k) ≡ 16 ^ suc k * 16 = pow-suc 16 (suc k) in
-    let m : n / 16 < 16 ^ suc k = omega (arith, p, h) in
-    hex_either (leb 16 n) n (suc k) refl l (hex_is_short k (n / 16) m (omega (arith, l)))
 
 -- The text of an operand fits in its room.
 token_is_short : (target : ℕ) (hex : Bool) (x : Token) → target < 2 ^ 34 → IsPrinted x → length (token_text target hex x) ≤ token_room x

@@ -5,5 +5,6 @@ pub mod Gaps
 pub mod HexDigits
 pub mod Lexing
 pub mod Numerals
+mod OneRegister
 pub mod Readings
 pub mod Slicing

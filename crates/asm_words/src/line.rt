@@ -57,12 +57,13 @@ fn cut(line: &[u8], words: &mut ArrayVec<Word, LINE_LIMIT>)
     let mut at = 0;
     while at < line.len() {
         let first = line[at];
-        let rest = &line[at + 1..];
         if is_blank(first) {
             at += 1;
-        } else if begins_comment(first, rest) {
-            return;
         } else {
+            let rest = &line[at + 1..];
+            if begins_comment(first, rest) {
+                return;
+            }
             let (kind, more, sharp) = word_at(first, rest);
             words.push(Word {
                 kind,
@@ -83,7 +84,7 @@ fn word_at(first: u8, rest: &[u8]) -> (WordKind, usize, usize)
     ensures bound { result.1 + result.2 ≤ length rest.now }
 {
     let kind = kind_at(first, rest);
-    let more = more_at(first, rest);
+    let more = more_at(kind, first, rest);
     let after = &rest[more..];
     if has_sharp(kind, after) {
         (kind, more, 1)
@@ -119,12 +120,13 @@ fn has_quote(bytes: &[u8]) -> bool
     false
 }
 
-// How many bytes after the first belong to the word.
-fn more_at(first: u8, rest: &[u8]) -> usize
+// How many bytes after the first belong to the word of this kind.
+fn more_at(kind: WordKind, first: u8, rest: &[u8]) -> usize
+    requires { kind ≡ kind_at first rest.now }
     ensures value { result ≡ more_at first rest.now }
     ensures bound { result ≤ length rest.now }
 {
-    match kind_at(first, rest) {
+    match kind {
         WordKind::Quoted => quoted_run(rest),
         WordKind::Mark => {
             if first == b';' && begins_with(b';', rest) {
@@ -142,11 +144,14 @@ fn name_run(bytes: &[u8]) -> usize
     ensures value { result ≡ name_run bytes.now }
     ensures bound { result ≤ length bytes.now }
 {
-    let mut at = 0;
-    while at < bytes.len() && is_name_byte(bytes[at]) {
-        at += 1;
+    let mut run = 0;
+    for byte in bytes {
+        if !is_name_byte(*byte) {
+            return run;
+        }
+        run += 1;
     }
-    at
+    run
 }
 
 // How many bytes there are up to the first `"`, it among them, or all where there is none.

@@ -80,13 +80,14 @@ fn has_needless_zero(digits: &[u8]) -> bool
     }
 }
 
-// The register that the name spells, by its number or by a name of its own.
+// The register that the name spells, by its number or by a name of its own. No name does both.
+#[tactic(auto, using(crate::proofs::OneRegister::by_own_name))]
 pub(crate) fn register_of(name: &[u8]) -> Option<Token>
     ensures { result ≡ register_of name.now }
 {
-    match alias_of(name) {
+    match numbered_register(name) {
         Some(register) => Some(register),
-        None => numbered_register(name),
+        None => alias_of(name),
     }
 }
 

@@ -78,10 +78,3 @@ with-other n low width v h l k (inr p) =
 -- what the code writes
 pub changed : (n low width v : ℕ) → (n - bits low width n * 2 ^ low) + v * 2 ^ low ≡ with_bits n low width v
 changed n low width v = omega (arith, whole n low width)
-
--- the same, as the code's shifts give it
-pub written : (n low width v g : ℕ) → low + width ≤ 64 → v < 2 ^ width → g ≡ bits low width n → n - g * 2 ^ low % 18446744073709551616 + v * 2 ^ low % 18446744073709551616 ≡ with_bits n low width v
-written n low width v g within h e =
-    let small : g < 2 ^ width = subst (λ q. q < 2 ^ width) (sym e) (below_pow (n / 2 ^ low) width) in
-    let fits : width + low ≤ 64 = omega arith in
-    rw (shl_whole g width low 64 small fits, shl_whole v width low 64 h fits, e) (changed n low width v)

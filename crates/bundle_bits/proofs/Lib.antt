@@ -2,4 +2,3 @@ pub mod Fields
 pub mod Bytes
 pub mod Parts
 pub mod Words
-mod Sums

@@ -1,11 +1,7 @@
 -- Bit fields of a word.
-use Rattle.std.specs.Prelude.{ℕ, ◌+◌, ◌≤◌, ◌⊎◌}
+use Rattle.std.specs.Prelude.{ℕ, ◌+◌, ◌≤◌}
 
 -- a field has at least one bit and lies in 64 bits
 pub record IsField (low width : ℕ) : Type 0 where
   pub some : 1 ≤ width
   pub within : low + width ≤ 64
-
--- two fields share no bit: the second lies below the first or above it
-abbrev pub AreDisjoint : (low width low' width' : ℕ) → Type 0
-AreDisjoint low width low' width' = (low' + width' ≤ low) ⊎ (low + width ≤ low')

@@ -1,5 +1,5 @@
 -- A word as the sum of its fields (volume 3, chapter 4, instruction formats).
-use Rattle.std.specs.Prelude.{ℕ, ◌+◌, ◌*◌, ◌/◌, ◌%◌, ◌^◌, ◌<◌, ◌&&◌, nat_le, List, [], ◌∷◌, Bool, true}
+use Rattle.std.specs.Prelude.{ℕ, ◌+◌, ◌*◌, ◌/◌, ◌%◌, ◌^◌, ◌<◌, List, [], ◌∷◌}
 
 -- A field: its lowest bit, how many bits it has, and its value.
 pub record Part : Type 0 where
@@ -23,12 +23,3 @@ AllFit (p ∷ ps) = (p.value < 2 ^ p.width) × AllFit ps
 -- The bits of a number from `low` on, `width` of them.
 abbrev pub bits : ℕ → ℕ → ℕ → ℕ
 bits low width n = n / 2 ^ low % 2 ^ width
-
--- What a word has in a field, which goes by its name: the function that makes it of a value.
-abbrev pub the : ℕ → (ℕ → Part) → ℕ
-the word name = bits (name 0).low (name 0).width word
-
--- The fields go from the top down, below a bound, and share no bit.
-abbrev pub is_layout : ℕ → List Part → Bool
-is_layout bound [] = true
-is_layout bound (p ∷ ps) = nat_le (p.low + p.width) bound && is_layout p.low ps

@@ -1,7 +1,7 @@
 //! Bit fields of a word.
 
 ghost use Rattle.std.specs.Prelude.{◌≡◌, ℕ, ◌+◌, ◌*◌, ◌/◌, ◌%◌, ◌^◌, ◌<◌, ◌≤◌};
-ghost use Rattle.bundle_bits.specs.Bits.{IsField, AreDisjoint};
+ghost use Rattle.bundle_bits.specs.Bits.{IsField};
 ghost use Rattle.bundle_bits.specs.Words.{bits};
 
 /// The `W` bits of a 64-bit word from bit `LO` up, where bit 0 is the lowest.
@@ -19,23 +19,5 @@ impl<const LO: u32, const W: u32> Field<LO, W> {
         ensures within { result < 2 ^ W }
     {
         (word >> LO) & (u64::MAX >> (64 - W))
-    }
-
-    /// The word with this number in the field, whatever stood there, and with each other bit as
-    /// it was.
-    pub fn put(word: u64, value: u64) -> u64
-        requires field { IsField LO W }
-        requires fits { value < 2 ^ W }
-        ensures same { bits LO W result ≡ value }
-
-        // Each field that shares no bit with this one keeps its number, be it a single bit.
-        ensures others { (low width : ℕ) → AreDisjoint LO W low width → bits low width result ≡ bits low width word }
-
-        // As numbers: the field's old share goes, and its new one comes.
-        ensures sum { result + bits LO W word * 2 ^ LO ≡ word + value * 2 ^ LO }
-    {
-        let old = Self::get(word) << LO;
-        let new = value << LO;
-        word - old + new
     }
 }

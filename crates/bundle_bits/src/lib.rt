@@ -9,8 +9,6 @@
 
 mod bundle;
 mod field;
-mod word;
 
 pub use bundle::{RawBundle, join, one_bytes, one_raw, some_raw, split};
 pub use field::Field;
-pub use word::{Part, word_of_parts};

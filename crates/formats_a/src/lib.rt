@@ -20,7 +20,7 @@ mod places;
 mod rows;
 
 use ia_insn::Insn;
-use insn_rows::{decode_with, encode_with, opcode_of};
+use insn_rows::{decode_with, encode_with, lists_with, opcode_of};
 pub use rows::ROWS;
 
 /// The A instruction whose word this is, and None exactly where it is that of none (volume 3,
@@ -40,7 +40,7 @@ pub fn decode_a(word: u64) -> Option<Insn>
     // unit alone has less.
     ensures opcode { word < 2 ^ 40 → IsNone result }
 {
-    decode_with(rows::rows(), word)
+    decode_with(rows::rows(), rows::by_major(), word)
 }
 
 /// The word of an A instruction, and None exactly where the instruction is of another family or
@@ -63,10 +63,11 @@ pub fn encode_a(insn: &Insn) -> Option<u64>
 }
 
 /// Whether the instruction is an A instruction whose operands are in their ranges: whether it has a word.
+#[tactic(auto, using(crate::proofs::Table::is_place_of))]
 pub fn is_listed_a(insn: &Insn) -> bool
     ensures { IsTrue result ↔ IsListedA insn.now }
 {
-    encode_a(insn).is_some()
+    lists_with(rows::rows(), places::place_of(opcode_of(&insn.op)), insn)
 }
 
 /// The law that a word is that of at most one A instruction. It does nothing.

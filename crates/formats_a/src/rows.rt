@@ -1,8 +1,9 @@
 //! The rows of the A instructions (volume 3, chapter 4, instruction formats, A1 to A9, and the tables of opcodes).
 
-ghost use Rattle.std.specs.Prelude.{◌≡◌, IsTrue};
+ghost use Rattle.std.specs.Prelude.{◌≡◌, IsTrue, map};
 ghost use Rattle.formats_a.specs.Listed.{rows};
 ghost use Rattle.insn_rows.specs.WellMade.{is_table};
+ghost use Rattle.insn_rows.specs.Indexes.{is_index};
 
 use ia_insn::{AluFn, CmpKind, LaneFn, Rel};
 use insn_rows::{Opcode, Row, row};
@@ -77,10 +78,39 @@ pub static ROWS: [Row; 57] = [
     row!(Opcode::Lane(LaneFn::PcmpGt), A9; MAJOR = 8, X2A = 1, X4 = 9, X2B = 1),
 ];
 
+/// The places of the rows of each major opcode, in the order in which they are tried.
+pub static BY_MAJOR: [&[u8]; 16] = [
+    &[],
+    &[],
+    &[],
+    &[],
+    &[],
+    &[],
+    &[],
+    &[],
+    &[
+        15, 0, 9, 2, 5, 7, 1, 3, 4, 6, 8, 10, 11, 12, 13, 14, 53, 54, 55, 56,
+    ],
+    &[16],
+    &[],
+    &[],
+    &[41, 17, 44, 20, 23, 24, 29, 30, 31, 32, 47, 48],
+    &[42, 18, 45, 21, 25, 26, 33, 34, 35, 36, 49, 50],
+    &[43, 19, 46, 22, 27, 28, 37, 38, 39, 40, 51, 52],
+    &[],
+];
+
 /// The rows, which are a table.
 pub(crate) fn rows() -> &'static [Row]
     ensures value { result.now ≡ rows }
     ensures table { IsTrue (is_table result.now) }
 {
     &ROWS
+}
+
+/// The places of the rows of each major opcode.
+pub(crate) fn by_major() -> &'static [&'static [u8]; 16]
+    ensures { IsTrue (is_index rows (map (λ places. places.now) result.now)) }
+{
+    &BY_MAJOR
 }

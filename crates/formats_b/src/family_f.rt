@@ -9,7 +9,7 @@ mod places;
 pub mod rows;
 
 use ia_insn::Insn;
-use insn_rows::{decode_with, encode_with, opcode_of};
+use insn_rows::{decode_with, encode_with, lists_with, opcode_of};
 
 /// The F instruction whose word this is, and None exactly where it is that of none (volume 3,
 /// chapter 4, instruction formats, F15 and F16). Where in its bundle the word stands is not looked at.
@@ -24,7 +24,7 @@ pub fn decode_f(word: u64) -> Option<Insn>
     // A slot has 41 bits, and no larger number is a word.
     ensures beyond { 2 ^ 41 ≤ word → IsNone result }
 {
-    decode_with(rows::rows(), word)
+    decode_with(rows::rows(), rows::by_major(), word)
 }
 
 /// The word of an F instruction, and None exactly where the instruction is of another family or
@@ -47,10 +47,11 @@ pub fn encode_f(insn: &Insn) -> Option<u64>
 }
 
 /// Whether the instruction is an F instruction whose operands are in their ranges: whether it has a word.
+#[tactic(auto, using(crate::proofs::TableF::is_place_of))]
 pub fn is_listed_f(insn: &Insn) -> bool
     ensures { IsTrue result ↔ IsListedF insn.now }
 {
-    encode_f(insn).is_some()
+    lists_with(rows::rows(), places::place_of(opcode_of(&insn.op)), insn)
 }
 
 /// The law that a word is that of at most one F instruction. It does nothing.

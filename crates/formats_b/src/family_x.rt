@@ -10,7 +10,7 @@ mod places;
 pub mod rows;
 
 use ia_insn::Insn;
-use insn_rows::{decode_with, encode_with, opcode_of};
+use insn_rows::{decode_with, encode_with, lists_with, opcode_of};
 use parts::{is_within, low_of, slot_part, whole};
 
 /// The words of a long instruction, 41 bits each (volume 1, chapter 3, instruction encoding).
@@ -41,7 +41,7 @@ pub fn decode_x(l: u64, word: u64) -> Option<Insn>
     if l >= 1 << 41 {
         return None;
     }
-    match decode_with(rows::rows(), word) {
+    match decode_with(rows::rows(), rows::by_major(), word) {
         Some(part) => Some(whole(l, part)),
         None => None,
     }
@@ -75,10 +75,15 @@ pub fn encode_x(insn: &Insn) -> Option<LongWord>
 }
 
 /// Whether the instruction is a long one whose operands are in their ranges: whether it has words.
+#[tactic(auto, using(crate::proofs::TableX::is_place_of))]
 pub fn is_listed_x(insn: &Insn) -> bool
     ensures { IsTrue result ↔ IsListedX insn.now }
 {
-    encode_x(insn).is_some()
+    is_within(&insn.op)
+        && {
+            let part = slot_part(insn);
+            lists_with(rows::rows(), places::place_of(opcode_of(&part.op)), &part)
+        }
 }
 
 /// The law that two words are those of at most one long instruction. It does nothing.

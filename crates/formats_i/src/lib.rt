@@ -18,7 +18,7 @@ mod places;
 mod rows;
 
 use ia_insn::Insn;
-use insn_rows::{decode_with, encode_with, opcode_of};
+use insn_rows::{decode_with, encode_with, lists_with, opcode_of};
 pub use rows::ROWS;
 
 /// The I instruction whose word this is, and None exactly where it is that of none (volume 3,
@@ -34,7 +34,7 @@ pub fn decode_i(word: u64) -> Option<Insn>
     // A slot has 41 bits, of which the highest is 0 here, as the major opcode is below 8; no larger number is a word.
     ensures beyond { 2 ^ 40 ≤ word → IsNone result }
 {
-    decode_with(rows::rows(), word)
+    decode_with(rows::rows(), rows::by_major(), word)
 }
 
 /// The word of an I instruction, and None exactly where the instruction is of another family or
@@ -57,10 +57,11 @@ pub fn encode_i(insn: &Insn) -> Option<u64>
 }
 
 /// Whether the instruction is an I instruction whose operands are in their ranges: whether it has a word.
+#[tactic(auto, using(crate::proofs::Table::is_place_of))]
 pub fn is_listed_i(insn: &Insn) -> bool
     ensures { IsTrue result ↔ IsListedI insn.now }
 {
-    encode_i(insn).is_some()
+    lists_with(rows::rows(), places::place_of(opcode_of(&insn.op)), insn)
 }
 
 /// The law that a word is that of at most one I instruction. It does nothing.

@@ -1,8 +1,9 @@
 //! The rows of the I instructions (volume 3, chapter 4, instruction formats, I5 to I29, and the tables of opcodes).
 
-ghost use Rattle.std.specs.Prelude.{◌≡◌, IsTrue};
+ghost use Rattle.std.specs.Prelude.{◌≡◌, IsTrue, map};
 ghost use Rattle.formats_i.specs.Listed.{rows};
 ghost use Rattle.insn_rows.specs.WellMade.{is_table};
+ghost use Rattle.insn_rows.specs.Indexes.{is_index};
 
 use ia_insn::{Ar, ShiftFn, Unit};
 use insn_rows::{Opcode, Row, row};
@@ -66,10 +67,39 @@ pub static ROWS: [Row; 32] = [
     row!(Opcode::Ext, I29; MAJOR = 0, X3 = 0, X6 = 0x10),
 ];
 
+/// The places of the rows of each major opcode, in the order in which they are tried.
+pub static BY_MAJOR: [&[u8]; 16] = [
+    &[
+        12, 31, 13, 14, 15, 16, 17, 18, 19, 20, 21, 22, 23, 24, 25, 26, 27, 28, 29, 30,
+    ],
+    &[],
+    &[],
+    &[],
+    &[9],
+    &[5, 6, 4, 7, 8, 10, 11],
+    &[],
+    &[0, 1, 2, 3],
+    &[],
+    &[],
+    &[],
+    &[],
+    &[],
+    &[],
+    &[],
+    &[],
+];
+
 /// The rows, which are a table.
 pub(crate) fn rows() -> &'static [Row]
     ensures value { result.now ≡ rows }
     ensures table { IsTrue (is_table result.now) }
 {
     &ROWS
+}
+
+/// The places of the rows of each major opcode.
+pub(crate) fn by_major() -> &'static [&'static [u8]; 16]
+    ensures { IsTrue (is_index rows (map (λ places. places.now) result.now)) }
+{
+    &BY_MAJOR
 }

@@ -1,8 +1,9 @@
 //! The rows of the M instructions (volume 3, chapter 4, instruction formats, M1 to M5, M16, M17 and M20 to M48, and the tables of opcodes).
 
-ghost use Rattle.std.specs.Prelude.{◌≡◌, IsTrue};
+ghost use Rattle.std.specs.Prelude.{◌≡◌, IsTrue, map};
 ghost use Rattle.formats_m.specs.Listed.{rows};
 ghost use Rattle.insn_rows.specs.WellMade.{is_table};
+ghost use Rattle.insn_rows.specs.Indexes.{is_index};
 
 use ia_insn::{Ar, LoadKind, StoreKind, Unit};
 use insn_rows::{Opcode, Row, UpdateKind, row};
@@ -78,10 +79,39 @@ pub static ROWS: [Row; 50] = [
     row!(Opcode::Hint(Unit::M), I18; MAJOR = 0, X3 = 0, X2_M24 = 0, X4_M24 = 1, Y = 1),
 ];
 
+/// The places of the rows of each major opcode, in the order in which they are tried.
+pub static BY_MAJOR: [&[u8]; 16] = [
+    &[48, 39, 40, 41, 42, 44, 47, 49],
+    &[46, 38, 43, 45],
+    &[],
+    &[],
+    &[
+        0, 30, 36, 37, 1, 2, 3, 4, 5, 6, 7, 8, 9, 10, 11, 12, 13, 14, 15, 16, 17, 18, 19, 31, 32,
+    ],
+    &[20, 33, 21, 22, 23, 24, 25, 26, 27, 28, 29, 34, 35],
+    &[],
+    &[],
+    &[],
+    &[],
+    &[],
+    &[],
+    &[],
+    &[],
+    &[],
+    &[],
+];
+
 /// The rows, which are a table.
 pub(crate) fn rows() -> &'static [Row]
     ensures value { result.now ≡ rows }
     ensures table { IsTrue (is_table result.now) }
 {
     &ROWS
+}
+
+/// The places of the rows of each major opcode.
+pub(crate) fn by_major() -> &'static [&'static [u8]; 16]
+    ensures { IsTrue (is_index rows (map (λ places. places.now) result.now)) }
+{
+    &BY_MAJOR
 }

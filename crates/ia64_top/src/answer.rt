@@ -24,7 +24,7 @@ use crate::tracing::trace_accepted;
 use crate::watching::watch_accepted;
 use crate::words::Command;
 use asm_build::{
-    TextError, assemble, canonical_texts_are_read_back, disassemble, list, no_fault_where_read,
+    TextError, assemble, canonical_texts_are_read_back, disassemble, list_of, no_fault_where_read,
     one_text_program,
 };
 use emulator::Machine;
@@ -33,8 +33,8 @@ use group_engine::{GroupMachine, group_text};
 use ia_meaning::progress_is_run;
 use ia_program::{End, Program};
 use image_form::{
-    ImageFault, is_image, no_fault_where_spelled, one_program, read_image, wrap_raw, write_image,
-    write_image_2,
+    ImageFault, bundles_of, is_image, no_fault_where_spelled, one_program, read_image, wrap_raw,
+    write_image, write_image_2_of, write_image_of,
 };
 use state_text::state_text;
 use std::alloc::{AllocError, Global};
@@ -124,7 +124,7 @@ fn list_input(alloc: Global, input: &[u8]) -> Result<Answer, AllocError>
 {
     match read_image(alloc, input) {
         Ok(program) => Ok(Answer {
-            bytes: list(alloc, &program)?,
+            bytes: list_of(alloc, &program, bundles_of(input))?,
             status: Status::Done,
         }),
         Err(fault) => refuse(alloc, fault),
@@ -137,7 +137,7 @@ fn wrap_input(alloc: Global, input: &[u8]) -> Result<Answer, AllocError>
 {
     match wrap_raw(alloc, input) {
         Ok(program) => Ok(Answer {
-            bytes: write_image(alloc, &program)?,
+            bytes: write_image_of(alloc, &program, input)?,
             status: Status::Done,
         }),
         Err(fault) => refuse(alloc, fault),
@@ -150,7 +150,7 @@ fn lift_input(alloc: Global, input: &[u8]) -> Result<Answer, AllocError>
 {
     match read_image(alloc, input) {
         Ok(program) => Ok(Answer {
-            bytes: write_image_2(alloc, &program)?,
+            bytes: write_image_2_of(alloc, &program, bundles_of(input))?,
             status: Status::Done,
         }),
         Err(fault) => refuse(alloc, fault),

@@ -26,6 +26,11 @@ front_is bytes front rest whole size = ap (take 16) whole ∙ take_at front rest
 rest_is : (bytes front rest : List ℕ) → bytes ≡ front ++ rest → length front ≡ 16 → drop 16 bytes ≡ rest
 rest_is bytes front rest whole size = ap (drop 16) whole ∙ drop_at front rest 16 size
 
+-- the first bundle has the first sixteen bytes, and the others have the others
+pub spelled_first : (b : Bundle) (bs : List Bundle) (bytes : List ℕ) → AreSpelled (b ∷ bs) bytes → IsSpelled b (take 16 bytes) × AreSpelled bs (drop 16 bytes)
+spelled_first b bs bytes (front, rest, whole, is, more) =
+    (subst (IsSpelled b) (sym (front_is bytes front rest whole is.are.count)) is, subst (AreSpelled bs) (sym (rest_is bytes front rest whole is.are.count)) more)
+
 -- one bundle more
 pub spelled_push : (bundles : List Bundle) (b : Bundle) (bytes next : List ℕ) → AreSpelled bundles bytes → IsSpelled b next → AreSpelled (bundles ++ b ∷ []) (bytes ++ next)
 spelled_push [] b bytes next none is = (next, [], rw none (sym (append-nil next)), is, refl)
@@ -109,15 +114,7 @@ first_unspelled bytes bundles rest next n why front long count fault r =
       first = λ k less. subst (λ (l : List ℕ). IsBundleBytes (chunk l k)) (sym r.whole) (spelled_chunk bundles r.front rest k r.spelled (omega arith));
     }
 
--- The first bundles have been written behind old bytes.
-pub record IsWrittenTo (bundles : List Bundle) (n : ℕ) (old new : List ℕ) : Type 0 where
-  pub bytes : List ℕ
-  pub whole : new ≡ old ++ bytes
-  pub spelled : AreSpelled (take n bundles) bytes
-
-pub one_more_written : (bundles : List Bundle) (n : ℕ) (old new next : List ℕ) (b : Bundle) → n < length bundles → b ≡ slice_index_or bundles n b → IsSpelled b next → IsWrittenTo bundles n old new → IsWrittenTo bundles (n + 1) old (new ++ next)
-one_more_written bundles n old new next b inside is spelled w = record {
-  bytes = w.bytes ++ next;
-  whole = ap (λ l. l ++ next) w.whole ∙ append_assoc old w.bytes next;
-  spelled = subst (λ (l : List Bundle). AreSpelled l (w.bytes ++ next)) (ap (λ x. take n bundles ++ x ∷ []) is ∙ sym (take_more bundles n b inside)) (spelled_push (take n bundles) b w.bytes next w.spelled spelled);
-}
+-- one bundle more has been written
+pub one_more_written : (bundles : List Bundle) (n : ℕ) (bytes next : List ℕ) (b : Bundle) → n < length bundles → b ≡ slice_index_or bundles n b → IsSpelled b next → AreSpelled (take n bundles) bytes → AreSpelled (take (n + 1) bundles) (bytes ++ next)
+one_more_written bundles n bytes next b inside is spelled before =
+    subst (λ (l : List Bundle). AreSpelled l (bytes ++ next)) (ap (λ x. take n bundles ++ x ∷ []) is ∙ sym (take_more bundles n b inside)) (spelled_push (take n bundles) b bytes next before spelled)

@@ -1,6 +1,6 @@
 //! Bundles in sixteen bytes each.
 
-ghost use Rattle.std.specs.Prelude.{◌≡◌, ◌≢◌, ◌+◌, ◌%◌, ◌<◌, ◌^◌, ℕ, List, [], ◌∷◌, ◌++◌, length, vec_len, vec_capacity, IfOk, IfErr, OnOk};
+ghost use Rattle.std.specs.Prelude.{◌≡◌, ◌≢◌, ◌+◌, ◌%◌, ◌<◌, ◌^◌, [], ◌∷◌, ◌++◌, length, vec_len, vec_capacity, IfOk, IfErr};
 ghost use Rattle.first_fault.specs.Stages.{IsFirstFault};
 ghost use Rattle.image_form.specs.Images.{AreSpelled};
 ghost use Rattle.image_form.specs.Faults.{spelling_stage};
@@ -44,12 +44,14 @@ pub(crate) fn read_bundles(alloc: Global, bytes: &[u8]) -> Result<Vec<BundleOf>,
     Ok(bundles)
 }
 
-/// Appends bundles, one after the other.
-pub(crate) fn push_bundles(bytes: &mut Vec<u8>, bundles: &[BundleOf]) -> Result<(), AllocError>
-    ensures { OnOk result ((spelled : List ℕ) × (bytes.new.items ≡ bytes.old.items ++ spelled) × AreSpelled bundles.now spelled) }
+/// The bytes of bundles, one after the other. The error is want of memory.
+pub fn spell_bundles(alloc: Global, bundles: &[BundleOf]) -> Result<Vec<u8>, AllocError>
+    requires { length bundles.now < 2 ^ 32 }
+    ensures { IfOk result (λ bytes. AreSpelled bundles.now bytes.items) }
 {
+    let mut bytes = Vec::with_capacity(alloc, 16 * bundles.len())?;
     for bundle in bundles {
         bytes.extend_from_slice(&encode_bundle(bundle))?;
     }
-    Ok(())
+    Ok(bytes)
 }

@@ -5,8 +5,9 @@
 //! bundles and the data. In version 1, that of `IA64IMG1`, the number of relations is zero.
 //! [`read_image`] takes both versions and answers the program or the first fault, [`wrap_raw`] does
 //! so for bare bundles, [`write_image`] gives the image of a program of version 1 where that has room
-//! for it and else of version 2, and [`write_image_2`] that of version 2. All numbers have their
-//! lowest byte first.
+//! for it and else of version 2, and [`write_image_2`] that of version 2. [`write_image_of`] and
+//! [`write_image_2_of`] do so where the bytes of the bundles are known. All numbers have their lowest
+//! byte first.
 #![tactic(auto)]
 
 mod bundles;
@@ -19,11 +20,12 @@ mod relations;
 mod version;
 mod writing;
 
+pub use bundles::spell_bundles;
 pub use fault::ImageFault;
 pub use laws::{
     fault_where_none_raw, fault_where_none_spelled, image_size, no_fault_where_raw,
     no_fault_where_spelled, one_fault, one_image, one_program, one_raw_fault, one_raw_program,
 };
-pub use reading::{read_image, wrap_raw};
+pub use reading::{bundles_of, read_image, wrap_raw};
 pub use version::{VERSION_1_BUNDLE_LIMIT, Version, is_image};
-pub use writing::{write_image, write_image_2};
+pub use writing::{write_image, write_image_2, write_image_2_of, write_image_of};

@@ -103,6 +103,18 @@ pub fn read_image(alloc: Global, bytes: &[u8]) -> Result<Program, ImageFault>
     read(alloc, bytes)
 }
 
+/// The bytes of the bundles of an image.
+pub fn bundles_of(image: &[u8]) -> &[u8]
+    requires { (p : Parts) × Spells p image.now }
+    ensures { (p : Parts) → Spells p image.now → AreSpelled p.bundles result.now }
+{
+    no_fault_where_spelled();
+    let Ok(head) = Head::read(image) else {
+        unreachable!();
+    };
+    head.parts(image).bundles
+}
+
 /// The program of bare bundles, or their first fault.
 fn wrap(alloc: Global, bytes: &[u8]) -> Result<Program, ImageFault>
     ensures found { IfOk result (λ p. RawSpells p bytes.now) }

@@ -2,9 +2,9 @@
 
 ghost use Rattle.std.specs.Prelude.{length, IsTrue, IfOk};
 ghost use Rattle.image_form.specs.declared.version.Version.TheVariants.{Two};
-ghost use Rattle.image_form.specs.Images.{has_room, IsImage, Written};
+ghost use Rattle.image_form.specs.Images.{has_room, AreSpelled, IsImage, Written};
 
-use crate::bundles::push_bundles;
+use crate::bundles::spell_bundles;
 use crate::head::Head;
 use crate::numbers::push_numbers;
 use crate::relations::push_relations;
@@ -12,9 +12,15 @@ use crate::version::Version;
 use ia_program::Program;
 use std::alloc::{AllocError, Global};
 
-/// The image of a program in a version that has room for it.
-fn image_as(alloc: Global, version: Version, program: &Program) -> Result<Vec<u8>, AllocError>
-    requires { IsTrue (has_room version (length program.now.bundles) (length program.now.relations)) }
+/// The image of a program, whose bundles have these bytes, in a version that has room for it.
+fn image_as(
+    alloc: Global,
+    version: Version,
+    program: &Program,
+    bundles: &[u8],
+) -> Result<Vec<u8>, AllocError>
+    requires room { IsTrue (has_room version (length program.now.bundles) (length program.now.relations)) }
+    requires spelled { AreSpelled program.now.bundles bundles.now }
     ensures { IfOk result (λ bytes. IsImage version program.now bytes.items) }
 {
     program.is_program();
@@ -23,7 +29,7 @@ fn image_as(alloc: Global, version: Version, program: &Program) -> Result<Vec<u8
     head.push(&mut bytes)?;
     push_numbers(&mut bytes, program.entries())?;
     push_relations(&mut bytes, program.relations())?;
-    push_bundles(&mut bytes, program.bundles())?;
+    bytes.extend_from_slice(bundles)?;
     bytes.extend_from_slice(program.data())?;
     Ok(bytes)
 }
@@ -39,10 +45,28 @@ pub fn write_image(alloc: Global, program: &Program) -> Result<Vec<u8>, AllocErr
     ensures { IfOk result (λ bytes. Written program.now bytes.items) }
 {
     program.is_program();
+    write_image_of(alloc, program, &spell_bundles(alloc, program.bundles())?)
+}
+
+/// The image of a program as [`write_image`] gives it, where the bytes of its bundles are known. No
+/// bundle is encoded.
+///
+/// # Errors
+///
+/// Only want of memory.
+pub fn write_image_of(
+    alloc: Global,
+    program: &Program,
+    bundles: &[u8],
+) -> Result<Vec<u8>, AllocError>
+    requires { AreSpelled program.now.bundles bundles.now }
+    ensures { IfOk result (λ bytes. Written program.now bytes.items) }
+{
+    program.is_program();
     if Version::One.has_room(program.bundles().len(), program.relations().len()) {
-        image_as(alloc, Version::One, program)
+        image_as(alloc, Version::One, program, bundles)
     } else {
-        image_as(alloc, Version::Two, program)
+        image_as(alloc, Version::Two, program, bundles)
     }
 }
 
@@ -56,5 +80,22 @@ pub fn write_image_2(alloc: Global, program: &Program) -> Result<Vec<u8>, AllocE
     ensures { IfOk result (λ bytes. IsImage Two program.now bytes.items) }
 {
     program.is_program();
-    image_as(alloc, Version::Two, program)
+    write_image_2_of(alloc, program, &spell_bundles(alloc, program.bundles())?)
+}
+
+/// The image of version 2 of a program, where the bytes of its bundles are known. No bundle is encoded.
+///
+/// # Errors
+///
+/// Only want of memory.
+pub fn write_image_2_of(
+    alloc: Global,
+    program: &Program,
+    bundles: &[u8],
+) -> Result<Vec<u8>, AllocError>
+    requires { AreSpelled program.now.bundles bundles.now }
+    ensures { IfOk result (λ bytes. IsImage Two program.now bytes.items) }
+{
+    program.is_program();
+    image_as(alloc, Version::Two, program, bundles)
 }

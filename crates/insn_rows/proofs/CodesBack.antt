@@ -11,7 +11,8 @@ use Rattle.insn_rows.specs.declared.row.Coding.{Coding}
 use Rattle.insn_rows.specs.declared.row.Coding.TheVariants as c
 use Rattle.insn_rows.specs.declared.value.Value.{Value}
 use Rattle.insn_rows.specs.declared.value.Value.TheVariants as v
-use Rattle.insn_rows.specs.Codings.{IsSize, IsStep, code_of_step, Takes, code}
+use Rattle.ia_insn.specs.Ranges.{IsAccessSize, IsIncrement}
+use Rattle.insn_rows.specs.Codings.{code_of_step, Takes, code}
 use Rattle.insn_rows.specs.Reading.{increment_of_code, value}
 use Rattle.insn_rows.specs.WellMade.{suits}
 use Rattle.insn_rows.proofs.Numbers.{known_below, known_above, half_below, high_below, up_to_below, twos-signed, shifted_below}
@@ -20,10 +21,10 @@ use Rattle.insn_rows.proofs.Numbers.{known_below, known_above, half_below, high_
 at_width : (n w k : ℕ) → eqb w k ≡ true → n < 2 ^ k → n < 2 ^ w
 at_width n w k e fit = known_above n w k e fit
 
-size_code : (n : ℕ) → IsSize n → code_of_size n < 2 ^ 2
+size_code : (n : ℕ) → IsAccessSize n → code_of_size n < 2 ^ 2
 size_code n h = grind arith
 
-size_back : (n : ℕ) → IsSize n → size_of_code (code_of_size n) ≡ n
+size_back : (n : ℕ) → IsAccessSize n → size_of_code (code_of_size n) ≡ n
 size_back n h = grind arith
 
 step_code : (n : ℕ) → code_of_step n < 4
@@ -37,19 +38,19 @@ increment_fits : (z : ℤ) → code c.Increment 3 (v.Short z) < 2 ^ 3
 increment_fits (pos n) = step_fits false n
 increment_fits (negsuc n) = step_fits true (suc n)
 
-step_back : (n : ℕ) → IsStep n → increment_of_code (4 * flag false + code_of_step n) ≡ pos n
+step_back : (n : ℕ) → IsIncrement (pos n) → increment_of_code (4 * flag false + code_of_step n) ≡ pos n
 step_back n (inl e) = rw e refl
 step_back n (inr (inl e)) = rw e refl
 step_back n (inr (inr (inl e))) = rw e refl
 step_back n (inr (inr (inr e))) = rw e refl
 
-negative_back : (n : ℕ) → IsStep n → increment_of_code (4 * flag true + code_of_step n) ≡ neg_ℤ (pos n)
+negative_back : (n : ℕ) → IsIncrement (pos n) → increment_of_code (4 * flag true + code_of_step n) ≡ neg_ℤ (pos n)
 negative_back n (inl e) = rw e refl
 negative_back n (inr (inl e)) = rw e refl
 negative_back n (inr (inr (inl e))) = rw e refl
 negative_back n (inr (inr (inr e))) = rw e refl
 
-increment_back : (z : ℤ) → IsStep (unsigned_abs z) → increment_of_code (code c.Increment 3 (v.Short z)) ≡ z
+increment_back : (z : ℤ) → IsIncrement z → increment_of_code (code c.Increment 3 (v.Short z)) ≡ z
 increment_back (pos n) h = step_back n h
 increment_back (negsuc n) h = negative_back (suc n) h
 
@@ -58,6 +59,7 @@ pub code_fits : (coding : Coding) (w : ℕ) (x : Value) → Takes coding w x →
 code_fits c.Absent w v.Absent t s = pow_pos w
 code_fits c.NoPredicate w (v.Pr n) t s = let p = pow_pos w in omega arith
 code_fits c.Gr w (v.Gr n) t s = t
+code_fits c.LowGr w (v.Gr n) t s = at_width n w 2 s (omega arith)
 code_fits c.Target w (v.Gr n) t s = t.1
 code_fits c.Pr w (v.Pr n) t s = t
 code_fits c.Br w (v.Br n) t s = t
@@ -68,7 +70,7 @@ code_fits c.LoadHint w (v.Small n) t s = at_width n w 2 s (let a = t.0 in omega 
 code_fits c.StoreHint w (v.Small n) t s = at_width n w 2 s (omega arith)
 code_fits c.LessOne w (v.Small n) t s = let a = t.0 in let b = t.1 in omega arith
 code_fits c.From63 w (v.Small n) t s = at_width (63 - n) w 6 s (omega arith)
-code_fits (c.Size least most) w (v.Small n) t s = at_width (code_of_size n) w 2 s (size_code n t.0)
+code_fits (c.Size least most) w (v.Small n) t s = at_width (code_of_size n) w 2 (both-left _ _ s) (size_code n t.0)
 code_fits c.Increment w (v.Short z) t s = at_width (code c.Increment 3 (v.Short z)) w 3 s (increment_fits z)
 code_fits c.Wide w (v.Wide n) t s = t
 code_fits c.PredicateMask w (v.Mask n) t s = half_below n w t.0
@@ -88,6 +90,7 @@ pub value_back : (coding : Coding) (w : ℕ) (x : Value) → Takes coding w x �
 value_back c.Absent w v.Absent t s = refl
 value_back c.NoPredicate w (v.Pr n) t s = ap v.Pr (sym t)
 value_back c.Gr w (v.Gr n) t s = refl
+value_back c.LowGr w (v.Gr n) t s = refl
 value_back c.Target w (v.Gr n) t s = refl
 value_back c.Pr w (v.Pr n) t s = refl
 value_back c.Br w (v.Br n) t s = refl
@@ -130,6 +133,7 @@ pub code_back : (coding : Coding) (w n : ℕ) → Takes coding w (value coding w
 code_back c.Absent w n t s fit = let a : n < 2 ^ 0 = known_below n w 0 s fit in omega arith
 code_back c.NoPredicate w n t s fit = let a : n < 2 ^ 0 = known_below n w 0 s fit in omega arith
 code_back c.Gr w n t s fit = refl
+code_back c.LowGr w n t s fit = refl
 code_back c.Target w n t s fit = refl
 code_back c.Pr w n t s fit = refl
 code_back c.Br w n t s fit = refl
@@ -140,7 +144,7 @@ code_back c.LoadHint w n t s fit = refl
 code_back c.StoreHint w n t s fit = refl
 code_back c.LessOne w n t s fit = omega arith
 code_back c.From63 w n t s fit = let a : n < 2 ^ 6 = known_below n w 6 s fit in omega arith
-code_back (c.Size least most) w n t s fit = code_of_bytes n (let a : n < 2 ^ 2 = known_below n w 2 s fit in omega arith)
+code_back (c.Size least most) w n t s fit = code_of_bytes n (let a : n < 2 ^ 2 = known_below n w 2 (both-left _ _ s) fit in omega arith)
 code_back c.Increment w n t s fit = code_of_eight n (let a : n < 2 ^ 3 = known_below n w 3 s fit in omega arith)
 code_back c.Wide w n t s fit = refl
 code_back c.PredicateMask w n t s fit = omega arith

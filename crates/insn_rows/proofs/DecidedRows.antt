@@ -13,7 +13,8 @@ use Rattle.insn_rows.specs.declared.row.Row.{Row}
 use Rattle.insn_rows.specs.declared.value.Value.{Value}
 use Rattle.insn_rows.specs.declared.value.Value.TheVariants as v
 use Rattle.insn_rows.specs.Values.{at}
-use Rattle.insn_rows.specs.Codings.{IsSize, IsStep, Takes}
+use Rattle.ia_insn.specs.Ranges.{IsAccessSize, IsIncrement}
+use Rattle.insn_rows.specs.Codings.{Takes}
 use Rattle.insn_rows.specs.Rows.{operand_width, operands, AllTake, AreOther, IsFrame, Agrees, HasWord}
 use Rattle.insn_rows.specs.Arms.{opcode_of, values_of}
 use Rattle.insn_rows.specs.Codes.{IsListedBy, IsPlaceOf}
@@ -25,16 +26,19 @@ fits_signed : (width : ℕ) (z : ℤ) → Dec (FitsSigned width z)
 fits_signed width (pos n) = dec_lt n (2 ^ (width - 1))
 fits_signed width (negsuc n) = dec_lt n (2 ^ (width - 1))
 
-size : (n : ℕ) → Dec (IsSize n)
+size : (n : ℕ) → Dec (IsAccessSize n)
 size n = either (ℕ_discrete n 1) (either (ℕ_discrete n 2) (either (ℕ_discrete n 4) (ℕ_discrete n 8)))
 
-step : (n : ℕ) → Dec (IsStep n)
-step n = either (ℕ_discrete n 1) (either (ℕ_discrete n 4) (either (ℕ_discrete n 8) (ℕ_discrete n 16)))
+increment : (z : ℤ) → Dec (IsIncrement z)
+increment z =
+    let n = unsigned_abs z in
+    either (ℕ_discrete n 1) (either (ℕ_discrete n 4) (either (ℕ_discrete n 8) (ℕ_discrete n 16)))
 
 takes : (coding : Coding) (w : ℕ) (x : Value) → Dec (Takes coding w x)
 takes c.Absent w v.Absent = yes tt
 takes c.NoPredicate w (v.Pr n) = ℕ_discrete n 0
 takes c.Gr w (v.Gr n) = dec_lt n (2 ^ w)
+takes c.LowGr w (v.Gr n) = dec_le n 3
 takes c.Target w (v.Gr n) = both (differ n 0) (dec_lt n (2 ^ w))
 takes c.Pr w (v.Pr n) = dec_lt n (2 ^ w)
 takes c.Br w (v.Br n) = dec_lt n (2 ^ w)
@@ -46,7 +50,7 @@ takes c.StoreHint w (v.Small n) = either (ℕ_discrete n 0) (ℕ_discrete n 3)
 takes c.LessOne w (v.Small n) = both (dec_le 1 n) (dec_le n (2 ^ w))
 takes c.From63 w (v.Small n) = dec_le n 63
 takes (c.Size least most) w (v.Small n) = three (size n) (both (dec_le least n) (dec_le n most))
-takes c.Increment w (v.Short z) = step (unsigned_abs z)
+takes c.Increment w (v.Short z) = increment z
 takes c.Wide w (v.Wide n) = dec_lt n (2 ^ w)
 takes c.PredicateMask w (v.Mask n) = both (dec_lt n (2 ^ (w + 1))) (ℕ_discrete (n % 2) 0)
 takes c.Signed w (v.Signed z) = fits_signed w z

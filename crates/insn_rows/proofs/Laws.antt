@@ -1,6 +1,6 @@
 -- What a table says of its words.
 use Rattle.std.proofs.Common.{◌≡◌, ℕ, ◌+◌, ◌^◌, ◌<◌, ◌≤◌, List, [], ◌∷◌, map, get_or, Bool, true, sym, ◌∙◌, refl, arith, subst}
-use Rattle.std.specs.Prelude.{◌&&◌, ◌↔◌, nat_le, nat_lt, Option, Some, None, IsSome, IfSome}
+use Rattle.std.specs.Prelude.{◌&&◌, ◌↔◌, nat_le, nat_lt, Option, Some, None, IsTrue}
 use Rattle.std.specs.List.{list_all}
 use Rattle.std.proofs.lemmas.Bool.{leb-true, ltb-true}
 use Rattle.bundle_bits.specs.Words.{Part, word_of, AllFit}
@@ -9,6 +9,7 @@ use Rattle.bundle_bits.proofs.Fields.{with-fits}
 use Rattle.ia_insn.specs.declared.insn.Insn.{Insn}
 use Rattle.insn_rows.specs.declared.bits.BitField.{BitField}
 use Rattle.insn_rows.specs.declared.row.Row.{Row}
+use Rattle.insn_rows.specs.declared.value.Value.{Value}
 use Rattle.insn_rows.specs.Rows.{operands, parts, row_word, HasWord}
 use Rattle.insn_rows.specs.WellMade.{are_apart_fields, is_clear, fields, is_table}
 use Rattle.insn_rows.specs.Arms.{opcode_of, values_of}
@@ -77,7 +78,16 @@ from_row rows (Some n) i here h = (
   row_of rows i _ n no_row here.0 (record { opcode = here.1 no_row; listed = h; sum = refl }),
 )
 
--- What answers the word of each instruction that has one answers one exactly for those.
-pub listed_iff : (r : Option ℕ) (P : ℕ → Type 0) → IfSome r P → ((w : ℕ) → P w → r ≡ Some w) → IsSome r ↔ ((w : ℕ) × P w)
-listed_iff None P found only = (λ h. absurd (cc), λ l. let e = only l.0 l.1 in absurd (cc))
-listed_iff (Some w) P found only = (λ h. (w, found), λ l. refl)
+-- The row at the place of its opcode lists an instruction exactly where it has a word for its values.
+pub listed_there : (rows : List Row) (n : ℕ) (d : Row) (i : Insn) → IsPlaceOf rows (Some n) (opcode_of i.op) → HasWord (get_or rows n d) (values_of i) ↔ IsListedBy rows i
+listed_there rows n d i here = (
+  λ h. (row_word (get_or rows n d) (values_of i), row_of rows i _ n d here.0 (record { opcode = here.1 d; listed = h; sum = refl })),
+  λ l. (at_place rows i l.0 n d here l.1).listed,
+)
+
+pub listed_values : (rows : List Row) (n : ℕ) (d : Row) (i : Insn) (xs : List Value) (b : Bool) → IsPlaceOf rows (Some n) (opcode_of i.op) → xs ≡ values_of i → IsTrue b ↔ HasWord (get_or rows n d) xs → IsTrue b ↔ IsListedBy rows i
+listed_values rows n d i xs b here same has =
+    let P : List Value → Type 0 = λ xs. IsTrue b ↔ HasWord (get_or rows n d) xs in
+    let of-values = subst P same has in
+    let there = listed_there rows n d i here in
+    (λ h. there.0 (of-values.0 h), λ l. of-values.1 (there.1 l))

@@ -9,6 +9,7 @@ pub mod Cover
 pub mod RowWords
 pub mod RowBack
 pub mod Places
+pub mod Indexed
 pub mod Laws
 pub mod Decided
 pub mod DecidedRows

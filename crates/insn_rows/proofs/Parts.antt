@@ -1,5 +1,5 @@
 -- The fields of the operands of a row.
-use Rattle.std.proofs.Common.{◌≡◌, ℕ, ◌+◌, List, [], ◌∷◌, ◌++◌, map, ap, ◌∙◌, refl, arith}
+use Rattle.std.proofs.Common.{◌≡◌, ℕ, ◌+◌, List, [], ◌∷◌, ◌++◌, length, map, slice_set, ap, ◌∙◌, refl, arith}
 use Rattle.std.proofs.lemmas.List.{map-append}
 use Rattle.bundle_bits.specs.Words.{Part, word_of, AllFit}
 use Rattle.bundle_bits.proofs.Words.{Reads}
@@ -47,3 +47,8 @@ parts_fields (o ∷ os) [] t = absurd t
 pub reads_split : (w : ℕ) (xs ys : List Part) → Reads w (xs ++ ys) → Reads w xs × Reads w ys
 reads_split w [] ys r = (tt, r)
 reads_split w (x ∷ xs) ys r = let s = reads_split w xs ys r.1 in ((r.0, s.0), s.1)
+
+-- seven values that are set one after the other
+pub seven_values : (xs : List Value) (x1 x2 x3 x4 x5 x6 x7 : Value) → length xs ≡ 7 → slice_set (slice_set (slice_set (slice_set (slice_set (slice_set (slice_set xs 0 x1) 1 x2) 2 x3) 3 x4) 4 x5) 5 x6) 6 x7 ≡ x1 ∷ x2 ∷ x3 ∷ x4 ∷ x5 ∷ x6 ∷ x7 ∷ []
+seven_values (a ∷ b ∷ c ∷ d ∷ e ∷ f ∷ g ∷ []) x1 x2 x3 x4 x5 x6 x7 h = refl
+seven_values xs x1 x2 x3 x4 x5 x6 x7 h = absurd (omega (arith, h))

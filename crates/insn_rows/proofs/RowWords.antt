@@ -37,7 +37,8 @@ pub record WellMade (r : Row) : Type 0 where
 pub well_made : (r : Row) → is_well_made r ≡ true → WellMade r
 unfolding is_well_made
 well_made r h =
-    let h6 = both-left _ _ h in
+    let h7 = both-left _ _ h in
+    let h6 = both-left _ _ h7 in
     let h5 = both-left _ _ h6 in
     let h4 = both-left _ _ h5 in
     let h3 = both-left _ _ h4 in
@@ -49,7 +50,7 @@ well_made r h =
       mask = eqb-true _ _ (both-right _ _ h4);
       left = both-right _ _ h5;
       sized = both-right _ _ h6;
-      kind = both-right _ _ h;
+      kind = both-right _ _ h7;
     }
 
 -- Each operand of a row that is well made has its codes, in fields that share no bit.

@@ -2,25 +2,18 @@
 use Rattle.std.specs.Prelude.{◌≡◌, ◌≢◌, ◌⊎◌, ℕ, ℤ, pos, negsuc, Bool, true, false, unsigned_abs, ◌+◌, ◌-◌, ◌*◌, ◌/◌, ◌%◌, ◌^◌, ◌<◌, ◌≤◌, ◌==◌, if◌then◌else◌}
 use Rattle.ia_insn.specs.Signed.{twos, FitsSigned, flag}
 use Rattle.ia_insn.specs.Sizes.{code_of_size}
+use Rattle.ia_insn.specs.Ranges.{IsAccessSize, IsIncrement}
 use Rattle.insn_rows.specs.declared.row.Coding.{Coding}
 use Rattle.insn_rows.specs.declared.row.Coding.TheVariants as c
 use Rattle.insn_rows.specs.declared.value.Value.{Value}
 use Rattle.insn_rows.specs.declared.value.Value.TheVariants as v
-
--- 1, 2, 4 or 8 bytes
-abbrev pub IsSize : ℕ → Type 0
-IsSize size = (size ≡ 1) ⊎ ((size ≡ 2) ⊎ ((size ≡ 4) ⊎ (size ≡ 8)))
 
 -- a number has a minus sign
 abbrev pub is_negative : ℤ → Bool
 is_negative (pos n) = false
 is_negative (negsuc n) = true
 
--- the magnitude of an increment
-abbrev pub IsStep : ℕ → Type 0
-IsStep n = (n ≡ 1) ⊎ ((n ≡ 4) ⊎ ((n ≡ 8) ⊎ (n ≡ 16)))
-
--- and its code
+-- the code of the magnitude of an increment
 abbrev pub code_of_step : ℕ → ℕ
 code_of_step n = if n == 16 then 0 else if n == 8 then 1 else if n == 4 then 2 else 3
 
@@ -29,6 +22,7 @@ abbrev pub Takes : Coding → ℕ → Value → Type 0
 Takes c.Absent width v.Absent = Unit {0}
 Takes c.NoPredicate width (v.Pr n) = n ≡ 0
 Takes c.Gr width (v.Gr n) = n < 2 ^ width
+Takes c.LowGr width (v.Gr n) = n ≤ 3
 Takes c.Target width (v.Gr n) = (n ≢ 0) × (n < 2 ^ width)
 Takes c.Pr width (v.Pr n) = n < 2 ^ width
 Takes c.Br width (v.Br n) = n < 2 ^ width
@@ -39,8 +33,8 @@ Takes c.LoadHint width (v.Small n) = (n ≤ 3) × (n ≢ 2)
 Takes c.StoreHint width (v.Small n) = (n ≡ 0) ⊎ (n ≡ 3)
 Takes c.LessOne width (v.Small n) = (1 ≤ n) × (n ≤ 2 ^ width)
 Takes c.From63 width (v.Small n) = n ≤ 63
-Takes (c.Size least most) width (v.Small n) = IsSize n × (least ≤ n) × (n ≤ most)
-Takes c.Increment width (v.Short z) = IsStep (unsigned_abs z)
+Takes (c.Size least most) width (v.Small n) = IsAccessSize n × (least ≤ n) × (n ≤ most)
+Takes c.Increment width (v.Short z) = IsIncrement z
 Takes c.Wide width (v.Wide n) = n < 2 ^ width
 Takes c.PredicateMask width (v.Mask n) = (n < 2 ^ (width + 1)) × (n % 2 ≡ 0)
 Takes c.Signed width (v.Signed z) = FitsSigned width z
@@ -51,18 +45,18 @@ Takes coding width value = ⊥
 
 -- The code of a value.
 abbrev pub code : Coding → ℕ → Value → ℕ
-code c.Flag width (v.Flag b) = flag b
 code c.LessOne width (v.Small n) = n - 1
 code c.From63 width (v.Small n) = 63 - n
 code (c.Size least most) width (v.Small n) = code_of_size n
 code c.Increment width (v.Short z) = 4 * flag (is_negative z) + code_of_step (unsigned_abs z)
-code c.PredicateMask width (v.Mask n) = n / 2
 code c.RotatingMask width (v.Signed z) = twos (width + 16) z / 2 ^ 16
 code coding width (v.Gr n) = n
 code coding width (v.Pr n) = n
 code coding width (v.Br n) = n
 code coding width (v.Small n) = n
+code coding width (v.Flag b) = flag b
 code coding width (v.Wide n) = n
+code coding width (v.Mask n) = n / 2
 code coding width (v.Signed z) = twos width z
 code coding width (v.Short z) = twos width z
 code coding width (v.Displacement z) = twos width z

@@ -7,4 +7,5 @@ pub mod Rows
 pub mod Reading
 pub mod WellMade
 pub mod Codes
+pub mod Indexes
 pub mod Laws

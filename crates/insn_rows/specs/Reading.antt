@@ -30,6 +30,7 @@ abbrev pub value : Coding → ℕ → ℕ → Value
 value c.Absent width n = v.Absent
 value c.NoPredicate width n = v.Pr 0
 value c.Gr width n = v.Gr n
+value c.LowGr width n = v.Gr n
 value c.Target width n = v.Gr n
 value c.Pr width n = v.Pr n
 value c.Br width n = v.Br n

@@ -1,5 +1,5 @@
 -- When rows make a table: a computation on the rows.
-use Rattle.std.specs.Prelude.{ℕ, ◌+◌, ◌-◌, ◌*◌, ◌^◌, ◌==◌, ◌&&◌, ◌||◌, not, nat_le, nat_lt, IsTrue, Bool, true, false, List, [], ◌∷◌, ◌++◌, bit_and}
+use Rattle.std.specs.Prelude.{ℕ, zero, suc, ◌+◌, ◌-◌, ◌*◌, ◌^◌, ◌==◌, ◌&&◌, ◌||◌, not, nat_le, nat_lt, IsTrue, Bool, true, false, List, [], ◌∷◌, ◌++◌, bit_and}
 use Rattle.std.specs.List.{list_all}
 use Rattle.bundle_bits.specs.Words.{bits}
 use Rattle.insn_rows.specs.declared.bits.BitField.{BitField}
@@ -7,6 +7,8 @@ use Rattle.insn_rows.specs.declared.value.Value.{Value}
 use Rattle.insn_rows.specs.declared.value.Value.TheVariants as v
 use Rattle.insn_rows.specs.declared.row.Coding.{Coding}
 use Rattle.insn_rows.specs.declared.row.Coding.TheVariants as c
+use Rattle.insn_rows.specs.declared.row.Check.{Check}
+use Rattle.insn_rows.specs.declared.row.Check.TheVariants as k
 use Rattle.insn_rows.specs.declared.row.Operand.{Operand}
 use Rattle.insn_rows.specs.declared.row.Row.{Row}
 use Rattle.insn_rows.specs.Scattered.{list_of}
@@ -46,10 +48,11 @@ are_left (f ∷ fs) = (bits f.low f.width (other_bits fs) == 2 ^ f.width - 1) &&
 abbrev pub suits : Coding → ℕ → Bool
 suits c.Absent width = width == 0
 suits c.NoPredicate width = width == 0
-suits c.Gr width = nat_le width 7
-suits c.Target width = nat_le width 7
-suits c.Pr width = nat_le width 6
-suits c.Br width = nat_le width 3
+suits c.Gr width = width == 7
+suits c.LowGr width = width == 2
+suits c.Target width = width == 7
+suits c.Pr width = width == 6
+suits c.Br width = width == 3
 suits c.Flag width = width == 1
 suits c.Small width = nat_le width 8
 suits (c.UpTo most) width = nat_le width 8 && nat_lt most (2 ^ width)
@@ -57,7 +60,7 @@ suits c.LoadHint width = width == 2
 suits c.StoreHint width = width == 2
 suits c.LessOne width = nat_le width 7
 suits c.From63 width = width == 6
-suits (c.Size least most) width = width == 2
+suits (c.Size least most) width = width == 2 && nat_le least most
 suits c.Increment width = width == 3
 suits c.Wide width = nat_le width 41
 suits c.PredicateMask width = nat_le width 31
@@ -79,6 +82,7 @@ abbrev pub is_of_kind : Coding → Value → Bool
 is_of_kind c.Absent v.Absent = true
 is_of_kind c.NoPredicate (v.Pr n) = true
 is_of_kind c.Gr (v.Gr n) = true
+is_of_kind c.LowGr (v.Gr n) = true
 is_of_kind c.Target (v.Gr n) = true
 is_of_kind c.Pr (v.Pr n) = true
 is_of_kind c.Br (v.Br n) = true
@@ -105,13 +109,28 @@ are_of_kind [] [] = true
 are_of_kind (o ∷ os) (x ∷ xs) = is_of_kind o.coding x && are_of_kind os xs
 are_of_kind os xs = false
 
+-- the coding of an operand, by its number
+abbrev pub coding_at : List Operand → ℕ → Coding
+coding_at [] n = c.Absent
+coding_at (o ∷ os) zero = o.coding
+coding_at (o ∷ os) (suc n) = coding_at os n
+
+-- A check is of operands whose values are of the kinds that it speaks of: two registers of one kind, or three numbers.
+abbrev pub is_checked : Check → List Operand → Bool
+is_checked k.Free os = true
+is_checked (k.Differ i j) os =
+    is_of_kind (coding_at os i) (v.Gr 0) && is_of_kind (coding_at os j) (v.Gr 0)
+    || is_of_kind (coding_at os i) (v.Pr 0) && is_of_kind (coding_at os j) (v.Pr 0)
+is_checked (k.Frame i j l) os =
+    is_of_kind (coding_at os i) (v.Small 0) && is_of_kind (coding_at os j) (v.Small 0) && is_of_kind (coding_at os l) (v.Small 0)
+
 -- The operands lie in 41 bits and share none, the mask is what they leave, the fixed bits are in a word and none of
--- theirs, each operand has room for its codes, and they are those of the opcode.
+-- theirs, each operand has room for its codes, they are those of the opcode, and what is checked is theirs.
 unfoldable pub is_well_made : Row → Bool
 is_well_made r =
     nat_lt r.fixed (2 ^ 41) && are_apart_fields (fields (operands r)) && list_all (is_clear r.fixed) (fields (operands r))
     && (r.format.mask == other_bits (fields (operands r))) && are_left (fields (operands r)) && list_all is_sized (operands r)
-    && are_of_kind (operands r) (values_of (insn_of r.opcode (λ n. v.Absent)))
+    && are_of_kind (operands r) (values_of (insn_of r.opcode (λ n. v.Absent))) && is_checked r.format.check (operands r)
 
 -- No number has the bits of both rows.
 abbrev pub are_other_rows : Row → Row → Bool

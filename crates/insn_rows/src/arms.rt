@@ -169,7 +169,7 @@ pub fn values_of(insn: &Insn) -> Values
 }
 
 /// The value of an operand, by its number.
-fn value_at(values: &Values, place: usize) -> Value
+pub(crate) fn value_at(values: &Values, place: usize) -> Value
     ensures { result ≡ at values.now place }
 {
     if place < 7 { values[place] } else { NONE }

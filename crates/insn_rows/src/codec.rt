@@ -1,7 +1,6 @@
 //! Words by rows, and back.
 
-ghost use Rattle.std.specs.Prelude.{◌≡◌, ℕ, ◌<◌, ◌≤◌, ◌^◌, ◌↔◌, IsTrue, IsNone, IfSome, Some, length, slice_index_or, false, true, List};
-ghost use Rattle.std.specs.Option.{SomeIff};
+ghost use Rattle.std.specs.Prelude.{◌≡◌, ℕ, ◌<◌, ◌≤◌, ◌^◌, ◌↔◌, IsTrue, IsNone, IsSome, IfSome, Some, length, slice_index_or, false, true, List, map};
 ghost use Rattle.bundle_bits.specs.Words.{word_of};
 ghost use Rattle.ia_insn.specs.declared.insn.Insn.{Insn};
 ghost use Rattle.insn_rows.specs.declared.row.Row.{Row};
@@ -12,25 +11,16 @@ ghost use Rattle.insn_rows.specs.Reading.{gathered, value, read, matches};
 ghost use Rattle.insn_rows.specs.Codings.{Takes, code};
 ghost use Rattle.insn_rows.specs.Rows.{operand_width, listed, operands, AllTake, parts, Agrees, AreOther, IsFrame, HasWord, row_word};
 ghost use Rattle.insn_rows.specs.WellMade.{is_sized, are_apart_fields, AreMade, is_well_made, is_table};
+ghost use Rattle.insn_rows.specs.Indexes.{are_inside, is_index};
 ghost use Rattle.insn_rows.specs.Arms.{opcode_of};
-ghost use Rattle.insn_rows.specs.Codes.{IsOfRow, HasRow, IsPlaceOf};
+ghost use Rattle.insn_rows.specs.Codes.{IsOfRow, HasRow, IsListedBy, IsPlaceOf};
 
-use crate::arms::{insn_of, values_of};
-use crate::coding::{code_of, value_of};
-use crate::row::{Check, Operand, OperandList, Row};
+use crate::arms::{insn_of, value_at, values_of};
+use crate::bits::Bits;
+use crate::coding::{code_of, set_value, takes};
+use crate::row::{Check, Coding, Operand, OperandList, Row};
 use crate::value::{Value, Values};
 use ia_insn::Insn;
-
-/// The value of an operand, by its number.
-fn value_at(values: &Values, place: usize) -> Value
-    ensures { result ≡ at values.now place }
-{
-    if place < 7 {
-        values[place]
-    } else {
-        Value::Absent
-    }
-}
 
 /// Whether two registers of one kind differ.
 fn are_other(x: Value, y: Value) -> bool
@@ -82,116 +72,152 @@ fn agrees(check: Check, values: &Values) -> bool
     }
 }
 
-/// The word that has the code of a value in the bits of the operand, and zeros elsewhere, where the operand may have the
-/// value.
-#[inline]
-fn code_in(operand: &Operand, value: Value) -> Option<u64>
-    requires sized { IsTrue (is_sized operand.now) }
-    requires apart { IsTrue (are_apart_fields (list_of operand.now.bits)) }
-    ensures code { SomeIff result (Takes operand.now.coding (operand_width operand.now) value) (word_of (scattered (list_of operand.now.bits) (code operand.now.coding (operand_width operand.now) value))) }
-    ensures within { IfSome result (λ n. n < 2 ^ 41) }
-{
-    match code_of(operand.coding, operand.bits.width(), value) {
-        Some(code) => Some(operand.bits.put(code)),
-        None => None,
-    }
-}
-
-/// The value whose code a word has in the bits of the operand, where the operand may have it.
-#[inline]
-fn value_in(operand: &Operand, word: u64) -> Option<Value>
-    requires sized { IsTrue (is_sized operand.now) }
-    requires apart { IsTrue (are_apart_fields (list_of operand.now.bits)) }
-    ensures { SomeIff result (Takes operand.now.coding (operand_width operand.now) (value operand.now.coding (operand_width operand.now) (gathered (list_of operand.now.bits) word))) (value operand.now.coding (operand_width operand.now) (gathered (list_of operand.now.bits) word)) }
-{
-    value_of(operand.coding, operand.bits.width(), operand.bits.get(word))
-}
-
-/// The word that has the codes of values in the bits of the operands, and zeros elsewhere, where each operand may have
-/// its value.
-#[tactic(auto, unfolding(crate::specs::Rows::listed), using(crate::proofs::Parts::seven_parts))]
-fn codes_in(operands: &OperandList, values: &Values) -> Option<u64>
-    requires { AreMade (listed operands.now) }
-    ensures codes { SomeIff result (AllTake (listed operands.now) values.now) (word_of (parts (listed operands.now) values.now)) }
-    ensures within { IfSome result (λ n. n < 2 ^ 44) }
-{
-    let [a, b, c, d, e, f, g] = *values;
-    Some(
-        code_in(&operands.first, a)?
-            + (code_in(&operands.second, b)?
-                + (code_in(&operands.third, c)?
-                    + (code_in(&operands.fourth, d)?
-                        + (code_in(&operands.fifth, e)?
-                            + (code_in(&operands.sixth, f)? + code_in(&operands.seventh, g)?))))),
-    )
-}
-
-/// The values whose codes a word has in the bits of the operands, where each operand may have its own.
+/// Whether each operand may have its value.
 #[tactic(auto, unfolding(crate::specs::Rows::listed))]
-fn values_in(operands: &OperandList, word: u64) -> Option<Values>
+fn all_take(operands: &OperandList, values: &Values) -> bool
     requires { AreMade (listed operands.now) }
-    ensures { SomeIff result (AllTake (listed operands.now) (read (listed operands.now) word)) (read (listed operands.now) word) }
+    ensures { IsTrue result ↔ AllTake (listed operands.now) values.now }
 {
-    Some([
-        value_in(&operands.first, word)?,
-        value_in(&operands.second, word)?,
-        value_in(&operands.third, word)?,
-        value_in(&operands.fourth, word)?,
-        value_in(&operands.fifth, word)?,
-        value_in(&operands.sixth, word)?,
-        value_in(&operands.seventh, word)?,
-    ])
+    let [a, b, c, d, e, f, g] = values;
+    takes(&operands.first, a)
+        && takes(&operands.second, b)
+        && takes(&operands.third, c)
+        && takes(&operands.fourth, d)
+        && takes(&operands.fifth, e)
+        && takes(&operands.sixth, f)
+        && takes(&operands.seventh, g)
 }
 
-/// The word that a row gives to values, where it has one.
-#[tactic(auto, using(crate::proofs::RowWords::are_made, crate::proofs::RowWords::fixed_below, crate::proofs::RowWords::word_below))]
-fn word_by(row: &Row, values: &Values) -> Option<u64>
-    requires { IsTrue (is_well_made row.now) }
-    ensures word { SomeIff result (HasWord row.now values.now) (row_word row.now values.now) }
-    ensures within { IfSome result (λ w. w < 2 ^ 41) }
-{
-    let codes = codes_in(&row.format.operands, values)?;
-    if agrees(row.format.check, values) {
-        Some(row.fixed + codes)
-    } else {
-        None
-    }
-}
-
-/// The values whose codes a word has by a row, where the row has a word for them.
+/// Whether a row has a word for values.
 #[tactic(auto, using(crate::proofs::RowWords::are_made))]
-fn values_by(row: &Row, word: u64) -> Option<Values>
+fn has_word(row: &Row, values: &Values) -> bool
     requires { IsTrue (is_well_made row.now) }
-    ensures { SomeIff result (HasWord row.now (read (operands row.now) word)) (read (operands row.now) word) }
+    ensures { IsTrue result ↔ HasWord row.now values.now }
 {
-    let values = values_in(&row.format.operands, word)?;
-    if agrees(row.format.check, &values) {
-        Some(values)
-    } else {
-        None
+    all_take(&row.format.operands, values) && agrees(row.format.check, values)
+}
+
+/// The word that has the code of a value in the bits of the operand, and zeros elsewhere.
+#[inline]
+fn code_in(operand: &Operand, value: &Value) -> u64
+    requires sized { IsTrue (is_sized operand.now) }
+    requires apart { IsTrue (are_apart_fields (list_of operand.now.bits)) }
+    requires takes { Takes operand.now.coding (operand_width operand.now) value.now }
+    ensures code { result ≡ word_of (scattered (list_of operand.now.bits) (code operand.now.coding (operand_width operand.now) value.now)) }
+    ensures within { result < 2 ^ 41 }
+{
+    match operand.bits {
+        Bits::None => 0,
+        bits => bits.put(code_of(operand, value)),
     }
+}
+
+/// The word that has the codes of values in the bits of the operands, and zeros elsewhere.
+#[tactic(auto, unfolding(crate::specs::Rows::listed), using(crate::proofs::Parts::seven_parts))]
+fn codes_in(operands: &OperandList, values: &Values) -> u64
+    requires made { AreMade (listed operands.now) }
+    requires takes { AllTake (listed operands.now) values.now }
+    ensures codes { result ≡ word_of (parts (listed operands.now) values.now) }
+    ensures within { result < 2 ^ 44 }
+{
+    let [a, b, c, d, e, f, g] = values;
+    code_in(&operands.first, a)
+        + (code_in(&operands.second, b)
+            + (code_in(&operands.third, c)
+                + (code_in(&operands.fourth, d)
+                    + (code_in(&operands.fifth, e)
+                        + (code_in(&operands.sixth, f) + code_in(&operands.seventh, g))))))
+}
+
+/// The word that a row gives to values.
+#[tactic(auto, using(crate::proofs::RowWords::are_made, crate::proofs::RowWords::fixed_below, crate::proofs::RowWords::word_below))]
+fn word_by(row: &Row, values: &Values) -> u64
+    requires made { IsTrue (is_well_made row.now) }
+    requires listed { HasWord row.now values.now }
+    ensures word { result ≡ row_word row.now values.now }
+    ensures within { result < 2 ^ 41 }
+{
+    row.fixed + codes_in(&row.format.operands, values)
+}
+
+/// Sets a value to the one whose code a word has in the bits of the operand, and says whether the operand may have it.
+fn read_code(operand: &Operand, word: u64, target: &mut Value) -> bool
+    requires sized { IsTrue (is_sized operand.now) }
+    requires apart { IsTrue (are_apart_fields (list_of operand.now.bits)) }
+    ensures takes { IsTrue result ↔ Takes operand.now.coding (operand_width operand.now) target.new }
+    ensures value { target.new ≡ value operand.now.coding (operand_width operand.now) (gathered (list_of operand.now.bits) word) }
+{
+    set_value(operand, operand.bits.get(word), target)
+}
+
+/// The same; most operands are absent ones.
+#[inline]
+fn read_value(operand: &Operand, word: u64, target: &mut Value) -> bool
+    requires sized { IsTrue (is_sized operand.now) }
+    requires apart { IsTrue (are_apart_fields (list_of operand.now.bits)) }
+    ensures takes { IsTrue result ↔ Takes operand.now.coding (operand_width operand.now) target.new }
+    ensures value { target.new ≡ value operand.now.coding (operand_width operand.now) (gathered (list_of operand.now.bits) word) }
+{
+    match operand.coding {
+        Coding::Absent => {
+            *target = Value::Absent;
+            true
+        }
+        _ => read_code(operand, word, target),
+    }
+}
+
+/// Sets values to those whose codes a word has in the bits of the operands, and says whether each operand may have its own.
+#[tactic(auto, unfolding(crate::specs::Rows::listed), using(crate::proofs::Parts::seven_values))]
+fn read_values(operands: &OperandList, word: u64, values: &mut Values) -> bool
+    requires { AreMade (listed operands.now) }
+    ensures takes { IsTrue result ↔ AllTake (listed operands.now) values.new }
+    ensures values { values.new ≡ read (listed operands.now) word }
+{
+    let first = read_value(&operands.first, word, &mut values[0]);
+    let second = read_value(&operands.second, word, &mut values[1]);
+    let third = read_value(&operands.third, word, &mut values[2]);
+    let fourth = read_value(&operands.fourth, word, &mut values[3]);
+    let fifth = read_value(&operands.fifth, word, &mut values[4]);
+    let sixth = read_value(&operands.sixth, word, &mut values[5]);
+    let seventh = read_value(&operands.seventh, word, &mut values[6]);
+    first && second && third && fourth && fifth && sixth && seventh
+}
+
+/// Sets values to those whose codes a word has by a row, and says whether the row has a word for them.
+#[tactic(auto, using(crate::proofs::RowWords::are_made))]
+fn read_row(row: &Row, word: u64, values: &mut Values) -> bool
+    requires { IsTrue (is_well_made row.now) }
+    ensures has { IsTrue result ↔ HasWord row.now values.new }
+    ensures values { values.new ≡ read (operands row.now) word }
+{
+    read_values(&row.format.operands, word, values) && agrees(row.format.check, values)
 }
 
 /// The instruction of a row whose word this is, where it has the bits of the row.
-#[tactic(auto, using(crate::proofs::RowBack::read_found, crate::proofs::RowBack::read_only))]
 fn decode_by(row: &Row, word: u64) -> Option<Insn>
     requires made { IsTrue (is_well_made row.now) }
     requires matches { IsTrue (matches row.now word) }
     ensures found { IfSome result (λ i. IsOfRow row.now i word) }
     ensures only { (i : Insn) → IsOfRow row.now i word → result ≡ Some i }
 {
-    match values_by(row, word) {
-        Some(values) => Some(insn_of(row.opcode, &values)),
-        None => None,
+    let mut values = [Value::Absent; 7];
+    if read_row(row, word, &mut values) {
+        Some(insn_of(row.opcode, &values))
+    } else {
+        None
     }
 }
 
-/// The row whose bits a word has.
-fn find_row(rows: &[Row], word: u64) -> Option<usize>
+/// Which of the rows at these places has the bits of the word.
+fn find_row(rows: &[Row], places: &[u8], word: u64) -> Option<usize>
+    requires { IsTrue (are_inside rows.now places.now) }
     ensures found { IfSome result (λ n. (n < length rows.now) × ((r : Row) → matches (slice_index_or rows.now n r) word ≡ true)) }
-    ensures none { IsNone result → (n : ℕ) (r : Row) → n < length rows.now → matches (slice_index_or rows.now n r) word ≡ false }
+    ensures none { IsNone result → (k : ℕ) (r : Row) → k < length places.now → matches (slice_index_or rows.now (slice_index_or places.now k 0) r) word ≡ false }
 {
-    for (n, row) in rows.iter().enumerate() {
+    for (k, place) in places.iter().enumerate() {
+        let n = usize::from(*place);
+        let row = &rows[n];
         if word & row.format.mask == row.fixed {
             return Some(n);
         }
@@ -199,15 +225,32 @@ fn find_row(rows: &[Row], word: u64) -> Option<usize>
     None
 }
 
-/// The instruction of the rows of a table whose word this is, and None exactly where it is that of none.
-pub fn decode_with(rows: &[Row], word: u64) -> Option<Insn>
-    requires { IsTrue (is_table rows.now) }
+/// The instruction of the rows of a table whose word this is, and None exactly where it is that of none. The index has for
+/// each major opcode, the top four bits of a word, the places of its rows.
+pub fn decode_with(rows: &[Row], index: &[&[u8]; 16], word: u64) -> Option<Insn>
+    requires table { IsTrue (is_table rows.now) }
+    requires index { IsTrue (is_index rows.now (map (λ places. places.now) index.now)) }
     ensures found { IfSome result (λ i. HasRow rows.now i word) }
     ensures only { (i : Insn) → HasRow rows.now i word → result ≡ Some i }
 {
-    match find_row(rows, word) {
+    if word >= 1 << 41 {
+        return None;
+    }
+    match find_row(rows, index[(word >> 37) as usize], word) {
         Some(n) => decode_by(&rows[n], word),
         None => None,
+    }
+}
+
+/// Whether the rows of a table list an instruction, where `place` is that of its opcode's row.
+pub fn lists_with(rows: &[Row], place: Option<usize>, insn: &Insn) -> bool
+    requires table { IsTrue (is_table rows.now) }
+    requires place { IsPlaceOf rows.now place (opcode_of insn.now.op) }
+    ensures { IsTrue result ↔ IsListedBy rows.now insn.now }
+{
+    match place {
+        Some(n) => has_word(&rows[n], &values_of(insn)),
+        None => false,
     }
 }
 
@@ -216,12 +259,20 @@ pub fn decode_with(rows: &[Row], word: u64) -> Option<Insn>
 pub fn encode_with(rows: &[Row], place: Option<usize>, insn: &Insn) -> Option<u64>
     requires table { IsTrue (is_table rows.now) }
     requires place { IsPlaceOf rows.now place (opcode_of insn.now.op) }
+    ensures listed { IsSome result ↔ IsListedBy rows.now insn.now }
     ensures found { IfSome result (λ w. HasRow rows.now insn.now w) }
     ensures only { (w : ℕ) → HasRow rows.now insn.now w → result ≡ Some w }
     ensures within { IfSome result (λ w. w < 2 ^ 41) }
 {
     match place {
-        Some(n) => word_by(&rows[n], &values_of(insn)),
+        Some(n) => {
+            let values = values_of(insn);
+            if has_word(&rows[n], &values) {
+                Some(word_by(&rows[n], &values))
+            } else {
+                None
+            }
+        }
         None => None,
     }
 }

@@ -1,30 +1,27 @@
 //! The codes of values, and the values of codes.
 
-ghost use Rattle.std.specs.Prelude.{◌≡◌, ◌≢◌, ◌+◌, ◌*◌, ◌/◌, ◌%◌, ◌<◌, ◌≤◌, ◌^◌, ◌↔◌, IsTrue, IfSome, pos, neg_ℤ, unsigned_abs, if◌then◌else◌, nat_lt};
-ghost use Rattle.std.specs.Option.{SomeIff};
+ghost use Rattle.std.specs.Prelude.{◌≡◌, ◌≢◌, ℕ, ◌+◌, ◌*◌, ◌/◌, ◌%◌, ◌<◌, ◌≤◌, ◌^◌, ◌↔◌, IsTrue, IfSome, pos, neg_ℤ, unsigned_abs, if◌then◌else◌, nat_lt};
 ghost use Rattle.ia_insn.specs.Signed.{twos, signed_of, FitsSigned, flag};
 ghost use Rattle.ia_insn.specs.Sizes.{code_of_size, size_of_code};
-ghost use Rattle.insn_rows.specs.Codings.{Takes, code, IsSize, IsStep, is_negative, code_of_step};
+ghost use Rattle.ia_insn.specs.Ranges.{IsAccessSize, IsIncrement};
+ghost use Rattle.insn_rows.specs.Codings.{Takes, code, is_negative, code_of_step};
 ghost use Rattle.insn_rows.specs.Reading.{value, step_of_code, increment_of_code};
-ghost use Rattle.insn_rows.specs.WellMade.{suits};
+ghost use Rattle.insn_rows.specs.WellMade.{is_sized};
+ghost use Rattle.insn_rows.specs.Rows.{operand_width};
 ghost use Rattle.insn_rows.specs.declared.value.Value.TheVariants.{Small, Short, Signed};
 
-use crate::row::Coding;
+use crate::row::{Coding, Operand};
 use crate::value::Value;
 use ia_insn::{Br, Gr, Pr};
 
-/// A number that has so many bits.
+/// Whether a number has at most so many bits.
 #[inline]
 #[tactic(auto, using(crate::proofs::Numbers::shifted, crate::proofs::Numbers::unshifted))]
-fn within(number: u64, width: u32) -> Option<u64>
+fn is_within(number: u64, width: u32) -> bool
     requires { width ≤ 62 }
-    ensures { SomeIff result (number < 2 ^ width) number }
+    ensures { IsTrue result ↔ number < 2 ^ width }
 {
-    if number >> width == 0 {
-        Some(number)
-    } else {
-        None
-    }
+    number >> width == 0
 }
 
 /// 2 to a power of at most `MOST`.
@@ -39,24 +36,30 @@ fn power<const MOST: u32>(exponent: u32) -> u64
     1 << exponent
 }
 
-/// The two's complement of a signed number for which so many bits are enough.
-fn twos_within(number: i64, width: u32) -> Option<u64>
+/// Whether so many bits are enough for the two's complement of a signed number.
+#[inline]
+fn fits_signed(number: i64, width: u32) -> bool
     requires some { 1 ≤ width }
     requires within { width ≤ 62 }
-    ensures code { SomeIff result (FitsSigned width number) (twos width number) }
-    ensures within { IfSome result (λ n. n < 2 ^ width) }
+    ensures { IsTrue result ↔ FitsSigned width number }
 {
-    let half = power::<61>(width - 1);
+    let half = power::<61>(width - 1) as i64;
+    -half <= number && number < half
+}
+
+/// The two's complement of a signed number for which so many bits are enough.
+#[inline]
+fn twos(number: i64, width: u32) -> u64
+    requires some { 1 ≤ width }
+    requires within { width ≤ 62 }
+    requires fits { FitsSigned width number }
+    ensures code { result ≡ twos width number }
+    ensures within { result < 2 ^ width }
+{
     if number >= 0 {
-        let high = number as u64;
-        if high < half { Some(high) } else { None }
+        number as u64
     } else {
-        let less = (-(number + 1)) as u64;
-        if less < half {
-            Some(2 * half - 1 - less)
-        } else {
-            None
-        }
+        2 * power::<61>(width - 1) - 1 - (-(number + 1)) as u64
     }
 }
 
@@ -115,17 +118,22 @@ fn signed_above(number: u64, width: u32) -> i64
     signed_within(number << 16, width + 16)
 }
 
+/// Whether this is 1, 2, 4 or 8.
+fn is_size(number: u8) -> bool
+    ensures { IsTrue result ↔ IsAccessSize number }
+{
+    matches!(number, 1 | 2 | 4 | 8)
+}
+
 /// The code of 1, 2, 4 or 8 bytes.
-fn code_of_bytes(size: u8) -> Option<u64>
-    ensures code { SomeIff result (IsSize size) (code_of_size size) }
-    ensures within { IfSome result (λ n. n < 4) }
+fn code_of_size(size: u8) -> u64
+    ensures { result ≡ code_of_size size }
 {
     match size {
-        1 => Some(0),
-        2 => Some(1),
-        4 => Some(2),
-        8 => Some(3),
-        _ => None,
+        1 => 0,
+        2 => 1,
+        4 => 2,
+        _ => 3,
     }
 }
 
@@ -141,19 +149,24 @@ fn size_of_code(code: u64) -> u8
     }
 }
 
+/// Whether this is an increment of a fetch-and-add.
+fn is_increment(number: i16) -> bool
+    ensures { IsTrue result ↔ IsIncrement number }
+{
+    matches!(number.unsigned_abs(), 1 | 4 | 8 | 16)
+}
+
 /// The code of an increment of a fetch-and-add.
-fn code_of_increment(number: i16) -> Option<u64>
-    ensures code { SomeIff result (IsStep (unsigned_abs number)) (4 * flag (is_negative number) + code_of_step (unsigned_abs number)) }
-    ensures within { IfSome result (λ n. n < 8) }
+fn code_of_increment(number: i16) -> u64
+    ensures { result ≡ 4 * flag (is_negative number) + code_of_step (unsigned_abs number) }
 {
     let step = match number.unsigned_abs() {
         16 => 0,
         8 => 1,
         4 => 2,
-        1 => 3,
-        _ => return None,
+        _ => 3,
     };
-    Some(if number < 0 { step + 4 } else { step })
+    if number < 0 { step + 4 } else { step }
 }
 
 /// The increment with a code.
@@ -170,196 +183,172 @@ fn increment_of_code(code: u64) -> i16
     if code < 4 { step } else { -step }
 }
 
-/// The code of a number, where an operand of this coding and of so many bits may have it.
-#[tactic(auto, using(crate::proofs::Numbers::up_to_below, crate::proofs::Numbers::known_above))]
-fn code_of_small(coding: Coding, width: u32, number: u8) -> Option<u64>
-    requires { IsTrue (suits coding width) }
-    ensures code { SomeIff result (Takes coding width (Small number)) (code coding width (Small number)) }
-    ensures within { IfSome result (λ n. n < 2 ^ width) }
+/// Whether an operand may have a number.
+fn takes_small(operand: &Operand, number: u8) -> bool
+    requires { IsTrue (is_sized operand.now) }
+    ensures { IsTrue result ↔ Takes operand.now.coding (operand_width operand.now) (Small number) }
 {
-    let code = u64::from(number);
-    match coding {
-        Coding::Small => within(code, width),
-        Coding::UpTo(most) => { if number <= most { Some(code) } else { None } }
-        Coding::LoadHint => {
-            if number <= 3 && number != 2 {
-                Some(code)
-            } else {
-                None
-            }
-        }
-        Coding::StoreHint => {
-            if number == 0 || number == 3 {
-                Some(code)
-            } else {
-                None
-            }
-        }
-        Coding::LessOne => {
-            if number >= 1 {
-                within(code - 1, width)
-            } else {
-                None
-            }
-        }
-        Coding::From63 => { if number <= 63 { Some(63 - code) } else { None } }
-        Coding::Size(least, most) => {
-            if least <= number && number <= most {
-                code_of_bytes(number)
-            } else {
-                None
-            }
-        }
-        _ => None,
+    match operand.coding {
+        Coding::Small => is_within(u64::from(number), operand.bits.width()),
+        Coding::UpTo(most) => number <= most,
+        Coding::LoadHint => number <= 3 && number != 2,
+        Coding::StoreHint => number == 0 || number == 3,
+        Coding::LessOne => number >= 1 && is_within(u64::from(number - 1), operand.bits.width()),
+        Coding::From63 => number <= 63,
+        Coding::Size(least, most) => is_size(number) && least <= number && number <= most,
+        _ => false,
     }
 }
 
-/// The code of a signed number, where an operand of this coding and of so many bits may have it.
-#[tactic(auto, using(crate::proofs::Numbers::high_below))]
-fn code_of_signed(coding: Coding, width: u32, number: i64) -> Option<u64>
-    requires { IsTrue (suits coding width) }
-    ensures code { SomeIff result (Takes coding width (Signed number)) (code coding width (Signed number)) }
-    ensures within { IfSome result (λ n. n < 2 ^ width) }
+/// Whether an operand may have a signed number.
+fn takes_signed(operand: &Operand, number: i64) -> bool
+    requires { IsTrue (is_sized operand.now) }
+    ensures { IsTrue result ↔ Takes operand.now.coding (operand_width operand.now) (Signed number) }
 {
-    match coding {
-        Coding::Signed => twos_within(number, width),
-        Coding::RotatingMask => match twos_within(number, width + 16) {
-            Some(code) => {
-                if code % 0x1_0000 == 0 {
-                    Some(code / 0x1_0000)
-                } else {
-                    None
-                }
-            }
-            None => None,
-        },
-        _ => None,
+    match operand.coding {
+        Coding::Signed => fits_signed(number, operand.bits.width()),
+        Coding::RotatingMask => {
+            let width = operand.bits.width() + 16;
+            fits_signed(number, width) && twos(number, width) % 0x1_0000 == 0
+        }
+        _ => false,
     }
 }
 
-/// The code of a value, where an operand of this coding and of so many bits may have it.
-#[tactic(auto, using(crate::proofs::Numbers::half_below, crate::proofs::Numbers::half_above))]
-pub fn code_of(coding: Coding, width: u32, value: Value) -> Option<u64>
-    requires { IsTrue (suits coding width) }
-    ensures code { SomeIff result (Takes coding width value) (code coding width value) }
-    ensures within { IfSome result (λ n. n < 2 ^ width) }
+/// Whether an operand may have a value.
+#[inline]
+#[tactic(auto, using(crate::proofs::Numbers::half_below, crate::proofs::Numbers::half_above, crate::proofs::Numbers::known_above))]
+pub(crate) fn takes(operand: &Operand, value: &Value) -> bool
+    requires { IsTrue (is_sized operand.now) }
+    ensures { IsTrue result ↔ Takes operand.now.coding (operand_width operand.now) value.now }
 {
+    let value = *value;
     match value {
-        Value::Absent => match coding {
-            Coding::Absent => Some(0),
-            _ => None,
+        Value::Absent => matches!(operand.coding, Coding::Absent),
+        Value::Gr(r) => match operand.coding {
+            Coding::Gr => true,
+            Coding::LowGr => r.number() <= 3,
+            Coding::Target => !r.is_zero(),
+            _ => false,
         },
-        Value::Gr(r) => match coding {
-            Coding::Gr => within(u64::from(r.number()), width),
-            Coding::Target => {
-                if r.is_zero() {
-                    None
-                } else {
-                    within(u64::from(r.number()), width)
-                }
-            }
-            _ => None,
+        Value::Pr(p) => match operand.coding {
+            Coding::Pr => true,
+            Coding::NoPredicate => p.is_zero(),
+            _ => false,
         },
-        Value::Pr(p) => match coding {
-            Coding::Pr => within(u64::from(p.number()), width),
-            Coding::NoPredicate => { if p.is_zero() { Some(0) } else { None } }
-            _ => None,
+        Value::Br(_b) => matches!(operand.coding, Coding::Br),
+        Value::Flag(_) => matches!(operand.coding, Coding::Flag),
+        Value::Small(number) => takes_small(operand, number),
+        Value::Wide(number) => {
+            matches!(operand.coding, Coding::Wide) && is_within(number, operand.bits.width())
+        }
+        Value::Mask(mask) => {
+            matches!(operand.coding, Coding::PredicateMask)
+                && mask % 2 == 0
+                && is_within(u64::from(mask) / 2, operand.bits.width())
+        }
+        Value::Signed(number) => takes_signed(operand, number),
+        Value::Short(number) => match operand.coding {
+            Coding::Short => fits_signed(i64::from(number), operand.bits.width()),
+            Coding::Increment => is_increment(number),
+            _ => false,
         },
-        Value::Br(b) => match coding {
-            Coding::Br => within(u64::from(b.number()), width),
-            _ => None,
-        },
-        Value::Flag(set) => match coding {
-            Coding::Flag => Some(u64::from(set)),
-            _ => None,
-        },
-        Value::Small(number) => code_of_small(coding, width, number),
-        Value::Wide(number) => match coding {
-            Coding::Wide => within(number, width),
-            _ => None,
-        },
-        Value::Mask(mask) => match coding {
-            Coding::PredicateMask => {
-                if mask % 2 == 0 {
-                    within(u64::from(mask) / 2, width)
-                } else {
-                    None
-                }
-            }
-            _ => None,
-        },
-        Value::Signed(number) => code_of_signed(coding, width, number),
-        Value::Short(number) => match coding {
-            Coding::Short => twos_within(i64::from(number), width),
-            Coding::Increment => code_of_increment(number),
-            _ => None,
-        },
-        Value::Displacement(number) => match coding {
-            Coding::Displacement => twos_within(i64::from(number), width),
-            _ => None,
-        },
+        Value::Displacement(number) => {
+            matches!(operand.coding, Coding::Displacement)
+                && fits_signed(i64::from(number), operand.bits.width())
+        }
     }
 }
 
-/// The value with a code, where an operand of this coding and of so many bits may have it.
-#[tactic(auto, using(crate::proofs::Numbers::small_below, crate::proofs::Numbers::seven_below, crate::proofs::Numbers::six_below, crate::proofs::Numbers::three_below, crate::proofs::Numbers::mask_below, crate::proofs::Numbers::known_below, crate::proofs::Numbers::raised_fits, crate::proofs::Numbers::raised_zeros, crate::proofs::Numbers::signed_fits))]
-pub fn value_of(coding: Coding, width: u32, code: u64) -> Option<Value>
-    requires sized { IsTrue (suits coding width) }
-    requires fits { code < 2 ^ width }
-    ensures { SomeIff result (Takes coding width (value coding width code)) (value coding width code) }
+/// The code of a number that an operand may have.
+fn code_of_small(coding: Coding, number: u8) -> u64
+    requires { (width : ℕ) × Takes coding width (Small number) }
+    ensures { (width : ℕ) → result ≡ code coding width (Small number) }
 {
     match coding {
-        Coding::Absent => Some(Value::Absent),
-        Coding::NoPredicate => Some(Value::Pr(Pr::default())),
-        Coding::Gr => Some(Value::Gr(Gr::of_field(code))),
+        Coding::LessOne => u64::from(number - 1),
+        Coding::From63 => u64::from(63 - number),
+        Coding::Size(_, _) => code_of_size(number),
+        _ => u64::from(number),
+    }
+}
+
+/// The code of a value that an operand may have.
+#[inline]
+pub(crate) fn code_of(operand: &Operand, value: &Value) -> u64
+    requires sized { IsTrue (is_sized operand.now) }
+    requires takes { Takes operand.now.coding (operand_width operand.now) value.now }
+    ensures { result ≡ code operand.now.coding (operand_width operand.now) value.now }
+{
+    match *value {
+        Value::Absent => 0,
+        Value::Gr(r) => u64::from(r.number()),
+        Value::Pr(p) => u64::from(p.number()),
+        Value::Br(b) => u64::from(b.number()),
+        Value::Flag(set) => u64::from(set),
+        Value::Small(number) => code_of_small(operand.coding, number),
+        Value::Wide(number) => number,
+        Value::Mask(mask) => u64::from(mask / 2),
+        Value::Signed(number) => match operand.coding {
+            Coding::RotatingMask => twos(number, operand.bits.width() + 16) / 0x1_0000,
+            _ => twos(number, operand.bits.width()),
+        },
+        Value::Short(number) => match operand.coding {
+            Coding::Increment => code_of_increment(number),
+            _ => twos(i64::from(number), operand.bits.width()),
+        },
+        Value::Displacement(number) => twos(i64::from(number), operand.bits.width()),
+    }
+}
+
+/// Sets a value to the one with a code, and says whether the operand may have it.
+#[tactic(auto, using(crate::proofs::Numbers::small_below, crate::proofs::Numbers::mask_below, crate::proofs::Numbers::known_below, crate::proofs::Numbers::half_above, crate::proofs::Numbers::raised_fits, crate::proofs::Numbers::raised_zeros, crate::proofs::Numbers::signed_fits))]
+pub(crate) fn set_value(operand: &Operand, code: u64, target: &mut Value) -> bool
+    requires sized { IsTrue (is_sized operand.now) }
+    requires fits { code < 2 ^ operand_width operand.now }
+    ensures takes { IsTrue result ↔ Takes operand.now.coding (operand_width operand.now) (value operand.now.coding (operand_width operand.now) code) }
+    ensures value { target.new ≡ value operand.now.coding (operand_width operand.now) code }
+{
+    match operand.coding {
+        Coding::Absent => *target = Value::Absent,
+        Coding::NoPredicate => *target = Value::Pr(Pr::default()),
+        Coding::Gr | Coding::LowGr => *target = Value::Gr(Gr::of_field(code)),
         Coding::Target => {
-            if code == 0 {
-                None
-            } else {
-                Some(Value::Gr(Gr::of_field(code)))
-            }
+            *target = Value::Gr(Gr::of_field(code));
+            return code != 0;
         }
-        Coding::Pr => Some(Value::Pr(Pr::of_field(code))),
-        Coding::Br => Some(Value::Br(Br::of_field(code))),
-        Coding::Flag => Some(Value::Flag(code == 1)),
-        Coding::Small => Some(Value::Small(code as u8)),
+        Coding::Pr => *target = Value::Pr(Pr::of_field(code)),
+        Coding::Br => *target = Value::Br(Br::of_field(code)),
+        Coding::Flag => *target = Value::Flag(code == 1),
+        Coding::Small => *target = Value::Small(code as u8),
         Coding::UpTo(most) => {
-            if code <= u64::from(most) {
-                Some(Value::Small(code as u8))
-            } else {
-                None
-            }
+            *target = Value::Small(code as u8);
+            return code <= u64::from(most);
         }
         Coding::LoadHint => {
-            if code == 2 {
-                None
-            } else {
-                Some(Value::Small(code as u8))
-            }
+            *target = Value::Small(code as u8);
+            return code != 2;
         }
         Coding::StoreHint => {
-            if code == 0 || code == 3 {
-                Some(Value::Small(code as u8))
-            } else {
-                None
-            }
+            *target = Value::Small(code as u8);
+            return code == 0 || code == 3;
         }
-        Coding::LessOne => Some(Value::Small(code as u8 + 1)),
-        Coding::From63 => Some(Value::Small(63 - code as u8)),
+        Coding::LessOne => *target = Value::Small(code as u8 + 1),
+        Coding::From63 => *target = Value::Small(63 - code as u8),
         Coding::Size(least, most) => {
             let size = size_of_code(code);
-            if least <= size && size <= most {
-                Some(Value::Small(size))
-            } else {
-                None
-            }
+            *target = Value::Small(size);
+            return least <= size && size <= most;
         }
-        Coding::Increment => Some(Value::Short(increment_of_code(code))),
-        Coding::Wide => Some(Value::Wide(code)),
-        Coding::PredicateMask => Some(Value::Mask(2 * code as u32)),
-        Coding::Signed => Some(Value::Signed(signed_within(code, width))),
-        Coding::RotatingMask => Some(Value::Signed(signed_above(code, width))),
-        Coding::Short => Some(Value::Short(short_within(code, width))),
-        Coding::Displacement => Some(Value::Displacement(displacement_within(code, width))),
+        Coding::Increment => *target = Value::Short(increment_of_code(code)),
+        Coding::Wide => *target = Value::Wide(code),
+        Coding::PredicateMask => *target = Value::Mask(2 * code as u32),
+        Coding::Signed => *target = Value::Signed(signed_within(code, operand.bits.width())),
+        Coding::RotatingMask => *target = Value::Signed(signed_above(code, operand.bits.width())),
+        Coding::Short => *target = Value::Short(short_within(code, operand.bits.width())),
+        Coding::Displacement => {
+            *target = Value::Displacement(displacement_within(code, operand.bits.width()))
+        }
     }
+    true
 }

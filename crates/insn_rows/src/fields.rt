@@ -13,13 +13,13 @@ pub const TB: u32 = 36;
 /// m.
 pub const M: u32 = 36;
 
-/// x2.
+/// x2, of which the compares leave a bit to an operand.
 pub const X2: u32 = 34;
 
-/// x2a.
+/// x2a, of which A4 leaves a bit to an operand.
 pub const X2A: u32 = 34;
 
-/// x3.
+/// x3, of which M22 leaves a bit to an operand.
 pub const X3: u32 = 33;
 
 /// x.
@@ -33,6 +33,9 @@ pub const ZB: u32 = 33;
 
 /// ta.
 pub const TA: u32 = 33;
+
+/// The lowest bit of wh of B5.
+pub const WH_LOWEST_B5: u32 = 32;
 
 /// ve of I5 to I9.
 pub const VE_I5: u32 = 32;
@@ -64,14 +67,14 @@ pub const X6: u32 = 27;
 /// x of M1 to M17.
 pub const X_M1: u32 = 27;
 
-/// vc.
-pub const VC: u32 = 20;
-
 /// y.
 pub const Y: u32 = 26;
 
 /// ar3: the application register.
 pub const AR3: u32 = 20;
+
+/// vc.
+pub const VC: u32 = 20;
 
 /// y of I11, I16 and I17.
 pub const Y_I11: u32 = 13;
@@ -81,6 +84,3 @@ pub const C: u32 = 12;
 
 /// btype.
 pub const BTYPE: u32 = 6;
-
-/// The lowest bit of wh of B5.
-pub const WH_LOWEST_B5: u32 = 32;

@@ -22,8 +22,7 @@ mod value;
 
 pub use arms::{insn_of, opcode_of, values_of};
 pub use bits::{BitField, Bits};
-pub use codec::{decode_with, encode_with};
-pub use coding::{code_of, value_of};
+pub use codec::{decode_with, encode_with, lists_with};
 pub use opcode::{Opcode, UpdateKind};
 pub use row::{Check, Coding, Format, Operand, OperandList, Row};
 pub use value::{Value, Values};

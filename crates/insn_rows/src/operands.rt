@@ -1,7 +1,7 @@
 //! The operands of the formats, by the manual's names of their fields (volume 3, chapter 4, instruction formats): the
 //! operand with the bits of its code.
 //!
-//! A name that stands at a second place too has there the first format that has it, as in [`DISPLACEMENT_M22`].
+//! A name that stands at a second place too has there the first format that has it, as in [`DISPLACEMENT`].
 
 use crate::bits::{BitField, Bits};
 use crate::row::{Coding, Operand};
@@ -48,7 +48,7 @@ pub const R2: Operand = operand!(Coding::Gr, 13 7);
 pub const R3: Operand = operand!(Coding::Gr, 20 7);
 
 /// r3 of A5: r0 to r3.
-pub const R3_A5: Operand = operand!(Coding::Gr, 20 2);
+pub const R3_A5: Operand = operand!(Coding::LowGr, 20 2);
 
 /// r3, a base that is updated.
 pub const BASE: Operand = operand!(Coding::Target, 20 7);

@@ -13,6 +13,8 @@ pub enum Coding {
     NoPredicate,
     /// A general register, by its number.
     Gr,
+    /// One of r0 to r3, by its number.
+    LowGr,
     /// A general register that is written or that is a base which is updated, by its number: not r0.
     Target,
     /// A predicate register, by its number.
@@ -37,7 +39,7 @@ pub enum Coding {
     Size(u8, u8),
     /// The increment of a fetch-and-add: a sign, and the code of 16, 8, 4 or 1.
     Increment,
-    /// A number of up to 64 bits, as it is.
+    /// A number of up to 41 bits, as it is.
     Wide,
     /// A mask of predicates, of which bit 0 is zero and left out.
     PredicateMask,

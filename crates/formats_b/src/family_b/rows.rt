@@ -1,8 +1,9 @@
 //! The rows of the B instructions (volume 3, chapter 4, instruction formats, B1 to B9, and the tables of opcodes).
 
-ghost use Rattle.std.specs.Prelude.{◌≡◌, IsTrue};
+ghost use Rattle.std.specs.Prelude.{◌≡◌, IsTrue, map};
 ghost use Rattle.formats_b.specs.ListedB.{rows};
 ghost use Rattle.insn_rows.specs.WellMade.{is_table};
+ghost use Rattle.insn_rows.specs.Indexes.{is_index};
 
 use ia_insn::{BranchKind, Unit};
 use insn_rows::{Opcode, Row, row};
@@ -32,10 +33,37 @@ pub static ROWS: [Row; 14] = [
     row!(Opcode::Hint(Unit::B), I18; MAJOR = 2, X6 = 1),
 ];
 
+/// The places of the rows of each major opcode, in the order in which they are tried.
+pub static BY_MAJOR: [&[u8]; 16] = [
+    &[7, 8, 10, 11],
+    &[9],
+    &[12, 13],
+    &[],
+    &[0, 1, 2, 3, 4, 5],
+    &[6],
+    &[],
+    &[],
+    &[],
+    &[],
+    &[],
+    &[],
+    &[],
+    &[],
+    &[],
+    &[],
+];
+
 /// The rows, which are a table.
 pub(crate) fn rows() -> &'static [Row]
     ensures value { result.now ≡ rows }
     ensures table { IsTrue (is_table result.now) }
 {
     &ROWS
+}
+
+/// The places of the rows of each major opcode.
+pub(crate) fn by_major() -> &'static [&'static [u8]; 16]
+    ensures { IsTrue (is_index rows (map (λ places. places.now) result.now)) }
+{
+    &BY_MAJOR
 }

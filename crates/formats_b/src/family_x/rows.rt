@@ -1,8 +1,9 @@
 //! The rows of the words of X slots (volume 3, chapter 4, instruction formats, X1, X2 and X5, and the tables of opcodes).
 
-ghost use Rattle.std.specs.Prelude.{◌≡◌, IsTrue};
+ghost use Rattle.std.specs.Prelude.{◌≡◌, IsTrue, map};
 ghost use Rattle.formats_b.specs.ListedX.{rows};
 ghost use Rattle.insn_rows.specs.WellMade.{is_table};
+ghost use Rattle.insn_rows.specs.Indexes.{is_index};
 
 use ia_insn::Unit;
 use insn_rows::{Opcode, Row, row};
@@ -17,10 +18,37 @@ pub static ROWS: [Row; 3] = [
     row!(Opcode::Nop(Unit::X), I18; MAJOR = 0, X3 = 0, X6 = 1, Y = 0),
 ];
 
+/// The places of the rows of each major opcode, in the order in which they are tried.
+pub static BY_MAJOR: [&[u8]; 16] = [
+    &[0, 2],
+    &[],
+    &[],
+    &[],
+    &[],
+    &[],
+    &[1],
+    &[],
+    &[],
+    &[],
+    &[],
+    &[],
+    &[],
+    &[],
+    &[],
+    &[],
+];
+
 /// The rows, which are a table.
 pub(crate) fn rows() -> &'static [Row]
     ensures value { result.now ≡ rows }
     ensures table { IsTrue (is_table result.now) }
 {
     &ROWS
+}
+
+/// The places of the rows of each major opcode.
+pub(crate) fn by_major() -> &'static [&'static [u8]; 16]
+    ensures { IsTrue (is_index rows (map (λ places. places.now) result.now)) }
+{
+    &BY_MAJOR
 }

@@ -1,4 +1,5 @@
 use Rattle.std.proofs.Common.{◌≡◌, ◌∙◌, sym, ap, rules}
+use Rattle.std.specs.Option.{option_map}
 use Rattle.asm_reading.specs.Lines.{texts, completers_or_none}
 use Rattle.asm_reading.specs.SlotReading.{slot_line}
 use Rattle.asm_reading.proofs.SlotForms.{slot_made}
@@ -8,5 +9,5 @@ pub returns-in-Some : goal.returns-in-Some
 returns-in-Some c =
     let after = texts c.args.line.now c.args.words.now in
     let same : c.deref.result.now ≡ completers_or_none c.in_ok-form.form c.args.name.now = search rules in
-    sym (slot_made c.args.qp c.args.forms.now c.args.name.now c.args.tokens.now after c.in_ok-form.form c.in-Some.value (search rules)
-    (ap (λ cs. slot_line c.args.qp c.in_ok-form.form cs c.args.tokens.now after) (sym same) ∙ sym c.slot_line.ensures ∙ c.in-Some.is))
+    sym (slot_made c.args.qp c.args.forms.now c.args.name.now c.args.tokens.now after c.in_ok-form.form c.slot_line.new.value (search rules)
+    (ap (λ cs. slot_line c.args.qp c.in_ok-form.form cs c.args.tokens.now after) (sym same) ∙ sym c.slot_line.ensures ∙ ap (option_map (λ x. c.slot_line.new.value)) c.in-Some.is))

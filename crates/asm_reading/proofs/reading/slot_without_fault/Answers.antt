@@ -1,10 +1,11 @@
 use Rattle.std.proofs.Common.{◌≡◌, ◌∙◌, sym, ap, rules}
+use Rattle.std.specs.Prelude.{Ok}
 use Rattle.std.specs.List.{find}
 use Rattle.asm_forms.specs.Naming.{named_forms}
 use Rattle.asm_forms.specs.Spelled.{is_spelled}
-use Rattle.asm_reading.specs.Lines.{texts, tokens, without_stop}
+use Rattle.asm_reading.specs.Lines.{texts, tokens, without_stop, worded}
 use Rattle.asm_reading.specs.SlotReading.{slot_line}
-use Rattle.asm_reading.proofs.SlotForms.{slot_if_read}
+use Rattle.asm_reading.proofs.SlotForms.{slot_if_read, put_there}
 use Rattle.asm_reading.proofs.reading.slot_without_fault.Goals as goal
 
 pub returns : goal.returns
@@ -16,6 +17,6 @@ returns c =
     let form = c.in-Some.field-0.form in
     let cs = c.in-Some.field-0.completers.items in
     let d : c.deref.result.now ≡ cs = search rules in
-    slot_if_read c.args.name.now before after c.in-Ok.qp form cs c.slot_line.result c.requires.slot (sym c.predicate.ensures ∙ c.in-Ok.is)
+    put_there (λ v. worded c.args.name.now before after ≡ Ok v) c.slot_line.result c.slot_line.new.value (slot_if_read c.args.name.now before after c.in-Ok.qp form cs _ c.requires.slot (sym c.predicate.ensures ∙ c.in-Ok.is)
     (ap (λ xs. find (is_spelled xs) (named_forms c.args.name.now)) (sym w) ∙ c.in-Some.ensures.0) c.in-Some.ensures.1
-    (c.slot_line.ensures ∙ ap (λ ds. slot_line c.in-Ok.qp form ds c.as_slice-tokens.result.now after) d ∙ ap (λ xs. slot_line c.in-Ok.qp form cs xs after) t)
+    (c.slot_line.ensures ∙ ap (λ ds. slot_line c.in-Ok.qp form ds c.as_slice-tokens.result.now after) d ∙ ap (λ xs. slot_line c.in-Ok.qp form cs xs after) t))

@@ -1,9 +1,6 @@
-use Rattle.std.proofs.Common.{◌≡◌, ◌+◌, ◌-◌, ◌≤◌, drop, length}
+use Rattle.std.proofs.Common.{◌≡◌, ◌+◌, drop}
 use Rattle.asm_words.specs.Words.{name_run}
 use Rattle.asm_words.proofs.line.name_run.Given as goal
 
-abbrev pub invariant-loop-at : goal.invariant-loop-at
-invariant-loop-at l = record { within : l.at ≤ length l.bytes; value : name_run (drop l.at l.bytes) + l.at ≡ name_run l.bytes }
-
-abbrev pub decreases-loop-at : goal.decreases-loop-at
-decreases-loop-at l = length l.initial.bytes - l.at
+abbrev pub invariant-loop-byte : goal.invariant-loop-byte
+invariant-loop-byte l = (l.run ≡ l.byte-index) × (name_run (drop l.byte-index l.bytes) + l.run ≡ name_run l.bytes)
