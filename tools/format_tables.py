@@ -2,9 +2,9 @@
 """Keeps what is said of instructions elsewhere to the rows that the program decodes and encodes by.
 
   tools/format_tables.py            says which lines of docs/FORMATS.md aren't what the rows say, which rows of
-                                    instruction_rows.py have operands with the ends of no row of words, where choices among words
-                                    are counted and those in the opcode aren't looked at, and which operations have none there; the
-                                    status is then 1
+                                    instruction_rows.py have operands with the ends of no row of words, and of which operations as
+                                    many opcodes aren't chosen there as have rows; what the words of a choice are isn't looked at.
+                                    The status is then 1
   tools/format_tables.py --write    writes the lines
 
 A table of the page has a line for each format of a family. What its first column says, the instructions as a user writes them,
@@ -13,6 +13,8 @@ stands in the page alone; the other columns are made here.
 
 import re
 import sys
+from collections import Counter
+from math import prod
 from pathlib import Path
 
 sys.dont_write_bytecode = True
@@ -240,20 +242,36 @@ class Texts:
             yield {"update": "imm" if operand.coding == "Short" else "r2"}.get(name, name), ends(operand)
 
     def faults(self):
-        """Each row of texts whose operands are those of no row of words, and each operation that has no text."""
+        """Each row of texts whose operands are those of no row of words, and each operation of which another number of opcodes
+        has texts than has rows, where it has these operands."""
+        chosen, listed = Counter(), Counter()
         for text in ROWS:
             found = [row for row in self.rows[text.family] if variant(row) == text.name]
             if not any(agree(text, dict(self.ends(row))) for row in found):
                 yield f"no row has the operands of {text.text.template}"
+            chosen[form_of(text.family, text.name, text.operands)] += prod(
+                operand.high + 1 for name, operand in text.operands.items() if name in CHOSEN
+            )
         for family, found in self.rows.items():
-            for name in sorted({variant(row) for row in found} - {text.name for text in ROWS if text.family == family}):
-                yield f"{name} has no text"
+            listed.update(form_of(family, variant(row), dict(self.ends(row))) for row in found)
+        for form in sorted(set(chosen) | set(listed)):
+            if chosen[form] != listed[form]:
+                yield f"of {' '.join(form)} {chosen[form]} opcodes have texts, and {listed[form]} have rows"
+
+
+# What rows of texts choose in the opcode.
+CHOSEN = {"f", "rel", "kind", "ar"}
+
+
+def form_of(family, name, operands):
+    """An operation with these operands, but for its size, which a text of one size doesn't name."""
+    return (family, name, *sorted(set(operands) - CHOSEN - {"size"}))
 
 
 def agree(text, row):
     """Whether the operands of a row of texts are those of a row of words, and what is chosen in the opcode."""
     own = {name: (operand.low, operand.high) for name, operand in text.operands.items()}
-    return set(row) <= set(own) | {"size"} and set(own) - set(row) <= {"f", "rel", "kind", "ar"} and all(
+    return set(row) <= set(own) | {"size"} and set(own) - set(row) <= CHOSEN and all(
         (text.family, text.name, name) in OTHERS or own.get(name, value) == value for name, value in row.items()
     )
 
