@@ -2,9 +2,11 @@
 """Keeps what is said of instructions elsewhere to the rows that the program decodes and encodes by.
 
   tools/format_tables.py            says which lines of docs/FORMATS.md aren't what the rows say, which rows of
-                                    instruction_rows.py have operands with the ends of no row of words, and of which operations as
-                                    many opcodes aren't chosen there as have rows; what the words of a choice are isn't looked at.
-                                    The status is then 1
+                                    instruction_rows.py have operands with the ends of no row of words, of which operations as many
+                                    opcodes aren't chosen there as have rows, which forms that are printed have their completers
+                                    or operands in the order of none of its lines, and which forms write a value in another way than
+                                    its operand in a word is coded; what the words of a choice are isn't looked at. The status is
+                                    then 1
   tools/format_tables.py --write    writes the lines
 
 A table of the page has a line for each format of a family. What its first column says, the instructions as a user writes them,
@@ -20,7 +22,7 @@ from pathlib import Path
 sys.dont_write_bytecode = True
 
 from instruction_rows import ROWS  # noqa: E402
-from row_sources import FAMILIES, Operand, fields, formats, operand_names, operands, rows  # noqa: E402
+from row_sources import FAMILIES, Operand, fields, formats, forms, operand_names, operands, printed_forms, rows  # noqa: E402
 
 PAGE = Path(__file__).resolve().parent.parent / "docs" / "FORMATS.md"
 # The tables of the page, by their headings, with the families of each.
@@ -258,6 +260,66 @@ class Texts:
             if chosen[form] != listed[form]:
                 yield f"of {' '.join(form)} {chosen[form]} opcodes have texts, and {listed[form]} have rows"
 
+    def field_faults(self):
+        """Each form that writes a value in another way than the operand with its number is coded."""
+        for form in forms():
+            found = [row for own in self.rows.values() for row in own if variant(row) == form.opcode]
+            same = [row for row in found if f"UpdateKind::{form.update}" in row.opcode] if form.update else found
+            for place, kind in form.written:
+                codings = {self.coding(row, place) for row in same}
+                if not codings <= WRITTEN[kind]:
+                    yield f"the form {form.name} writes value {place} by {kind}, and its operand is coded as {sorted(codings)}"
+
+    def coding(self, row, place):
+        """The coding of an operand of a row, with its width where it is a number."""
+        names = self.formats[row.format].operands
+        operand = self.operands[names[place]] if place < len(names) else Operand("Absent", (), ())
+        return operand.coding + (str(operand.width()) if operand.coding in SIZED else "")
+
+
+# The codings whose numbers have the width of their operand.
+SIZED = {"Small", "LessOne", "Signed", "Short"}
+# How the values are coded that a set of completers, a kind of operands or a field of numbers writes, or no line. Of a long
+# instruction the word has a part of the number.
+WRITTEN = {
+    "Gr": {"Gr", "LowGr", "Target"},
+    "Pr": {"Pr"},
+    "Br": {"Br"},
+    "Label": {"Displacement"},
+    **dict.fromkeys(("Flag", "Unc", "U", "Ret", "Imp", "DeallocClr", "Prefetch", "SemaphoreType", "ZeroOrMinusOne"), {"Flag"}),
+    "MoveWhether": {"UpTo"},
+    "Whether": {"Small2"},
+    "LoadHint": {"LoadHint"},
+    "StoreHint": {"StoreHint"},
+    "Small": {"Size"},
+    **dict.fromkeys(("Imm8", "Less8"), {"Signed8"}),
+    "Imm14": {"Signed14"},
+    "Imm22": {"Signed22"},
+    **dict.fromkeys(("Imm9", "Tag"), {"Short9"}),
+    **dict.fromkeys(("Imm21", "Imm62", "Imm64"), {"Wide"}),
+    "Count": {"LessOne2"},
+    "Position": {"From63", "Small6"},
+    "Length": {"LessOne6"},
+    "Length16": {"LessOne4"},
+    **dict.fromkeys(("Mask", "PredicateMask"), {"PredicateMask"}),
+    "RotatingMask": {"RotatingMask"},
+    "Increment": {"Increment"},
+}
+
+
+def line_faults():
+    """Each form that is printed whose completers and operands stand in the order of no line of its operation."""
+    printed = printed_forms()
+    for form in forms():
+        if form.name in printed and not any(is_line(text.line.template, form) for text in ROWS if text.name == form.opcode):
+            yield f"no line of {form.opcode} has the order of the form {form.name}: {' '.join((*form.completers, form.operands))}"
+
+
+def is_line(line, form):
+    word, _, operands = line.partition(" ")
+    told = tuple(name for name in re.findall(r"\$(\w+)", word) if name in form.completers)
+    return (told, operands) == (form.completers, form.operands)
+
 
 # What rows of texts choose in the opcode.
 CHOSEN = {"f", "rel", "kind", "ar"}
@@ -289,7 +351,8 @@ def main():
     if sys.argv[1:] == ["--write"]:
         PAGE.write_text(made, "utf-8")
         return 1 if missing else 0
-    faults = list(Texts().faults())
+    texts = Texts()
+    faults = [*texts.faults(), *texts.field_faults(), *line_faults()]
     for fault in faults:
         print(f"format_tables: {fault}")
     old, new = page.splitlines(), made.splitlines()

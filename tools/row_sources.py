@@ -1,7 +1,8 @@
-"""The rows of instructions of the crates, read from their sources: which operands each has, in which bits, with which values.
+"""The rows of instructions of the crates, read from their sources: which operands each has, in which bits, with which values, and
+how it is written.
 
-The rows stand in formats_*/src, and what they are made of in insn_rows/src: formats, operands, fields and the operations' names of
-their operands.
+The rows of words stand in formats_*/src, and what they are made of in insn_rows/src: formats, operands, fields and the operations'
+names of their operands. The rows of texts stand in asm_forms/src.
 """
 
 import re
@@ -40,6 +41,18 @@ class Row(NamedTuple):
     opcode: str
     format: str
     fields: dict
+
+
+class Form(NamedTuple):
+    """A form of a text: its name, its operation, what it adds to its base register, the names of the values that its completers
+    say, its operands as they are written, each value by its name, and each number of a value with the set, the kind or the field
+    by which it is written, or the kind of value that no line writes."""
+    name: str
+    opcode: str
+    update: str
+    completers: tuple
+    operands: str
+    written: tuple
 
 
 def source(path):
@@ -95,3 +108,40 @@ def rows(path):
     if {declared, text.count("row!(")} != {len(answer)}:
         raise ValueError(f"{path}: {declared} rows are declared, and {len(answer)} are read of {text.count('row!(')}")
     return answer
+
+
+# The marks of texts that aren't written as they are named.
+MARKS = {"Pfs": "ar.pfs", "Unat": "ar.unat", "R0": "r0", "Predicates": "pr", "RotatingPredicates": "pr.rot", "Ip": "ip", "One": "1"}
+
+
+def forms():
+    """The forms of instructions, but for the frame's, which is written by other numbers than those of its word."""
+    text, names, answer = source("asm_forms/src/rows.rt"), operand_names(), []
+    for line in text.splitlines():
+        found = re.match(r'    row!\((\w+), Opcode::(\w+)(.*?); b"[\w.]+", \[(.*?)\](?:, (.*))?\),$', line)
+        if not found:
+            continue
+        name, variant, rest, sets, items = found.groups()
+        if variant == "Alloc":
+            continue
+
+        def value(place, kind, own=("qp", *names[variant])):
+            told = own[int(place)] if int(place) else kind.lower()
+            return {"update": "imm" if kind == "Imm9" else "r2"}.get(told, told)
+
+        said, kinds = (re.findall(r"(\w+)\((\d)\)", it or "") for it in (sets, items))
+        fixed = ((kind, place) for place, kind in re.findall(r", (\d): (\w+)", rest))
+        written = tuple((int(place), kind) for kind, place in (*said, *kinds, *fixed) if int(place))
+        told = tuple(value(place, kind) for kind, place in said)
+        operands = re.sub(r"(\w+)\((\d)\)", lambda it: "$" + value(it[2], it[1]), items or "")
+        operands = re.sub(r"(?<![$\w])[A-Z]\w*", lambda it: MARKS[it[0]], operands)
+        update = "".join(re.findall(r"UpdateKind::(\w+)", rest))
+        answer.append(Form(name, variant, update, told, re.sub(r" ?([=,]) ?", r"\1", operands), written))
+    if text.count("    row!(") != len(answer) + 1:
+        raise ValueError(f"asm_forms/src/rows.rt: {len(answer)} rows are read of {text.count('    row!(')}")
+    return answer
+
+
+def printed_forms():
+    """The names of the forms that instructions are printed with."""
+    return set(re.findall(r"Form::(\w+)", source("asm_canonical/src/forms.rt")))

@@ -1,3 +1,4 @@
 pub mod FieldRanges
+pub mod InRange
 pub mod Printed
 pub mod Written

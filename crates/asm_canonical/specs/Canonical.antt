@@ -1,11 +1,16 @@
--- How an instruction is printed: its form, a completer for each set of the form, and its operands, in the order of
--- the manual's formats. Branches have their whether and prefetch hints, a move to a branch register its tag, a
--- move to the predicates its mask.
-use Rattle.std.specs.Prelude.{ℕ, unsigned_abs, ◌-◌, ◌*◌, ℤ, pos, negsuc, Bool, true, false, not, ◌==◌, if◌then◌else◌, List, [], ◌∷◌}
+-- How an instruction is printed: its form, and by the form's row a completer for each set and the operands. Branches have
+-- their whether and prefetch hints, a move to a branch register its tag, a move to the predicates its mask.
+use Rattle.std.specs.Prelude.{ℕ, unsigned_abs, ◌-◌, ◌*◌, ℤ, pos, negsuc, Bool, true, false, not, ◌==◌, if◌then◌else◌, List, [], ◌∷◌, map, slice_index_or}
 use Rattle.asm_words.specs.declared.tokens.Token.{Token}
 use Rattle.asm_words.specs.declared.tokens.Token.TheVariants as t
 use Rattle.asm_forms.specs.declared.completer.Completer.{Completer}
 use Rattle.asm_forms.specs.declared.completer.Completer.TheVariants as c
+use Rattle.asm_forms.specs.declared.completer.CompleterSet.{CompleterSet}
+use Rattle.asm_forms.specs.declared.completer.CompleterSet.TheVariants as set
+use Rattle.asm_forms.specs.declared.items.Kind.{Kind}
+use Rattle.asm_forms.specs.declared.items.Kind.TheVariants as k
+use Rattle.asm_forms.specs.Completers.{members}
+use Rattle.asm_forms.specs.Rows.{row_of}
 use Rattle.asm_forms.specs.declared.form.Form.{Form}
 use Rattle.asm_forms.specs.declared.form.Form.TheVariants as form
 use Rattle.asm_forms.specs.declared.choices.CompareRelation.{CompareRelation}
@@ -17,7 +22,7 @@ use Rattle.asm_forms.specs.declared.choices.CacheHint.TheVariants as hint
 use Rattle.asm_forms.specs.declared.choices.AccessSize.{AccessSize}
 use Rattle.asm_forms.specs.declared.choices.AccessSize.TheVariants as size
 use Rattle.ia_insn.specs.declared.insn.Op.{Op}
-use Rattle.ia_insn.specs.declared.insn.Op.TheVariants as op
+use Rattle.ia_insn.specs.declared.registers.Ar.{Ar}
 use Rattle.ia_insn.specs.declared.registers.Ar.TheVariants as ar
 use Rattle.ia_insn.specs.declared.choices.AluFn.{AluFn}
 use Rattle.ia_insn.specs.declared.choices.AluFn.TheVariants as alu
@@ -30,7 +35,14 @@ use Rattle.ia_insn.specs.declared.choices.CmpKind.{CmpKind}
 use Rattle.ia_insn.specs.declared.choices.CmpKind.TheVariants as cmp
 use Rattle.ia_insn.specs.declared.choices.BranchKind.TheVariants as branch
 use Rattle.ia_insn.specs.declared.choices.Unit.TheVariants as unit
-use Rattle.ia_insn.specs.declared.choices.Update.TheVariants as update
+use Rattle.insn_rows.specs.declared.opcode.Opcode.{Opcode}
+use Rattle.insn_rows.specs.declared.opcode.Opcode.TheVariants as o
+use Rattle.insn_rows.specs.declared.opcode.UpdateKind.TheVariants as update
+use Rattle.insn_rows.specs.declared.value.Value.{Value}
+use Rattle.insn_rows.specs.declared.value.Value.TheVariants as v
+use Rattle.insn_rows.specs.Values.{at}
+use Rattle.insn_rows.specs.Arms.{opcode_of, operands_of}
+use Rattle.insn_rows.specs.ArmsBack.{flag_of, small_of}
 
 pub record Syntax : Type 0 where
   pub form : Form
@@ -115,9 +127,6 @@ compare_relation_of rel.Le = crel.Le
 abbrev pub when : Bool → Completer → Completer
 when wanted completer = if wanted then completer else c.Absent
 
-abbrev pub unc_of : Bool → Completer
-unc_of unc = c.Compare (if unc then cmp.Unc else cmp.Normal)
-
 -- the whether hint of a move to a branch register: 0 sptk, 1 none, 2 dptk
 abbrev pub move_whether : ℕ → Completer
 move_whether n = if n == 0 then c.Whether wh.Sptk else (if n == 2 then c.Whether wh.Dptk else c.Absent)
@@ -129,13 +138,6 @@ whether n = if n == 0 then wh.Sptk else (if n == 1 then wh.Spnt else (if n == 2 
 -- the cache hint: 0 none, 1 nt1, 3 nta
 abbrev pub cache_hint : ℕ → CacheHint
 cache_hint n = if n == 0 then hint.None else (if n == 1 then hint.Nt1 else hint.Nta)
-
--- the semaphore type of a fetch-and-add
-abbrev pub semaphore_type : Bool → Completer
-semaphore_type release = if release then c.Rel else c.Acq
-
-abbrev pub prefetch_hint : Bool → Completer
-prefetch_hint many = if many then c.Many else c.Few
 
 abbrev pub negative : ℤ → Bool
 negative (pos n) = false
@@ -152,85 +154,166 @@ natural n = t.Number false n
 abbrev pub ones_number : Bool → Token
 ones_number ones = if ones then t.Number true 1 else t.Number false 0
 
--- the completers of a compare and of an operation on lanes, and the hints of a branch after its first completer
-abbrev pub compare_completers : Rel → CmpKind → List Completer
-compare_completers r kind = (c.CompareRelation (compare_relation_of r)) ∷ c.Compare kind ∷ []
+-- the form of an opcode, and of its sizes and choices where forms differ in them
+abbrev pub form_of : Opcode → (ℕ → Value) → Form
+-- A formats
+form_of (o.Alu f) x = alu_form f
+form_of o.ShlAdd x = if flag_of (x 1) then form.Shladdp4 else form.Shladd
+form_of (o.AluImm8 f) x = alu_imm_form f
+form_of o.AddImm14 x = if flag_of (x 1) then form.Addp4Imm else form.Adds
+form_of o.AddImm22 x = form.Addl
+form_of (o.Cmp r kind) x = compare_form (flag_of (x 1)) kind
+form_of (o.CmpZero r kind) x = if flag_of (x 1) then form.Cmp4Zero else form.CmpZero
+form_of (o.CmpImm r kind) x = compare_imm_form (flag_of (x 1)) kind
+form_of (o.Lane f) x = lane_form f (size_of (small_of (x 1)))
+-- I formats
+form_of (o.ShiftVar shift.Shl) x = form.Shl
+form_of (o.ShiftVar f) x = form.Shr
+form_of o.Popcnt x = form.Popcnt
+form_of o.Shrp x = form.Shrp
+form_of o.Extr x = form.Extr
+form_of o.DepZ x = form.DepZ
+form_of o.DepZImm x = form.DepZImm
+form_of o.DepImm x = form.DepImm
+form_of o.Dep x = form.Dep
+form_of o.Tbit x = form.Tbit
+form_of o.Tnat x = form.Tnat
+form_of (o.ChkS u) x = form.ChkS
+form_of o.MovToBr x = form.MovToBrTag
+form_of o.MovFromBr x = form.MovFromBr
+form_of o.MovToPr x = form.MovToPrMask
+form_of o.MovToPrRot x = form.MovToPrRot
+form_of o.MovFromIp x = form.MovFromIp
+form_of o.MovFromPr x = form.MovFromPr
+form_of (o.MovToAr ar.Unat) x = form.MovToArM
+form_of (o.MovToAr a) x = form.MovToArI
+form_of (o.MovToArImm ar.Unat) x = form.MovToArImmM
+form_of (o.MovToArImm a) x = form.MovToArImmI
+form_of (o.MovFromAr ar.Unat) x = form.MovFromArM
+form_of (o.MovFromAr a) x = form.MovFromArI
+form_of o.Ext x = ext_form (flag_of (x 1)) (size_of (small_of (x 2)))
+-- M formats
+form_of (o.Load kind update.None) x = of_size (small_of (x 1)) form.Ld1 form.Ld2 form.Ld4 form.Ld8
+form_of (o.Load kind update.Reg) x = of_size (small_of (x 1)) form.Ld1Reg form.Ld2Reg form.Ld4Reg form.Ld8Reg
+form_of (o.Load kind update.Imm) x = of_size (small_of (x 1)) form.Ld1Imm form.Ld2Imm form.Ld4Imm form.Ld8Imm
+form_of (o.Store kind update.Imm) x = of_size (small_of (x 1)) form.St1Imm form.St2Imm form.St4Imm form.St8Imm
+form_of (o.Store kind u) x = of_size (small_of (x 1)) form.St1 form.St2 form.St4 form.St8
+form_of o.Xchg x = of_size (small_of (x 1)) form.Xchg1 form.Xchg2 form.Xchg4 form.Xchg8
+form_of o.FetchAdd x = if small_of (x 1) == 4 then form.Fetchadd4 else form.Fetchadd8
+form_of o.ChkA x = if flag_of (x 1) then form.ChkAClr else form.ChkANc
+form_of o.Invala x = form.Invala
+form_of o.Mf x = form.Mf
+form_of o.InvalaE x = form.InvalaE
+form_of o.Alloc x = form.Alloc
+-- B formats
+form_of (o.Br branch.Cond) x = form.BrCond
+form_of (o.Br kind) x = form.BrLoop
+form_of o.BrCall x = form.BrCall
+form_of o.BrInd x = form.BrInd
+form_of o.BrRet x = form.BrRet
+form_of o.BrCallInd x = form.BrCallInd
+form_of o.Clrrrb x = if flag_of (x 1) then form.ClrrrbPr else form.Clrrrb
+-- X formats
+form_of o.Movl x = form.Movl
+-- the formats that every unit has
+form_of (o.Break unit.X) x = form.BreakLong
+form_of (o.Break u) x = form.BreakImm
+form_of (o.Nop unit.X) x = form.NopLong
+form_of (o.Nop u) x = form.NopImm
+form_of (o.Hint u) x = form.HintImm
 
-abbrev pub lane_completers : LaneFn → List Completer
-lane_completers lane_fn.PcmpEq = c.CompareRelation crel.Eq ∷ []
-lane_completers lane_fn.PcmpGt = c.CompareRelation crel.Gt ∷ []
-lane_completers _ = []
+-- the completer of a set for a choice of two
+abbrev pub flag_completer : CompleterSet → Bool → Completer
+flag_completer set.Unc b = c.Compare (if b then cmp.Unc else cmp.Normal)
+flag_completer set.U b = when (not b) c.U
+flag_completer set.Ret b = when b c.Ret
+flag_completer set.Imp b = when b c.Imp
+flag_completer set.SemaphoreType b = if b then c.Rel else c.Acq
+flag_completer set.Prefetch b = if b then c.Many else c.Few
+flag_completer set.DeallocClr b = when b c.Clr
+flag_completer s b = c.Absent
 
-abbrev pub branch_hints : ℕ → Bool → Bool → List Completer
-branch_hints w many clr = (c.Whether (whether w)) ∷ prefetch_hint many ∷ when clr c.Clr ∷ []
+-- the completer of a set for a number
+abbrev pub number_completer : CompleterSet → ℕ → Completer
+number_completer set.MoveWhether n = move_whether n
+number_completer set.LoadHint n = c.Hint (cache_hint n)
+number_completer set.StoreHint n = c.Hint (cache_hint n)
+number_completer set.Whether n = c.Whether (whether n)
+number_completer s n = c.Absent
+
+-- the completer of a set of a compare
+abbrev pub compare_completer : CompleterSet → Rel → CmpKind → Completer
+compare_completer set.Unc r kind = c.Compare kind
+compare_completer set.Parallel r kind = c.Compare kind
+compare_completer s r kind = c.CompareRelation (compare_relation_of r)
+
+-- the first completer of a set
+abbrev pub first : CompleterSet → Completer
+first s = slice_index_or (members s) 0 c.Absent
+
+-- the completer of a set that its opcode has, the first one where it has none
+abbrev pub own_completer : CompleterSet → Opcode → Completer
+own_completer s (o.Cmp r kind) = compare_completer s r kind
+own_completer s (o.CmpZero r kind) = compare_completer s r kind
+own_completer s (o.CmpImm r kind) = compare_completer s r kind
+own_completer s (o.Lane lane_fn.PcmpGt) = c.CompareRelation crel.Gt
+own_completer s (o.ShiftVar shift.Shr) = c.Absent
+own_completer set.CheckUnit (o.ChkS u) = c.Unit u
+own_completer s (o.Load kind u) = c.Load kind
+own_completer s (o.Store kind u) = c.Store kind
+own_completer set.Loop (o.Br kind) = c.Loop kind
+own_completer s (o.Break u) = c.Unit u
+own_completer s (o.Nop u) = c.Unit u
+own_completer s (o.Hint u) = c.Unit u
+own_completer s x = first s
+
+-- the completer of a set that says a value, and of another set the opcode's
+abbrev pub completer_of : CompleterSet → Opcode → Value → Completer
+completer_of s x (v.Flag b) = flag_completer s b
+completer_of s x (v.Small n) = number_completer s n
+completer_of s x value = own_completer s x
+
+-- the token that a value is printed as; a target is a name
+abbrev pub value_token : Value → Token
+value_token (v.Gr n) = t.Gr n
+value_token (v.Pr n) = t.Pr n
+value_token (v.Br n) = t.Br n
+value_token (v.Flag b) = ones_number b
+value_token (v.Small n) = natural n
+value_token (v.Wide n) = natural n
+value_token (v.Mask n) = natural n
+value_token (v.Signed z) = number z
+value_token (v.Short z) = number z
+value_token (v.Displacement z) = t.Name
+value_token v.Absent = t.OtherMark
+
+-- the application register of an opcode
+abbrev pub register_of : Opcode → Ar
+register_of (o.MovToAr a) = a
+register_of (o.MovToArImm a) = a
+register_of (o.MovFromAr a) = a
+register_of x = ar.Unat
+
+-- the token of an operand: its value's, or an application register
+abbrev pub operand_of : Kind → Opcode → Value → Token
+operand_of k.Ar x value = t.Ar (register_of x)
+operand_of kind x value = value_token value
+
+-- by the row of a form
+abbrev pub syntax_by : Form → Opcode → List Value → Syntax
+syntax_by f x vs =
+    syntax f (map (λ s. completer_of s.0 x (at vs s.1)) (row_of f).completers) (map (λ k. operand_of k.0 x (at vs k.1)) (row_of f).operands)
+
+-- A frame is written by its parts: inputs, of which there are none, locals, outputs and rotating registers.
+abbrev pub frame_values : (ℕ → Value) → List Value
+frame_values x =
+    v.Absent ∷ x 1 ∷ v.Wide 0 ∷ v.Wide (small_of (x 3)) ∷ v.Wide (small_of (x 2) - small_of (x 3)) ∷ v.Wide (8 * small_of (x 4)) ∷ v.Absent ∷ []
+
+-- the values as they are written
+abbrev pub written : Opcode → List Value → List Value
+written o.Alloc vs = frame_values (at vs)
+written x vs = vs
 
 -- how the instruction is printed; a target is a name
 abbrev pub syntax_of : Op → Syntax
--- A formats
-syntax_of (op.Alu f r1 r2 r3) = syntax (alu_form f) [] (t.Gr r1 ∷ t.Gr r2 ∷ t.Gr r3 ∷ [])
-syntax_of (op.ShlAdd p4 r1 r2 count r3) = syntax (if p4 then form.Shladdp4 else form.Shladd) [] (t.Gr r1 ∷ t.Gr r2 ∷ natural count ∷ t.Gr r3 ∷ [])
-syntax_of (op.AluImm8 f r1 imm r3) = syntax (alu_imm_form f) [] (t.Gr r1 ∷ number imm ∷ t.Gr r3 ∷ [])
-syntax_of (op.AddImm14 p4 r1 imm r3) = syntax (if p4 then form.Addp4Imm else form.Adds) [] (t.Gr r1 ∷ number imm ∷ t.Gr r3 ∷ [])
-syntax_of (op.AddImm22 r1 imm r3) = syntax form.Addl [] (t.Gr r1 ∷ number imm ∷ t.Gr r3 ∷ [])
-syntax_of (op.Cmp four rel kind p1 p2 r2 r3) = syntax (compare_form four kind) (compare_completers rel kind) (t.Pr p1 ∷ t.Pr p2 ∷ t.Gr r2 ∷ t.Gr r3 ∷ [])
-syntax_of (op.CmpZero four rel kind p1 p2 r3) = syntax (if four then form.Cmp4Zero else form.CmpZero) (compare_completers rel kind) (t.Pr p1 ∷ t.Pr p2 ∷ t.Gr r3 ∷ [])
-syntax_of (op.CmpImm four rel kind p1 p2 imm r3) = syntax (compare_imm_form four kind) (compare_completers rel kind) (t.Pr p1 ∷ t.Pr p2 ∷ number imm ∷ t.Gr r3 ∷ [])
-syntax_of (op.Lane f n r1 r2 r3) = syntax (lane_form f (size_of n)) (lane_completers f) (t.Gr r1 ∷ t.Gr r2 ∷ t.Gr r3 ∷ [])
--- I formats
-syntax_of (op.ShiftVar shift.Shl r1 value count) = syntax form.Shl [] (t.Gr r1 ∷ t.Gr value ∷ t.Gr count ∷ [])
-syntax_of (op.ShiftVar shift.Shr r1 value count) = syntax form.Shr (c.Absent ∷ []) (t.Gr r1 ∷ t.Gr value ∷ t.Gr count ∷ [])
-syntax_of (op.ShiftVar shift.ShrU r1 value count) = syntax form.Shr (c.U ∷ []) (t.Gr r1 ∷ t.Gr value ∷ t.Gr count ∷ [])
-syntax_of (op.Popcnt r1 r3) = syntax form.Popcnt [] (t.Gr r1 ∷ t.Gr r3 ∷ [])
-syntax_of (op.Shrp r1 r2 r3 count) = syntax form.Shrp [] (t.Gr r1 ∷ t.Gr r2 ∷ t.Gr r3 ∷ natural count ∷ [])
-syntax_of (op.Extr signed r1 r3 lowest len) = syntax form.Extr (when (not signed) c.U ∷ []) (t.Gr r1 ∷ t.Gr r3 ∷ natural lowest ∷ natural len ∷ [])
-syntax_of (op.DepZ r1 r2 lowest len) = syntax form.DepZ (c.Z ∷ []) (t.Gr r1 ∷ t.Gr r2 ∷ natural lowest ∷ natural len ∷ [])
-syntax_of (op.DepZImm r1 imm lowest len) = syntax form.DepZImm (c.Z ∷ []) (t.Gr r1 ∷ number imm ∷ natural lowest ∷ natural len ∷ [])
-syntax_of (op.DepImm r1 ones r3 lowest len) = syntax form.DepImm [] (t.Gr r1 ∷ ones_number ones ∷ t.Gr r3 ∷ natural lowest ∷ natural len ∷ [])
-syntax_of (op.Dep r1 r2 r3 lowest len) = syntax form.Dep [] (t.Gr r1 ∷ t.Gr r2 ∷ t.Gr r3 ∷ natural lowest ∷ natural len ∷ [])
-syntax_of (op.Tbit unc p1 p2 r3 lowest) = syntax form.Tbit (c.Z ∷ unc_of unc ∷ []) (t.Pr p1 ∷ t.Pr p2 ∷ t.Gr r3 ∷ natural lowest ∷ [])
-syntax_of (op.Tnat unc p1 p2 r3) = syntax form.Tnat (c.Z ∷ unc_of unc ∷ []) (t.Pr p1 ∷ t.Pr p2 ∷ t.Gr r3 ∷ [])
-syntax_of (op.ChkS unit r2 disp) = syntax form.ChkS (c.S ∷ c.Unit unit ∷ []) (t.Gr r2 ∷ t.Name ∷ [])
-syntax_of (op.MovToBr b1 r2 ret imp w tag) = syntax form.MovToBrTag (when ret c.Ret ∷ move_whether w ∷ when imp c.Imp ∷ []) (t.Br b1 ∷ t.Gr r2 ∷ number tag ∷ [])
-syntax_of (op.MovFromBr r1 b2) = syntax form.MovFromBr [] (t.Gr r1 ∷ t.Br b2 ∷ [])
-syntax_of (op.MovToPr r2 mask) = syntax form.MovToPrMask [] (t.Gr r2 ∷ natural mask ∷ [])
-syntax_of (op.MovToPrRot imm) = syntax form.MovToPrRot [] (number imm ∷ [])
-syntax_of (op.MovFromIp r1) = syntax form.MovFromIp [] (t.Gr r1 ∷ [])
-syntax_of (op.MovFromPr r1) = syntax form.MovFromPr [] (t.Gr r1 ∷ [])
-syntax_of (op.MovToAr ar.Unat r2) = syntax form.MovToArM (c.Unit unit.M ∷ []) (t.Gr r2 ∷ [])
-syntax_of (op.MovToAr a r2) = syntax form.MovToArI (c.Unit unit.I ∷ []) (t.Ar a ∷ t.Gr r2 ∷ [])
-syntax_of (op.MovToArImm ar.Unat imm) = syntax form.MovToArImmM (c.Unit unit.M ∷ []) (number imm ∷ [])
-syntax_of (op.MovToArImm a imm) = syntax form.MovToArImmI (c.Unit unit.I ∷ []) (t.Ar a ∷ number imm ∷ [])
-syntax_of (op.MovFromAr r1 ar.Unat) = syntax form.MovFromArM (c.Unit unit.M ∷ []) (t.Gr r1 ∷ [])
-syntax_of (op.MovFromAr r1 a) = syntax form.MovFromArI (c.Unit unit.I ∷ []) (t.Gr r1 ∷ t.Ar a ∷ [])
-syntax_of (op.Ext signed n r1 r3) = syntax (ext_form signed (size_of n)) [] (t.Gr r1 ∷ t.Gr r3 ∷ [])
--- M formats
-syntax_of (op.Load n kind h r1 r3 update.None) = syntax (of_size n form.Ld1 form.Ld2 form.Ld4 form.Ld8) (c.Load kind ∷ (c.Hint (cache_hint h)) ∷ []) (t.Gr r1 ∷ t.Gr r3 ∷ [])
-syntax_of (op.Load n kind h r1 r3 (update.Reg r2)) = syntax (of_size n form.Ld1Reg form.Ld2Reg form.Ld4Reg form.Ld8Reg) (c.Load kind ∷ (c.Hint (cache_hint h)) ∷ []) (t.Gr r1 ∷ t.Gr r3 ∷ t.Gr r2 ∷ [])
-syntax_of (op.Load n kind h r1 r3 (update.Imm imm)) = syntax (of_size n form.Ld1Imm form.Ld2Imm form.Ld4Imm form.Ld8Imm) (c.Load kind ∷ (c.Hint (cache_hint h)) ∷ []) (t.Gr r1 ∷ t.Gr r3 ∷ number imm ∷ [])
-syntax_of (op.Store n kind h r3 r2 (update.Imm imm)) = syntax (of_size n form.St1Imm form.St2Imm form.St4Imm form.St8Imm) (c.Store kind ∷ (c.Hint (cache_hint h)) ∷ []) (t.Gr r3 ∷ t.Gr r2 ∷ number imm ∷ [])
-syntax_of (op.Store n kind h r3 r2 _) = syntax (of_size n form.St1 form.St2 form.St4 form.St8) (c.Store kind ∷ (c.Hint (cache_hint h)) ∷ []) (t.Gr r3 ∷ t.Gr r2 ∷ [])
-syntax_of (op.Xchg n h r1 r3 r2) = syntax (of_size n form.Xchg1 form.Xchg2 form.Xchg4 form.Xchg8) ((c.Hint (cache_hint h)) ∷ []) (t.Gr r1 ∷ t.Gr r3 ∷ t.Gr r2 ∷ [])
-syntax_of (op.FetchAdd n release h r1 r3 inc) = syntax (if n == 4 then form.Fetchadd4 else form.Fetchadd8) (semaphore_type release ∷ (c.Hint (cache_hint h)) ∷ []) (t.Gr r1 ∷ t.Gr r3 ∷ number inc ∷ [])
-syntax_of (op.ChkA false r1 disp) = syntax form.ChkANc (c.A ∷ c.Nc ∷ []) (t.Gr r1 ∷ t.Name ∷ [])
-syntax_of (op.ChkA true r1 disp) = syntax form.ChkAClr (c.A ∷ c.Clr ∷ []) (t.Gr r1 ∷ t.Name ∷ [])
-syntax_of op.Invala = syntax form.Invala [] []
-syntax_of op.Mf = syntax form.Mf [] []
-syntax_of (op.InvalaE r1) = syntax form.InvalaE (c.E ∷ []) (t.Gr r1 ∷ [])
-syntax_of (op.Alloc r1 sof sol sor) = syntax form.Alloc [] (t.Gr r1 ∷ natural 0 ∷ natural sol ∷ natural (sof - sol) ∷ natural (8 * sor) ∷ [])
--- B formats
-syntax_of (op.Br branch.Cond w many clr disp) = syntax form.BrCond (c.Cond ∷ branch_hints w many clr) (t.Name ∷ [])
-syntax_of (op.Br kind w many clr disp) = syntax form.BrLoop (c.Loop kind ∷ branch_hints w many clr) (t.Name ∷ [])
-syntax_of (op.BrCall b1 w many clr disp) = syntax form.BrCall (c.Call ∷ branch_hints w many clr) (t.Br b1 ∷ t.Name ∷ [])
-syntax_of (op.BrInd b2 w many clr) = syntax form.BrInd (c.Cond ∷ branch_hints w many clr) (t.Br b2 ∷ [])
-syntax_of (op.BrRet b2 w many clr) = syntax form.BrRet (c.Ret ∷ branch_hints w many clr) (t.Br b2 ∷ [])
-syntax_of (op.BrCallInd b1 b2 w many clr) = syntax form.BrCallInd (c.Call ∷ branch_hints w many clr) (t.Br b1 ∷ t.Br b2 ∷ [])
-syntax_of (op.Clrrrb false) = syntax form.Clrrrb [] []
-syntax_of (op.Clrrrb true) = syntax form.ClrrrbPr (c.Pr ∷ []) []
--- X formats
-syntax_of (op.Movl r1 imm) = syntax form.Movl [] (t.Gr r1 ∷ natural imm ∷ [])
--- the formats that every unit has
-syntax_of (op.Break unit.X imm) = syntax form.BreakLong (c.Unit unit.X ∷ []) (natural imm ∷ [])
-syntax_of (op.Break u imm) = syntax form.BreakImm (c.Unit u ∷ []) (natural imm ∷ [])
-syntax_of (op.Nop unit.X imm) = syntax form.NopLong (c.Unit unit.X ∷ []) (natural imm ∷ [])
-syntax_of (op.Nop u imm) = syntax form.NopImm (c.Unit u ∷ []) (natural imm ∷ [])
-syntax_of (op.Hint u imm) = syntax form.HintImm (c.Unit u ∷ []) (natural imm ∷ [])
+syntax_of x = syntax_by (form_of (opcode_of x) (at (operands_of 0 x))) (opcode_of x) (written (opcode_of x) (operands_of 0 x))

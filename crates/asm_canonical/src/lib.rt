@@ -1,12 +1,11 @@
 //! Which form, completers and operands an instruction is printed with.
 //!
-//! `syntax` has what that is, `fields` what a field of an instruction is printed as, and `operations` goes over the
-//! operations. The text is made of it by `asm_printing`.
+//! `forms` has the form of an opcode, `fields` what a value is printed as, and `syntax` goes by the form's row. The text
+//! is made of it by `asm_printing`.
 #![tactic(auto)]
 
 mod fields;
-mod operations;
+mod forms;
 mod syntax;
 
-pub use operations::syntax_of;
-pub use syntax::Syntax;
+pub use syntax::{Syntax, syntax_of};

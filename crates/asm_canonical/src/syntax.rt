@@ -1,13 +1,15 @@
 //! A syntax: a form, its completers and its operands.
 
-ghost use Rattle.std.specs.Prelude.{◌≡◌, ◌≤◌, [], ◌∷◌, length};
-ghost use Rattle.asm_forms.specs.declared.completer.Completer.TheVariants as c;
-ghost use Rattle.ia_insn.specs.declared.choices.Unit.TheVariants as units;
-ghost use Rattle.asm_canonical.specs.Canonical.{Syntax as SyntaxOf, syntax};
+ghost use Rattle.std.specs.Prelude.{◌≡◌, ◌≤◌, length, map};
+ghost use Rattle.insn_rows.specs.Values.{at};
+ghost use Rattle.asm_canonical.specs.Canonical.{Syntax as SyntaxOf, syntax, completer_of, operand_of, frame_values, syntax_by, syntax_of};
 
-use asm_forms::{Completer, Completers, Form, Operands};
+use crate::fields::{completer_of, operand_of};
+use crate::forms::form_of;
+use asm_forms::{Completer, CompleterSet, Completers, Form, Kind, Operands};
 use asm_words::Token;
-use ia_insn::Unit;
+use ia_insn::{Insn, Op, Pr};
+use insn_rows::{Opcode, Value, Values, opcode_of, small, value_at, values_of};
 use std::marker::Model;
 
 /// How an instruction is printed: its form, a completer for each set of the form, and its operands. Contracts see
@@ -48,78 +50,71 @@ impl Syntax {
     }
 }
 
-/// The syntax of these completers and operands.
-pub(crate) fn written(form: Form, completers: &[Completer], operands: &[Token]) -> Syntax
-    requires few { (length completers.now ≤ 4) × (length operands.now ≤ 5) }
-    ensures { result ≡ syntax form completers.now operands.now }
+/// The completers that a row's sets are printed with.
+fn completers_by(sets: &[(CompleterSet, u8)], opcode: Opcode, values: &Values) -> Completers
+    requires { length sets.now ≤ 4 }
+    ensures { result.items ≡ map (λ s. completer_of s.0 opcode (at values.now s.1)) sets.now }
 {
-    let mut list = Completers::new();
-    for completer in completers {
-        list.push(*completer);
+    let mut completers = Completers::new();
+    for (set, at) in sets {
+        completers.push(completer_of(*set, opcode, value_at(values, usize::from(*at))));
     }
-    let mut tokens = Operands::new();
-    for token in operands {
-        tokens.push(*token);
+    completers
+}
+
+/// The operands that a row's are printed with.
+fn operands_by(kinds: &[(Kind, u8)], opcode: Opcode, values: &Values) -> Operands
+    requires { length kinds.now ≤ 5 }
+    ensures { result.items ≡ map (λ k. operand_of k.0 opcode (at values.now k.1)) kinds.now }
+{
+    let mut operands = Operands::new();
+    for (kind, at) in kinds {
+        operands.push(operand_of(*kind, opcode, value_at(values, usize::from(*at))));
     }
+    operands
+}
+
+/// The syntax of an opcode and values by the row of a form.
+fn syntax_by(form: Form, opcode: Opcode, values: &Values) -> Syntax
+    ensures { result ≡ syntax_by form opcode values.now }
+{
     Syntax {
         form,
-        completers: list,
-        operands: tokens,
+        completers: completers_by(form.completers(), opcode, values),
+        operands: operands_by(form.operands(), opcode, values),
     }
 }
 
-/// No operands, and no completers.
-pub(crate) fn no_operands(form: Form) -> Syntax
-    ensures { result ≡ syntax form [] [] }
+/// The values of a frame as it is written, by its parts: inputs, of which there are none, locals, outputs and rotating
+/// registers.
+fn frame_values(values: &Values) -> Values
+    ensures { result ≡ frame_values (at values.now) }
 {
-    written(form, &[], &[])
+    let sof = small(values, 2);
+    let sol = small(values, 3);
+    [
+        Value::Absent,
+        value_at(values, 1),
+        Value::Wide(0),
+        Value::Wide(u64::from(sol)),
+        Value::Wide(u64::from(sof.saturating_sub(sol))),
+        Value::Wide(8 * u64::from(small(values, 4))),
+        Value::Absent,
+    ]
 }
 
-/// One operand, and no completers.
-pub(crate) fn one_operand(form: Form, x: Token) -> Syntax
-    ensures { result ≡ syntax form [] (x ∷ []) }
+/// How the instruction is printed, under whatever predicate; a target is a name.
+pub fn syntax_of(op: &Op) -> Syntax
+    ensures { result ≡ syntax_of op.now }
 {
-    written(form, &[], &[x])
-}
-
-/// Two operands, and no completers.
-pub(crate) fn two_operands(form: Form, x: Token, y: Token) -> Syntax
-    ensures { result ≡ syntax form [] (x ∷ y ∷ []) }
-{
-    written(form, &[], &[x, y])
-}
-
-/// Three operands, and no completers.
-pub(crate) fn three_operands(form: Form, x: Token, y: Token, z: Token) -> Syntax
-    ensures { result ≡ syntax form [] (x ∷ y ∷ z ∷ []) }
-{
-    written(form, &[], &[x, y, z])
-}
-
-/// Four operands, and no completers.
-pub(crate) fn four_operands(form: Form, w: Token, x: Token, y: Token, z: Token) -> Syntax
-    ensures { result ≡ syntax form [] (w ∷ x ∷ y ∷ z ∷ []) }
-{
-    written(form, &[], &[w, x, y, z])
-}
-
-/// Five operands, and no completers.
-pub(crate) fn five_operands(form: Form, v: Token, w: Token, x: Token, y: Token, z: Token) -> Syntax
-    ensures { result ≡ syntax form [] (v ∷ w ∷ x ∷ y ∷ z ∷ []) }
-{
-    written(form, &[], &[v, w, x, y, z])
-}
-
-/// One completer, and one operand.
-pub(crate) fn with_completer(form: Form, completer: Completer, x: Token) -> Syntax
-    ensures { result ≡ syntax form (completer ∷ []) (x ∷ []) }
-{
-    written(form, &[completer], &[x])
-}
-
-/// The letter of I slots, and two operands.
-pub(crate) fn in_i_slot(form: Form, x: Token, y: Token) -> Syntax
-    ensures { result ≡ syntax form (c.Unit units.I ∷ []) (x ∷ y ∷ []) }
-{
-    written(form, &[Completer::Unit(Unit::I)], &[x, y])
+    let opcode = opcode_of(op);
+    let values = values_of(&Insn {
+        qp: Pr::default(),
+        op: *op,
+    });
+    let form = form_of(opcode, &values);
+    match opcode {
+        Opcode::Alloc => syntax_by(form, opcode, &frame_values(&values)),
+        _ => syntax_by(form, opcode, &values),
+    }
 }

@@ -1,5 +1,5 @@
 -- The form that a mnemonic and its operands spell, row by row.
-use Rattle.std.proofs.Common.{◌≡◌, ◌∙◌, refl, sym, subst, ap, ℕ, ◌+◌, ◌<◌, Bool, true, false, ◌&&◌, cond, List, [], ◌∷◌, map, drop, length, get_or, Option, Some}
+use Rattle.std.proofs.Common.{◌≡◌, ◌∙◌, refl, sym, subst, ap, ℕ, ◌+◌, ◌<◌, Bool, true, false, ◌&&◌, cond, List, [], ◌∷◌, map, drop, length, get_or, Option, Some, None}
 use Rattle.std.specs.Prelude.{filter}
 use Rattle.std.specs.List.{find}
 use Rattle.std.proofs.lemmas.List.{drop_more}
@@ -41,7 +41,7 @@ past name operands r rs own h = past_by (is_named name r) own h
 
 -- what stands past the end of a table
 abbrev pub no_row : Seen
-no_row = (form.Data, record { ref_ptr = (0, 0); now = [] }, record { ref_ptr = (0, 0); now = [] }, record { ref_ptr = (0, 0); now = [] })
+no_row = (form.Data, record { ref_ptr = (0, 0); now = [] }, record { ref_ptr = (0, 0); now = [] }, record { ref_ptr = (0, 0); now = [] }, None, record { ref_ptr = (0, 0); now = [] }, record { ref_ptr = (0, 0); now = [] }, record { ref_ptr = (0, 0); now = [] })
 
 -- the row at a place of a table, and those that follow it
 at_place : (rs : List Seen) (i : ℕ) (d : Seen) → i < length rs → map seen (drop i rs) ≡ seen (get_or rs i d) ∷ map seen (drop (i + 1) rs)

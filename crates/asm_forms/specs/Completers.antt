@@ -84,9 +84,12 @@ text_of (c.Unit unit.L) = []
 
 -- the completers that may stand at a place; the first with which the name goes on is read
 abbrev pub members : CompleterSet → List Completer
-members set.CompareRelation = c.CompareRelation rel.Eq ∷ c.CompareRelation rel.Ne ∷ c.CompareRelation rel.Lt ∷ c.CompareRelation rel.Le ∷ c.CompareRelation rel.Gt ∷ c.CompareRelation rel.Ge ∷ c.CompareRelation rel.Ltu ∷ c.CompareRelation rel.Leu ∷ c.CompareRelation rel.Gtu ∷ c.CompareRelation rel.Geu ∷ []
-members set.RelationImm = c.CompareRelation rel.Eq ∷ c.CompareRelation rel.Ne ∷ c.CompareRelation rel.Lt ∷ c.CompareRelation rel.Ge ∷ c.CompareRelation rel.Ltu ∷ c.CompareRelation rel.Geu ∷ []
-members set.RelationLess = c.CompareRelation rel.Le ∷ c.CompareRelation rel.Gt ∷ []
+members set.Relation = c.CompareRelation rel.Eq ∷ c.CompareRelation rel.Lt ∷ c.CompareRelation rel.Ltu ∷ []
+members set.RelationNe = c.CompareRelation rel.Ne ∷ c.CompareRelation rel.Ge ∷ c.CompareRelation rel.Geu ∷ []
+members set.RelationGt = c.CompareRelation rel.Gt ∷ c.CompareRelation rel.Gtu ∷ []
+members set.RelationLe = c.CompareRelation rel.Le ∷ c.CompareRelation rel.Leu ∷ []
+members set.Le = c.CompareRelation rel.Le ∷ []
+members set.Gt = c.CompareRelation rel.Gt ∷ []
 members set.Equality = c.CompareRelation rel.Eq ∷ c.CompareRelation rel.Ne ∷ []
 members set.Order = c.CompareRelation rel.Gt ∷ c.CompareRelation rel.Le ∷ c.CompareRelation rel.Ge ∷ c.CompareRelation rel.Lt ∷ []
 members set.LaneRelation = c.CompareRelation rel.Eq ∷ c.CompareRelation rel.Gt ∷ []

@@ -76,12 +76,18 @@ impl Default for Completer {
 /// A place for a completer: which may stand there.
 #[derive(Clone, Copy)]
 pub enum CompleterSet {
-    /// `.eq` and nine others: a compare of two registers.
-    CompareRelation,
-    /// Those of a compare of a number and a register.
-    RelationImm,
-    /// `.le` or `.gt`: a number that is lowered by one.
-    RelationLess,
+    /// `.eq`, `.lt` or `.ltu`: a compare as the machine has it.
+    Relation,
+    /// `.ne`, `.ge` or `.geu`: the targets are exchanged.
+    RelationNe,
+    /// `.gt` or `.gtu`: the registers are exchanged.
+    RelationGt,
+    /// `.le` or `.leu`: the targets and the registers are exchanged.
+    RelationLe,
+    /// `.le`, of a number that is lowered by one.
+    Le,
+    /// `.gt`, of a number that is lowered by one: the targets are exchanged.
+    Gt,
     /// `.eq` or `.ne`, of a parallel compare.
     Equality,
     /// `.gt`, `.le`, `.ge` or `.lt`, of a parallel compare with r0.
@@ -238,30 +244,26 @@ pub fn members(set: CompleterSet) -> &'static [Completer]
     ensures { result.now ≡ members set }
 {
     match set {
-        CompleterSet::CompareRelation => &[
+        CompleterSet::Relation => &[
             Completer::CompareRelation(CompareRelation::Eq),
-            Completer::CompareRelation(CompareRelation::Ne),
             Completer::CompareRelation(CompareRelation::Lt),
-            Completer::CompareRelation(CompareRelation::Le),
-            Completer::CompareRelation(CompareRelation::Gt),
-            Completer::CompareRelation(CompareRelation::Ge),
             Completer::CompareRelation(CompareRelation::Ltu),
-            Completer::CompareRelation(CompareRelation::Leu),
+        ],
+        CompleterSet::RelationNe => &[
+            Completer::CompareRelation(CompareRelation::Ne),
+            Completer::CompareRelation(CompareRelation::Ge),
+            Completer::CompareRelation(CompareRelation::Geu),
+        ],
+        CompleterSet::RelationGt => &[
+            Completer::CompareRelation(CompareRelation::Gt),
             Completer::CompareRelation(CompareRelation::Gtu),
-            Completer::CompareRelation(CompareRelation::Geu),
         ],
-        CompleterSet::RelationImm => &[
-            Completer::CompareRelation(CompareRelation::Eq),
-            Completer::CompareRelation(CompareRelation::Ne),
-            Completer::CompareRelation(CompareRelation::Lt),
-            Completer::CompareRelation(CompareRelation::Ge),
-            Completer::CompareRelation(CompareRelation::Ltu),
-            Completer::CompareRelation(CompareRelation::Geu),
-        ],
-        CompleterSet::RelationLess => &[
+        CompleterSet::RelationLe => &[
             Completer::CompareRelation(CompareRelation::Le),
-            Completer::CompareRelation(CompareRelation::Gt),
+            Completer::CompareRelation(CompareRelation::Leu),
         ],
+        CompleterSet::Le => &[Completer::CompareRelation(CompareRelation::Le)],
+        CompleterSet::Gt => &[Completer::CompareRelation(CompareRelation::Gt)],
         CompleterSet::Equality => &[
             Completer::CompareRelation(CompareRelation::Eq),
             Completer::CompareRelation(CompareRelation::Ne),

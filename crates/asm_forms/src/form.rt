@@ -76,30 +76,50 @@ pub enum Form {
     Clrrrb,
     /// `clrrrb.pr` (B8).
     ClrrrbPr,
-    /// `cmp.crel[.unc] p1,p2=r2,r3` (A6).
+    /// `cmp.eq[.unc] p1,p2=r2,r3`, `lt` and `ltu` (A6).
     Cmp,
+    /// `cmp.ne[.unc] p1,p2=r2,r3`, `ge` and `geu`: the targets are exchanged.
+    CmpNe,
+    /// `cmp.gt[.unc] p1,p2=r2,r3` and `gtu`: the registers are exchanged.
+    CmpGt,
+    /// `cmp.le[.unc] p1,p2=r2,r3` and `leu`: the targets and the registers are exchanged.
+    CmpLe,
     /// `cmp.eq.and p1,p2=r2,r3` and its kin (A6).
     CmpParallel,
     /// `cmp.gt.and p1,p2=r0,r3` and its kin (A7).
     CmpZero,
-    /// `cmp.crel[.unc] p1,p2=imm,r3` (A8).
+    /// `cmp.eq[.unc] p1,p2=imm,r3`, `lt` and `ltu` (A8).
     CmpImm,
+    /// `cmp.ne[.unc] p1,p2=imm,r3`, `ge` and `geu`: the targets are exchanged.
+    CmpImmNe,
     /// `cmp.eq.and p1,p2=imm,r3` and its kin (A8).
     CmpImmParallel,
-    /// `cmp.le[.unc] p1,p2=imm,r3` and `cmp.gt`: `cmp.lt` with the number lowered by one.
-    CmpImmLess,
-    /// `cmp4.crel[.unc] p1,p2=r2,r3` (A6).
+    /// `cmp.le[.unc] p1,p2=imm,r3`: `cmp.lt` with the number lowered by one.
+    CmpImmLe,
+    /// `cmp.gt[.unc] p1,p2=imm,r3`: and the targets are exchanged.
+    CmpImmGt,
+    /// `cmp4.eq[.unc] p1,p2=r2,r3`, `lt` and `ltu` (A6).
     Cmp4,
+    /// `cmp4.ne[.unc] p1,p2=r2,r3`, `ge` and `geu`: the targets are exchanged.
+    Cmp4Ne,
+    /// `cmp4.gt[.unc] p1,p2=r2,r3` and `gtu`: the registers are exchanged.
+    Cmp4Gt,
+    /// `cmp4.le[.unc] p1,p2=r2,r3` and `leu`: the targets and the registers are exchanged.
+    Cmp4Le,
     /// `cmp4.eq.and p1,p2=r2,r3` and its kin (A6).
     Cmp4Parallel,
     /// `cmp4.gt.and p1,p2=r0,r3` and its kin (A7).
     Cmp4Zero,
-    /// `cmp4.crel[.unc] p1,p2=imm,r3` (A8).
+    /// `cmp4.eq[.unc] p1,p2=imm,r3`, `lt` and `ltu` (A8).
     Cmp4Imm,
+    /// `cmp4.ne[.unc] p1,p2=imm,r3`, `ge` and `geu`: the targets are exchanged.
+    Cmp4ImmNe,
     /// `cmp4.eq.and p1,p2=imm,r3` and its kin (A8).
     Cmp4ImmParallel,
-    /// `cmp4.le[.unc] p1,p2=imm,r3` and `cmp4.gt`: `cmp4.lt` with the number lowered by one.
-    Cmp4ImmLess,
+    /// `cmp4.le[.unc] p1,p2=imm,r3`: `cmp4.lt` with the number lowered by one.
+    Cmp4ImmLe,
+    /// `cmp4.gt[.unc] p1,p2=imm,r3`: and the targets are exchanged.
+    Cmp4ImmGt,
     /// `data1` and 1 to 32 numbers, which are read apart.
     Data1,
     /// `data2` and 1 to 32 numbers, which are read apart.

@@ -10,6 +10,7 @@
 
 mod choices;
 mod completer;
+mod fixed;
 mod form;
 mod items;
 mod laws;
@@ -20,6 +21,7 @@ mod spelling;
 
 pub use choices::{AccessSize, CacheHint, CompareRelation, Whether};
 pub use completer::{Completer, CompleterSet, members, text};
+pub use fixed::Fixed;
 pub use form::Form;
 pub use items::{
     FormItem, Kind, Mark, NumberField, accepts, are_accepted, begins_with_letter, has_room,

@@ -2,14 +2,20 @@
 
 ghost use Rattle.std.specs.Prelude.{◌≡◌, ◌<◌, ◌≤◌, map, length, slice_index_or};
 ghost use Rattle.asm_forms.specs.Items.{operand_count};
-ghost use Rattle.asm_forms.specs.Rows.{rows_to_b, rows_c_to_i, rows_l_to_n, rows_o_to_r, rows_from_s, rows, first_row, row_of, seen};
+ghost use Rattle.asm_forms.specs.Rows.{rows_to_b, rows_c_to_i, rows_l_to_n, rows_o_to_r, rows_from_s, rows, first_row, row_of, seen, AreValues};
 
 use crate::completer::CompleterSet;
+use crate::fixed::Fixed;
 use crate::form::Form;
 use crate::items::FormItem::{Is, Takes};
 use crate::items::{FormItem, Kind, Mark, NumberField};
+use ia_insn::{AluFn, Ar, BranchKind, CmpKind, LaneFn, LoadKind, Rel, ShiftFn, StoreKind, Unit};
+use insn_rows::{Opcode, UpdateKind};
 
-/// A form, the word that leads a line of the form, the sets of the word's completers, and what stands after it.
+/// A form, the word that leads a line of the form, the sets of the word's completers, and what stands after it; then
+/// the instruction: its opcode, and which value stands where (its number in `values_of` of `insn_rows`): of each set
+/// the one that its completer says, of each operand its own, and those that no line writes. A number 0 is that of no
+/// such value. A directive has no opcode.
 ///
 /// The rows stand as in an index, in the order of the first letters of their words, and those of one word
 /// together. The first that the operands have is read: a branch register before a label.
@@ -18,255 +24,245 @@ pub(crate) type FormRow = (
     &'static [u8],
     &'static [CompleterSet],
     &'static [FormItem],
+    Option<Opcode>,
+    &'static [(CompleterSet, u8)],
+    &'static [(Kind, u8)],
+    &'static [(Fixed, u8)],
 );
 
-macro_rules! item {
+macro_rules! mark {
     (=) => { Is(Mark::Equals) };
     (,) => { Is(Mark::Comma) };
-    (Unat) => { Is(Mark::Unat) };
-    (Pfs) => { Is(Mark::Pfs) };
-    (R0) => { Is(Mark::R0) };
-    (Predicates) => { Is(Mark::Predicates) };
-    (RotatingPredicates) => { Is(Mark::RotatingPredicates) };
-    (Ip) => { Is(Mark::Ip) };
-    (One) => { Is(Mark::One) };
-    (Gr) => { Takes(Kind::Gr) };
-    (Pr) => { Takes(Kind::Pr) };
-    (Br) => { Takes(Kind::Br) };
-    (Ar) => { Takes(Kind::Ar) };
-    (Label) => { Takes(Kind::Label) };
-    ($field:ident) => { Takes(Kind::Number(NumberField::$field)) };
+    ($mark:ident) => { Is(Mark::$mark) };
+}
+
+macro_rules! kind {
+    (Gr) => { Kind::Gr };
+    (Pr) => { Kind::Pr };
+    (Br) => { Kind::Br };
+    (Ar) => { Kind::Ar };
+    (Label) => { Kind::Label };
+    ($field:ident) => { Kind::Number(NumberField::$field) };
+}
+
+macro_rules! place {
+    () => { 0 };
+    ($place:literal) => { $place };
 }
 
 macro_rules! items {
     (($($done:expr,)*)) => { &[$($done,)*] };
-    (($($done:expr,)*) [$base:tt] $($rest:tt)*) => {
-        items!(($($done,)* Is(Mark::OpenBracket), item!($base), Is(Mark::CloseBracket),) $($rest)*)
+    (($($done:expr,)*) [$($base:tt)*] $($rest:tt)*) => {
+        items!(($($done,)* Is(Mark::OpenBracket),) $($base)* CloseBracket $($rest)*)
     };
-    (($($done:expr,)*) $next:tt $($rest:tt)*) => { items!(($($done,)* item!($next),) $($rest)*) };
+    (($($done:expr,)*) $kind:ident($place:literal) $($rest:tt)*) => {
+        items!(($($done,)* Takes(kind!($kind)),) $($rest)*)
+    };
+    (($($done:expr,)*) $mark:tt $($rest:tt)*) => { items!(($($done,)* mark!($mark),) $($rest)*) };
+}
+
+macro_rules! operands {
+    (($($done:expr,)*)) => { &[$($done,)*] };
+    (($($done:expr,)*) [$($base:tt)*] $($rest:tt)*) => { operands!(($($done,)*) $($base)* $($rest)*) };
+    (($($done:expr,)*) $kind:ident($place:literal) $($rest:tt)*) => {
+        operands!(($($done,)* (kind!($kind), $place),) $($rest)*)
+    };
+    (($($done:expr,)*) $mark:tt $($rest:tt)*) => { operands!(($($done,)*) $($rest)*) };
+}
+
+macro_rules! directive {
+    ($form:ident, $word:literal) => { (Form::$form, $word, &[], &[], None, &[], &[], &[]) };
+    ($form:ident, $word:literal, $kind:ident) => {
+        (Form::$form, $word, &[], &[Takes(kind!($kind))], None, &[], &[], &[])
+    };
 }
 
 macro_rules! row {
-    ($form:ident, $word:literal, [$($set:ident),*]) => {
-        (Form::$form, $word, &[$(CompleterSet::$set),*], &[])
-    };
-    ($form:ident, $word:literal, [$($set:ident),*], $($item:tt)*) => {
-        (Form::$form, $word, &[$(CompleterSet::$set),*], items!(() $($item)*))
+    ($form:ident, $opcode:expr $(, $place:literal: $value:ident($said:literal))*; $word:literal, [$($set:ident $(($at:literal))?),*] $(, $($item:tt)*)?) => {
+        (
+            Form::$form,
+            $word,
+            &[$(CompleterSet::$set),*],
+            items!(() $($($item)*)?),
+            Some($opcode),
+            &[$((CompleterSet::$set, place!($($at)?))),*],
+            operands!(() $($($item)*)?),
+            &[$((Fixed::$value($said), $place)),*],
+        )
     };
 }
 
 /// The rows of the forms with a word that begins with a dot, `a` or `b`.
 pub(crate) static ROWS_TO_B: [FormRow; 29] = [
-    row!(Data, b".data", []),
-    row!(Endp, b".endp", [], Label),
-    row!(Entry, b".entry", [], Label),
-    row!(Global, b".global", [], Label),
-    row!(PredRel, b".pred.rel", []),
-    row!(Proc, b".proc", [], Label),
-    row!(Skip, b".skip", [], Skip),
-    row!(Text, b".text", []),
-    row!(Add, b"add", [], Gr = Gr, Gr),
-    row!(AddOne, b"add", [], Gr = Gr, Gr, One),
-    row!(AddImm, b"add", [], Gr = Imm22, Gr),
-    row!(Addl, b"addl", [], Gr = Imm22, Gr),
-    row!(Addp4, b"addp4", [], Gr = Gr, Gr),
-    row!(Addp4Imm, b"addp4", [], Gr = Imm14, Gr),
-    row!(Adds, b"adds", [], Gr = Imm14, Gr),
-    row!(Alloc, b"alloc", [], Gr = Pfs, Frame, Frame, Frame, Rotating),
-    row!(And, b"and", [], Gr = Gr, Gr),
-    row!(AndImm, b"and", [], Gr = Imm8, Gr),
-    row!(Andcm, b"andcm", [], Gr = Gr, Gr),
-    row!(AndcmImm, b"andcm", [], Gr = Imm8, Gr),
-    row!(BrInd, b"br", [Cond, Whether, Prefetch, DeallocClr], Br),
-    row!(BrCond, b"br", [Cond, Whether, Prefetch, DeallocClr], Label),
-    row!(BrLoop, b"br", [Loop, Whether, Prefetch, DeallocClr], Label),
-    row!(
-        BrCallInd,
-        b"br",
-        [Call, Whether, Prefetch, DeallocClr],
-        Br = Br
-    ),
-    row!(
-        BrCall,
-        b"br",
-        [Call, Whether, Prefetch, DeallocClr],
-        Br = Label
-    ),
-    row!(BrRet, b"br", [Return, Whether, Prefetch, DeallocClr], Br),
-    row!(Break, b"break", [AnyUnit]),
-    row!(BreakImm, b"break", [ShortUnit], Imm21),
-    row!(BreakLong, b"break", [LongUnit], Imm62),
+    directive!(Data, b".data"),
+    directive!(Endp, b".endp", Label),
+    directive!(Entry, b".entry", Label),
+    directive!(Global, b".global", Label),
+    directive!(PredRel, b".pred.rel"),
+    directive!(Proc, b".proc", Label),
+    directive!(Skip, b".skip", Skip),
+    directive!(Text, b".text"),
+    row!(Add, Opcode::Alu(AluFn::Add); b"add", [], Gr(1) = Gr(2), Gr(3)),
+    row!(AddOne, Opcode::Alu(AluFn::Add1); b"add", [], Gr(1) = Gr(2), Gr(3), One),
+    row!(AddImm, Opcode::AddImm22; b"add", [], Gr(1) = Imm22(2), Gr(3)),
+    row!(Addl, Opcode::AddImm22; b"addl", [], Gr(1) = Imm22(2), Gr(3)),
+    row!(Addp4, Opcode::Alu(AluFn::Addp4); b"addp4", [], Gr(1) = Gr(2), Gr(3)),
+    row!(Addp4Imm, Opcode::AddImm14, 1: Flag(true); b"addp4", [], Gr(2) = Imm14(3), Gr(4)),
+    row!(Adds, Opcode::AddImm14, 1: Flag(false); b"adds", [], Gr(2) = Imm14(3), Gr(4)),
+    row!(Alloc, Opcode::Alloc; b"alloc", [], Gr(1) = Pfs, Frame(2), Frame(3), Frame(4), Rotating(5)),
+    row!(And, Opcode::Alu(AluFn::And); b"and", [], Gr(1) = Gr(2), Gr(3)),
+    row!(AndImm, Opcode::AluImm8(AluFn::And); b"and", [], Gr(1) = Imm8(2), Gr(3)),
+    row!(Andcm, Opcode::Alu(AluFn::Andcm); b"andcm", [], Gr(1) = Gr(2), Gr(3)),
+    row!(AndcmImm, Opcode::AluImm8(AluFn::Andcm); b"andcm", [], Gr(1) = Imm8(2), Gr(3)),
+    row!(BrInd, Opcode::BrInd; b"br", [Cond, Whether(2), Prefetch(3), DeallocClr(4)], Br(1)),
+    row!(BrCond, Opcode::Br(BranchKind::Cond); b"br", [Cond, Whether(1), Prefetch(2), DeallocClr(3)], Label(4)),
+    row!(BrLoop, Opcode::Br(BranchKind::Cond); b"br", [Loop, Whether(1), Prefetch(2), DeallocClr(3)], Label(4)),
+    row!(BrCallInd, Opcode::BrCallInd; b"br", [Call, Whether(3), Prefetch(4), DeallocClr(5)], Br(1) = Br(2)),
+    row!(BrCall, Opcode::BrCall; b"br", [Call, Whether(2), Prefetch(3), DeallocClr(4)], Br(1) = Label(5)),
+    row!(BrRet, Opcode::BrRet; b"br", [Return, Whether(2), Prefetch(3), DeallocClr(4)], Br(1)),
+    row!(Break, Opcode::Break(Unit::X); b"break", [AnyUnit]),
+    row!(BreakImm, Opcode::Break(Unit::X); b"break", [ShortUnit], Imm21(1)),
+    row!(BreakLong, Opcode::Break(Unit::X); b"break", [LongUnit], Imm62(1)),
 ];
 
 /// The rows of the forms with a word that begins with `c` to `i`.
-pub(crate) static ROWS_C_TO_I: [FormRow; 32] = [
-    row!(ChkS, b"chk", [S, CheckUnit], Gr, Label),
-    row!(ChkANc, b"chk", [A, Nc], Gr, Label),
-    row!(ChkAClr, b"chk", [A, Clr], Gr, Label),
-    row!(Clrrrb, b"clrrrb", []),
-    row!(ClrrrbPr, b"clrrrb", [Pr]),
-    row!(Cmp, b"cmp", [CompareRelation, Unc], Pr, Pr = Gr, Gr),
-    row!(CmpParallel, b"cmp", [Equality, Parallel], Pr, Pr = Gr, Gr),
-    row!(CmpZero, b"cmp", [Order, Parallel], Pr, Pr = R0, Gr),
-    row!(CmpImm, b"cmp", [RelationImm, Unc], Pr, Pr = Imm8, Gr),
-    row!(
-        CmpImmParallel,
-        b"cmp",
-        [Equality, Parallel],
-        Pr,
-        Pr = Imm8,
-        Gr
-    ),
-    row!(CmpImmLess, b"cmp", [RelationLess, Unc], Pr, Pr = Less8, Gr),
-    row!(Cmp4, b"cmp4", [CompareRelation, Unc], Pr, Pr = Gr, Gr),
-    row!(Cmp4Parallel, b"cmp4", [Equality, Parallel], Pr, Pr = Gr, Gr),
-    row!(Cmp4Zero, b"cmp4", [Order, Parallel], Pr, Pr = R0, Gr),
-    row!(Cmp4Imm, b"cmp4", [RelationImm, Unc], Pr, Pr = Imm8, Gr),
-    row!(
-        Cmp4ImmParallel,
-        b"cmp4",
-        [Equality, Parallel],
-        Pr,
-        Pr = Imm8,
-        Gr
-    ),
-    row!(
-        Cmp4ImmLess,
-        b"cmp4",
-        [RelationLess, Unc],
-        Pr,
-        Pr = Less8,
-        Gr
-    ),
-    row!(Data1, b"data1", []),
-    row!(Data2, b"data2", []),
-    row!(Data4, b"data4", []),
-    row!(Data8, b"data8", []),
-    row!(DepZ, b"dep", [Z], Gr = Gr, Position, Length),
-    row!(DepZImm, b"dep", [Z], Gr = Imm8, Position, Length),
-    row!(
-        DepImm,
-        b"dep",
-        [],
-        Gr = ZeroOrMinusOne,
-        Gr,
-        Position,
-        Length
-    ),
-    row!(Dep, b"dep", [], Gr = Gr, Gr, Position, Length16),
-    row!(Extr, b"extr", [U], Gr = Gr, Position, Length),
-    row!(
-        Fetchadd4,
-        b"fetchadd4",
-        [SemaphoreType, LoadHint],
-        Gr = [Gr],
-        Increment
-    ),
-    row!(
-        Fetchadd8,
-        b"fetchadd8",
-        [SemaphoreType, LoadHint],
-        Gr = [Gr],
-        Increment
-    ),
-    row!(Hint, b"hint", [HintUnit]),
-    row!(HintImm, b"hint", [HintUnit], Imm21),
-    row!(Invala, b"invala", []),
-    row!(InvalaE, b"invala", [E], Gr),
+pub(crate) static ROWS_C_TO_I: [FormRow; 42] = [
+    row!(ChkS, Opcode::ChkS(Unit::I); b"chk", [S, CheckUnit], Gr(1), Label(2)),
+    row!(ChkANc, Opcode::ChkA, 1: Flag(false); b"chk", [A, Nc], Gr(2), Label(3)),
+    row!(ChkAClr, Opcode::ChkA, 1: Flag(true); b"chk", [A, Clr], Gr(2), Label(3)),
+    row!(Clrrrb, Opcode::Clrrrb, 1: Flag(false); b"clrrrb", []),
+    row!(ClrrrbPr, Opcode::Clrrrb, 1: Flag(true); b"clrrrb", [Pr]),
+    row!(Cmp, Opcode::Cmp(Rel::Lt, CmpKind::Normal), 1: Flag(false); b"cmp", [Relation, Unc], Pr(2), Pr(3) = Gr(4), Gr(5)),
+    row!(CmpNe, Opcode::Cmp(Rel::Lt, CmpKind::Normal), 1: Flag(false); b"cmp", [RelationNe, Unc], Pr(3), Pr(2) = Gr(4), Gr(5)),
+    row!(CmpGt, Opcode::Cmp(Rel::Lt, CmpKind::Normal), 1: Flag(false); b"cmp", [RelationGt, Unc], Pr(2), Pr(3) = Gr(5), Gr(4)),
+    row!(CmpLe, Opcode::Cmp(Rel::Lt, CmpKind::Normal), 1: Flag(false); b"cmp", [RelationLe, Unc], Pr(3), Pr(2) = Gr(5), Gr(4)),
+    row!(CmpParallel, Opcode::Cmp(Rel::Lt, CmpKind::And), 1: Flag(false); b"cmp", [Equality, Parallel], Pr(2), Pr(3) = Gr(4), Gr(5)),
+    row!(CmpZero, Opcode::CmpZero(Rel::Lt, CmpKind::And), 1: Flag(false); b"cmp", [Order, Parallel], Pr(2), Pr(3) = R0, Gr(4)),
+    row!(CmpImm, Opcode::CmpImm(Rel::Lt, CmpKind::Normal), 1: Flag(false); b"cmp", [Relation, Unc], Pr(2), Pr(3) = Imm8(4), Gr(5)),
+    row!(CmpImmNe, Opcode::CmpImm(Rel::Lt, CmpKind::Normal), 1: Flag(false); b"cmp", [RelationNe, Unc], Pr(3), Pr(2) = Imm8(4), Gr(5)),
+    row!(CmpImmParallel, Opcode::CmpImm(Rel::Lt, CmpKind::And), 1: Flag(false); b"cmp", [Equality, Parallel], Pr(2), Pr(3) = Imm8(4), Gr(5)),
+    row!(CmpImmLe, Opcode::CmpImm(Rel::Lt, CmpKind::Normal), 1: Flag(false); b"cmp", [Le, Unc], Pr(2), Pr(3) = Less8(4), Gr(5)),
+    row!(CmpImmGt, Opcode::CmpImm(Rel::Lt, CmpKind::Normal), 1: Flag(false); b"cmp", [Gt, Unc], Pr(3), Pr(2) = Less8(4), Gr(5)),
+    row!(Cmp4, Opcode::Cmp(Rel::Lt, CmpKind::Normal), 1: Flag(true); b"cmp4", [Relation, Unc], Pr(2), Pr(3) = Gr(4), Gr(5)),
+    row!(Cmp4Ne, Opcode::Cmp(Rel::Lt, CmpKind::Normal), 1: Flag(true); b"cmp4", [RelationNe, Unc], Pr(3), Pr(2) = Gr(4), Gr(5)),
+    row!(Cmp4Gt, Opcode::Cmp(Rel::Lt, CmpKind::Normal), 1: Flag(true); b"cmp4", [RelationGt, Unc], Pr(2), Pr(3) = Gr(5), Gr(4)),
+    row!(Cmp4Le, Opcode::Cmp(Rel::Lt, CmpKind::Normal), 1: Flag(true); b"cmp4", [RelationLe, Unc], Pr(3), Pr(2) = Gr(5), Gr(4)),
+    row!(Cmp4Parallel, Opcode::Cmp(Rel::Lt, CmpKind::And), 1: Flag(true); b"cmp4", [Equality, Parallel], Pr(2), Pr(3) = Gr(4), Gr(5)),
+    row!(Cmp4Zero, Opcode::CmpZero(Rel::Lt, CmpKind::And), 1: Flag(true); b"cmp4", [Order, Parallel], Pr(2), Pr(3) = R0, Gr(4)),
+    row!(Cmp4Imm, Opcode::CmpImm(Rel::Lt, CmpKind::Normal), 1: Flag(true); b"cmp4", [Relation, Unc], Pr(2), Pr(3) = Imm8(4), Gr(5)),
+    row!(Cmp4ImmNe, Opcode::CmpImm(Rel::Lt, CmpKind::Normal), 1: Flag(true); b"cmp4", [RelationNe, Unc], Pr(3), Pr(2) = Imm8(4), Gr(5)),
+    row!(Cmp4ImmParallel, Opcode::CmpImm(Rel::Lt, CmpKind::And), 1: Flag(true); b"cmp4", [Equality, Parallel], Pr(2), Pr(3) = Imm8(4), Gr(5)),
+    row!(Cmp4ImmLe, Opcode::CmpImm(Rel::Lt, CmpKind::Normal), 1: Flag(true); b"cmp4", [Le, Unc], Pr(2), Pr(3) = Less8(4), Gr(5)),
+    row!(Cmp4ImmGt, Opcode::CmpImm(Rel::Lt, CmpKind::Normal), 1: Flag(true); b"cmp4", [Gt, Unc], Pr(3), Pr(2) = Less8(4), Gr(5)),
+    directive!(Data1, b"data1"),
+    directive!(Data2, b"data2"),
+    directive!(Data4, b"data4"),
+    directive!(Data8, b"data8"),
+    row!(DepZ, Opcode::DepZ; b"dep", [Z], Gr(1) = Gr(2), Position(3), Length(4)),
+    row!(DepZImm, Opcode::DepZImm; b"dep", [Z], Gr(1) = Imm8(2), Position(3), Length(4)),
+    row!(DepImm, Opcode::DepImm; b"dep", [], Gr(1) = ZeroOrMinusOne(2), Gr(3), Position(4), Length(5)),
+    row!(Dep, Opcode::Dep; b"dep", [], Gr(1) = Gr(2), Gr(3), Position(4), Length16(5)),
+    row!(Extr, Opcode::Extr; b"extr", [U(1)], Gr(2) = Gr(3), Position(4), Length(5)),
+    row!(Fetchadd4, Opcode::FetchAdd, 1: Small(4); b"fetchadd4", [SemaphoreType(2), LoadHint(3)], Gr(4) = [Gr(5)], Increment(6)),
+    row!(Fetchadd8, Opcode::FetchAdd, 1: Small(8); b"fetchadd8", [SemaphoreType(2), LoadHint(3)], Gr(4) = [Gr(5)], Increment(6)),
+    row!(Hint, Opcode::Hint(Unit::I); b"hint", [HintUnit]),
+    row!(HintImm, Opcode::Hint(Unit::I); b"hint", [HintUnit], Imm21(1)),
+    row!(Invala, Opcode::Invala; b"invala", []),
+    row!(InvalaE, Opcode::InvalaE; b"invala", [E], Gr(1)),
 ];
 
 /// The rows of the forms with a word that begins with `l` to `n`.
 pub(crate) static ROWS_L_TO_N: [FormRow; 36] = [
-    row!(Ld1, b"ld1", [LoadType, LoadHint], Gr = [Gr]),
-    row!(Ld1Reg, b"ld1", [LoadType, LoadHint], Gr = [Gr], Gr),
-    row!(Ld1Imm, b"ld1", [LoadType, LoadHint], Gr = [Gr], Imm9),
-    row!(Ld2, b"ld2", [LoadType, LoadHint], Gr = [Gr]),
-    row!(Ld2Reg, b"ld2", [LoadType, LoadHint], Gr = [Gr], Gr),
-    row!(Ld2Imm, b"ld2", [LoadType, LoadHint], Gr = [Gr], Imm9),
-    row!(Ld4, b"ld4", [LoadType, LoadHint], Gr = [Gr]),
-    row!(Ld4Reg, b"ld4", [LoadType, LoadHint], Gr = [Gr], Gr),
-    row!(Ld4Imm, b"ld4", [LoadType, LoadHint], Gr = [Gr], Imm9),
-    row!(Ld8, b"ld8", [LoadTypeFill, LoadHint], Gr = [Gr]),
-    row!(Ld8Reg, b"ld8", [LoadTypeFill, LoadHint], Gr = [Gr], Gr),
-    row!(Ld8Imm, b"ld8", [LoadTypeFill, LoadHint], Gr = [Gr], Imm9),
-    row!(Mf, b"mf", []),
-    row!(MovGr, b"mov", [], Gr = Gr),
-    row!(MovImm, b"mov", [], Gr = Imm22),
-    row!(MovToBr, b"mov", [Ret, MoveWhether, Imp], Br = Gr),
-    row!(MovToBrTag, b"mov", [Ret, MoveWhether, Imp], Br = Gr, Tag),
-    row!(MovFromBr, b"mov", [], Gr = Br),
-    row!(MovToPr, b"mov", [], Predicates = Gr),
-    row!(MovToPrMask, b"mov", [], Predicates = Gr, Mask),
-    row!(MovToPrRot, b"mov", [], RotatingPredicates = RotatingMask),
-    row!(MovFromIp, b"mov", [], Gr = Ip),
-    row!(MovFromPr, b"mov", [], Gr = Predicates),
-    row!(MovToAr, b"mov", [], Ar = Gr),
-    row!(MovFromAr, b"mov", [], Gr = Ar),
-    row!(MovToArI, b"mov", [UnitI], Ar = Gr),
-    row!(MovToArImmI, b"mov", [UnitI], Ar = Imm8),
-    row!(MovFromArI, b"mov", [UnitI], Gr = Ar),
-    row!(MovToArM, b"mov", [UnitM], Unat = Gr),
-    row!(MovToArImmM, b"mov", [UnitM], Unat = Imm8),
-    row!(MovFromArM, b"mov", [UnitM], Gr = Unat),
-    row!(Movl, b"movl", [], Gr = Imm64),
-    row!(MovlLabel, b"movl", [], Gr = Label),
-    row!(Nop, b"nop", [AnyUnit]),
-    row!(NopImm, b"nop", [ShortUnit], Imm21),
-    row!(NopLong, b"nop", [LongUnit], Imm62),
+    row!(Ld1, Opcode::Load(LoadKind::Plain, UpdateKind::None), 1: Small(1); b"ld1", [LoadType, LoadHint(2)], Gr(3) = [Gr(4)]),
+    row!(Ld1Reg, Opcode::Load(LoadKind::Plain, UpdateKind::Reg), 1: Small(1); b"ld1", [LoadType, LoadHint(2)], Gr(3) = [Gr(4)], Gr(5)),
+    row!(Ld1Imm, Opcode::Load(LoadKind::Plain, UpdateKind::Imm), 1: Small(1); b"ld1", [LoadType, LoadHint(2)], Gr(3) = [Gr(4)], Imm9(5)),
+    row!(Ld2, Opcode::Load(LoadKind::Plain, UpdateKind::None), 1: Small(2); b"ld2", [LoadType, LoadHint(2)], Gr(3) = [Gr(4)]),
+    row!(Ld2Reg, Opcode::Load(LoadKind::Plain, UpdateKind::Reg), 1: Small(2); b"ld2", [LoadType, LoadHint(2)], Gr(3) = [Gr(4)], Gr(5)),
+    row!(Ld2Imm, Opcode::Load(LoadKind::Plain, UpdateKind::Imm), 1: Small(2); b"ld2", [LoadType, LoadHint(2)], Gr(3) = [Gr(4)], Imm9(5)),
+    row!(Ld4, Opcode::Load(LoadKind::Plain, UpdateKind::None), 1: Small(4); b"ld4", [LoadType, LoadHint(2)], Gr(3) = [Gr(4)]),
+    row!(Ld4Reg, Opcode::Load(LoadKind::Plain, UpdateKind::Reg), 1: Small(4); b"ld4", [LoadType, LoadHint(2)], Gr(3) = [Gr(4)], Gr(5)),
+    row!(Ld4Imm, Opcode::Load(LoadKind::Plain, UpdateKind::Imm), 1: Small(4); b"ld4", [LoadType, LoadHint(2)], Gr(3) = [Gr(4)], Imm9(5)),
+    row!(Ld8, Opcode::Load(LoadKind::Plain, UpdateKind::None), 1: Small(8); b"ld8", [LoadTypeFill, LoadHint(2)], Gr(3) = [Gr(4)]),
+    row!(Ld8Reg, Opcode::Load(LoadKind::Plain, UpdateKind::Reg), 1: Small(8); b"ld8", [LoadTypeFill, LoadHint(2)], Gr(3) = [Gr(4)], Gr(5)),
+    row!(Ld8Imm, Opcode::Load(LoadKind::Plain, UpdateKind::Imm), 1: Small(8); b"ld8", [LoadTypeFill, LoadHint(2)], Gr(3) = [Gr(4)], Imm9(5)),
+    row!(Mf, Opcode::Mf; b"mf", []),
+    row!(MovGr, Opcode::AddImm14; b"mov", [], Gr(2) = Gr(4)),
+    row!(MovImm, Opcode::AddImm22; b"mov", [], Gr(1) = Imm22(2)),
+    row!(MovToBr, Opcode::MovToBr; b"mov", [Ret(3), MoveWhether(5), Imp(4)], Br(1) = Gr(2)),
+    row!(MovToBrTag, Opcode::MovToBr; b"mov", [Ret(3), MoveWhether(5), Imp(4)], Br(1) = Gr(2), Tag(6)),
+    row!(MovFromBr, Opcode::MovFromBr; b"mov", [], Gr(1) = Br(2)),
+    row!(MovToPr, Opcode::MovToPr, 2: Mask(0x1fffe); b"mov", [], Predicates = Gr(1)),
+    row!(MovToPrMask, Opcode::MovToPr; b"mov", [], Predicates = Gr(1), Mask(2)),
+    row!(MovToPrRot, Opcode::MovToPrRot; b"mov", [], RotatingPredicates = RotatingMask(1)),
+    row!(MovFromIp, Opcode::MovFromIp; b"mov", [], Gr(1) = Ip),
+    row!(MovFromPr, Opcode::MovFromPr; b"mov", [], Gr(1) = Predicates),
+    row!(MovToAr, Opcode::MovToAr(Ar::Unat); b"mov", [], Ar(0) = Gr(1)),
+    row!(MovFromAr, Opcode::MovFromAr(Ar::Unat); b"mov", [], Gr(1) = Ar(0)),
+    row!(MovToArI, Opcode::MovToAr(Ar::Unat); b"mov", [UnitI], Ar(0) = Gr(1)),
+    row!(MovToArImmI, Opcode::MovToArImm(Ar::Unat); b"mov", [UnitI], Ar(0) = Imm8(1)),
+    row!(MovFromArI, Opcode::MovFromAr(Ar::Unat); b"mov", [UnitI], Gr(1) = Ar(0)),
+    row!(MovToArM, Opcode::MovToAr(Ar::Unat); b"mov", [UnitM], Unat = Gr(1)),
+    row!(MovToArImmM, Opcode::MovToArImm(Ar::Unat); b"mov", [UnitM], Unat = Imm8(1)),
+    row!(MovFromArM, Opcode::MovFromAr(Ar::Unat); b"mov", [UnitM], Gr(1) = Unat),
+    row!(Movl, Opcode::Movl; b"movl", [], Gr(1) = Imm64(2)),
+    row!(MovlLabel, Opcode::Movl; b"movl", [], Gr(1) = Label(0)),
+    row!(Nop, Opcode::Nop(Unit::X); b"nop", [AnyUnit]),
+    row!(NopImm, Opcode::Nop(Unit::X); b"nop", [ShortUnit], Imm21(1)),
+    row!(NopLong, Opcode::Nop(Unit::X); b"nop", [LongUnit], Imm62(1)),
 ];
 
 /// The rows of the forms with a word that begins with `o` to `r`.
 pub(crate) static ROWS_O_TO_R: [FormRow; 12] = [
-    row!(Or, b"or", [], Gr = Gr, Gr),
-    row!(OrImm, b"or", [], Gr = Imm8, Gr),
-    row!(Padd1, b"padd1", [], Gr = Gr, Gr),
-    row!(Padd2, b"padd2", [], Gr = Gr, Gr),
-    row!(Padd4, b"padd4", [], Gr = Gr, Gr),
-    row!(Pcmp1, b"pcmp1", [LaneRelation], Gr = Gr, Gr),
-    row!(Pcmp2, b"pcmp2", [LaneRelation], Gr = Gr, Gr),
-    row!(Pcmp4, b"pcmp4", [LaneRelation], Gr = Gr, Gr),
-    row!(Popcnt, b"popcnt", [], Gr = Gr),
-    row!(Psub1, b"psub1", [], Gr = Gr, Gr),
-    row!(Psub2, b"psub2", [], Gr = Gr, Gr),
-    row!(Psub4, b"psub4", [], Gr = Gr, Gr),
+    row!(Or, Opcode::Alu(AluFn::Or); b"or", [], Gr(1) = Gr(2), Gr(3)),
+    row!(OrImm, Opcode::AluImm8(AluFn::Or); b"or", [], Gr(1) = Imm8(2), Gr(3)),
+    row!(Padd1, Opcode::Lane(LaneFn::Padd), 1: Small(1); b"padd1", [], Gr(2) = Gr(3), Gr(4)),
+    row!(Padd2, Opcode::Lane(LaneFn::Padd), 1: Small(2); b"padd2", [], Gr(2) = Gr(3), Gr(4)),
+    row!(Padd4, Opcode::Lane(LaneFn::Padd), 1: Small(4); b"padd4", [], Gr(2) = Gr(3), Gr(4)),
+    row!(Pcmp1, Opcode::Lane(LaneFn::PcmpEq), 1: Small(1); b"pcmp1", [LaneRelation], Gr(2) = Gr(3), Gr(4)),
+    row!(Pcmp2, Opcode::Lane(LaneFn::PcmpEq), 1: Small(2); b"pcmp2", [LaneRelation], Gr(2) = Gr(3), Gr(4)),
+    row!(Pcmp4, Opcode::Lane(LaneFn::PcmpEq), 1: Small(4); b"pcmp4", [LaneRelation], Gr(2) = Gr(3), Gr(4)),
+    row!(Popcnt, Opcode::Popcnt; b"popcnt", [], Gr(1) = Gr(2)),
+    row!(Psub1, Opcode::Lane(LaneFn::Psub), 1: Small(1); b"psub1", [], Gr(2) = Gr(3), Gr(4)),
+    row!(Psub2, Opcode::Lane(LaneFn::Psub), 1: Small(2); b"psub2", [], Gr(2) = Gr(3), Gr(4)),
+    row!(Psub4, Opcode::Lane(LaneFn::Psub), 1: Small(4); b"psub4", [], Gr(2) = Gr(3), Gr(4)),
 ];
 
 /// The rows of the forms with a word that begins with `s` or a later letter.
 pub(crate) static ROWS_FROM_S: [FormRow; 34] = [
-    row!(Shl, b"shl", [], Gr = Gr, Gr),
-    row!(ShlNumber, b"shl", [], Gr = Gr, Position),
-    row!(Shladd, b"shladd", [], Gr = Gr, Count, Gr),
-    row!(Shladdp4, b"shladdp4", [], Gr = Gr, Count, Gr),
-    row!(Shr, b"shr", [U], Gr = Gr, Gr),
-    row!(ShrNumber, b"shr", [U], Gr = Gr, Position),
-    row!(Shrp, b"shrp", [], Gr = Gr, Gr, Position),
-    row!(St1, b"st1", [StoreType, StoreHint], [Gr] = Gr),
-    row!(St1Imm, b"st1", [StoreType, StoreHint], [Gr] = Gr, Imm9),
-    row!(St2, b"st2", [StoreType, StoreHint], [Gr] = Gr),
-    row!(St2Imm, b"st2", [StoreType, StoreHint], [Gr] = Gr, Imm9),
-    row!(St4, b"st4", [StoreType, StoreHint], [Gr] = Gr),
-    row!(St4Imm, b"st4", [StoreType, StoreHint], [Gr] = Gr, Imm9),
-    row!(St8, b"st8", [StoreTypeSpill, StoreHint], [Gr] = Gr),
-    row!(St8Imm, b"st8", [StoreTypeSpill, StoreHint], [Gr] = Gr, Imm9),
-    row!(Sub, b"sub", [], Gr = Gr, Gr),
-    row!(SubOne, b"sub", [], Gr = Gr, Gr, One),
-    row!(SubImm, b"sub", [], Gr = Imm8, Gr),
-    row!(Sxt1, b"sxt1", [], Gr = Gr),
-    row!(Sxt2, b"sxt2", [], Gr = Gr),
-    row!(Sxt4, b"sxt4", [], Gr = Gr),
-    row!(Tbit, b"tbit", [Z, Unc], Pr, Pr = Gr, Position),
-    row!(TbitNz, b"tbit", [Nz, Unc], Pr, Pr = Gr, Position),
-    row!(Tnat, b"tnat", [Z, Unc], Pr, Pr = Gr),
-    row!(TnatNz, b"tnat", [Nz, Unc], Pr, Pr = Gr),
-    row!(Xchg1, b"xchg1", [LoadHint], Gr = [Gr], Gr),
-    row!(Xchg2, b"xchg2", [LoadHint], Gr = [Gr], Gr),
-    row!(Xchg4, b"xchg4", [LoadHint], Gr = [Gr], Gr),
-    row!(Xchg8, b"xchg8", [LoadHint], Gr = [Gr], Gr),
-    row!(Xor, b"xor", [], Gr = Gr, Gr),
-    row!(XorImm, b"xor", [], Gr = Imm8, Gr),
-    row!(Zxt1, b"zxt1", [], Gr = Gr),
-    row!(Zxt2, b"zxt2", [], Gr = Gr),
-    row!(Zxt4, b"zxt4", [], Gr = Gr),
+    row!(Shl, Opcode::ShiftVar(ShiftFn::Shl); b"shl", [], Gr(1) = Gr(2), Gr(3)),
+    row!(ShlNumber, Opcode::DepZ; b"shl", [], Gr(1) = Gr(2), Position(3)),
+    row!(Shladd, Opcode::ShlAdd, 1: Flag(false); b"shladd", [], Gr(2) = Gr(3), Count(4), Gr(5)),
+    row!(Shladdp4, Opcode::ShlAdd, 1: Flag(true); b"shladdp4", [], Gr(2) = Gr(3), Count(4), Gr(5)),
+    row!(Shr, Opcode::ShiftVar(ShiftFn::Shr); b"shr", [U], Gr(1) = Gr(2), Gr(3)),
+    row!(ShrNumber, Opcode::Extr; b"shr", [U(1)], Gr(2) = Gr(3), Position(4)),
+    row!(Shrp, Opcode::Shrp; b"shrp", [], Gr(1) = Gr(2), Gr(3), Position(4)),
+    row!(St1, Opcode::Store(StoreKind::Plain, UpdateKind::None), 1: Small(1); b"st1", [StoreType, StoreHint(2)], [Gr(3)] = Gr(4)),
+    row!(St1Imm, Opcode::Store(StoreKind::Plain, UpdateKind::Imm), 1: Small(1); b"st1", [StoreType, StoreHint(2)], [Gr(3)] = Gr(4), Imm9(5)),
+    row!(St2, Opcode::Store(StoreKind::Plain, UpdateKind::None), 1: Small(2); b"st2", [StoreType, StoreHint(2)], [Gr(3)] = Gr(4)),
+    row!(St2Imm, Opcode::Store(StoreKind::Plain, UpdateKind::Imm), 1: Small(2); b"st2", [StoreType, StoreHint(2)], [Gr(3)] = Gr(4), Imm9(5)),
+    row!(St4, Opcode::Store(StoreKind::Plain, UpdateKind::None), 1: Small(4); b"st4", [StoreType, StoreHint(2)], [Gr(3)] = Gr(4)),
+    row!(St4Imm, Opcode::Store(StoreKind::Plain, UpdateKind::Imm), 1: Small(4); b"st4", [StoreType, StoreHint(2)], [Gr(3)] = Gr(4), Imm9(5)),
+    row!(St8, Opcode::Store(StoreKind::Plain, UpdateKind::None), 1: Small(8); b"st8", [StoreTypeSpill, StoreHint(2)], [Gr(3)] = Gr(4)),
+    row!(St8Imm, Opcode::Store(StoreKind::Plain, UpdateKind::Imm), 1: Small(8); b"st8", [StoreTypeSpill, StoreHint(2)], [Gr(3)] = Gr(4), Imm9(5)),
+    row!(Sub, Opcode::Alu(AluFn::Sub); b"sub", [], Gr(1) = Gr(2), Gr(3)),
+    row!(SubOne, Opcode::Alu(AluFn::Sub1); b"sub", [], Gr(1) = Gr(2), Gr(3), One),
+    row!(SubImm, Opcode::AluImm8(AluFn::Sub); b"sub", [], Gr(1) = Imm8(2), Gr(3)),
+    row!(Sxt1, Opcode::Ext, 1: Flag(true), 2: Small(1); b"sxt1", [], Gr(3) = Gr(4)),
+    row!(Sxt2, Opcode::Ext, 1: Flag(true), 2: Small(2); b"sxt2", [], Gr(3) = Gr(4)),
+    row!(Sxt4, Opcode::Ext, 1: Flag(true), 2: Small(4); b"sxt4", [], Gr(3) = Gr(4)),
+    row!(Tbit, Opcode::Tbit; b"tbit", [Z, Unc(1)], Pr(2), Pr(3) = Gr(4), Position(5)),
+    row!(TbitNz, Opcode::Tbit; b"tbit", [Nz, Unc(1)], Pr(3), Pr(2) = Gr(4), Position(5)),
+    row!(Tnat, Opcode::Tnat; b"tnat", [Z, Unc(1)], Pr(2), Pr(3) = Gr(4)),
+    row!(TnatNz, Opcode::Tnat; b"tnat", [Nz, Unc(1)], Pr(3), Pr(2) = Gr(4)),
+    row!(Xchg1, Opcode::Xchg, 1: Small(1); b"xchg1", [LoadHint(2)], Gr(3) = [Gr(4)], Gr(5)),
+    row!(Xchg2, Opcode::Xchg, 1: Small(2); b"xchg2", [LoadHint(2)], Gr(3) = [Gr(4)], Gr(5)),
+    row!(Xchg4, Opcode::Xchg, 1: Small(4); b"xchg4", [LoadHint(2)], Gr(3) = [Gr(4)], Gr(5)),
+    row!(Xchg8, Opcode::Xchg, 1: Small(8); b"xchg8", [LoadHint(2)], Gr(3) = [Gr(4)], Gr(5)),
+    row!(Xor, Opcode::Alu(AluFn::Xor); b"xor", [], Gr(1) = Gr(2), Gr(3)),
+    row!(XorImm, Opcode::AluImm8(AluFn::Xor); b"xor", [], Gr(1) = Imm8(2), Gr(3)),
+    row!(Zxt1, Opcode::Ext, 1: Flag(false), 2: Small(1); b"zxt1", [], Gr(3) = Gr(4)),
+    row!(Zxt2, Opcode::Ext, 1: Flag(false), 2: Small(2); b"zxt2", [], Gr(3) = Gr(4)),
+    row!(Zxt4, Opcode::Ext, 1: Flag(false), 2: Small(4); b"zxt4", [], Gr(3) = Gr(4)),
 ];
 
 pub(crate) fn rows_to_b() -> &'static [FormRow]
@@ -278,7 +274,7 @@ pub(crate) fn rows_to_b() -> &'static [FormRow]
 
 pub(crate) fn rows_c_to_i() -> &'static [FormRow]
     ensures value { map seen result.now ≡ rows_c_to_i }
-    ensures count { length result.now ≡ 32 }
+    ensures count { length result.now ≡ 42 }
 {
     &ROWS_C_TO_I
 }
@@ -306,19 +302,19 @@ pub(crate) fn rows_from_s() -> &'static [FormRow]
 
 /// The row at a place of the table.
 fn row_at(at: usize) -> FormRow
-    requires { at < 143 }
+    requires { at < 153 }
     ensures { seen result ≡ slice_index_or rows at first_row }
 {
     if at < 29 {
         rows_to_b()[at]
-    } else if at < 61 {
+    } else if at < 71 {
         rows_c_to_i()[at - 29]
-    } else if at < 97 {
-        rows_l_to_n()[at - 61]
-    } else if at < 109 {
-        rows_o_to_r()[at - 97]
+    } else if at < 107 {
+        rows_l_to_n()[at - 71]
+    } else if at < 119 {
+        rows_o_to_r()[at - 107]
     } else {
-        rows_from_s()[at - 109]
+        rows_from_s()[at - 119]
     }
 }
 
@@ -350,5 +346,39 @@ impl Form {
         ensures few { operand_count result.now ≤ 5 }
     {
         row(self).3
+    }
+
+    /// The opcode of the form's instruction, but for what completers and application registers say of it; a directive
+    /// has none.
+    pub fn opcode(self) -> Option<Opcode>
+        ensures { result ≡ (row_of self).opcode }
+    {
+        row(self).4
+    }
+
+    /// The sets of the word's completers, each with the number of the value that its completer says, 0 for none.
+    pub fn completers(self) -> &'static [(CompleterSet, u8)]
+        ensures value { result.now ≡ (row_of self).completers }
+        ensures values { AreValues result.now }
+        ensures few { length result.now ≤ 4 }
+    {
+        row(self).5
+    }
+
+    /// The kinds of the operands, each with the number of the value that it is, 0 for none.
+    pub fn operands(self) -> &'static [(Kind, u8)]
+        ensures value { result.now ≡ (row_of self).operands }
+        ensures values { AreValues result.now }
+        ensures few { length result.now ≤ 5 }
+    {
+        row(self).6
+    }
+
+    /// The values that no line of the form writes, each with its number.
+    pub fn fixed(self) -> &'static [(Fixed, u8)]
+        ensures value { result.now ≡ (row_of self).fixed }
+        ensures values { AreValues result.now }
+    {
+        row(self).7
     }
 }

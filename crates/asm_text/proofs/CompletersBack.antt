@@ -1,7 +1,8 @@
 -- The printed completers are in their sets, and their choices come back.
-use Rattle.std.proofs.Common.{◌≡◌, ◌≢◌, ◌⊎◌, inl, inr, refl, ℕ, ◌≤◌, Bool, true, false, cond, eqb, [], ◌∷◌, arith}
+use Rattle.std.proofs.Common.{◌≡◌, ◌≢◌, ◌⊎◌, inl, inr, refl, ℕ, ◌≤◌, Bool, true, false, cond, eqb, List, [], ◌∷◌, arith}
 use Rattle.std.specs.List.{list_any}
 use Rattle.std.proofs.lemmas.Bool.{and_from}
+use Rattle.asm_forms.specs.declared.completer.Completer.{Completer}
 use Rattle.asm_forms.specs.declared.completer.Completer.TheVariants as c
 use Rattle.asm_forms.specs.declared.completer.CompleterSet.TheVariants as set
 use Rattle.asm_forms.specs.declared.choices.Whether.TheVariants as wh
@@ -13,7 +14,7 @@ use Rattle.ia_insn.specs.declared.choices.LoadKind.TheVariants as load
 use Rattle.ia_insn.specs.declared.choices.StoreKind.{StoreKind}
 use Rattle.ia_insn.specs.declared.choices.StoreKind.TheVariants as store
 use Rattle.asm_instructions.specs.Operands.{hint_of, is_many, is_present, is_release, whether}
-use Rattle.asm_canonical.specs.Canonical.{when, prefetch_hint, cache_hint, semaphore_type, branch_hints, whether as whether_numbered}
+use Rattle.asm_canonical.specs.Canonical.{flag_completer, cache_hint, whether as whether_numbered}
 
 whether_in : (a b d : Bool) → list_any (is_same (c.Whether (cond a wh.Sptk (cond b wh.Spnt (cond d wh.Dptk wh.Dpnt))))) (members set.Whether) ≡ true
 whether_in true b d = refl
@@ -21,24 +22,27 @@ whether_in false true d = refl
 whether_in false false true = refl
 whether_in false false false = refl
 
-many_in : (many : Bool) → list_any (is_same (prefetch_hint many)) (members set.Prefetch) ≡ true
+many_in : (many : Bool) → list_any (is_same (flag_completer set.Prefetch many)) (members set.Prefetch) ≡ true
 many_in true = refl
 many_in false = refl
 
-clr_in : (clr : Bool) → list_any (is_same (when clr c.Clr)) (members set.DeallocClr) ≡ true
+clr_in : (clr : Bool) → list_any (is_same (flag_completer set.DeallocClr clr)) (members set.DeallocClr) ≡ true
 clr_in true = refl
 clr_in false = refl
 
 -- the hints of a branch after its first completer
+abbrev pub branch_hints : ℕ → Bool → Bool → List Completer
+branch_hints w many clr = (c.Whether (whether_numbered w)) ∷ flag_completer set.Prefetch many ∷ flag_completer set.DeallocClr clr ∷ []
+
 pub hints_in : (w : ℕ) (many clr : Bool) → is_choice (set.Whether ∷ set.Prefetch ∷ set.DeallocClr ∷ []) (branch_hints w many clr) ≡ true
 hints_in w many clr = and_from _ _ (whether_in (eqb w 0) (eqb w 1) (eqb w 2)) (and_from _ _ (many_in many) (and_from _ _ (clr_in clr) refl))
 
 -- the hints' numbers come back
-pub many_back : (many : Bool) → is_many (prefetch_hint many) ≡ many
+pub many_back : (many : Bool) → is_many (flag_completer set.Prefetch many) ≡ many
 many_back true = refl
 many_back false = refl
 
-pub clr_back : (clr : Bool) → is_present (when clr c.Clr) ≡ clr
+pub clr_back : (clr : Bool) → is_present (flag_completer set.DeallocClr clr) ≡ clr
 clr_back true = refl
 clr_back false = refl
 
@@ -123,13 +127,13 @@ pub exchange_choice : (h : ℕ) → is_choice (set.LoadHint ∷ []) ((c.Hint (ca
 exchange_choice h = and_from _ _ (cache_hint_in (eqb h 0) (eqb h 1)) refl
 
 -- the completers of a fetch-and-add
-semaphore_in : (release : Bool) → list_any (is_same (semaphore_type release)) (members set.SemaphoreType) ≡ true
+semaphore_in : (release : Bool) → list_any (is_same (flag_completer set.SemaphoreType release)) (members set.SemaphoreType) ≡ true
 semaphore_in true = refl
 semaphore_in false = refl
 
-pub fetch_add_choice : (release : Bool) (h : ℕ) → is_choice (set.SemaphoreType ∷ set.LoadHint ∷ []) (semaphore_type release ∷ (c.Hint (cache_hint h)) ∷ []) ≡ true
+pub fetch_add_choice : (release : Bool) (h : ℕ) → is_choice (set.SemaphoreType ∷ set.LoadHint ∷ []) (flag_completer set.SemaphoreType release ∷ (c.Hint (cache_hint h)) ∷ []) ≡ true
 fetch_add_choice release h = and_from _ _ (semaphore_in release) (and_from _ _ (cache_hint_in (eqb h 0) (eqb h 1)) refl)
 
-pub release_back : (release : Bool) → is_release (semaphore_type release) ≡ release
+pub release_back : (release : Bool) → is_release (flag_completer set.SemaphoreType release) ≡ release
 release_back true = refl
 release_back false = refl

@@ -11,12 +11,14 @@ use Rattle.asm_words.specs.declared.tokens.Token.TheVariants as t
 use Rattle.asm_forms.specs.declared.form.Form.{Form}
 use Rattle.asm_forms.specs.declared.items.FormItem.{FormItem}
 use Rattle.asm_forms.specs.declared.items.FormItem.TheVariants.{Is, Takes}
+use Rattle.asm_forms.specs.declared.items.Kind.{Kind}
 use Rattle.asm_forms.specs.declared.items.Kind.TheVariants as k
 use Rattle.asm_forms.specs.declared.items.Mark.{Mark}
 use Rattle.asm_forms.specs.declared.items.Mark.TheVariants as m
 use Rattle.asm_forms.specs.Items.{mark_token, filled, prints, fits, is_label_item}
 use Rattle.asm_forms.specs.Rows.{rows, row_of}
 use Rattle.asm_forms.proofs.RowFacts.{of_row}
+use Rattle.asm_canonical.proofs.InRange.{IsTokenInRange}
 use Rattle.asm_canonical.proofs.Written.{IsPrinted}
 use Rattle.asm_text.proofs.OperandTexts.{is_wordlike, are_apart, label_token}
 
@@ -89,8 +91,18 @@ mark_printed m.R0 = lit< tt
 mark_printed m.One = lit< tt
 mark_printed mark = tt
 
-pub all_printed : (is : List FormItem) (xs : List Token) → AllByRecursion IsPrinted xs → AllByRecursion IsPrinted (filled is xs)
-all_printed [] xs h = tt
-all_printed (Is mark ∷ is) xs h = (mark_printed mark, all_printed is xs h)
-all_printed (Takes kind ∷ is) [] h = tt
-all_printed (Takes kind ∷ is) (x ∷ xs) h = (h.0, all_printed is xs h.1)
+-- and so can operands that fit and are in their ranges
+operand_printed : (kind : Kind) (x : Token) → prints kind x ≡ true → IsTokenInRange x → IsPrinted x
+operand_printed k.Gr (t.Gr n) h r = r
+operand_printed k.Pr (t.Pr n) h r = r
+operand_printed k.Br (t.Br n) h r = r
+operand_printed k.Ar (t.Ar a) h r = tt
+operand_printed (k.Number f) (t.Number s m) h r = r
+operand_printed k.Label t.Name h r = tt
+operand_printed kind x h r = cc
+
+pub all_printed : (is : List FormItem) (xs : List Token) → fits is xs ≡ true → AllByRecursion IsTokenInRange xs → AllByRecursion IsPrinted (filled is xs)
+all_printed [] xs h r = tt
+all_printed (Is mark ∷ is) xs h r = (mark_printed mark, all_printed is xs h r)
+all_printed (Takes kind ∷ is) [] h r = tt
+all_printed (Takes kind ∷ is) (x ∷ xs) h r = (operand_printed kind x (left (prints kind x) _ h) r.0, all_printed is xs (right (prints kind x) _ h) r.1)

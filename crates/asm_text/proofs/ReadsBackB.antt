@@ -8,8 +8,7 @@ use Rattle.ia_insn.specs.declared.insn.Op.{Op}
 use Rattle.ia_insn.specs.declared.insn.Op.TheVariants as op
 use Rattle.ia_insn.specs.declared.choices.BranchKind.{BranchKind}
 use Rattle.ia_insn.specs.declared.choices.BranchKind.TheVariants as branch
-use Rattle.asm_canonical.specs.Canonical.{branch_hints}
-use Rattle.asm_text.proofs.CompletersBack.{hints_in, many_back, clr_back, whether_back}
+use Rattle.asm_text.proofs.CompletersBack.{branch_hints, hints_in, many_back, clr_back, whether_back}
 use Rattle.asm_text.proofs.WayBack.{ReadsBack}
 
 -- an instruction by the numbers of its hints
@@ -18,12 +17,20 @@ same_hints f n m a b d e p q r = rw (p, q, r) refl
 
 -- B1 and B2
 pub br_back : (k : BranchKind) (wh : ℕ) (many clr : Bool) (disp : ℤ) → wh ≤ 3 → ReadsBack (op.Br k wh many clr disp)
+br_back branch.Cond wh true true disp h = record { choice = read_choice form.BrCond (c.Cond ∷ branch_hints wh true true) (and_from _ _ refl (hints_in wh true true)); fits = refl; label = refl; slot = refl; bare = refl; op = same_hints (λ n a d. op.Br branch.Cond n a d (pos 0)) _ wh _ true _ true (whether_back wh h) (many_back true) (clr_back true) }
+br_back branch.Cond wh false true disp h = record { choice = read_choice form.BrCond (c.Cond ∷ branch_hints wh false true) (and_from _ _ refl (hints_in wh false true)); fits = refl; label = refl; slot = refl; bare = refl; op = same_hints (λ n a d. op.Br branch.Cond n a d (pos 0)) _ wh _ false _ true (whether_back wh h) (many_back false) (clr_back true) }
 br_back branch.Cond wh many clr disp h = record { choice = read_choice form.BrCond (c.Cond ∷ branch_hints wh many clr) (and_from _ _ refl (hints_in wh many clr)); fits = refl; label = refl; slot = refl; bare = refl; op = same_hints (λ n a d. op.Br branch.Cond n a d (pos 0)) _ wh _ many _ clr (whether_back wh h) (many_back many) (clr_back clr) }
-br_back branch.Wexit wh many clr disp h = record { choice = read_choice form.BrLoop ((c.Loop branch.Wexit) ∷ branch_hints wh many clr) (and_from _ _ refl (hints_in wh many clr)); fits = refl; label = refl; slot = refl; bare = refl; op = same_hints (λ n a d. op.Br branch.Wexit n a d (pos 0)) _ wh _ many _ clr (whether_back wh h) (many_back many) (clr_back clr) }
-br_back branch.Wtop wh many clr disp h = record { choice = read_choice form.BrLoop ((c.Loop branch.Wtop) ∷ branch_hints wh many clr) (and_from _ _ refl (hints_in wh many clr)); fits = refl; label = refl; slot = refl; bare = refl; op = same_hints (λ n a d. op.Br branch.Wtop n a d (pos 0)) _ wh _ many _ clr (whether_back wh h) (many_back many) (clr_back clr) }
-br_back branch.Cloop wh many clr disp h = record { choice = read_choice form.BrLoop ((c.Loop branch.Cloop) ∷ branch_hints wh many clr) (and_from _ _ refl (hints_in wh many clr)); fits = refl; label = refl; slot = refl; bare = refl; op = same_hints (λ n a d. op.Br branch.Cloop n a d (pos 0)) _ wh _ many _ clr (whether_back wh h) (many_back many) (clr_back clr) }
-br_back branch.Cexit wh many clr disp h = record { choice = read_choice form.BrLoop ((c.Loop branch.Cexit) ∷ branch_hints wh many clr) (and_from _ _ refl (hints_in wh many clr)); fits = refl; label = refl; slot = refl; bare = refl; op = same_hints (λ n a d. op.Br branch.Cexit n a d (pos 0)) _ wh _ many _ clr (whether_back wh h) (many_back many) (clr_back clr) }
-br_back branch.Ctop wh many clr disp h = record { choice = read_choice form.BrLoop ((c.Loop branch.Ctop) ∷ branch_hints wh many clr) (and_from _ _ refl (hints_in wh many clr)); fits = refl; label = refl; slot = refl; bare = refl; op = same_hints (λ n a d. op.Br branch.Ctop n a d (pos 0)) _ wh _ many _ clr (whether_back wh h) (many_back many) (clr_back clr) }
+br_back branch.Wexit wh true true disp h = record { choice = read_choice form.BrLoop ((c.Loop branch.Wexit) ∷ branch_hints wh true true) (and_from _ _ refl (hints_in wh true true)); fits = refl; label = refl; slot = refl; bare = refl; op = same_hints (λ n a d. op.Br branch.Wexit n a d (pos 0)) _ wh _ true _ true (whether_back wh h) (many_back true) (clr_back true) }
+br_back branch.Wexit wh false true disp h = record { choice = read_choice form.BrLoop ((c.Loop branch.Wexit) ∷ branch_hints wh false true) (and_from _ _ refl (hints_in wh false true)); fits = refl; label = refl; slot = refl; bare = refl; op = same_hints (λ n a d. op.Br branch.Wexit n a d (pos 0)) _ wh _ false _ true (whether_back wh h) (many_back false) (clr_back true) }
+br_back branch.Wtop wh true true disp h = record { choice = read_choice form.BrLoop ((c.Loop branch.Wtop) ∷ branch_hints wh true true) (and_from _ _ refl (hints_in wh true true)); fits = refl; label = refl; slot = refl; bare = refl; op = same_hints (λ n a d. op.Br branch.Wtop n a d (pos 0)) _ wh _ true _ true (whether_back wh h) (many_back true) (clr_back true) }
+br_back branch.Wtop wh false true disp h = record { choice = read_choice form.BrLoop ((c.Loop branch.Wtop) ∷ branch_hints wh false true) (and_from _ _ refl (hints_in wh false true)); fits = refl; label = refl; slot = refl; bare = refl; op = same_hints (λ n a d. op.Br branch.Wtop n a d (pos 0)) _ wh _ false _ true (whether_back wh h) (many_back false) (clr_back true) }
+br_back branch.Cloop wh true true disp h = record { choice = read_choice form.BrLoop ((c.Loop branch.Cloop) ∷ branch_hints wh true true) (and_from _ _ refl (hints_in wh true true)); fits = refl; label = refl; slot = refl; bare = refl; op = same_hints (λ n a d. op.Br branch.Cloop n a d (pos 0)) _ wh _ true _ true (whether_back wh h) (many_back true) (clr_back true) }
+br_back branch.Cloop wh false true disp h = record { choice = read_choice form.BrLoop ((c.Loop branch.Cloop) ∷ branch_hints wh false true) (and_from _ _ refl (hints_in wh false true)); fits = refl; label = refl; slot = refl; bare = refl; op = same_hints (λ n a d. op.Br branch.Cloop n a d (pos 0)) _ wh _ false _ true (whether_back wh h) (many_back false) (clr_back true) }
+br_back branch.Cexit wh true true disp h = record { choice = read_choice form.BrLoop ((c.Loop branch.Cexit) ∷ branch_hints wh true true) (and_from _ _ refl (hints_in wh true true)); fits = refl; label = refl; slot = refl; bare = refl; op = same_hints (λ n a d. op.Br branch.Cexit n a d (pos 0)) _ wh _ true _ true (whether_back wh h) (many_back true) (clr_back true) }
+br_back branch.Cexit wh false true disp h = record { choice = read_choice form.BrLoop ((c.Loop branch.Cexit) ∷ branch_hints wh false true) (and_from _ _ refl (hints_in wh false true)); fits = refl; label = refl; slot = refl; bare = refl; op = same_hints (λ n a d. op.Br branch.Cexit n a d (pos 0)) _ wh _ false _ true (whether_back wh h) (many_back false) (clr_back true) }
+br_back branch.Ctop wh true true disp h = record { choice = read_choice form.BrLoop ((c.Loop branch.Ctop) ∷ branch_hints wh true true) (and_from _ _ refl (hints_in wh true true)); fits = refl; label = refl; slot = refl; bare = refl; op = same_hints (λ n a d. op.Br branch.Ctop n a d (pos 0)) _ wh _ true _ true (whether_back wh h) (many_back true) (clr_back true) }
+br_back branch.Ctop wh false true disp h = record { choice = read_choice form.BrLoop ((c.Loop branch.Ctop) ∷ branch_hints wh false true) (and_from _ _ refl (hints_in wh false true)); fits = refl; label = refl; slot = refl; bare = refl; op = same_hints (λ n a d. op.Br branch.Ctop n a d (pos 0)) _ wh _ false _ true (whether_back wh h) (many_back false) (clr_back true) }
+br_back k wh many clr disp h = record { choice = read_choice form.BrLoop ((c.Loop k) ∷ branch_hints wh many clr) (and_from _ _ refl (hints_in wh many clr)); fits = refl; label = refl; slot = refl; bare = refl; op = same_hints (λ n a d. op.Br k n a d (pos 0)) _ wh _ many _ clr (whether_back wh h) (many_back many) (clr_back clr) }
 
 -- B3
 pub br_call_back : (b1 wh : ℕ) (many clr : Bool) (disp : ℤ) → wh ≤ 3 → ReadsBack (op.BrCall b1 wh many clr disp)

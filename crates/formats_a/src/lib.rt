@@ -13,14 +13,16 @@
 
 ghost use Rattle.std.specs.Prelude.{◌≡◌, ℕ, ◌<◌, ◌≤◌, ◌^◌, ◌↔◌, IsTrue, IsSome, IsNone, IfSome, Some};
 ghost use Rattle.ia_insn.specs.declared.insn.Insn.{Insn};
+ghost use Rattle.insn_rows.specs.Arms.{opcode_of};
 ghost use Rattle.insn_rows.specs.Laws.{OneInstruction, OneWord, OpcodeIsHigh};
 ghost use Rattle.formats_a.specs.Listed.{CodeA, IsListedA};
+ghost use Rattle.formats_a.specs.Places.{place_of};
 
 mod places;
 mod rows;
 
 use ia_insn::Insn;
-use insn_rows::{decode_with, encode_with, lists_with, opcode_of};
+use insn_rows::{decode_with, encode_with, lists_with, opcode_of, word_with};
 pub use rows::ROWS;
 
 /// The A instruction whose word this is, and None exactly where it is that of none (volume 3,
@@ -60,6 +62,24 @@ pub fn encode_a(insn: &Insn) -> Option<u64>
     ensures within { IfSome result (λ w. w < 2 ^ 41) }
 {
     encode_with(rows::rows(), places::place_of(opcode_of(&insn.op)), insn)
+}
+
+/// The word of an A instruction whose operands are known to be in their ranges (volume 3, chapter 4, instruction
+/// formats, A1 to A9).
+#[tactic(auto, using(crate::proofs::Table::is_place_of))]
+pub fn word_a(insn: &Insn) -> u64
+    requires { IsListedA insn.now }
+    ensures code { CodeA insn.now result }
+    ensures within { result < 2 ^ 41 }
+{
+    word_with(rows::rows(), places::place_of(opcode_of(&insn.op)), insn)
+}
+
+/// Whether the opcode is one of the A instructions, whatever the operands are.
+pub fn has_opcode_a(insn: &Insn) -> bool
+    ensures { IsTrue result ↔ IsSome (place_of (opcode_of insn.now.op)) }
+{
+    places::place_of(opcode_of(&insn.op)).is_some()
 }
 
 /// Whether the instruction is an A instruction whose operands are in their ranges: whether it has a word.

@@ -1,8 +1,6 @@
 -- The rows are a table, and each stands at the place of its opcode.
-use Rattle.std.proofs.Common.{◌≡◌, refl, true}
-use Rattle.ia_insn.specs.declared.choices.Unit.TheVariants as unit
+use Rattle.std.proofs.Common.{◌≡◌, refl, true, arith}
 use Rattle.insn_rows.specs.declared.opcode.Opcode.{Opcode}
-use Rattle.insn_rows.specs.declared.opcode.Opcode.TheVariants as o
 use Rattle.insn_rows.specs.Rows.{listed}
 use Rattle.insn_rows.specs.WellMade.{is_well_made, is_table}
 use Rattle.insn_rows.specs.Codes.{IsPlaceOf}
@@ -20,10 +18,7 @@ stand = refl
 
 stands : (c : Opcode) → Stands rows (place_of c) c
 unfolding rows
-stands (o.Break unit.X) = (refl, λ d. refl)
-stands o.Movl = (refl, λ d. refl)
-stands (o.Nop unit.X) = (refl, λ d. refl)
-stands c = tt
+stands c = grind arith
 
 pub is_place_of : (c : Opcode) → IsPlaceOf rows (place_of c) c
 is_place_of = is_place rows place_of stand stands

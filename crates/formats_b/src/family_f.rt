@@ -9,7 +9,7 @@ mod places;
 pub mod rows;
 
 use ia_insn::Insn;
-use insn_rows::{decode_with, encode_with, lists_with, opcode_of};
+use insn_rows::{decode_with, encode_with, lists_with, opcode_of, word_with};
 
 /// The F instruction whose word this is, and None exactly where it is that of none (volume 3,
 /// chapter 4, instruction formats, F15 and F16). Where in its bundle the word stands is not looked at.
@@ -44,6 +44,17 @@ pub fn encode_f(insn: &Insn) -> Option<u64>
     ensures within { IfSome result (λ w. w < 2 ^ 41) }
 {
     encode_with(rows::rows(), places::place_of(opcode_of(&insn.op)), insn)
+}
+
+/// The word of an F instruction whose operands are known to be in their ranges (volume 3, chapter 4, instruction
+/// formats, F15 and F16).
+#[tactic(auto, using(crate::proofs::TableF::is_place_of))]
+pub fn word_f(insn: &Insn) -> u64
+    requires { IsListedF insn.now }
+    ensures code { CodeF insn.now result }
+    ensures within { result < 2 ^ 41 }
+{
+    word_with(rows::rows(), places::place_of(opcode_of(&insn.op)), insn)
 }
 
 /// Whether the instruction is an F instruction whose operands are in their ranges: whether it has a word.

@@ -10,7 +10,7 @@ mod places;
 pub mod rows;
 
 use ia_insn::Insn;
-use insn_rows::{decode_with, encode_with, lists_with, opcode_of};
+use insn_rows::{decode_with, encode_with, lists_with, opcode_of, word_with};
 use parts::{is_within, low_of, slot_part, whole};
 
 /// The words of a long instruction, 41 bits each (volume 1, chapter 3, instruction encoding).
@@ -71,6 +71,22 @@ pub fn encode_x(insn: &Insn) -> Option<LongWord>
             word,
         }),
         None => None,
+    }
+}
+
+/// The words of a long instruction whose operands are known to be in their ranges (volume 3, chapter 4, instruction
+/// formats, X1, X2 and X5).
+#[tactic(auto, using(crate::proofs::TableX::is_place_of))]
+pub fn word_x(insn: &Insn) -> LongWord
+    requires { IsListedX insn.now }
+    ensures code { CodeX insn.now result.l result.word }
+    ensures within_l { result.l < 2 ^ 41 }
+    ensures within_word { result.word < 2 ^ 41 }
+{
+    let part = slot_part(insn);
+    LongWord {
+        l: low_of(&insn.op),
+        word: word_with(rows::rows(), places::place_of(opcode_of(&part.op)), &part),
     }
 }
 

@@ -18,8 +18,10 @@ mod family_f;
 mod family_x;
 
 pub use family_b::rows::ROWS as ROWS_B;
-pub use family_b::{decode_b, encode_b, is_listed_b, one_instruction_b, one_word_b};
+pub use family_b::{decode_b, encode_b, is_listed_b, one_instruction_b, one_word_b, word_b};
 pub use family_f::rows::ROWS as ROWS_F;
-pub use family_f::{decode_f, encode_f, is_listed_f, one_instruction_f, one_word_f};
+pub use family_f::{decode_f, encode_f, is_listed_f, one_instruction_f, one_word_f, word_f};
 pub use family_x::rows::ROWS as ROWS_X;
-pub use family_x::{LongWord, decode_x, encode_x, is_listed_x, one_instruction_x, one_long_word};
+pub use family_x::{
+    LongWord, decode_x, encode_x, is_listed_x, one_instruction_x, one_long_word, word_x,
+};

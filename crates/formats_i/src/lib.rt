@@ -18,7 +18,7 @@ mod places;
 mod rows;
 
 use ia_insn::Insn;
-use insn_rows::{decode_with, encode_with, lists_with, opcode_of};
+use insn_rows::{decode_with, encode_with, lists_with, opcode_of, word_with};
 pub use rows::ROWS;
 
 /// The I instruction whose word this is, and None exactly where it is that of none (volume 3,
@@ -54,6 +54,17 @@ pub fn encode_i(insn: &Insn) -> Option<u64>
     ensures within { IfSome result (λ w. w < 2 ^ 41) }
 {
     encode_with(rows::rows(), places::place_of(opcode_of(&insn.op)), insn)
+}
+
+/// The word of an I instruction whose operands are known to be in their ranges (volume 3, chapter 4, instruction
+/// formats, I5 to I29).
+#[tactic(auto, using(crate::proofs::Table::is_place_of))]
+pub fn word_i(insn: &Insn) -> u64
+    requires { IsListedI insn.now }
+    ensures code { CodeI insn.now result }
+    ensures within { result < 2 ^ 41 }
+{
+    word_with(rows::rows(), places::place_of(opcode_of(&insn.op)), insn)
 }
 
 /// Whether the instruction is an I instruction whose operands are in their ranges: whether it has a word.

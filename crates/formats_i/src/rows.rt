@@ -97,7 +97,7 @@ pub(crate) fn rows() -> &'static [Row]
     &ROWS
 }
 
-/// The places of the rows of each major opcode.
+/// Places of rows by major opcode: that of each row is among those of its own.
 pub(crate) fn by_major() -> &'static [&'static [u8]; 16]
     ensures { IsTrue (is_index rows (map (λ places. places.now) result.now)) }
 {

@@ -10,9 +10,9 @@ ghost use Rattle.insn_codec.specs.Spelling.{StandIn, IsSpelled};
 ghost use Rattle.insn_codec.specs.SlotFaults.{HasInsn, HasLongInsn, slot_stages, HasSlotFault};
 
 use crate::laws::{no_fault_where_spelled, one_bundle, one_fault, one_spelling};
-use crate::slot::{read_unit, write_long, write_unit};
+use crate::slot::{read_unit, write_unit};
 use bundle_bits::{RawBundle, join, split};
-use formats_b::decode_x;
+use formats_b::{decode_x, word_x};
 use ia_insn::{Insn, Unit};
 use ia_program::{BundleOf, Slots, Template};
 
@@ -117,7 +117,7 @@ fn write_slots(u: Unit, v: Unit, w: Unit, slots: &Slots) -> [u64; 3]
     match slots {
         Slots::Three { a, b, c } => [write_unit(u, a), write_unit(v, b), write_unit(w, c)],
         Slots::Long { first, long } => {
-            let words = write_long(long);
+            let words = word_x(long);
             [write_unit(u, first), words.l, words.word]
         }
     }

@@ -2,14 +2,13 @@
 
 ghost use Rattle.std.specs.Prelude.{◌≡◌, ◌^◌, ◌<◌, Some, IfSome};
 ghost use Rattle.ia_insn.specs.declared.insn.Insn.{Insn};
-ghost use Rattle.formats_b.specs.ListedX.{IsListedX, CodeX};
 ghost use Rattle.ia_insn.specs.declared.choices.Unit.TheVariants.{B};
 ghost use Rattle.insn_codec.specs.Slots.{UnitCode, IsOfUnit, IsInSlot};
 
-use formats_a::{decode_a, encode_a, opcode_is_high};
-use formats_b::{LongWord, decode_b, decode_f, encode_b, encode_f, encode_x};
-use formats_i::{decode_i, encode_i};
-use formats_m::{decode_m, encode_m};
+use formats_a::{decode_a, has_opcode_a, opcode_is_high, word_a};
+use formats_b::{decode_b, decode_f, word_b, word_f};
+use formats_i::{decode_i, word_i};
+use formats_m::{decode_m, word_m};
 use ia_insn::{Insn, Unit};
 use ia_program::is_branch_slot;
 
@@ -56,27 +55,18 @@ pub(crate) fn read_unit(unit: Unit, slot: u8, word: u64) -> Option<Insn>
 }
 
 /// The word of an instruction of the unit.
+#[tactic(auto, using(crate::proofs::Families::is_a_of_m, crate::proofs::Families::is_a_of_i, crate::proofs::Families::is_m, crate::proofs::Families::is_i))]
 pub(crate) fn write_unit(unit: Unit, insn: &Insn) -> u64
     requires { IsOfUnit unit insn.now }
     ensures code { UnitCode unit insn.now result }
     ensures width { result < 2 ^ 41 }
 {
-    let word = match unit {
-        Unit::M => encode_a(insn).or_else(|| encode_m(insn)),
-        Unit::I => encode_a(insn).or_else(|| encode_i(insn)),
-        Unit::F => encode_f(insn),
-        Unit::B => encode_b(insn),
-        Unit::L | Unit::X => None,
-    };
-    word.unwrap()
-}
-
-/// The words of a long instruction.
-pub(crate) fn write_long(insn: &Insn) -> LongWord
-    requires { IsListedX insn.now }
-    ensures code { CodeX insn.now result.l result.word }
-    ensures l { result.l < 2 ^ 41 }
-    ensures word { result.word < 2 ^ 41 }
-{
-    encode_x(insn).unwrap()
+    match unit {
+        Unit::M | Unit::I if has_opcode_a(insn) => word_a(insn),
+        Unit::M => word_m(insn),
+        Unit::I => word_i(insn),
+        Unit::F => word_f(insn),
+        Unit::B => word_b(insn),
+        Unit::L | Unit::X => unreachable!(),
+    }
 }

@@ -1,7 +1,6 @@
 -- The row of a word stands where the index has the word's major opcode.
-use Rattle.std.proofs.Common.{Bor, ◌≡◌, ℕ, zero, suc, ◌+◌, ◌-◌, ◌*◌, ◌/◌, ◌%◌, ◌^◌, ◌<◌, ◌≤◌, List, [], ◌∷◌, length, get_or, map, Bool, true, false, sym, ap, ◌∙◌, refl, arith, subst, lit<}
+use Rattle.std.proofs.Common.{Bor, ◌≡◌, ℕ, zero, suc, ◌+◌, ◌-◌, ◌/◌, ◌^◌, ◌<◌, List, [], ◌∷◌, length, get_or, map, Bool, true, false, sym, ap, ◌∙◌, refl, arith, subst}
 use Rattle.std.specs.Prelude.{bit_and, ◌||◌, ◌==◌}
-use Rattle.std.specs.List.{list_all}
 use Rattle.std.proofs.lemmas.Bool.{eqb-true}
 use Rattle.std.proofs.lemmas.Nat.{and_mask, and_shr}
 use Rattle.std.proofs.Math.Nat.{mod-eq_of_lt}

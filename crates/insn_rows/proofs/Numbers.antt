@@ -3,7 +3,7 @@ use Rattle.std.proofs.Common.{◌≡◌, ℕ, ◌+◌, ◌-◌, ◌*◌, ◌/◌
 use Rattle.std.proofs.lemmas.Nat.{mod_below, pow_pos, shr_split, one_shl}
 use Rattle.std.proofs.Math.Nat.{div-eq_of_lt, pow-le-pow_right, pow-suc}
 use Rattle.std.proofs.lemmas.Bool.{leb-true, ltb-true, ltb-false, eqb-true}
-use Rattle.std.specs.Prelude.{pos, negsuc}
+use Rattle.std.specs.Prelude.{ℤ, pos, negsuc}
 use Rattle.ia_insn.specs.Signed.{twos, signed_of, FitsSigned}
 use Rattle.ia_insn.proofs.Numbers.{half}
 use Rattle.std.specs.Prelude.{◌&&◌}
@@ -23,8 +23,8 @@ unshifted n w h = div-eq_of_lt h
 pub power_is : (n : ℕ) → n ≤ 61 → 1 * 2 ^ n % 18446744073709551616 ≡ 2 ^ n
 power_is n h = one_shl n 64 (omega arith)
 
-pub power_most : (n most : ℕ) → n ≤ most → most ≤ 61 → 1 * 2 ^ n % 18446744073709551616 ≤ 2 ^ most
-power_most n most h l = rw (power_is n (omega arith)) (pow-le-pow_right (lit< tt) h)
+pub power_most : (n : ℕ) → n ≤ 61 → 1 * 2 ^ n % 18446744073709551616 ≤ 2 ^ 61
+power_most n h = rw (power_is n h) (pow-le-pow_right (lit< tt) h)
 
 -- fewer bits
 pub fewer : (n w k : ℕ) → w ≤ k → n < 2 ^ w → n < 2 ^ k
@@ -91,6 +91,11 @@ signed_fits w n s h = elim (ltb n (2 ^ (w - 1))) as (λ b. ltb n (2 ^ (w - 1)) �
   | true ↦ λ e. ltb-true _ _ e
   | false ↦ λ e. let d = half w s in let f : 2 ^ (w - 1) ≤ n = ltb-false _ _ e in omega arith
 ] refl
+
+-- A number has also as many bits as are enough for all of fewer.
+pub wider : (w k : ℕ) (z : ℤ) → w ≤ k → FitsSigned w z → FitsSigned k z
+wider w k (pos n) h fit = fewer n (w - 1) (k - 1) (omega arith) fit
+wider w k (negsuc n) h fit = fewer n (w - 1) (k - 1) (omega arith) fit
 
 pub twos-signed : (w n : ℕ) → 1 ≤ w → n < 2 ^ w → twos w (signed_of w n) ≡ n
 twos-signed w n s h = elim (ltb n (2 ^ (w - 1))) as (λ b. twos w (cond b (pos n) (negsuc (2 ^ w - suc n))) ≡ n) [

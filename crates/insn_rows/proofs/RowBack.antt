@@ -1,6 +1,6 @@
 -- What is read of an instruction's word by its row is the instruction.
 use Rattle.std.proofs.Common.{◌≡◌, ℕ, zero, suc, ◌<◌, ◌^◌, arith, List, [], ◌∷◌, length, get_or, true, false, sym, ap, ◌∙◌, refl, subst}
-use Rattle.std.specs.Prelude.{Some, None}
+use Rattle.std.specs.Prelude.{Option, Some, None, IsSome}
 use Rattle.bundle_bits.proofs.Words.{both-left, both-right}
 use Rattle.ia_insn.specs.declared.insn.Insn.{Insn}
 use Rattle.insn_rows.specs.declared.opcode.Opcode.TheVariants as o
@@ -116,6 +116,15 @@ at_place rows i w n d here code =
 
 pub no_place : (rows : List Row) (i : Insn) (w : ℕ) (d : Row) → IsPlaceOf rows None (opcode_of i.op) → HasRow rows i w → ⊥
 no_place rows i w d none code = none code.place d code.inside (code.row d).opcode
+
+pub has_place : (rows : List Row) (p : Option ℕ) (i : Insn) (w : ℕ) → IsPlaceOf rows p (opcode_of i.op) → HasRow rows i w → IsSome p
+has_place rows None i w none code = absurd (no_place rows i w no_row none code)
+has_place rows (Some n) i w here code = refl
+
+pub has_values : (rows : List Row) (i : Insn) (w n : ℕ) (d : Row) (xs : List Value) → IsPlaceOf rows (Some n) (opcode_of i.op) → HasRow rows i w → xs ≡ values_of i → HasWord (get_or rows n d) xs
+has_values rows i w n d xs here code same =
+    let P : List Value → Type 0 = λ xs. HasWord (get_or rows n d) xs in
+    subst P (sym same) (at_place rows i w n d here code).listed
 
 -- A table gives a word at most one instruction.
 pub only_insn : (rows : List Row) (i j : Insn) (w : ℕ) (d : Row) → is_table rows ≡ true → HasRow rows i w → HasRow rows j w → i ≡ j

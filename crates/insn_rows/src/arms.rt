@@ -169,7 +169,7 @@ pub fn values_of(insn: &Insn) -> Values
 }
 
 /// The value of an operand, by its number.
-pub(crate) fn value_at(values: &Values, place: usize) -> Value
+pub fn value_at(values: &Values, place: usize) -> Value
     ensures { result ≡ at values.now place }
 {
     if place < 7 { values[place] } else { NONE }
@@ -206,7 +206,7 @@ fn br(values: &Values, place: usize) -> Br
 }
 
 /// The choice at a place.
-fn flag(values: &Values, place: usize) -> bool
+pub fn flag(values: &Values, place: usize) -> bool
     ensures { result ≡ flag_of (at values.now place) }
 {
     match value_at(values, place) {
@@ -216,7 +216,7 @@ fn flag(values: &Values, place: usize) -> bool
 }
 
 /// The number at a place.
-fn small(values: &Values, place: usize) -> u8
+pub fn small(values: &Values, place: usize) -> u8
     ensures { result ≡ small_of (at values.now place) }
 {
     match value_at(values, place) {

@@ -141,6 +141,7 @@ fn word_by(row: &Row, values: &Values) -> u64
 }
 
 /// Sets a value to the one whose code a word has in the bits of the operand, and says whether the operand may have it.
+#[inline(never)]
 fn read_code(operand: &Operand, word: u64, target: &mut Value) -> bool
     requires sized { IsTrue (is_sized operand.now) }
     requires apart { IsTrue (are_apart_fields (list_of operand.now.bits)) }
@@ -151,7 +152,7 @@ fn read_code(operand: &Operand, word: u64, target: &mut Value) -> bool
 }
 
 /// The same; most operands are absent ones.
-#[inline]
+#[inline(always)]
 fn read_value(operand: &Operand, word: u64, target: &mut Value) -> bool
     requires sized { IsTrue (is_sized operand.now) }
     requires apart { IsTrue (are_apart_fields (list_of operand.now.bits)) }
@@ -215,7 +216,7 @@ fn find_row(rows: &[Row], places: &[u8], word: u64) -> Option<usize>
     ensures found { IfSome result (λ n. (n < length rows.now) × ((r : Row) → matches (slice_index_or rows.now n r) word ≡ true)) }
     ensures none { IsNone result → (k : ℕ) (r : Row) → k < length places.now → matches (slice_index_or rows.now (slice_index_or places.now k 0) r) word ≡ false }
 {
-    for (k, place) in places.iter().enumerate() {
+    for place in places {
         let n = usize::from(*place);
         let row = &rows[n];
         if word & row.format.mask == row.fixed {
@@ -275,4 +276,16 @@ pub fn encode_with(rows: &[Row], place: Option<usize>, insn: &Insn) -> Option<u6
         }
         None => None,
     }
+}
+
+/// The word of an instruction that the rows of a table list, where `place` is that of its opcode's row.
+pub fn word_with(rows: &[Row], place: Option<usize>, insn: &Insn) -> u64
+    requires table { IsTrue (is_table rows.now) }
+    requires place { IsPlaceOf rows.now place (opcode_of insn.now.op) }
+    requires listed { IsListedBy rows.now insn.now }
+    ensures code { HasRow rows.now insn.now result }
+    ensures within { result < 2 ^ 41 }
+{
+    let n = place.unwrap();
+    word_by(&rows[n], &values_of(insn))
 }

@@ -24,14 +24,13 @@ fn is_within(number: u64, width: u32) -> bool
     number >> width == 0
 }
 
-/// 2 to a power of at most `MOST`.
+/// 2 to a power.
 #[inline]
 #[tactic(auto, using(crate::proofs::Numbers::power_is, crate::proofs::Numbers::power_most))]
-fn power<const MOST: u32>(exponent: u32) -> u64
-    requires exponent { exponent ≤ MOST }
-    requires most { MOST ≤ 61 }
+fn power(exponent: u32) -> u64
+    requires { exponent ≤ 61 }
     ensures value { result ≡ 2 ^ exponent }
-    ensures within { result ≤ 2 ^ MOST }
+    ensures within { result ≤ 2 ^ 61 }
 {
     1 << exponent
 }
@@ -43,7 +42,7 @@ fn fits_signed(number: i64, width: u32) -> bool
     requires within { width ≤ 62 }
     ensures { IsTrue result ↔ FitsSigned width number }
 {
-    let half = power::<61>(width - 1) as i64;
+    let half = power(width - 1) as i64;
     -half <= number && number < half
 }
 
@@ -59,18 +58,20 @@ fn twos(number: i64, width: u32) -> u64
     if number >= 0 {
         number as u64
     } else {
-        2 * power::<61>(width - 1) - 1 - (-(number + 1)) as u64
+        2 * power(width - 1) - 1 - (-(number + 1)) as u64
     }
 }
 
 /// The signed number with this two's complement of so many bits.
+#[tactic(auto, using(crate::proofs::Numbers::signed_fits))]
 fn signed_within(number: u64, width: u32) -> i64
     requires some { 1 ≤ width }
     requires within { width ≤ 62 }
-    requires fits { number < 2 ^ width }
-    ensures { result ≡ signed_of width number }
+    requires bits { number < 2 ^ width }
+    ensures value { result ≡ signed_of width number }
+    ensures fits { FitsSigned width result }
 {
-    let half = power::<61>(width - 1);
+    let half = power(width - 1);
     if number < half {
         number as i64
     } else {
@@ -79,33 +80,25 @@ fn signed_within(number: u64, width: u32) -> i64
 }
 
 /// The same, of at most 16 bits.
+#[tactic(auto, using(crate::proofs::Numbers::wider))]
 fn short_within(number: u64, width: u32) -> i16
     requires some { 1 ≤ width }
     requires within { width ≤ 16 }
-    requires fits { number < 2 ^ width }
+    requires bits { number < 2 ^ width }
     ensures { result ≡ signed_of width number }
 {
-    let half = power::<15>(width - 1);
-    if number < half {
-        number as i16
-    } else {
-        -((2 * half - 1 - number) as i16) - 1
-    }
+    signed_within(number, width) as i16
 }
 
 /// The same, of at most 32 bits.
+#[tactic(auto, using(crate::proofs::Numbers::wider))]
 fn displacement_within(number: u64, width: u32) -> i32
     requires some { 1 ≤ width }
     requires within { width ≤ 32 }
-    requires fits { number < 2 ^ width }
+    requires bits { number < 2 ^ width }
     ensures { result ≡ signed_of width number }
 {
-    let half = power::<31>(width - 1);
-    if number < half {
-        number as i32
-    } else {
-        -((2 * half - 1 - number) as i32) - 1
-    }
+    signed_within(number, width) as i32
 }
 
 /// The signed number whose 16 low bits are zeros and whose others are these, so many.

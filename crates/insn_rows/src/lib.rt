@@ -20,9 +20,9 @@ mod operands;
 mod row;
 mod value;
 
-pub use arms::{insn_of, opcode_of, values_of};
+pub use arms::{flag, insn_of, opcode_of, small, value_at, values_of};
 pub use bits::{BitField, Bits};
-pub use codec::{decode_with, encode_with, lists_with};
+pub use codec::{decode_with, encode_with, lists_with, word_with};
 pub use opcode::{Opcode, UpdateKind};
 pub use row::{Check, Coding, Format, Operand, OperandList, Row};
 pub use value::{Value, Values};

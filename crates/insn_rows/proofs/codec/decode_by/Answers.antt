@@ -1,4 +1,4 @@
-use Rattle.std.proofs.Common.{◌≡◌, List, Some, sym, ap, ◌∙◌, subst}
+use Rattle.std.proofs.Common.{List, Some, sym, ap, ◌∙◌, subst}
 use Rattle.ia_insn.specs.declared.insn.Insn.{Insn}
 use Rattle.insn_rows.specs.declared.value.Value.{Value}
 use Rattle.insn_rows.specs.Values.{at}
