@@ -1,12 +1,12 @@
 #!/usr/bin/env python3
 """Keeps what is said of instructions elsewhere to the rows that the program decodes and encodes by.
 
-  tools/format_tables.py            says which lines of docs/FORMATS.md aren't what the rows say, which rows of
-                                    instruction_rows.py have operands with the ends of no row of words, of which operations as many
-                                    opcodes aren't chosen there as have rows, which forms that are printed have their completers
-                                    or operands in the order of none of its lines, and which forms write a value in another way than
-                                    its operand in a word is coded; what the words of a choice are isn't looked at. The status is
-                                    then 1
+  tools/format_tables.py            says which lines of docs/FORMATS.md aren't what the rows say, and of which row of words not just one
+                                    row of instruction_rows.py is, by the ends of its operands and by what is chosen in its opcode;
+                                    which zeros of that table are bits that a word may have, and which of its words no form has that
+                                    is printed; and which forms that are printed have their completers or operands in the order of
+                                    none of its lines, and which forms write a value in another way than its operand in a word is
+                                    coded. The status is then 1
   tools/format_tables.py --write    writes the lines
 
 A table of the page has a line for each format of a family. What its first column says, the instructions as a user writes them,
@@ -16,13 +16,16 @@ stands in the page alone; the other columns are made here.
 import re
 import sys
 from collections import Counter
-from math import prod
+from itertools import product
 from pathlib import Path
+from string import Template
 
 sys.dont_write_bytecode = True
 
-from instruction_rows import ROWS  # noqa: E402
-from row_sources import FAMILIES, Operand, fields, formats, forms, operand_names, operands, printed_forms, rows  # noqa: E402
+from instruction_rows import ROWS, combinations  # noqa: E402
+from row_sources import (  # noqa: E402
+    FAMILIES, Operand, completer_texts, fields, formats, forms, operand_names, operands, printed_forms, rows,
+)
 
 PAGE = Path(__file__).resolve().parent.parent / "docs" / "FORMATS.md"
 # The tables of the page, by their headings, with the families of each.
@@ -233,7 +236,7 @@ class Texts:
     """What the rows of texts say, beside the rows of words."""
 
     def __init__(self):
-        self.operands, self.formats, self.names = operands(), formats(), operand_names()
+        self.fields, self.operands, self.formats, self.names = fields(), operands(), formats(), operand_names()
         self.rows = {family: rows(path) for family, path in FAMILIES.items()}
 
     def ends(self, row):
@@ -243,22 +246,24 @@ class Texts:
             operand = self.operands[key]
             yield {"update": "imm" if operand.coding == "Short" else "r2"}.get(name, name), ends(operand)
 
+    def chosen(self, text):
+        """The rows of words of a row of texts."""
+        found = [row for row in self.rows[text.family] if variant(row) == text.name]
+        return chosen_rows(text, [row for row in found if agree(text, dict(self.ends(row)))])
+
     def faults(self):
-        """Each row of texts whose operands are those of no row of words, and each operation of which another number of opcodes
-        has texts than has rows, where it has these operands."""
-        chosen, listed = Counter(), Counter()
+        """Each row of words that another number of rows of texts than one is of, by its operands and by what is chosen in its
+        opcode, and each row of texts that is of none."""
+        chosen = Counter()
         for text in ROWS:
-            found = [row for row in self.rows[text.family] if variant(row) == text.name]
-            if not any(agree(text, dict(self.ends(row))) for row in found):
-                yield f"no row has the operands of {text.text.template}"
-            chosen[form_of(text.family, text.name, text.operands)] += prod(
-                operand.high + 1 for name, operand in text.operands.items() if name in CHOSEN
-            )
+            own = self.chosen(text)
+            chosen.update((text.family, row.opcode) for row in own)
+            if not own:
+                yield f"no row has the operands and the opcodes of {text.text.template}"
         for family, found in self.rows.items():
-            listed.update(form_of(family, variant(row), dict(self.ends(row))) for row in found)
-        for form in sorted(set(chosen) | set(listed)):
-            if chosen[form] != listed[form]:
-                yield f"of {' '.join(form)} {chosen[form]} opcodes have texts, and {listed[form]} have rows"
+            for row in found:
+                if chosen[family, row.opcode] != 1:
+                    yield f"{chosen[family, row.opcode]} rows of texts are of the {family} row of {row.opcode}"
 
     def field_faults(self):
         """Each form that writes a value in another way than the operand with its number is coded."""
@@ -269,6 +274,24 @@ class Texts:
                 codings = {self.coding(row, place) for row in same}
                 if not codings <= WRITTEN[kind]:
                     yield f"the form {form.name} writes value {place} by {kind}, and its operand is coded as {sorted(codings)}"
+
+    def zero_faults(self):
+        """Each bit that a row of texts says to be zero, and to make a word none if it is set, that isn't or doesn't."""
+        words = {family: [self.word(row) for row in found] for family, found in self.rows.items()}
+        for text in ROWS:
+            beside = words[text.family] + (words["A"] if text.family in "IM" else [])
+            for row in self.chosen(text):
+                fixed, mask = self.word(row)
+                for bit in text.zero:
+                    one = 1 << bit
+                    if fixed & one or not mask & one or any((fixed | one) & other & mask == its & mask for its, other in beside):
+                        yield f"bit {bit} of {text.text.template} is no zero that makes a word none, as {row.opcode} has it"
+
+    def word(self, row):
+        """The bits of a row that are the same in each of its words, and which these are."""
+        fixed = sum(value << self.fields[name] for name, value in row.fields.items())
+        own = sum(((1 << width) - 1) << low for name in self.formats[row.format].operands for low, width in self.operands[name].fields)
+        return fixed, (1 << 41) - 1 & ~own
 
     def coding(self, row, place):
         """The coding of an operand of a row, with its width where it is a number."""
@@ -315,6 +338,21 @@ def line_faults():
             yield f"no line of {form.opcode} has the order of the form {form.name}: {' '.join((*form.completers, form.operands))}"
 
 
+def word_faults():
+    """Each word of a line, with its completers, that no form of its operation has which is printed."""
+    texts, printed, words = completer_texts(), printed_forms(), {}
+    for form in forms():
+        if form.name in printed:
+            found = words.setdefault(form.opcode, set())
+            found.update(form.word + "".join(own) for own in product(*(texts[name] for name in form.sets)))
+    for text in ROWS:
+        word = Template(text.line.template.split(" ")[0])
+        for values in combinations(text.operands):
+            told = word.substitute({name: text.operands[name].text(value) for name, value in values.items()})
+            if text.name != "Alloc" and told not in words[text.name]:
+                yield f"no form of {text.name} that is printed has the word {told}"
+
+
 def is_line(line, form):
     word, _, operands = line.partition(" ")
     told = tuple(name for name in re.findall(r"\$(\w+)", word) if name in form.completers)
@@ -325,9 +363,24 @@ def is_line(line, form):
 CHOSEN = {"f", "rel", "kind", "ar"}
 
 
-def form_of(family, name, operands):
-    """An operation with these operands, but for its size, which a text of one size doesn't name."""
-    return (family, name, *sorted(set(operands) - CHOSEN - {"size"}))
+def chosen_rows(text, found):
+    """Of rows of words with the operands of a row of texts those of the opcodes that it chooses, or names in its line."""
+    last = "1" * text.line.template.endswith(",1")
+    told = [plain(text.operands[name].text(value)) + last for name in CHOSEN & set(text.operands) for value in text.operands[name].all()]
+    line = re.split(r"[.$ =]", text.line.template)
+    parts = {row.opcode: [it.lower() for it in re.findall(r"(?<=::)\w+", row.opcode)] for row in found}
+    named = max((sum(it in line for it in own) for own in parts.values()), default=0)
+    free = ("none", "reg", "imm") + (("plain", "normal") if "" in told or not told else ())
+    return [
+        row
+        for row in found
+        if sum(it in line for it in parts[row.opcode]) == named
+        and all(it in line or it in free or any(map(it.endswith, filter(None, told))) for it in parts[row.opcode])
+    ]
+
+
+def plain(word):
+    return re.sub(r"^ar\.|\.", "", word)
 
 
 def agree(text, row):
@@ -352,7 +405,7 @@ def main():
         PAGE.write_text(made, "utf-8")
         return 1 if missing else 0
     texts = Texts()
-    faults = [*texts.faults(), *texts.field_faults(), *line_faults()]
+    faults = [*texts.faults(), *texts.field_faults(), *texts.zero_faults(), *word_faults(), *line_faults()]
     for fault in faults:
         print(f"format_tables: {fault}")
     old, new = page.splitlines(), made.splitlines()

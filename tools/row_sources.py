@@ -44,12 +44,14 @@ class Row(NamedTuple):
 
 
 class Form(NamedTuple):
-    """A form of a text: its name, its operation, what it adds to its base register, the names of the values that its completers
-    say, its operands as they are written, each value by its name, and each number of a value with the set, the kind or the field
-    by which it is written, or the kind of value that no line writes."""
+    """A form of a text: its name, its operation, what it adds to its base register, its word, the sets of the word's completers,
+    the names of the values that these say, its operands as they are written, each value by its name, and each number of a value
+    with the set, the kind or the field by which it is written, or the kind of value that no line writes."""
     name: str
     opcode: str
     update: str
+    word: str
+    sets: tuple
     completers: tuple
     operands: str
     written: tuple
@@ -118,10 +120,10 @@ def forms():
     """The forms of instructions, but for the frame's, which is written by other numbers than those of its word."""
     text, names, answer = source("asm_forms/src/rows.rt"), operand_names(), []
     for line in text.splitlines():
-        found = re.match(r'    row!\((\w+), Opcode::(\w+)(.*?); b"[\w.]+", \[(.*?)\](?:, (.*))?\),$', line)
+        found = re.match(r'    row!\((\w+), Opcode::(\w+)(.*?); b"([\w.]+)", \[(.*?)\](?:, (.*))?\),$', line)
         if not found:
             continue
-        name, variant, rest, sets, items = found.groups()
+        name, variant, rest, word, sets, items = found.groups()
         if variant == "Alloc":
             continue
 
@@ -136,7 +138,7 @@ def forms():
         operands = re.sub(r"(\w+)\((\d)\)", lambda it: "$" + value(it[2], it[1]), items or "")
         operands = re.sub(r"(?<![$\w])[A-Z]\w*", lambda it: MARKS[it[0]], operands)
         update = "".join(re.findall(r"UpdateKind::(\w+)", rest))
-        answer.append(Form(name, variant, update, told, re.sub(r" ?([=,]) ?", r"\1", operands), written))
+        answer.append(Form(name, variant, update, word, tuple(re.findall(r"[A-Z]\w*", sets)), told, re.sub(r" ?([=,]) ?", r"\1", operands), written))
     if text.count("    row!(") != len(answer) + 1:
         raise ValueError(f"asm_forms/src/rows.rt: {len(answer)} rows are read of {text.count('    row!(')}")
     return answer
@@ -145,3 +147,11 @@ def forms():
 def printed_forms():
     """The names of the forms that instructions are printed with."""
     return set(re.findall(r"Form::(\w+)", source("asm_canonical/src/forms.rt")))
+
+
+def completer_texts():
+    """The texts of the completers of each set."""
+    source_text = source("asm_forms/src/completer.rt")
+    texts = dict(re.findall(r'Completer::([\w:()]+) => b"([\w.]*)"', source_text))
+    sets = re.findall(r"CompleterSet::(\w+) => &\[(.*?)\]", source_text, re.S)
+    return {name: [texts[it] for it in re.findall(r"Completer::([\w:()]+)", members)] for name, members in sets}

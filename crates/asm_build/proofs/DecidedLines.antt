@@ -8,8 +8,8 @@ use Rattle.asm_reading.specs.declared.line.Line.{Line}
 use Rattle.asm_reading.specs.declared.line.Line.TheVariants as line
 use Rattle.asm_reading.specs.declared.line.TemplateName.{TemplateName}
 use Rattle.asm_reading.specs.declared.line.TemplateName.TheVariants as template_name
-use Rattle.asm_build.specs.declared.draft.SlotLines.{SlotLines}
-use Rattle.asm_build.specs.declared.draft.SlotLines.TheVariants as slots
+use Rattle.asm_build.specs.OpenSlots.{SlotLines}
+use Rattle.asm_build.specs.OpenSlots as slots
 use Rattle.asm_build.specs.declared.text_parts.Section.{Section}
 use Rattle.asm_build.specs.declared.text_parts.Section.TheVariants as section
 use Rattle.asm_build.specs.Drafts.{HasSome, IsShort, HasRoomIn, next_unit, count_of, completed, closed}

@@ -1,5 +1,6 @@
 -- The instructions of an open bundle fit its slots.
-use Rattle.std.proofs.Common.{◌≡◌, refl, sym, subst, ℕ, Bool, Some}
+use Rattle.std.proofs.Common.{◌≡◌, ◌≢◌, refl, sym, subst, ℕ, zero, suc, Bool, Some}
+use Rattle.ia_insn.specs.declared.insn.Insn.{Insn}
 use Rattle.ia_program.specs.declared.bundle.Slots.{Slots}
 use Rattle.ia_program.specs.declared.bundle.Slots.TheVariants.{Three, Long}
 use Rattle.ia_program.specs.Bundles.{FitUnits}
@@ -8,18 +9,19 @@ use Rattle.ia_program.specs.Templates.{units_of}
 use Rattle.asm_reading.specs.declared.line.TemplateName.{TemplateName}
 use Rattle.asm_reading.specs.declared.line.TemplateName.TheVariants as template_name
 use Rattle.asm_build.specs.declared.draft.SlotLine.{SlotLine}
-use Rattle.asm_build.specs.declared.draft.SlotLines.{SlotLines}
-use Rattle.asm_build.specs.declared.draft.SlotLines.TheVariants as slots
-use Rattle.asm_build.specs.Drafts.{AreFitting, HasRoomIn, unit_at, count_of, one_more}
+use Rattle.asm_build.specs.OpenSlots.{slots_of}
+use Rattle.asm_build.specs.OpenSlots as slots
+use Rattle.asm_build.specs.Drafts.{AreFitting, FitsAt, HasRoomIn, IsShort, unit_at, count_of}
 use Rattle.asm_build.specs.TemplateNames.{units_named, template_of}
 use Rattle.asm_build.proofs.NamedTemplates.{units_are}
 
--- one more slot line, whose instruction fits the next slot
-pub fits_one_more : (s : TemplateName) (ls : SlotLines) (l : SlotLine) → AreFitting s ls → HasRoomIn s ls → Fits l.insn (unit_at s (count_of ls)) (count_of ls) → AreFitting s (one_more ls l)
-fits_one_more s slots.Zero l before room fit = fit
-fits_one_more s (slots.One a) l before room fit = (before, fit)
-fits_one_more s (slots.Two a b) l before room fit = (before.0, before.1, fit, room)
-fits_one_more s (slots.Three a b c) l before room fit = before
+-- one more slot line, whose instruction fits the next slot, behind two or more
+pub third_fits : (s : TemplateName) (count : ℕ) (a b c : SlotLine) (i : Insn) → count ≢ 0 → count ≢ 1 → AreFitting s (slots_of count a b c) → HasRoomIn s (slots_of count a b c)
+    → Fits i (unit_at s (count_of (slots_of count a b c))) (count_of (slots_of count a b c)) → FitsAt s 0 a × FitsAt s 1 b × Fits i (unit_at s 2) 2 × IsShort s
+third_fits s zero a b c i some more before room fit = absurd (some refl)
+third_fits s (suc zero) a b c i some more before room fit = absurd (more refl)
+third_fits s (suc (suc zero)) a b c i some more before room fit = (before.0, before.1, fit, room)
+third_fits s (suc (suc (suc n))) a b c i some more before room fit = absurd room
 
 units_fit : (s : TemplateName) (a b c : SlotLine) → AreFitting s (slots.Three a b c) → FitUnits (units_named s) (Three a.insn b.insn c.insn)
 units_fit template_name.Mlx a b c fit = absurd fit.3

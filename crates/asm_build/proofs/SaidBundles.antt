@@ -12,8 +12,8 @@ use Rattle.asm_reading.specs.declared.line.TemplateName.{TemplateName}
 use Rattle.asm_reading.specs.declared.line.TemplateName.TheVariants as template_name
 use Rattle.asm_build.specs.declared.draft.BundleLines.{BundleLines}
 use Rattle.asm_build.specs.declared.draft.SlotLine.{SlotLine}
-use Rattle.asm_build.specs.declared.draft.SlotLines.{SlotLines}
-use Rattle.asm_build.specs.declared.draft.SlotLines.TheVariants as slots
+use Rattle.asm_build.specs.OpenSlots.{SlotLines}
+use Rattle.asm_build.specs.OpenSlots as slots
 use Rattle.asm_build.specs.Drafts.{OpenBundle, HasSlot, HasSome, HasSlotRoom, HasRoomIn, IsWhole, added, stopped, closed, closed_as, three, long}
 use Rattle.asm_build.specs.TemplateNames.{template_of}
 use Rattle.asm_build.specs.TextParts.{TextParts, after, value_stages, closed_of, with_bundle}

@@ -19,8 +19,8 @@ use Rattle.asm_printing.specs.SlotTexts.{label_text, target_of, slot_text}
 use Rattle.asm_text.specs.ReadBack.{printed_line}
 use Rattle.asm_build.specs.declared.draft.BundleLines.{BundleLines}
 use Rattle.asm_build.specs.declared.draft.SlotLine.{SlotLine}
-use Rattle.asm_build.specs.declared.draft.SlotLines.{SlotLines}
-use Rattle.asm_build.specs.declared.draft.SlotLines.TheVariants as lines
+use Rattle.asm_build.specs.OpenSlots.{SlotLines}
+use Rattle.asm_build.specs.OpenSlots as lines
 use Rattle.asm_build.specs.declared.text_parts.EntryLine.{EntryLine}
 use Rattle.asm_build.specs.declared.text_parts.RelationLine.{RelationLine}
 use Rattle.asm_build.specs.declared.text_parts.Section.TheVariants as section

@@ -14,8 +14,8 @@ use Rattle.asm_reading.specs.declared.line.TemplateName.{TemplateName}
 use Rattle.asm_reading.specs.declared.line.TemplateName.TheVariants as template_name
 use Rattle.asm_build.specs.declared.draft.BundleLines.{BundleLines}
 use Rattle.asm_build.specs.declared.draft.SlotLine.{SlotLine}
-use Rattle.asm_build.specs.declared.draft.SlotLines.{SlotLines}
-use Rattle.asm_build.specs.declared.draft.SlotLines.TheVariants as slots
+use Rattle.asm_build.specs.OpenSlots.{SlotLines}
+use Rattle.asm_build.specs.OpenSlots as slots
 use Rattle.asm_build.specs.declared.draft.SlotName.{SlotName}
 use Rattle.asm_build.specs.TemplateNames.{units_named, template_of}
 

@@ -4,6 +4,7 @@ pub mod Listing
 pub mod Reasons
 pub mod Addresses
 pub mod TemplateNames
+pub mod OpenSlots
 pub mod Drafts
 pub mod TextParts
 pub mod Relations

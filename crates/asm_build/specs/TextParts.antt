@@ -1,5 +1,5 @@
 -- What the lines of a text say, one after the other.
-use Rattle.std.specs.Prelude.{◌≡◌, ℕ, ◌+◌, ◌<◌, ◌≤◌, List, [], ◌∷◌, ◌++◌, length, take, flat_map, replicate, Option, Some, None, IsSome, IsSomeAnd, IfSome, ⊤, ◌⊎◌}
+use Rattle.std.specs.Prelude.{◌≡◌, Bool, true, false, ℕ, ◌+◌, ◌<◌, ◌≤◌, List, [], ◌∷◌, ◌++◌, length, take, flat_map, replicate, Option, Some, None, IsSome, IsSomeAnd, IfSome, ⊤, ◌⊎◌}
 use Rattle.std.specs.List.{AllByRecursion}
 use Rattle.std.specs.Option.{option_map}
 use Rattle.std.specs.Int.{w64, to_le_bytes}
@@ -14,7 +14,7 @@ use Rattle.asm_reading.specs.declared.line.Line.TheVariants as line
 use Rattle.asm_build.specs.declared.address.Address.{Address}
 use Rattle.asm_build.specs.declared.address.Address.TheVariants.{Bundle, Byte}
 use Rattle.asm_build.specs.declared.draft.BundleLines.{BundleLines}
-use Rattle.asm_build.specs.declared.draft.SlotLines.TheVariants as slots
+use Rattle.asm_build.specs.OpenSlots as slots
 use Rattle.asm_build.specs.declared.text_parts.EntryLine.{EntryLine}
 use Rattle.asm_build.specs.declared.text_parts.RelationLine.{RelationLine}
 use Rattle.asm_build.specs.declared.text_parts.Section.{Section}
@@ -40,6 +40,11 @@ pub record TextParts : Type 0 where
   pub relations : List RelationLine
   pub labels : Labels
   pub bytes : List ℕ
+
+-- the bundle that is open, where one is
+abbrev pub current_of : Bool → OpenBundle → Option OpenBundle
+current_of true o = Some o
+current_of false o = None
 
 -- what no lines say
 abbrev pub start : TextParts

@@ -165,7 +165,7 @@ fn finish(alloc: Global, lines: Lines) -> Result<Program, TextError>
 {
     let Lines { parts, count } = lines;
     let end = count + 1;
-    if parts.current.is_some() || !parts.are_labels_inside() {
+    if parts.is_open || !parts.are_labels_inside() {
         return Err(fault(end, Reason::Misplaced));
     }
     if !parts.has_bundles() {

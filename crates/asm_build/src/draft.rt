@@ -4,14 +4,15 @@ ghost use Rattle.std.specs.Prelude.{◌≡◌, ◌↔◌, true, Some, IfSome, Ma
 ghost use Rattle.ia_program.specs.Bundles.{IsBundle};
 ghost use Rattle.ia_program.specs.Listed.{IsListed};
 ghost use Rattle.asm_reading.specs.declared.line.TemplateName.TheVariants as template_name;
-ghost use Rattle.asm_build.specs.declared.draft.SlotLines.TheVariants as slots;
-ghost use Rattle.asm_build.specs.Drafts.{OpenBundle, AreFitting, letter_of, lettered, completed, count_of, one_more, last_stopped, HasSlot, HasSlotRoom, next_unit, FitsNext, added, stopped, closed_as, closed, IsWhole};
+ghost use Rattle.asm_build.specs.OpenSlots.{slots_of};
+ghost use Rattle.asm_build.specs.OpenSlots as slots;
+ghost use Rattle.asm_build.specs.Drafts.{OpenBundle, AreFitting, letter_of, lettered, completed, count_of, HasSlot, HasSlotRoom, next_unit, FitsNext, added, stopped, closed_as, closed, IsWhole};
 ghost use Rattle.asm_build.specs.Names.{slot_line};
 
 use crate::template_name::{template_of, units_named};
 use asm_text::{Draft, TemplateName};
 use asm_words::Name;
-use ia_insn::{Insn, Op, Unit};
+use ia_insn::{Insn, Op, Pr, Unit};
 use ia_program::{BundleOf, Slots, fits};
 use slot_layouts::{class_of, place_is_fit};
 use std::marker::Model;
@@ -29,38 +30,24 @@ pub(crate) struct SlotLine {
     pub stop: bool,
 }
 
-/// The slot lines of a bundle so far.
-#[derive(Drop)]
-pub(crate) enum SlotLines {
-    Zero,
-    One {
-        a: SlotLine,
-    },
-    Two {
-        a: SlotLine,
-        b: SlotLine,
-    },
-    Three {
-        a: SlotLine,
-        b: SlotLine,
-        c: SlotLine,
-    },
-}
-
 /// A bundle that is not closed yet: the name of its template, and its slot lines so far, whose instructions fit
-/// their slots.
+/// their slots. They stand in places that the next bundle uses again; of these, so many count. Contracts see the name and
+/// the lines that count.
 #[derive(Drop)]
 pub(crate) struct Open {
     name: TemplateName,
-    slots: SlotLines,
+    count: u8,
+    first: SlotLine,
+    second: SlotLine,
+    third: SlotLine,
 }
 
 impl Model for Open {
     ghost Value = { OpenBundle };
 
-    ghost view = { λ o. record { name = o.name; slots = o.slots } };
+    ghost view = { λ o. record { name = o.name; slots = slots_of o.count o.first o.second o.third } };
 
-    ghost invariant = { λ o. AreFitting o.name o.slots };
+    ghost invariant = { λ o. AreFitting o.name (slots_of o.count o.first o.second o.third) };
 }
 
 /// What is left to be known of an instruction in its bundle: its line, for faults, and the name of its target.
@@ -121,93 +108,73 @@ fn completed(draft: &Draft, unit: Unit) -> Insn
 }
 
 impl SlotLine {
-    /// The line with a stop after it.
-    fn stopped(self) -> Self
-        ensures { result ≡ record { line = self.line; insn = self.insn; target = self.target; stop = true } }
-    {
-        SlotLine { stop: true, ..self }
+    /// A place for one.
+    fn blank() -> Self {
+        SlotLine {
+            line: 0,
+            insn: Insn {
+                qp: Pr::default(),
+                op: Op::Mf,
+            },
+            target: None,
+            stop: false,
+        }
     }
 
-    /// What is left to be known of it.
-    fn name(self) -> SlotName
-        ensures { result ≡ record { line = self.line; target = self.target } }
+    /// What is left to be known of it, which is taken out.
+    fn take_name(&mut self) -> SlotName
+        ensures { result ≡ record { line = self.old.line; target = self.old.target } }
     {
         SlotName {
             line: self.line,
-            target: self.target,
-        }
-    }
-}
-
-impl SlotLines {
-    /// How many there are.
-    fn count(&self) -> u8
-        ensures { result ≡ count_of self.now }
-    {
-        match self {
-            SlotLines::Zero => 0,
-            SlotLines::One { .. } => 1,
-            SlotLines::Two { .. } => 2,
-            SlotLines::Three { .. } => 3,
-        }
-    }
-
-    /// These and one more. There is no fourth.
-    fn with(self, line: SlotLine) -> Self
-        ensures { result ≡ one_more self line }
-    {
-        match self {
-            SlotLines::Zero => SlotLines::One { a: line },
-            SlotLines::One { a } => SlotLines::Two { a, b: line },
-            SlotLines::Two { a, b } => SlotLines::Three { a, b, c: line },
-            full => full,
-        }
-    }
-
-    /// These, with a stop after the last.
-    fn stopped(self) -> Self
-        ensures { result ≡ last_stopped self }
-    {
-        match self {
-            SlotLines::Zero => SlotLines::Zero,
-            SlotLines::One { a } => SlotLines::One { a: a.stopped() },
-            SlotLines::Two { a, b } => SlotLines::Two { a, b: b.stopped() },
-            SlotLines::Three { a, b, c } => SlotLines::Three {
-                a,
-                b,
-                c: c.stopped(),
-            },
+            target: self.target.take(),
         }
     }
 }
 
 impl Open {
-    /// A bundle with this template's name and no slots yet.
-    pub fn new(name: TemplateName) -> Self
-        ensures { result ≡ record { name = name; slots = slots.Zero } }
-    {
+    /// Places for a bundle, with no slots yet.
+    pub fn new() -> Self {
         Open {
-            name,
-            slots: SlotLines::Zero,
+            name: TemplateName::Mii,
+            count: 0,
+            first: SlotLine::blank(),
+            second: SlotLine::blank(),
+            third: SlotLine::blank(),
         }
+    }
+
+    /// Begins a bundle with this template's name and no slots yet.
+    pub fn begin(&mut self, name: TemplateName)
+        ensures { self.new ≡ record { name = name; slots = slots.Zero } }
+    {
+        self.name = name;
+        self.count = 0;
     }
 
     /// Whether it has a slot line.
     pub fn has_slot(&self) -> bool
         ensures { IsTrue result ↔ HasSlot self.now }
     {
-        !matches!(self.slots, SlotLines::Zero)
+        self.count != 0
     }
 
     /// Whether there is room for one more slot line: three, or two where the second is a long one.
     pub fn has_room(&self) -> bool
         ensures { IsTrue result ↔ HasSlotRoom self.now }
     {
-        match self.slots {
-            SlotLines::Zero | SlotLines::One { .. } => true,
-            SlotLines::Two { .. } => self.name != TemplateName::Mlx,
-            SlotLines::Three { .. } => false,
+        match self.count {
+            0 | 1 => true,
+            2 => self.name != TemplateName::Mlx,
+            _ => false,
         }
+    }
+
+    /// How many slot lines it has.
+    fn count(&self) -> u8
+        ensures { result ≡ count_of self.now.slots }
+    {
+        self.count.min(3)
     }
 
     /// The unit of the next slot, where there is one.
@@ -215,11 +182,11 @@ impl Open {
         ensures { result ≡ next_unit self.now }
     {
         let [first, second, third] = units_named(self.name);
-        match self.slots {
-            SlotLines::Zero => first,
-            SlotLines::One { .. } => second,
-            SlotLines::Two { .. } => third,
-            SlotLines::Three { .. } => Unit::X,
+        match self.count {
+            0 => first,
+            1 => second,
+            2 => third,
+            _ => Unit::X,
         }
     }
 
@@ -230,7 +197,7 @@ impl Open {
         ensures { IsTrue result ↔ FitsNext self.now draft.now }
     {
         let unit = self.next_unit();
-        let slot = self.slots.count();
+        let slot = self.count();
         if draft.bare {
             fits(&completed(draft, unit), unit, slot)
         } else {
@@ -239,52 +206,74 @@ impl Open {
         }
     }
 
-    /// The bundle with one more slot line, where there is room for its instruction, which fits.
-    pub fn with(self, line: u32, draft: Draft, stop: bool) -> Self
-        requires room { HasSlotRoom self }
-        requires fit { FitsNext self draft }
-        ensures { result ≡ added self line draft stop }
+    /// Puts one more slot line, where there is room for its instruction, which fits.
+    pub fn push(&mut self, line: u32, draft: Draft, stop: bool)
+        requires room { HasSlotRoom self.old }
+        requires fit { FitsNext self.old draft }
+        ensures { self.new ≡ added self.old line draft stop }
     {
-        let insn = completed(&draft, self.next_unit());
-        let target = draft.target;
-        Open {
-            name: self.name,
-            slots: self.slots.with(SlotLine {
-                line,
-                insn,
-                target,
-                stop,
-            }),
+        let slot = SlotLine {
+            line,
+            insn: completed(&draft, self.next_unit()),
+            target: draft.target,
+            stop,
+        };
+        match self.count {
+            0 => {
+                self.first = slot;
+                self.count = 1;
+            }
+            1 => {
+                self.second = slot;
+                self.count = 2;
+            }
+            _ => {
+                self.third = slot;
+                self.count = 3;
+            }
         }
     }
 
-    /// The bundle with a stop after its last slot line.
-    pub fn stopped(self) -> Self
-        ensures { result ≡ stopped self }
+    /// Puts a stop after the last slot line.
+    pub fn stop_last(&mut self)
+        ensures { self.new ≡ stopped self.old }
     {
-        Open {
-            name: self.name,
-            slots: self.slots.stopped(),
+        match self.count {
+            0 => {}
+            1 => self.first.stop = true,
+            2 => self.second.stop = true,
+            _ => self.third.stop = true,
         }
     }
 
-    /// The whole bundle. None exactly where it has too few slot lines, or no template has its stops.
-    pub fn close(self) -> Option<BundleLines>
-        ensures { MatchOption result (¬ IsWhole self) (λ b. (closed self ≡ Some b) × IsBundle b.bundle) }
+    /// The whole bundle, whose names are taken out. None exactly where it has too few slot lines, or no template has its
+    /// stops.
+    pub fn close(&mut self) -> Option<BundleLines>
+        ensures { MatchOption result (¬ IsWhole self.old) (λ b. (closed self.old ≡ Some b) × IsBundle b.bundle) }
     {
-        match (self.name, self.slots) {
-            (TemplateName::Mlx, SlotLines::Two { a, b }) => BundleLines::long(a, b),
-            (name, SlotLines::Three { a, b, c }) => BundleLines::three(name, a, b, c),
-            _ => None,
+        let count = self.count;
+        self.count = 0;
+        match (self.name, count) {
+            (_, 0 | 1) => None,
+            (TemplateName::Mlx, 2) => BundleLines::long(&mut self.first, &mut self.second),
+            (_, 2) => None,
+            (name, _) => {
+                BundleLines::three(name, &mut self.first, &mut self.second, &mut self.third)
+            }
         }
     }
 }
 
 impl BundleLines {
     /// The bundle of three slot lines, whose instructions fit. None where no template has their stops.
-    fn three(name: TemplateName, a: SlotLine, b: SlotLine, c: SlotLine) -> Option<Self>
-        requires { AreFitting name (slots.Three a b c) }
-        ensures value { result ≡ closed_as (slots.Three a b c) name }
+    fn three(
+        name: TemplateName,
+        a: &mut SlotLine,
+        b: &mut SlotLine,
+        c: &mut SlotLine,
+    ) -> Option<Self>
+        requires { AreFitting name (slots.Three a.old b.old c.old) }
+        ensures value { result ≡ closed_as (slots.Three a.old b.old c.old) name }
         ensures fit { IfSome result (λ l. IsBundle l.bundle) }
     {
         let template = template_of(name, a.stop, b.stop, c.stop)?;
@@ -295,16 +284,16 @@ impl BundleLines {
         };
         Some(BundleLines {
             bundle: BundleOf::of_fitting(template, slots),
-            first: a.name(),
-            second: b.name(),
-            third: c.name(),
+            first: a.take_name(),
+            second: b.take_name(),
+            third: c.take_name(),
         })
     }
 
     /// The bundle of a slot line and a long one, whose instructions fit.
-    fn long(first: SlotLine, long: SlotLine) -> Option<Self>
-        requires { AreFitting template_name.Mlx (slots.Two first long) }
-        ensures value { result ≡ closed_as (slots.Two first long) template_name.Mlx }
+    fn long(first: &mut SlotLine, long: &mut SlotLine) -> Option<Self>
+        requires { AreFitting template_name.Mlx (slots.Two first.old long.old) }
+        ensures value { result ≡ closed_as (slots.Two first.old long.old) template_name.Mlx }
         ensures fit { IfSome result (λ l. IsBundle l.bundle) }
     {
         let template = template_of(TemplateName::Mlx, first.stop, false, long.stop)?;
@@ -318,8 +307,8 @@ impl BundleLines {
         };
         Some(BundleLines {
             bundle: BundleOf::of_fitting(template, slots),
-            first: first.name(),
-            second: long.name(),
+            first: first.take_name(),
+            second: long.take_name(),
             third,
         })
     }

@@ -7,7 +7,7 @@ ghost use Rattle.asm_reading.specs.declared.line.Line.TheVariants as line;
 ghost use Rattle.asm_reading.specs.Lines.{IsListedLine};
 ghost use Rattle.asm_build.specs.declared.reason.Reason.TheVariants as reason;
 ghost use Rattle.asm_build.specs.declared.reason.TextError.TheVariants as error;
-ghost use Rattle.asm_build.specs.TextParts.{TextParts as PartsOf, start, IsWithinLimits, after, value_stages, IsValueError, AreLabelsBelow, AreLabelsInside, here, place_before, turned, with_label, with_relation, IsIn, numbers_bytes};
+ghost use Rattle.asm_build.specs.TextParts.{TextParts as PartsOf, current_of, start, IsWithinLimits, after, value_stages, IsValueError, AreLabelsBelow, AreLabelsInside, here, place_before, turned, with_label, with_relation, IsIn, numbers_bytes};
 ghost use Rattle.asm_build.specs.declared.text_parts.Section.TheVariants as section;
 ghost use Rattle.asm_build.specs.Addresses.{IsReachable};
 ghost use Rattle.asm_build.specs.Names.{padded};
@@ -60,7 +60,8 @@ pub struct RelationLine {
 #[derive(Drop)]
 pub struct TextParts {
     pub(crate) section: Section,
-    pub(crate) current: Option<Open>,
+    pub(crate) is_open: bool,
+    pub(crate) bundle: Open,
     pub(crate) bundles: Vec<BundleLines>,
     pub(crate) entries: Vec<EntryLine>,
     pub(crate) relations: Vec<RelationLine>,
@@ -71,9 +72,9 @@ pub struct TextParts {
 impl Model for TextParts {
     ghost Value = { PartsOf };
 
-    ghost view = { λ s. record { section = s.section; current = s.current; bundles = s.bundles.items; entries = s.entries.items; relations = s.relations.items; labels = s.labels.entries; bytes = s.data.items } };
+    ghost view = { λ s. record { section = s.section; current = current_of s.is_open s.bundle; bundles = s.bundles.items; entries = s.entries.items; relations = s.relations.items; labels = s.labels.entries; bytes = s.data.items } };
 
-    ghost invariant = { λ s. IsWithinLimits (record { section = s.section; current = s.current; bundles = s.bundles.items; entries = s.entries.items; relations = s.relations.items; labels = s.labels.entries; bytes = s.data.items }) };
+    ghost invariant = { λ s. IsWithinLimits (record { section = s.section; current = current_of s.is_open s.bundle; bundles = s.bundles.items; entries = s.entries.items; relations = s.relations.items; labels = s.labels.entries; bytes = s.data.items }) };
 }
 
 impl TextParts {
@@ -83,7 +84,8 @@ impl TextParts {
     {
         TextParts {
             section: Section::Text,
-            current: None,
+            is_open: false,
+            bundle: Open::new(),
             bundles: Vec::new(alloc),
             entries: Vec::new(alloc),
             relations: Vec::new(alloc),
@@ -139,7 +141,7 @@ impl TextParts {
         ensures ok { OnOk result (ArePassed (value_stages self.old (line.Label name)) × (self.new ≡ with_label self.old name address)) }
         ensures err { IfErr result (IsValueError self.old n (line.Label name)) }
     {
-        if self.current.is_some() {
+        if self.is_open {
             return Err(fault(n, Reason::Misplaced));
         }
         if self.labels.insert(name, address)?.is_some() {
@@ -182,7 +184,7 @@ impl TextParts {
         ensures ok { OnOk result ((self.old.current ≡ None) × (self.new ≡ turned self.old section)) }
         ensures err { IfErr result (λ e. (e ≡ error.Fault n reason.Misplaced) × ¬ (self.old.current ≡ None)) }
     {
-        if self.current.is_some() {
+        if self.is_open {
             return Err(fault(n, Reason::Misplaced));
         }
         self.section = section;
@@ -198,7 +200,7 @@ impl TextParts {
         ensures ok { OnOk result (ArePassed (value_stages self.old (line.Entry name)) × (self.new ≡ after self.old n (line.Entry name))) }
         ensures err { IfErr result (IsValueError self.old n (line.Entry name)) }
     {
-        if self.current.is_some() {
+        if self.is_open {
             return Err(fault(n, Reason::Misplaced));
         }
         self.entries.push(EntryLine { line: n, name })?;
@@ -214,7 +216,7 @@ impl TextParts {
         ensures ok { OnOk result (ArePassed (value_stages self.now line.Ignored)) }
         ensures err { IfErr result (IsValueError self.now n line.Ignored) }
     {
-        if self.current.is_some() {
+        if self.is_open {
             return Err(fault(n, Reason::Misplaced));
         }
         Ok(())
@@ -252,14 +254,14 @@ impl TextParts {
     fn is_in_data(&self) -> bool
         ensures { IsTrue result ↔ IsIn section.Data self.now }
     {
-        self.current.is_none() && self.section == Section::Data
+        !self.is_open && self.section == Section::Data
     }
 
     /// Whether a bundle or relations may stand here: in text, and outside a bundle.
     pub fn is_in_text(&self) -> bool
         ensures { IsTrue result ↔ IsIn section.Text self.now }
     {
-        self.current.is_none() && self.section == Section::Text
+        !self.is_open && self.section == Section::Text
     }
 
     /// Takes the numbers on the n-th line, each in so many bytes.
@@ -314,7 +316,8 @@ impl TextParts {
         if self.bundles.len() >= BUNDLE_LIMIT {
             return Err(fault(n, Reason::Limit));
         }
-        self.current = Some(Open::new(name));
+        self.bundle.begin(name);
+        self.is_open = true;
         Ok(())
     }
 
@@ -323,16 +326,16 @@ impl TextParts {
         ensures ok { OnOk result (ArePassed (value_stages self.old (line.Slot draft stop)) × (self.new ≡ after self.old n (line.Slot draft stop))) }
         ensures err { IfErr result (IsValueError self.old n (line.Slot draft stop)) }
     {
-        let Some(open) = self.current.take() else {
+        if !self.is_open {
             return Err(fault(n, Reason::Misplaced));
-        };
-        if !open.has_room() {
+        }
+        if !self.bundle.has_room() {
             return Err(fault(n, Reason::Template));
         }
-        if !open.fits_next(&draft) {
+        if !self.bundle.fits_next(&draft) {
             return Err(fault(n, Reason::SlotKind));
         }
-        self.current = Some(open.with(n, draft, stop));
+        self.bundle.push(n, draft, stop);
         Ok(())
     }
 
@@ -340,25 +343,24 @@ impl TextParts {
         ensures ok { OnOk result (ArePassed (value_stages self.old line.Stop) × (self.new ≡ after self.old n line.Stop)) }
         ensures err { IfErr result (IsValueError self.old n line.Stop) }
     {
-        match self.current.take() {
-            Some(open) if open.has_slot() => {
-                self.current = Some(open.stopped());
-                Ok(())
-            }
-            _ => Err(fault(n, Reason::Misplaced)),
+        if !self.is_open || !self.bundle.has_slot() {
+            return Err(fault(n, Reason::Misplaced));
         }
+        self.bundle.stop_last();
+        Ok(())
     }
 
     fn close(&mut self, n: u32) -> Result<(), TextError>
         ensures ok { OnOk result (ArePassed (value_stages self.old line.Close) × (self.new ≡ after self.old n line.Close)) }
         ensures err { IfErr result (IsValueError self.old n line.Close) }
     {
-        let Some(open) = self.current.take() else {
+        if !self.is_open {
             return Err(fault(n, Reason::Misplaced));
-        };
-        let Some(bundle) = open.close() else {
+        }
+        let Some(bundle) = self.bundle.close() else {
             return Err(fault(n, Reason::Template));
         };
+        self.is_open = false;
         self.bundles.push(bundle)?;
         Ok(())
     }

@@ -3,6 +3,14 @@ use Rattle.std.proofs.Common.{◌≡◌, refl, sym, ◌∙◌, ap, ℕ, zero, su
 use Rattle.std.proofs.lemmas.List.{get_or-append-add}
 use Rattle.asm_forms.specs.Rows.{FormRow, Seen, seen}
 
+-- as many rows as a function has of them
+pub as_many : (xs : List Seen) (rs : List FormRow) → map seen xs ≡ rs → length xs ≡ length rs
+as_many xs rs e = count xs ∙ ap length e
+  where
+    count : (xs : List Seen) → length xs ≡ length (map seen xs)
+    count [] = refl
+    count (x ∷ xs) = ap suc (count xs)
+
 -- a row among others that follow
 among : (after : List FormRow) (xs : List Seen) (k : ℕ) (d : Seen) (e : FormRow) → k < length xs → seen (get_or xs k d) ≡ get_or (map seen xs ++ after) k e
 among after [] k d e h = absurd (omega (arith, h))

@@ -15,7 +15,7 @@ use arrayvec::ArrayVec;
 pub type Completers = ArrayVec<Completer, 4>;
 
 /// The forms that a mnemonic names, in their order.
-pub type Named = ArrayVec<Form, 42>;
+pub type Named = ArrayVec<Form, 64>;
 
 /// Whether a dot or nothing follows.
 fn ends_part(rest: &[u8]) -> bool
@@ -84,7 +84,7 @@ fn is_named(name: &[u8], row: &FormRow) -> bool
 pub(crate) fn rows_by_letter(name: &[u8]) -> &'static [FormRow]
     ensures value { map (λ r. r.form) (filter (is_named name.now) (map seen result.now)) ≡ named_forms name.now }
     ensures listed { map (λ r. row_of r.form) (map seen result.now) ≡ map seen result.now }
-    ensures few { length result.now ≤ 42 }
+    ensures few { length result.now ≤ 64 }
 {
     match name {
         [first, ..] => {
@@ -112,7 +112,7 @@ pub fn named(name: &[u8]) -> Named
 }
 
 fn named_among(rows: &[FormRow], name: &[u8]) -> Named
-    requires { length rows.now ≤ 42 }
+    requires { length rows.now ≤ 64 }
     ensures { result.items ≡ map (λ r. r.form) (filter (is_named name.now) (map seen rows.now)) }
 {
     let mut named = Named::new();

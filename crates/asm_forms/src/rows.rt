@@ -13,9 +13,11 @@ use ia_insn::{AluFn, Ar, BranchKind, CmpKind, LaneFn, LoadKind, Rel, ShiftFn, St
 use insn_rows::{Opcode, UpdateKind};
 
 /// A form, the word that leads a line of the form, the sets of the word's completers, and what stands after it; then
-/// the instruction: its opcode, and which value stands where (its number in `values_of` of `insn_rows`): of each set
-/// the one that its completer says, of each operand its own, and those that no line writes. A number 0 is that of no
-/// such value. A directive has no opcode.
+/// the instruction: its opcode, and which value stands where, by its number in `values_of` of `insn_rows`: of each set the
+/// one that its completer says, of each operand its own, and those that no line writes. A number 0 is that of none of
+/// them. A value that no number names is r0, 0 or no, and those of a frame are its parts as they are written. A directive
+/// has no opcode. What a completer or an application register says of an opcode may stand here as anything, but for the
+/// type of a compare, which says whether its relation is one of the ten or that of its word.
 ///
 /// The rows stand as in an index, in the order of the first letters of their words, and those of one word
 /// together. The first that the operands have is read: a branch register before a label.
@@ -267,59 +269,66 @@ pub(crate) static ROWS_FROM_S: [FormRow; 34] = [
 
 pub(crate) fn rows_to_b() -> &'static [FormRow]
     ensures value { map seen result.now ≡ rows_to_b }
-    ensures count { length result.now ≡ 29 }
+    ensures few { length result.now ≤ 64 }
 {
     &ROWS_TO_B
 }
 
 pub(crate) fn rows_c_to_i() -> &'static [FormRow]
     ensures value { map seen result.now ≡ rows_c_to_i }
-    ensures count { length result.now ≡ 42 }
+    ensures few { length result.now ≤ 64 }
 {
     &ROWS_C_TO_I
 }
 
 pub(crate) fn rows_l_to_n() -> &'static [FormRow]
     ensures value { map seen result.now ≡ rows_l_to_n }
-    ensures count { length result.now ≡ 36 }
+    ensures few { length result.now ≤ 64 }
 {
     &ROWS_L_TO_N
 }
 
 pub(crate) fn rows_o_to_r() -> &'static [FormRow]
     ensures value { map seen result.now ≡ rows_o_to_r }
-    ensures count { length result.now ≡ 12 }
+    ensures few { length result.now ≤ 64 }
 {
     &ROWS_O_TO_R
 }
 
 pub(crate) fn rows_from_s() -> &'static [FormRow]
     ensures value { map seen result.now ≡ rows_from_s }
-    ensures count { length result.now ≡ 34 }
+    ensures few { length result.now ≤ 64 }
 {
     &ROWS_FROM_S
 }
 
 /// The row at a place of the table.
-fn row_at(at: usize) -> FormRow
-    requires { at < 153 }
-    ensures { seen result ≡ slice_index_or rows at first_row }
+fn row_at(at: usize) -> &'static FormRow
+    requires { at < length rows }
+    ensures { seen result.now ≡ slice_index_or rows at first_row }
 {
-    if at < 29 {
-        rows_to_b()[at]
-    } else if at < 71 {
-        rows_c_to_i()[at - 29]
-    } else if at < 107 {
-        rows_l_to_n()[at - 71]
-    } else if at < 119 {
-        rows_o_to_r()[at - 107]
-    } else {
-        rows_from_s()[at - 119]
+    let (here, at) = (rows_to_b(), at);
+    if at < here.len() {
+        return &here[at];
     }
+    let (here, at) = (rows_c_to_i(), at - here.len());
+    if at < here.len() {
+        return &here[at];
+    }
+    let (here, at) = (rows_l_to_n(), at - here.len());
+    if at < here.len() {
+        return &here[at];
+    }
+    let (here, at) = (rows_o_to_r(), at - here.len());
+    if at < here.len() {
+        return &here[at];
+    }
+    &rows_from_s()[at - here.len()]
 }
 
-fn row(form: Form) -> FormRow
-    ensures { seen result ≡ row_of form }
+#[tactic(auto, using(crate::proofs::RowFacts::in_table))]
+fn row(form: Form) -> &'static FormRow
+    ensures { seen result.now ≡ row_of form }
 {
     row_at(form as usize)
 }

@@ -119,10 +119,11 @@ fn moving(opcode: Opcode, token: Token) -> Opcode
 fn moving_by(tokens: &[Token], opcode: Opcode) -> Opcode
     ensures { result ≡ moving_by tokens.now opcode }
 {
-    match tokens {
-        [] => opcode,
-        [token, tokens @ ..] => moving_by(tokens, moving(opcode, *token)),
+    let mut opcode = opcode;
+    for token in tokens {
+        opcode = moving(opcode, *token);
     }
+    opcode
 }
 
 /// Puts the form's own values at their numbers.
