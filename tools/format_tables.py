@@ -309,7 +309,7 @@ WRITTEN = {
     "Pr": {"Pr"},
     "Br": {"Br"},
     "Label": {"Displacement"},
-    **dict.fromkeys(("Flag", "Unc", "U", "Ret", "Imp", "DeallocClr", "Prefetch", "SemaphoreType", "ZeroOrMinusOne"), {"Flag"}),
+    **dict.fromkeys(("Flag", "TestUnc", "U", "Ret", "Imp", "DeallocClr", "Prefetch", "SemaphoreType", "ZeroOrMinusOne"), {"Flag"}),
     "MoveWhether": {"UpTo"},
     "Whether": {"Small2"},
     "LoadHint": {"LoadHint"},

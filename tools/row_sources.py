@@ -152,6 +152,6 @@ def printed_forms():
 def completer_texts():
     """The texts of the completers of each set."""
     source_text = source("asm_forms/src/completer.rt")
-    texts = dict(re.findall(r'Completer::([\w:()]+) => b"([\w.]*)"', source_text))
-    sets = re.findall(r"CompleterSet::(\w+) => &\[(.*?)\]", source_text, re.S)
-    return {name: [texts[it] for it in re.findall(r"Completer::([\w:()]+)", members)] for name, members in sets}
+    texts = dict(re.findall(r'Suffix::(\w+) => b"([\w.]*)"', source_text))
+    sets = re.findall(r"CompleterSet::(\w+) =>\s+completers!\(((?:\s*\w+ => \w+(?:\([\w:]+\))?,?)*)\s*\)", source_text)
+    return {name: [texts[it] for it in re.findall(r"(\w+) =>", members)] for name, members in sets}

@@ -33,7 +33,7 @@ EDITS = {
     "a field that is too narrow": (TEXTS, 'b"mov", [], Gr(1) = Imm22(2))', 'b"mov", [], Gr(1) = Imm14(2))', "form MovImm"),
     "a size at another place": (TEXTS, '1: Small(8); b"xchg8"', '2: Small(8); b"xchg8"', "form Xchg8"),
     "a completer with another text": (
-        "crates/asm_forms/src/completer.rt", 'Completer::Unit(Unit::F) => b".f"', 'Completer::Unit(Unit::F) => b".g"', "word break.f"
+        "crates/asm_forms/src/completer.rt", 'Suffix::F => b".f"', 'Suffix::F => b".g"', "word break.f"
     ),
     "operands of a word exchanged": (
         "crates/insn_rows/src/formats.rt", "QP, R1, R2, R3, COUNT6)", "QP, R1, R3, R2, COUNT6)", "no row says"

@@ -43,16 +43,16 @@ values_in_range i (inr (inr (inr (inr (inl l))))) = listed_in_range rows_f i tab
 values_in_range i (inr (inr (inr (inr (inr l))))) = whole_in_range i.qp i.op (listed_in_range rows_x (slot_part i) table_x (l.0, l.1.code)) l.1.within
 
 -- the predicate is the first value, and the others are without it the same
-first : (qp : ℕ) (x : Op) → values_under qp x ≡ v.Pr qp ∷ drop 1 (values_under 0 x)
-first qp op.Mf = refl
-first qp x = refl
+pub values_first : (qp : ℕ) (x : Op) → values_under qp x ≡ v.Pr qp ∷ drop 1 (values_under 0 x)
+values_first qp op.Mf = refl
+values_first qp x = refl
 
 first_again : (x : Op) → values_under 0 x ≡ v.Pr 0 ∷ drop 1 (values_under 0 x)
-first_again x = first 0 x
+first_again x = values_first 0 x
 
 pub printed : (i : Insn) → IsListed i → (i.qp < 64) × AllByRecursion IsTokenInRange (operands_of i.op)
 printed i l =
     let All : List Value → Type 0 = AllByRecursion IsInRange in
-    let h = subst All (first i.qp i.op) (values_in_range i l) in
+    let h = subst All (values_first i.qp i.op) (values_in_range i l) in
     let other = subst All (sym (first_again i.op)) (lit< tt, h.1) in
     (h.0, printed_in_range (row_of (form_of (opcode_of i.op) (at (values_under 0 i.op)))).operands (opcode_of i.op) (values_under 0 i.op) other)

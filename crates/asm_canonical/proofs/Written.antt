@@ -1,5 +1,5 @@
 -- How an instruction is printed, token by token.
-use Rattle.std.proofs.Common.{◌<◌, ◌^◌, List}
+use Rattle.std.proofs.Common.{◌≡◌, refl, ℕ, ◌<◌, ◌^◌, List}
 use Rattle.asm_words.specs.declared.tokens.Token.{Token}
 use Rattle.asm_words.specs.declared.tokens.Token.TheVariants as t
 use Rattle.asm_forms.specs.declared.completer.Completer.{Completer}
@@ -8,7 +8,11 @@ use Rattle.asm_forms.specs.declared.items.FormItem.{FormItem}
 use Rattle.asm_forms.specs.Items.{filled}
 use Rattle.asm_forms.specs.Rows.{row_of}
 use Rattle.ia_insn.specs.declared.insn.Op.{Op}
-use Rattle.asm_canonical.specs.Canonical.{syntax_of}
+use Rattle.insn_rows.specs.declared.opcode.Opcode.{Opcode}
+use Rattle.insn_rows.specs.declared.value.Value.{Value}
+use Rattle.insn_rows.specs.Arms.{opcode_of, operands_of as values_under}
+use Rattle.insn_rows.specs.Values.{at}
+use Rattle.asm_canonical.specs.Canonical.{form_of as form_by, written, syntax_by, syntax_of}
 
 abbrev pub form_of : Op → Form
 form_of x = (syntax_of x).form
@@ -42,3 +46,7 @@ IsPrinted t.Comma = Unit {0}
 IsPrinted t.OpenBracket = Unit {0}
 IsPrinted t.CloseBracket = Unit {0}
 IsPrinted _ = ⊥
+
+-- the syntax of an operation, step by step
+pub syntax_is : (x : Op) (qp : ℕ) (f : Form) (o : Opcode) (vs ws : List Value) → o ≡ opcode_of x → qp ≡ 0 → vs ≡ values_under qp x → f ≡ form_by o (at vs) → ws ≡ written o vs → syntax_by f o ws ≡ syntax_of x
+syntax_is x qp f o vs ws e q v g w = rw (w, g, v, q, e) refl

@@ -1,37 +1,36 @@
 -- How an instruction is printed: its form, and by the form's row a completer for each set and the operands. Branches have
 -- their whether and prefetch hints, a move to a branch register its tag, a move to the predicates its mask.
-use Rattle.std.specs.Prelude.{ℕ, unsigned_abs, ◌-◌, ◌*◌, ℤ, pos, negsuc, Bool, true, false, not, ◌==◌, if◌then◌else◌, List, [], ◌∷◌, map, slice_index_or}
+use Rattle.std.specs.Prelude.{ℕ, unsigned_abs, ◌-◌, ◌*◌, ℤ, pos, negsuc, Bool, true, false, not, ◌==◌, if◌then◌else◌, List, [], ◌∷◌, map, unwrap_or}
+use Rattle.std.specs.List.{find, list_all}
 use Rattle.asm_words.specs.declared.tokens.Token.{Token}
 use Rattle.asm_words.specs.declared.tokens.Token.TheVariants as t
+use denote.Enum.Bare.{sameb}
 use Rattle.asm_forms.specs.declared.completer.Completer.{Completer}
-use Rattle.asm_forms.specs.declared.completer.Completer.TheVariants as c
+use Rattle.asm_forms.specs.declared.completer.Said.{Said}
+use Rattle.asm_forms.specs.declared.completer.Said.TheVariants as said
+use Rattle.asm_forms.specs.declared.completer.Said.TheVariants.{Nothing}
+use Rattle.asm_forms.specs.declared.completer.Suffix.TheVariants.{Absent}
 use Rattle.asm_forms.specs.declared.completer.CompleterSet.{CompleterSet}
-use Rattle.asm_forms.specs.declared.completer.CompleterSet.TheVariants as set
 use Rattle.asm_forms.specs.declared.items.Kind.{Kind}
 use Rattle.asm_forms.specs.declared.items.Kind.TheVariants as k
 use Rattle.asm_forms.specs.Completers.{members}
 use Rattle.asm_forms.specs.Rows.{row_of}
 use Rattle.asm_forms.specs.declared.form.Form.{Form}
 use Rattle.asm_forms.specs.declared.form.Form.TheVariants as form
-use Rattle.asm_forms.specs.declared.choices.CompareRelation.{CompareRelation}
-use Rattle.asm_forms.specs.declared.choices.CompareRelation.TheVariants as crel
-use Rattle.asm_forms.specs.declared.choices.Whether.{Whether}
-use Rattle.asm_forms.specs.declared.choices.Whether.TheVariants as wh
-use Rattle.asm_forms.specs.declared.choices.CacheHint.{CacheHint}
-use Rattle.asm_forms.specs.declared.choices.CacheHint.TheVariants as hint
-use Rattle.asm_forms.specs.declared.choices.AccessSize.{AccessSize}
-use Rattle.asm_forms.specs.declared.choices.AccessSize.TheVariants as size
 use Rattle.ia_insn.specs.declared.insn.Op.{Op}
 use Rattle.ia_insn.specs.declared.registers.Ar.{Ar}
 use Rattle.ia_insn.specs.declared.registers.Ar.TheVariants as ar
-use Rattle.ia_insn.specs.declared.choices.AluFn.{AluFn}
+use Rattle.ia_insn.specs.contracts.choices.Rel.{the_type as rel_type}
+use Rattle.ia_insn.specs.contracts.choices.CmpKind.{the_type as compare_type}
+use Rattle.ia_insn.specs.contracts.choices.LaneFn.{the_type as lane_type}
+use Rattle.ia_insn.specs.contracts.choices.ShiftFn.{the_type as shift_type}
+use Rattle.ia_insn.specs.contracts.choices.LoadKind.{the_type as load_type}
+use Rattle.ia_insn.specs.contracts.choices.StoreKind.{the_type as store_type}
+use Rattle.ia_insn.specs.contracts.choices.BranchKind.{the_type as branch_type}
+use Rattle.ia_insn.specs.contracts.choices.Unit.{the_type as unit_type}
 use Rattle.ia_insn.specs.declared.choices.AluFn.TheVariants as alu
-use Rattle.ia_insn.specs.declared.choices.LaneFn.{LaneFn}
 use Rattle.ia_insn.specs.declared.choices.LaneFn.TheVariants as lane_fn
 use Rattle.ia_insn.specs.declared.choices.ShiftFn.TheVariants as shift
-use Rattle.ia_insn.specs.declared.choices.Rel.{Rel}
-use Rattle.ia_insn.specs.declared.choices.Rel.TheVariants as rel
-use Rattle.ia_insn.specs.declared.choices.CmpKind.{CmpKind}
 use Rattle.ia_insn.specs.declared.choices.CmpKind.TheVariants as cmp
 use Rattle.ia_insn.specs.declared.choices.BranchKind.TheVariants as branch
 use Rattle.ia_insn.specs.declared.choices.Unit.TheVariants as unit
@@ -42,7 +41,7 @@ use Rattle.insn_rows.specs.declared.value.Value.{Value}
 use Rattle.insn_rows.specs.declared.value.Value.TheVariants as v
 use Rattle.insn_rows.specs.Values.{at}
 use Rattle.insn_rows.specs.Arms.{opcode_of, operands_of}
-use Rattle.insn_rows.specs.ArmsBack.{flag_of, small_of}
+use Rattle.insn_rows.specs.ArmsBack.{small_of}
 
 pub record Syntax : Type 0 where
   pub form : Form
@@ -51,93 +50,6 @@ pub record Syntax : Type 0 where
 
 abbrev pub syntax : Form → List Completer → List Token → Syntax
 syntax f cs xs = record { form = f; completers = cs; operands = xs }
-
-abbrev pub size_of : ℕ → AccessSize
-size_of n = if n == 1 then size.One else (if n == 2 then size.Two else (if n == 4 then size.Four else size.Eight))
-
-abbrev pub alu_form : AluFn → Form
-alu_form alu.Add = form.Add
-alu_form alu.Add1 = form.AddOne
-alu_form alu.Sub = form.Sub
-alu_form alu.Sub1 = form.SubOne
-alu_form alu.Addp4 = form.Addp4
-alu_form alu.And = form.And
-alu_form alu.Andcm = form.Andcm
-alu_form alu.Or = form.Or
-alu_form alu.Xor = form.Xor
-
--- the operations of a number and a register
-abbrev pub alu_imm_form : AluFn → Form
-alu_imm_form alu.And = form.AndImm
-alu_imm_form alu.Andcm = form.AndcmImm
-alu_imm_form alu.Or = form.OrImm
-alu_imm_form alu.Xor = form.XorImm
-alu_imm_form _ = form.SubImm
-
-abbrev pub compare_form : Bool → CmpKind → Form
-compare_form false cmp.Normal = form.Cmp
-compare_form false cmp.Unc = form.Cmp
-compare_form false _ = form.CmpParallel
-compare_form true cmp.Normal = form.Cmp4
-compare_form true cmp.Unc = form.Cmp4
-compare_form true _ = form.Cmp4Parallel
-
-abbrev pub compare_imm_form : Bool → CmpKind → Form
-compare_imm_form false cmp.Normal = form.CmpImm
-compare_imm_form false cmp.Unc = form.CmpImm
-compare_imm_form false _ = form.CmpImmParallel
-compare_imm_form true cmp.Normal = form.Cmp4Imm
-compare_imm_form true cmp.Unc = form.Cmp4Imm
-compare_imm_form true _ = form.Cmp4ImmParallel
-
--- the operations on lanes
-abbrev pub lane_form : LaneFn → AccessSize → Form
-lane_form lane_fn.Padd size.One = form.Padd1
-lane_form lane_fn.Padd size.Two = form.Padd2
-lane_form lane_fn.Padd _ = form.Padd4
-lane_form lane_fn.Psub size.One = form.Psub1
-lane_form lane_fn.Psub size.Two = form.Psub2
-lane_form lane_fn.Psub _ = form.Psub4
-lane_form _ size.One = form.Pcmp1
-lane_form _ size.Two = form.Pcmp2
-lane_form _ _ = form.Pcmp4
-
-abbrev pub ext_form : Bool → AccessSize → Form
-ext_form false size.One = form.Zxt1
-ext_form false size.Two = form.Zxt2
-ext_form false _ = form.Zxt4
-ext_form true size.One = form.Sxt1
-ext_form true size.Two = form.Sxt2
-ext_form true _ = form.Sxt4
-
--- the form of so many bytes, of those of one, two, four and eight
-abbrev pub of_size : ℕ → Form → Form → Form → Form → Form
-of_size n one two four eight = if n == 1 then one else (if n == 2 then two else (if n == 4 then four else eight))
-
-abbrev pub compare_relation_of : Rel → CompareRelation
-compare_relation_of rel.Eq = crel.Eq
-compare_relation_of rel.Ne = crel.Ne
-compare_relation_of rel.Lt = crel.Lt
-compare_relation_of rel.Ltu = crel.Ltu
-compare_relation_of rel.Gt = crel.Gt
-compare_relation_of rel.Ge = crel.Ge
-compare_relation_of rel.Le = crel.Le
-
--- the completer where it is wanted
-abbrev pub when : Bool → Completer → Completer
-when wanted completer = if wanted then completer else c.Absent
-
--- the whether hint of a move to a branch register: 0 sptk, 1 none, 2 dptk
-abbrev pub move_whether : ℕ → Completer
-move_whether n = if n == 0 then c.Whether wh.Sptk else (if n == 2 then c.Whether wh.Dptk else c.Absent)
-
--- the whether hint of a branch: 0 sptk, 1 spnt, 2 dptk, 3 dpnt
-abbrev pub whether : ℕ → Whether
-whether n = if n == 0 then wh.Sptk else (if n == 1 then wh.Spnt else (if n == 2 then wh.Dptk else wh.Dpnt))
-
--- the cache hint: 0 none, 1 nt1, 3 nta
-abbrev pub cache_hint : ℕ → CacheHint
-cache_hint n = if n == 0 then hint.None else (if n == 1 then hint.Nt1 else hint.Nta)
 
 abbrev pub negative : ℤ → Bool
 negative (pos n) = false
@@ -154,124 +66,130 @@ natural n = t.Number false n
 abbrev pub ones_number : Bool → Token
 ones_number ones = if ones then t.Number true 1 else t.Number false 0
 
--- the form of an opcode, and of its sizes and choices where forms differ in them
-abbrev pub form_of : Opcode → (ℕ → Value) → Form
+-- the forms that an opcode is printed with: one, or one for each size or choice that their words tell
+abbrev pub forms_of : Opcode → List Form
 -- A formats
-form_of (o.Alu f) x = alu_form f
-form_of o.ShlAdd x = if flag_of (x 1) then form.Shladdp4 else form.Shladd
-form_of (o.AluImm8 f) x = alu_imm_form f
-form_of o.AddImm14 x = if flag_of (x 1) then form.Addp4Imm else form.Adds
-form_of o.AddImm22 x = form.Addl
-form_of (o.Cmp r kind) x = compare_form (flag_of (x 1)) kind
-form_of (o.CmpZero r kind) x = if flag_of (x 1) then form.Cmp4Zero else form.CmpZero
-form_of (o.CmpImm r kind) x = compare_imm_form (flag_of (x 1)) kind
-form_of (o.Lane f) x = lane_form f (size_of (small_of (x 1)))
+forms_of (o.Alu alu.Add) = form.Add ∷ []
+forms_of (o.Alu alu.Add1) = form.AddOne ∷ []
+forms_of (o.Alu alu.Sub) = form.Sub ∷ []
+forms_of (o.Alu alu.Sub1) = form.SubOne ∷ []
+forms_of (o.Alu alu.Addp4) = form.Addp4 ∷ []
+forms_of (o.Alu alu.And) = form.And ∷ []
+forms_of (o.Alu alu.Andcm) = form.Andcm ∷ []
+forms_of (o.Alu alu.Or) = form.Or ∷ []
+forms_of (o.Alu alu.Xor) = form.Xor ∷ []
+forms_of o.ShlAdd = form.Shladd ∷ form.Shladdp4 ∷ []
+forms_of (o.AluImm8 alu.Sub) = form.SubImm ∷ []
+forms_of (o.AluImm8 alu.And) = form.AndImm ∷ []
+forms_of (o.AluImm8 alu.Andcm) = form.AndcmImm ∷ []
+forms_of (o.AluImm8 alu.Or) = form.OrImm ∷ []
+forms_of (o.AluImm8 alu.Xor) = form.XorImm ∷ []
+forms_of (o.AluImm8 f) = []
+forms_of o.AddImm14 = form.Adds ∷ form.Addp4Imm ∷ []
+forms_of o.AddImm22 = form.Addl ∷ []
+forms_of (o.Cmp r cmp.Normal) = form.Cmp ∷ form.Cmp4 ∷ []
+forms_of (o.Cmp r cmp.Unc) = form.Cmp ∷ form.Cmp4 ∷ []
+forms_of (o.Cmp r kind) = form.CmpParallel ∷ form.Cmp4Parallel ∷ []
+forms_of (o.CmpZero r kind) = form.CmpZero ∷ form.Cmp4Zero ∷ []
+forms_of (o.CmpImm r cmp.Normal) = form.CmpImm ∷ form.Cmp4Imm ∷ []
+forms_of (o.CmpImm r cmp.Unc) = form.CmpImm ∷ form.Cmp4Imm ∷ []
+forms_of (o.CmpImm r kind) = form.CmpImmParallel ∷ form.Cmp4ImmParallel ∷ []
+forms_of (o.Lane lane_fn.Padd) = form.Padd1 ∷ form.Padd2 ∷ form.Padd4 ∷ []
+forms_of (o.Lane lane_fn.Psub) = form.Psub1 ∷ form.Psub2 ∷ form.Psub4 ∷ []
+forms_of (o.Lane f) = form.Pcmp1 ∷ form.Pcmp2 ∷ form.Pcmp4 ∷ []
 -- I formats
-form_of (o.ShiftVar shift.Shl) x = form.Shl
-form_of (o.ShiftVar f) x = form.Shr
-form_of o.Popcnt x = form.Popcnt
-form_of o.Shrp x = form.Shrp
-form_of o.Extr x = form.Extr
-form_of o.DepZ x = form.DepZ
-form_of o.DepZImm x = form.DepZImm
-form_of o.DepImm x = form.DepImm
-form_of o.Dep x = form.Dep
-form_of o.Tbit x = form.Tbit
-form_of o.Tnat x = form.Tnat
-form_of (o.ChkS u) x = form.ChkS
-form_of o.MovToBr x = form.MovToBrTag
-form_of o.MovFromBr x = form.MovFromBr
-form_of o.MovToPr x = form.MovToPrMask
-form_of o.MovToPrRot x = form.MovToPrRot
-form_of o.MovFromIp x = form.MovFromIp
-form_of o.MovFromPr x = form.MovFromPr
-form_of (o.MovToAr ar.Unat) x = form.MovToArM
-form_of (o.MovToAr a) x = form.MovToArI
-form_of (o.MovToArImm ar.Unat) x = form.MovToArImmM
-form_of (o.MovToArImm a) x = form.MovToArImmI
-form_of (o.MovFromAr ar.Unat) x = form.MovFromArM
-form_of (o.MovFromAr a) x = form.MovFromArI
-form_of o.Ext x = ext_form (flag_of (x 1)) (size_of (small_of (x 2)))
+forms_of (o.ShiftVar shift.Shl) = form.Shl ∷ []
+forms_of (o.ShiftVar f) = form.Shr ∷ []
+forms_of o.Popcnt = form.Popcnt ∷ []
+forms_of o.Shrp = form.Shrp ∷ []
+forms_of o.Extr = form.Extr ∷ []
+forms_of o.DepZ = form.DepZ ∷ []
+forms_of o.DepZImm = form.DepZImm ∷ []
+forms_of o.DepImm = form.DepImm ∷ []
+forms_of o.Dep = form.Dep ∷ []
+forms_of o.Tbit = form.Tbit ∷ []
+forms_of o.Tnat = form.Tnat ∷ []
+forms_of (o.ChkS u) = form.ChkS ∷ []
+forms_of o.MovToBr = form.MovToBrTag ∷ []
+forms_of o.MovFromBr = form.MovFromBr ∷ []
+forms_of o.MovToPr = form.MovToPrMask ∷ []
+forms_of o.MovToPrRot = form.MovToPrRot ∷ []
+forms_of o.MovFromIp = form.MovFromIp ∷ []
+forms_of o.MovFromPr = form.MovFromPr ∷ []
+forms_of (o.MovToAr ar.Unat) = form.MovToArM ∷ []
+forms_of (o.MovToAr a) = form.MovToArI ∷ []
+forms_of (o.MovToArImm ar.Unat) = form.MovToArImmM ∷ []
+forms_of (o.MovToArImm a) = form.MovToArImmI ∷ []
+forms_of (o.MovFromAr ar.Unat) = form.MovFromArM ∷ []
+forms_of (o.MovFromAr a) = form.MovFromArI ∷ []
+forms_of o.Ext = form.Zxt1 ∷ form.Zxt2 ∷ form.Zxt4 ∷ form.Sxt1 ∷ form.Sxt2 ∷ form.Sxt4 ∷ []
 -- M formats
-form_of (o.Load kind update.None) x = of_size (small_of (x 1)) form.Ld1 form.Ld2 form.Ld4 form.Ld8
-form_of (o.Load kind update.Reg) x = of_size (small_of (x 1)) form.Ld1Reg form.Ld2Reg form.Ld4Reg form.Ld8Reg
-form_of (o.Load kind update.Imm) x = of_size (small_of (x 1)) form.Ld1Imm form.Ld2Imm form.Ld4Imm form.Ld8Imm
-form_of (o.Store kind update.Imm) x = of_size (small_of (x 1)) form.St1Imm form.St2Imm form.St4Imm form.St8Imm
-form_of (o.Store kind u) x = of_size (small_of (x 1)) form.St1 form.St2 form.St4 form.St8
-form_of o.Xchg x = of_size (small_of (x 1)) form.Xchg1 form.Xchg2 form.Xchg4 form.Xchg8
-form_of o.FetchAdd x = if small_of (x 1) == 4 then form.Fetchadd4 else form.Fetchadd8
-form_of o.ChkA x = if flag_of (x 1) then form.ChkAClr else form.ChkANc
-form_of o.Invala x = form.Invala
-form_of o.Mf x = form.Mf
-form_of o.InvalaE x = form.InvalaE
-form_of o.Alloc x = form.Alloc
+forms_of (o.Load kind update.None) = form.Ld1 ∷ form.Ld2 ∷ form.Ld4 ∷ form.Ld8 ∷ []
+forms_of (o.Load kind update.Reg) = form.Ld1Reg ∷ form.Ld2Reg ∷ form.Ld4Reg ∷ form.Ld8Reg ∷ []
+forms_of (o.Load kind update.Imm) = form.Ld1Imm ∷ form.Ld2Imm ∷ form.Ld4Imm ∷ form.Ld8Imm ∷ []
+forms_of (o.Store kind update.Imm) = form.St1Imm ∷ form.St2Imm ∷ form.St4Imm ∷ form.St8Imm ∷ []
+forms_of (o.Store kind u) = form.St1 ∷ form.St2 ∷ form.St4 ∷ form.St8 ∷ []
+forms_of o.Xchg = form.Xchg1 ∷ form.Xchg2 ∷ form.Xchg4 ∷ form.Xchg8 ∷ []
+forms_of o.FetchAdd = form.Fetchadd4 ∷ form.Fetchadd8 ∷ []
+forms_of o.ChkA = form.ChkANc ∷ form.ChkAClr ∷ []
+forms_of o.Invala = form.Invala ∷ []
+forms_of o.Mf = form.Mf ∷ []
+forms_of o.InvalaE = form.InvalaE ∷ []
+forms_of o.Alloc = form.Alloc ∷ []
 -- B formats
-form_of (o.Br branch.Cond) x = form.BrCond
-form_of (o.Br kind) x = form.BrLoop
-form_of o.BrCall x = form.BrCall
-form_of o.BrInd x = form.BrInd
-form_of o.BrRet x = form.BrRet
-form_of o.BrCallInd x = form.BrCallInd
-form_of o.Clrrrb x = if flag_of (x 1) then form.ClrrrbPr else form.Clrrrb
+forms_of (o.Br branch.Cond) = form.BrCond ∷ []
+forms_of (o.Br kind) = form.BrLoop ∷ []
+forms_of o.BrCall = form.BrCall ∷ []
+forms_of o.BrInd = form.BrInd ∷ []
+forms_of o.BrRet = form.BrRet ∷ []
+forms_of o.BrCallInd = form.BrCallInd ∷ []
+forms_of o.Clrrrb = form.Clrrrb ∷ form.ClrrrbPr ∷ []
 -- X formats
-form_of o.Movl x = form.Movl
+forms_of o.Movl = form.Movl ∷ []
 -- the formats that every unit has
-form_of (o.Break unit.X) x = form.BreakLong
-form_of (o.Break u) x = form.BreakImm
-form_of (o.Nop unit.X) x = form.NopLong
-form_of (o.Nop u) x = form.NopImm
-form_of (o.Hint u) x = form.HintImm
+forms_of (o.Break unit.X) = form.BreakLong ∷ []
+forms_of (o.Break u) = form.BreakImm ∷ []
+forms_of (o.Nop unit.X) = form.NopLong ∷ []
+forms_of (o.Nop u) = form.NopImm ∷ []
+forms_of (o.Hint u) = form.HintImm ∷ []
 
--- the completer of a set for a choice of two
-abbrev pub flag_completer : CompleterSet → Bool → Completer
-flag_completer set.Unc b = c.Compare (if b then cmp.Unc else cmp.Normal)
-flag_completer set.U b = when (not b) c.U
-flag_completer set.Ret b = when b c.Ret
-flag_completer set.Imp b = when b c.Imp
-flag_completer set.SemaphoreType b = if b then c.Rel else c.Acq
-flag_completer set.Prefetch b = if b then c.Many else c.Few
-flag_completer set.DeallocClr b = when b c.Clr
-flag_completer s b = c.Absent
+-- What is said is so of an instruction of this opcode, where it speaks of a value, of this one.
+abbrev pub is_said : Said → Opcode → Value → Bool
+is_said (said.Flag own) x (v.Flag b) = if own then b else not b
+is_said (said.Flag own) x value = false
+is_said (said.Small own) x (v.Small n) = own == n
+is_said (said.Small own) x value = false
+is_said (said.Mask own) x (v.Mask n) = own == n
+is_said (said.Mask own) x value = false
+is_said (said.Relation own) (o.Cmp r kind) value = sameb rel_type own r
+is_said (said.Relation own) (o.CmpZero r kind) value = sameb rel_type own r
+is_said (said.Relation own) (o.CmpImm r kind) value = sameb rel_type own r
+is_said (said.Compare own) (o.Cmp r kind) value = sameb compare_type own kind
+is_said (said.Compare own) (o.CmpZero r kind) value = sameb compare_type own kind
+is_said (said.Compare own) (o.CmpImm r kind) value = sameb compare_type own kind
+is_said (said.Lane own) (o.Lane f) value = sameb lane_type own f
+is_said (said.Shift own) (o.ShiftVar f) value = sameb shift_type own f
+is_said (said.Load own) (o.Load kind u) value = sameb load_type own kind
+is_said (said.Store own) (o.Store kind u) value = sameb store_type own kind
+is_said (said.Branch own) (o.Br kind) value = sameb branch_type own kind
+is_said (said.Unit own) (o.ChkS u) value = sameb unit_type own u
+is_said (said.Unit own) (o.Break u) value = sameb unit_type own u
+is_said (said.Unit own) (o.Nop u) value = sameb unit_type own u
+is_said (said.Unit own) (o.Hint u) value = sameb unit_type own u
+is_said says x value = true
 
--- the completer of a set for a number
-abbrev pub number_completer : CompleterSet → ℕ → Completer
-number_completer set.MoveWhether n = move_whether n
-number_completer set.LoadHint n = c.Hint (cache_hint n)
-number_completer set.StoreHint n = c.Hint (cache_hint n)
-number_completer set.Whether n = c.Whether (whether n)
-number_completer s n = c.Absent
+-- the values that a form has of its own are those of the instruction
+abbrev pub has_fixed : List (Said × ℕ) → Opcode → (ℕ → Value) → Bool
+has_fixed fixed opcode x = list_all (λ s. is_said s.0 opcode (x s.1)) fixed
 
--- the completer of a set of a compare
-abbrev pub compare_completer : CompleterSet → Rel → CmpKind → Completer
-compare_completer set.Unc r kind = c.Compare kind
-compare_completer set.Parallel r kind = c.Compare kind
-compare_completer s r kind = c.CompareRelation (compare_relation_of r)
+-- the form of an opcode and values: the first whose own values they are
+abbrev pub form_of : Opcode → (ℕ → Value) → Form
+form_of opcode x = unwrap_or (find (λ f. has_fixed (row_of f).fixed opcode x) (forms_of opcode)) form.Data
 
--- the first completer of a set
-abbrev pub first : CompleterSet → Completer
-first s = slice_index_or (members s) 0 c.Absent
-
--- the completer of a set that its opcode has, the first one where it has none
-abbrev pub own_completer : CompleterSet → Opcode → Completer
-own_completer s (o.Cmp r kind) = compare_completer s r kind
-own_completer s (o.CmpZero r kind) = compare_completer s r kind
-own_completer s (o.CmpImm r kind) = compare_completer s r kind
-own_completer s (o.Lane lane_fn.PcmpGt) = c.CompareRelation crel.Gt
-own_completer s (o.ShiftVar shift.Shr) = c.Absent
-own_completer set.CheckUnit (o.ChkS u) = c.Unit u
-own_completer s (o.Load kind u) = c.Load kind
-own_completer s (o.Store kind u) = c.Store kind
-own_completer set.Loop (o.Br kind) = c.Loop kind
-own_completer s (o.Break u) = c.Unit u
-own_completer s (o.Nop u) = c.Unit u
-own_completer s (o.Hint u) = c.Unit u
-own_completer s x = first s
-
--- the completer of a set that says a value, and of another set the opcode's
+-- The completer of a set that an instruction of this opcode is printed with, and of this value, where the set says one: the
+-- first that says what is so.
 abbrev pub completer_of : CompleterSet → Opcode → Value → Completer
-completer_of s x (v.Flag b) = flag_completer s b
-completer_of s x (v.Small n) = number_completer s n
-completer_of s x value = own_completer s x
+completer_of s x value = unwrap_or (find (λ c. is_said c.says x value) (members s)) (record { suffix = Absent; says = Nothing })
 
 -- the token that a value is printed as; a target is a name
 abbrev pub value_token : Value → Token

@@ -2,7 +2,7 @@
 
 ghost use Rattle.std.specs.Prelude.{◌≡◌, ◌≤◌, length, map};
 ghost use Rattle.insn_rows.specs.Values.{at};
-ghost use Rattle.asm_canonical.specs.Canonical.{Syntax as SyntaxOf, syntax, completer_of, operand_of, frame_values, syntax_by, syntax_of};
+ghost use Rattle.asm_canonical.specs.Canonical.{Syntax as SyntaxOf, syntax, completer_of, operand_of, frame_values, written, syntax_by, syntax_of};
 
 use crate::fields::{completer_of, operand_of};
 use crate::forms::form_of;
@@ -57,7 +57,7 @@ fn completers_by(sets: &[(CompleterSet, u8)], opcode: Opcode, values: &Values) -
 {
     let mut completers = Completers::new();
     for (set, at) in sets {
-        completers.push(completer_of(*set, opcode, value_at(values, usize::from(*at))));
+        completers.push(completer_of(*set, opcode, &value_at(values, usize::from(*at))));
     }
     completers
 }
@@ -103,6 +103,16 @@ fn frame_values(values: &Values) -> Values
     ]
 }
 
+/// The values as they are written: those of a frame by its parts.
+fn written(opcode: Opcode, values: Values) -> Values
+    ensures { result ≡ written opcode values }
+{
+    match opcode {
+        Opcode::Alloc => frame_values(&values),
+        _ => values,
+    }
+}
+
 /// How the instruction is printed, under whatever predicate; a target is a name.
 pub fn syntax_of(op: &Op) -> Syntax
     ensures { result ≡ syntax_of op.now }
@@ -113,8 +123,5 @@ pub fn syntax_of(op: &Op) -> Syntax
         op: *op,
     });
     let form = form_of(opcode, &values);
-    match opcode {
-        Opcode::Alloc => syntax_by(form, opcode, &frame_values(&values)),
-        _ => syntax_by(form, opcode, &values),
-    }
+    syntax_by(form, opcode, &written(opcode, values))
 }

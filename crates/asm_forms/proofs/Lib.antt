@@ -1,5 +1,4 @@
 pub mod ListTests
-pub mod Chosen
 pub mod Clear
 pub mod Fits
 mod Letters

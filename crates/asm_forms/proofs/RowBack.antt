@@ -10,25 +10,18 @@ use Rattle.std.proofs.lemmas.Option.{same_Some}
 use Rattle.asm_words.specs.declared.tokens.Token.{Token}
 use Rattle.asm_words.specs.declared.tokens.Token.TheVariants as t
 use Rattle.ia_insn.specs.declared.registers.Ar.TheVariants as ar
-use Rattle.ia_insn.specs.declared.choices.CmpKind.TheVariants as cmp
-use Rattle.ia_insn.specs.declared.choices.LoadKind.TheVariants as load
-use Rattle.ia_insn.specs.declared.choices.StoreKind.TheVariants as store
-use Rattle.ia_insn.specs.declared.choices.BranchKind.TheVariants as branch
-use Rattle.ia_insn.specs.declared.choices.Unit.TheVariants as unit
 use Rattle.ia_program.proofs.Tests.{left, right}
 use Rattle.asm_forms.specs.declared.completer.Completer.{Completer}
-use Rattle.asm_forms.specs.declared.completer.Completer.TheVariants as c
+use Rattle.asm_forms.specs.declared.completer.Suffix.{Suffix}
+use Rattle.asm_forms.specs.declared.completer.Suffix.TheVariants as suffix
 use Rattle.asm_forms.specs.declared.completer.CompleterSet.{CompleterSet}
-use Rattle.asm_forms.specs.declared.choices.CompareRelation.TheVariants as rel
-use Rattle.asm_forms.specs.declared.choices.Whether.TheVariants as wh
-use Rattle.asm_forms.specs.declared.choices.CacheHint.TheVariants as hint
 use Rattle.asm_forms.specs.declared.form.Form.{Form}
 use Rattle.asm_forms.specs.declared.items.FormItem.{FormItem}
 use Rattle.asm_forms.specs.declared.items.FormItem.TheVariants.{Is, Takes}
 use Rattle.asm_forms.specs.declared.items.Mark.{Mark}
 use Rattle.asm_forms.specs.declared.items.Mark.TheVariants as m
 use Rattle.asm_forms.specs.declared.items.Kind.{Kind}
-use Rattle.asm_forms.specs.Completers.{text_of, members}
+use Rattle.asm_forms.specs.Completers.{suffix_text, text_of, members}
 use Rattle.asm_forms.specs.Items.{mark_token, is_mark, accepts, filled, prints, fits}
 use Rattle.asm_forms.specs.Spelled.{is_spelled}
 use Rattle.asm_forms.specs.Naming.{begins, ends_part, and_more, completers_in, has_completers_if, is_named, named_forms}
@@ -113,29 +106,13 @@ own_front [] rest = refl
 own_front (x ∷ w) rest = and_from _ _ (eq-eqb x x refl) (own_front w rest)
 
 -- a completer begins with a dot, or is nothing
-first_dot : (x : Completer) (rest : List ℕ) → ends_part rest ≡ true → ends_part (text_of x ++ rest) ≡ true
-first_dot c.Absent rest h = h
-first_dot (c.CompareRelation rel.Eq) rest h = refl
-first_dot (c.CompareRelation r) rest h = refl
-first_dot (c.Compare cmp.Normal) rest h = h
-first_dot (c.Compare k) rest h = refl
-first_dot (c.Whether wh.Sptk) rest h = refl
-first_dot (c.Whether w) rest h = refl
-first_dot (c.Load load.Plain) rest h = h
-first_dot (c.Load k) rest h = refl
-first_dot (c.Store store.Plain) rest h = h
-first_dot (c.Store k) rest h = refl
-first_dot (c.Hint hint.None) rest h = h
-first_dot (c.Hint g) rest h = refl
-first_dot (c.Loop branch.Cond) rest h = h
-first_dot (c.Loop b) rest h = refl
-first_dot (c.Unit unit.L) rest h = h
-first_dot (c.Unit u) rest h = refl
+first_dot : (x : Suffix) (rest : List ℕ) → ends_part rest ≡ true → ends_part (suffix_text x ++ rest) ≡ true
+first_dot suffix.Absent rest h = h
 first_dot x rest h = refl
 
 dots : (cs : List Completer) → ends_part (flat_map text_of cs) ≡ true
 dots [] = refl
-dots (x ∷ cs) = first_dot x (flat_map text_of cs) (dots cs)
+dots (x ∷ cs) = first_dot x.suffix (flat_map text_of cs) (dots cs)
 
 -- a row's own word and completers name it
 pub named_own : (r : FormRow) (cs : List Completer) → completers_in r.sets (flat_map text_of cs) ≡ Some cs → is_named (r.word ++ flat_map text_of cs) r ≡ true

@@ -1,9 +1,6 @@
 -- A mnemonic: the word of a row, and one completer of each of the row's sets.
 use Rattle.std.specs.Prelude.{ℕ, nat_eq, Bool, true, false, ◌&&◌, ◌==◌, length, drop, filter, map, List, [], ◌∷◌, Option, Some, None, option_map, is_some}
-use Rattle.std.specs.List.{find, list_any, starts_with}
-use Rattle.std.specs.Str.{bytes_eq}
-use denote.Enum.Declared.{tag_of}
-use Rattle.asm_forms.specs.contracts.completer.Completer.{the_type}
+use Rattle.std.specs.List.{Contains, find, starts_with}
 use Rattle.asm_forms.specs.declared.completer.Completer.{Completer}
 use Rattle.asm_forms.specs.declared.completer.CompleterSet.{CompleterSet}
 use Rattle.asm_forms.specs.declared.form.Form.{Form}
@@ -49,12 +46,8 @@ named_forms name = map (λ r. r.form) (filter (is_named name) rows)
 abbrev pub completers : Form → List ℕ → Option (List Completer)
 completers f name = completers_in (row_of f).sets (drop (length (row_of f).word) name)
 
--- the same completer: of one kind and one text
-abbrev pub is_same : Completer → Completer → Bool
-is_same x y = (tag_of the_type x == tag_of the_type y) && bytes_eq (text_of x) (text_of y)
-
 -- one completer of each set
-abbrev pub is_choice : List CompleterSet → List Completer → Bool
-is_choice [] [] = true
-is_choice (s ∷ ss) (x ∷ xs) = list_any (is_same x) (members s) && is_choice ss xs
-is_choice _ _ = false
+abbrev pub AreChosen : List CompleterSet → List Completer → Type 0
+AreChosen [] [] = Unit {0}
+AreChosen (s ∷ ss) (x ∷ xs) = Contains (members s) x × AreChosen ss xs
+AreChosen _ _ = ⊥

@@ -3,7 +3,7 @@ use Rattle.std.specs.Prelude.{ℕ, ◌<◌, List, [], ◌∷◌, ◌++◌, slice
 use Rattle.std.specs.Borrow.{Bor}
 use denote.Enum.Declared.{tag_of}
 use Rattle.asm_forms.specs.contracts.form.Form.{the_type}
-use Rattle.asm_forms.specs.declared.fixed.Fixed.{Fixed}
+use Rattle.asm_forms.specs.declared.completer.Said.{Said}
 use Rattle.asm_forms.specs.declared.form.Form.{Form}
 use Rattle.asm_forms.specs.declared.form.Form.TheVariants as form
 use Rattle.asm_forms.specs.declared.rows.TheConstants.{ROWS_TO_B, ROWS_C_TO_I, ROWS_L_TO_N, ROWS_O_TO_R, ROWS_FROM_S}
@@ -22,11 +22,11 @@ pub record FormRow : Type 0 where
   pub opcode : Option Opcode
   pub completers : List (CompleterSet × ℕ)
   pub operands : List (Kind × ℕ)
-  pub fixed : List (Fixed × ℕ)
+  pub fixed : List (Said × ℕ)
 
 -- a row as a function has it
 abbrev pub Seen : Type 0
-Seen = Form × Bor (List ℕ) × Bor (List CompleterSet) × Bor (List FormItem) × Option Opcode × Bor (List (CompleterSet × ℕ)) × Bor (List (Kind × ℕ)) × Bor (List (Fixed × ℕ))
+Seen = Form × Bor (List ℕ) × Bor (List CompleterSet) × Bor (List FormItem) × Option Opcode × Bor (List (CompleterSet × ℕ)) × Bor (List (Kind × ℕ)) × Bor (List (Said × ℕ))
 
 abbrev pub seen : Seen → FormRow
 seen r = record { form = r.0; word = r.1.now; sets = r.2.now; items = r.3.now; opcode = r.4; completers = r.5.now; operands = r.6.now; fixed = r.7.now }

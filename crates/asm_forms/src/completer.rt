@@ -1,82 +1,183 @@
-//! The completers of a mnemonic: their texts, and which may stand at one place.
+//! The completers of a mnemonic: how they are written, what they say, and which may stand at one place.
 
-ghost use Rattle.std.specs.Prelude.{◌≡◌, ◌≤◌};
-ghost use Rattle.asm_forms.specs.declared.completer.Completer.TheVariants as c;
-ghost use Rattle.asm_forms.specs.Completers.{text_of, members};
+ghost use Rattle.std.specs.Prelude.{◌≡◌};
+ghost use Rattle.asm_forms.specs.declared.completer.Suffix.TheVariants as suffix;
+ghost use Rattle.asm_forms.specs.declared.completer.Said.TheVariants.{Nothing};
+ghost use Rattle.asm_forms.specs.Completers.{text_of, suffix_text, members};
 
-use crate::choices::{CacheHint, CompareRelation, Whether};
-use ia_insn::{BranchKind, CmpKind, LoadKind, StoreKind, Unit};
+use ia_insn::{BranchKind, CmpKind, LaneFn, LoadKind, Rel, ShiftFn, StoreKind, Unit};
 
-/// A completer, or that none stands at its place.
+/// A completer as it is written, or that none is where one may be missing.
 #[derive(Clone, Copy)]
-pub enum Completer {
-    /// No completer, where one may be missing.
+pub enum Suffix {
+    /// Nothing.
     Absent,
-    /// The relation of a compare.
-    CompareRelation(CompareRelation),
-    /// The compare type (ctype), none for a normal compare.
-    Compare(CmpKind),
-    /// Unsigned.
+    /// `.eq`
+    Eq,
+    /// `.ne`
+    Ne,
+    /// `.lt`
+    Lt,
+    /// `.le`
+    Le,
+    /// `.gt`
+    Gt,
+    /// `.ge`
+    Ge,
+    /// `.ltu`
+    Ltu,
+    /// `.leu`
+    Leu,
+    /// `.gtu`
+    Gtu,
+    /// `.geu`
+    Geu,
+    /// `.unc`
+    Unc,
+    /// `.and`
+    And,
+    /// `.or`
+    Or,
+    /// `.or.andcm`
+    OrAndcm,
+    /// `.u`
     U,
-    /// Zero: of a deposit into zeros, and of a test.
+    /// `.z`
     Z,
-    /// Not zero, of a test.
+    /// `.nz`
     Nz,
-    /// Speculative, of a check.
+    /// `.s`
     S,
-    /// Advanced, of a check.
+    /// `.a`
     A,
-    /// No clear, of an advanced check.
+    /// `.sa`
+    Sa,
+    /// `.nc`
     Nc,
-    /// Clear: of an advanced check, and of a branch's prediction.
+    /// `.clr`
     Clr,
-    /// Return: of a branch, and of a move to a branch register.
-    Ret,
-    /// The branch whether hint (bwh), and that of a move to a branch register (mwh).
-    Whether(Whether),
-    /// Important, of a move to a branch register (ih).
-    Imp,
-    /// The load type (ldtype), none for a normal load.
-    Load(LoadKind),
-    /// The store type (sttype), none for a normal store.
-    Store(StoreKind),
-    /// Acquire, of a fetch-and-add (sem).
+    /// `.c.clr`
+    CClr,
+    /// `.c.nc`
+    CNc,
+    /// `.c.clr.acq`
+    CClrAcq,
+    /// `.bias`
+    Bias,
+    /// `.acq`
     Acq,
-    /// Release, of a fetch-and-add (sem).
+    /// `.rel`
     Rel,
-    /// The cache hint (ldhint and sthint), none for no hint.
-    Hint(CacheHint),
-    /// One entry, of an invalidation.
+    /// `.fill`
+    Fill,
+    /// `.spill`
+    Spill,
+    /// `.nt1`
+    Nt1,
+    /// `.nta`
+    Nta,
+    /// `.ret`
+    Ret,
+    /// `.imp`
+    Imp,
+    /// `.e`
     E,
-    /// Conditional, of a branch.
+    /// `.cond`
     Cond,
-    /// The branch type (btype) of a loop branch.
-    Loop(BranchKind),
-    /// Call, of a branch.
+    /// `.wexit`
+    Wexit,
+    /// `.wtop`
+    Wtop,
+    /// `.cloop`
+    Cloop,
+    /// `.cexit`
+    Cexit,
+    /// `.ctop`
+    Ctop,
+    /// `.call`
     Call,
-    /// Few lines are prefetched (ph).
+    /// `.sptk`
+    Sptk,
+    /// `.spnt`
+    Spnt,
+    /// `.dptk`
+    Dptk,
+    /// `.dpnt`
+    Dpnt,
+    /// `.few`
     Few,
-    /// Many lines are prefetched (ph).
+    /// `.many`
     Many,
-    /// The predicates alone, of a clearing.
+    /// `.pr`
     Pr,
+    /// `.m`
+    M,
+    /// `.i`
+    I,
+    /// `.f`
+    F,
+    /// `.b`
+    B,
+    /// `.x`
+    X,
+}
+
+/// What a completer, or a form, says of an instruction: a value of it, or a part of its opcode.
+#[derive(Clone, Copy)]
+pub enum Said {
+    /// Nothing.
+    Nothing,
+    /// A choice of two.
+    Flag(bool),
+    /// A number, as a hint, or a size in bytes.
+    Small(u8),
+    /// A mask of predicates.
+    Mask(u32),
+    /// The relation of a compare (crel).
+    Relation(Rel),
+    /// The type of a compare (ctype).
+    Compare(CmpKind),
+    /// The operation on lanes (prel).
+    Lane(LaneFn),
+    /// The shift.
+    Shift(ShiftFn),
+    /// The load type (ldtype).
+    Load(LoadKind),
+    /// The store type (sttype).
+    Store(StoreKind),
+    /// The branch type (btype).
+    Branch(BranchKind),
     /// The unit.
     Unit(Unit),
+    /// No unit, where a completer may name it.
+    NoUnit,
+}
+
+/// A completer: how it is written, and what it says where it stands.
+#[derive(Clone, Copy)]
+pub struct Completer {
+    /// How it is written.
+    pub suffix: Suffix,
+    /// What it says.
+    pub says: Said,
 }
 
 impl Default for Completer {
-    ghost is_default = { λ completer. completer ≡ c.Absent };
+    ghost is_default = { λ completer. completer ≡ record { suffix = suffix.Absent; says = Nothing } };
 
-    /// No completer.
+    /// No completer, which says nothing.
     fn default() -> Self {
-        Completer::Absent
+        Completer {
+            suffix: Suffix::Absent,
+            says: Said::Nothing,
+        }
     }
 }
 
 /// A place for a completer: which may stand there.
 #[derive(Clone, Copy)]
 pub enum CompleterSet {
-    /// `.eq`, `.lt` or `.ltu`: a compare as the machine has it.
+    /// `.eq`, `.lt` or `.ltu`: a compare as the machine has it (crel).
     Relation,
     /// `.ne`, `.ge` or `.geu`: the targets are exchanged.
     RelationNe,
@@ -94,11 +195,15 @@ pub enum CompleterSet {
     Order,
     /// `.eq` or `.gt`, of a compare of lanes (prel).
     LaneRelation,
-    /// `.unc` or nothing.
+    /// `.unc` or nothing, of a compare (ctype).
     Unc,
+    /// `.unc` or nothing, of a test.
+    TestUnc,
     /// `.and`, `.or` or `.or.andcm`.
     Parallel,
-    /// `.u` or nothing.
+    /// `.u` or nothing, of a shift.
+    ShiftU,
+    /// `.u` or nothing, of an extraction.
     U,
     /// `.z`.
     Z,
@@ -166,231 +271,173 @@ pub enum CompleterSet {
     HintUnit,
 }
 
+/// The text of a suffix, with its dots.
+fn suffix_text(suffix: Suffix) -> &'static [u8]
+    ensures { result.now ≡ suffix_text suffix }
+{
+    match suffix {
+        Suffix::Absent => b"",
+        Suffix::Eq => b".eq",
+        Suffix::Ne => b".ne",
+        Suffix::Lt => b".lt",
+        Suffix::Le => b".le",
+        Suffix::Gt => b".gt",
+        Suffix::Ge => b".ge",
+        Suffix::Ltu => b".ltu",
+        Suffix::Leu => b".leu",
+        Suffix::Gtu => b".gtu",
+        Suffix::Geu => b".geu",
+        Suffix::Unc => b".unc",
+        Suffix::And => b".and",
+        Suffix::Or => b".or",
+        Suffix::OrAndcm => b".or.andcm",
+        Suffix::U => b".u",
+        Suffix::Z => b".z",
+        Suffix::Nz => b".nz",
+        Suffix::S => b".s",
+        Suffix::A => b".a",
+        Suffix::Sa => b".sa",
+        Suffix::Nc => b".nc",
+        Suffix::Clr => b".clr",
+        Suffix::CClr => b".c.clr",
+        Suffix::CNc => b".c.nc",
+        Suffix::CClrAcq => b".c.clr.acq",
+        Suffix::Bias => b".bias",
+        Suffix::Acq => b".acq",
+        Suffix::Rel => b".rel",
+        Suffix::Fill => b".fill",
+        Suffix::Spill => b".spill",
+        Suffix::Nt1 => b".nt1",
+        Suffix::Nta => b".nta",
+        Suffix::Ret => b".ret",
+        Suffix::Imp => b".imp",
+        Suffix::E => b".e",
+        Suffix::Cond => b".cond",
+        Suffix::Wexit => b".wexit",
+        Suffix::Wtop => b".wtop",
+        Suffix::Cloop => b".cloop",
+        Suffix::Cexit => b".cexit",
+        Suffix::Ctop => b".ctop",
+        Suffix::Call => b".call",
+        Suffix::Sptk => b".sptk",
+        Suffix::Spnt => b".spnt",
+        Suffix::Dptk => b".dptk",
+        Suffix::Dpnt => b".dpnt",
+        Suffix::Few => b".few",
+        Suffix::Many => b".many",
+        Suffix::Pr => b".pr",
+        Suffix::M => b".m",
+        Suffix::I => b".i",
+        Suffix::F => b".f",
+        Suffix::B => b".b",
+        Suffix::X => b".x",
+    }
+}
+
 /// The text of a completer, with its dots, as one byte string.
 pub fn text(completer: Completer) -> &'static [u8]
     ensures { result.now ≡ text_of completer }
 {
-    match completer {
-        Completer::Absent => b"",
-        Completer::CompareRelation(CompareRelation::Eq) => b".eq",
-        Completer::CompareRelation(CompareRelation::Ne) => b".ne",
-        Completer::CompareRelation(CompareRelation::Lt) => b".lt",
-        Completer::CompareRelation(CompareRelation::Le) => b".le",
-        Completer::CompareRelation(CompareRelation::Gt) => b".gt",
-        Completer::CompareRelation(CompareRelation::Ge) => b".ge",
-        Completer::CompareRelation(CompareRelation::Ltu) => b".ltu",
-        Completer::CompareRelation(CompareRelation::Leu) => b".leu",
-        Completer::CompareRelation(CompareRelation::Gtu) => b".gtu",
-        Completer::CompareRelation(CompareRelation::Geu) => b".geu",
-        Completer::Compare(CmpKind::Normal) => b"",
-        Completer::Compare(CmpKind::Unc) => b".unc",
-        Completer::Compare(CmpKind::And) => b".and",
-        Completer::Compare(CmpKind::Or) => b".or",
-        Completer::Compare(CmpKind::OrAndcm) => b".or.andcm",
-        Completer::U => b".u",
-        Completer::Z => b".z",
-        Completer::Nz => b".nz",
-        Completer::S => b".s",
-        Completer::A => b".a",
-        Completer::Nc => b".nc",
-        Completer::Clr => b".clr",
-        Completer::Ret => b".ret",
-        Completer::Whether(Whether::Sptk) => b".sptk",
-        Completer::Whether(Whether::Spnt) => b".spnt",
-        Completer::Whether(Whether::Dptk) => b".dptk",
-        Completer::Whether(Whether::Dpnt) => b".dpnt",
-        Completer::Imp => b".imp",
-        Completer::Load(LoadKind::Plain) => b"",
-        Completer::Load(LoadKind::S) => b".s",
-        Completer::Load(LoadKind::A) => b".a",
-        Completer::Load(LoadKind::Sa) => b".sa",
-        Completer::Load(LoadKind::Bias) => b".bias",
-        Completer::Load(LoadKind::Acq) => b".acq",
-        Completer::Load(LoadKind::CClr) => b".c.clr",
-        Completer::Load(LoadKind::CNc) => b".c.nc",
-        Completer::Load(LoadKind::CClrAcq) => b".c.clr.acq",
-        Completer::Load(LoadKind::Fill) => b".fill",
-        Completer::Store(StoreKind::Plain) => b"",
-        Completer::Store(StoreKind::Rel) => b".rel",
-        Completer::Store(StoreKind::Spill) => b".spill",
-        Completer::Acq => b".acq",
-        Completer::Rel => b".rel",
-        Completer::Hint(CacheHint::None) => b"",
-        Completer::Hint(CacheHint::Nt1) => b".nt1",
-        Completer::Hint(CacheHint::Nta) => b".nta",
-        Completer::E => b".e",
-        Completer::Cond => b".cond",
-        Completer::Loop(BranchKind::Wexit) => b".wexit",
-        Completer::Loop(BranchKind::Wtop) => b".wtop",
-        Completer::Loop(BranchKind::Cloop) => b".cloop",
-        Completer::Loop(BranchKind::Cexit) => b".cexit",
-        Completer::Loop(BranchKind::Ctop) => b".ctop",
-        Completer::Call => b".call",
-        Completer::Few => b".few",
-        Completer::Many => b".many",
-        Completer::Pr => b".pr",
-        Completer::Unit(Unit::M) => b".m",
-        Completer::Unit(Unit::I) => b".i",
-        Completer::Unit(Unit::F) => b".f",
-        Completer::Unit(Unit::B) => b".b",
-        Completer::Unit(Unit::X) => b".x",
-        Completer::Loop(BranchKind::Cond) => b"",
-        Completer::Unit(Unit::L) => b"",
-    }
+    suffix_text(completer.suffix)
 }
 
-/// The completers that may stand at this place, the first that fits being read.
+macro_rules! completers {
+    ($($suffix:ident => $said:expr),*) => { &[$(Completer { suffix: Suffix::$suffix, says: $said }),*] };
+}
+
+/// The completers that may stand at this place: the first that fits is read, and the first that says it is printed.
 pub fn members(set: CompleterSet) -> &'static [Completer]
     ensures { result.now ≡ members set }
 {
+    use Said::{
+        Branch, Compare, Flag, Lane, Load, NoUnit, Nothing, Relation, Shift, Small, Store,
+        Unit as InUnit,
+    };
     match set {
-        CompleterSet::Relation => &[
-            Completer::CompareRelation(CompareRelation::Eq),
-            Completer::CompareRelation(CompareRelation::Lt),
-            Completer::CompareRelation(CompareRelation::Ltu),
-        ],
-        CompleterSet::RelationNe => &[
-            Completer::CompareRelation(CompareRelation::Ne),
-            Completer::CompareRelation(CompareRelation::Ge),
-            Completer::CompareRelation(CompareRelation::Geu),
-        ],
-        CompleterSet::RelationGt => &[
-            Completer::CompareRelation(CompareRelation::Gt),
-            Completer::CompareRelation(CompareRelation::Gtu),
-        ],
-        CompleterSet::RelationLe => &[
-            Completer::CompareRelation(CompareRelation::Le),
-            Completer::CompareRelation(CompareRelation::Leu),
-        ],
-        CompleterSet::Le => &[Completer::CompareRelation(CompareRelation::Le)],
-        CompleterSet::Gt => &[Completer::CompareRelation(CompareRelation::Gt)],
-        CompleterSet::Equality => &[
-            Completer::CompareRelation(CompareRelation::Eq),
-            Completer::CompareRelation(CompareRelation::Ne),
-        ],
-        CompleterSet::Order => &[
-            Completer::CompareRelation(CompareRelation::Gt),
-            Completer::CompareRelation(CompareRelation::Le),
-            Completer::CompareRelation(CompareRelation::Ge),
-            Completer::CompareRelation(CompareRelation::Lt),
-        ],
-        CompleterSet::LaneRelation => &[
-            Completer::CompareRelation(CompareRelation::Eq),
-            Completer::CompareRelation(CompareRelation::Gt),
-        ],
-        CompleterSet::Unc => &[
-            Completer::Compare(CmpKind::Unc),
-            Completer::Compare(CmpKind::Normal),
-        ],
-        CompleterSet::Parallel => &[
-            Completer::Compare(CmpKind::And),
-            Completer::Compare(CmpKind::OrAndcm),
-            Completer::Compare(CmpKind::Or),
-        ],
-        CompleterSet::U => &[Completer::U, Completer::Absent],
-        CompleterSet::Z => &[Completer::Z],
-        CompleterSet::Nz => &[Completer::Nz],
-        CompleterSet::S => &[Completer::S],
-        CompleterSet::CheckUnit => &[
-            Completer::Unit(Unit::I),
-            Completer::Unit(Unit::M),
-            Completer::Absent,
-        ],
-        CompleterSet::Ret => &[Completer::Ret, Completer::Absent],
-        CompleterSet::MoveWhether => &[
-            Completer::Whether(Whether::Sptk),
-            Completer::Whether(Whether::Dptk),
-            Completer::Absent,
-        ],
-        CompleterSet::Imp => &[Completer::Imp, Completer::Absent],
-        CompleterSet::UnitI => &[Completer::Unit(Unit::I)],
-        CompleterSet::UnitM => &[Completer::Unit(Unit::M)],
-        CompleterSet::LoadType => &[
-            Completer::Load(LoadKind::S),
-            Completer::Load(LoadKind::A),
-            Completer::Load(LoadKind::Sa),
-            Completer::Load(LoadKind::Bias),
-            Completer::Load(LoadKind::Acq),
-            Completer::Load(LoadKind::CClrAcq),
-            Completer::Load(LoadKind::CClr),
-            Completer::Load(LoadKind::CNc),
-            Completer::Load(LoadKind::Plain),
-        ],
-        CompleterSet::LoadTypeFill => &[
-            Completer::Load(LoadKind::S),
-            Completer::Load(LoadKind::A),
-            Completer::Load(LoadKind::Sa),
-            Completer::Load(LoadKind::Bias),
-            Completer::Load(LoadKind::Acq),
-            Completer::Load(LoadKind::CClrAcq),
-            Completer::Load(LoadKind::CClr),
-            Completer::Load(LoadKind::CNc),
-            Completer::Load(LoadKind::Fill),
-            Completer::Load(LoadKind::Plain),
-        ],
-        CompleterSet::LoadHint => &[
-            Completer::Hint(CacheHint::Nt1),
-            Completer::Hint(CacheHint::Nta),
-            Completer::Hint(CacheHint::None),
-        ],
-        CompleterSet::StoreType => &[
-            Completer::Store(StoreKind::Rel),
-            Completer::Store(StoreKind::Plain),
-        ],
-        CompleterSet::StoreTypeSpill => &[
-            Completer::Store(StoreKind::Rel),
-            Completer::Store(StoreKind::Spill),
-            Completer::Store(StoreKind::Plain),
-        ],
-        CompleterSet::StoreHint => &[
-            Completer::Hint(CacheHint::Nta),
-            Completer::Hint(CacheHint::None),
-        ],
-        CompleterSet::SemaphoreType => &[Completer::Acq, Completer::Rel],
-        CompleterSet::A => &[Completer::A],
-        CompleterSet::Nc => &[Completer::Nc],
-        CompleterSet::Clr => &[Completer::Clr],
-        CompleterSet::E => &[Completer::E],
-        CompleterSet::Cond => &[Completer::Cond, Completer::Absent],
-        CompleterSet::Loop => &[
-            Completer::Loop(BranchKind::Wexit),
-            Completer::Loop(BranchKind::Wtop),
-            Completer::Loop(BranchKind::Cloop),
-            Completer::Loop(BranchKind::Cexit),
-            Completer::Loop(BranchKind::Ctop),
-        ],
-        CompleterSet::Call => &[Completer::Call],
-        CompleterSet::Return => &[Completer::Ret],
-        CompleterSet::Whether => &[
-            Completer::Whether(Whether::Sptk),
-            Completer::Whether(Whether::Spnt),
-            Completer::Whether(Whether::Dptk),
-            Completer::Whether(Whether::Dpnt),
-            Completer::Absent,
-        ],
-        CompleterSet::Prefetch => &[Completer::Few, Completer::Many, Completer::Absent],
-        CompleterSet::DeallocClr => &[Completer::Clr, Completer::Absent],
-        CompleterSet::Pr => &[Completer::Pr],
-        CompleterSet::AnyUnit => &[
-            Completer::Unit(Unit::M),
-            Completer::Unit(Unit::I),
-            Completer::Unit(Unit::F),
-            Completer::Unit(Unit::B),
-            Completer::Unit(Unit::X),
-            Completer::Absent,
-        ],
-        CompleterSet::ShortUnit => &[
-            Completer::Unit(Unit::M),
-            Completer::Unit(Unit::I),
-            Completer::Unit(Unit::F),
-            Completer::Unit(Unit::B),
-        ],
-        CompleterSet::LongUnit => &[Completer::Unit(Unit::X), Completer::Absent],
-        CompleterSet::HintUnit => &[
-            Completer::Unit(Unit::M),
-            Completer::Unit(Unit::I),
-            Completer::Unit(Unit::B),
-            Completer::Absent,
-        ],
+        CompleterSet::Relation => completers!(
+            Eq => Relation(Rel::Eq), Lt => Relation(Rel::Lt), Ltu => Relation(Rel::Ltu)
+        ),
+        CompleterSet::RelationNe => completers!(
+            Ne => Relation(Rel::Eq), Ge => Relation(Rel::Lt), Geu => Relation(Rel::Ltu)
+        ),
+        CompleterSet::RelationGt => completers!(Gt => Relation(Rel::Lt), Gtu => Relation(Rel::Ltu)),
+        CompleterSet::RelationLe => completers!(Le => Relation(Rel::Lt), Leu => Relation(Rel::Ltu)),
+        CompleterSet::Le => completers!(Le => Relation(Rel::Lt)),
+        CompleterSet::Gt => completers!(Gt => Relation(Rel::Lt)),
+        CompleterSet::Equality => completers!(Eq => Relation(Rel::Eq), Ne => Relation(Rel::Ne)),
+        CompleterSet::Order => completers!(
+            Gt => Relation(Rel::Gt), Le => Relation(Rel::Le), Ge => Relation(Rel::Ge), Lt => Relation(Rel::Lt)
+        ),
+        CompleterSet::LaneRelation =>
+            completers!(Eq => Lane(LaneFn::PcmpEq), Gt => Lane(LaneFn::PcmpGt)),
+        CompleterSet::Unc =>
+            completers!(Unc => Compare(CmpKind::Unc), Absent => Compare(CmpKind::Normal)),
+        CompleterSet::TestUnc => completers!(Unc => Flag(true), Absent => Flag(false)),
+        CompleterSet::Parallel => completers!(
+            And => Compare(CmpKind::And), OrAndcm => Compare(CmpKind::OrAndcm), Or => Compare(CmpKind::Or)
+        ),
+        CompleterSet::ShiftU =>
+            completers!(U => Shift(ShiftFn::ShrU), Absent => Shift(ShiftFn::Shr)),
+        CompleterSet::U => completers!(U => Flag(false), Absent => Flag(true)),
+        CompleterSet::Z => completers!(Z => Nothing),
+        CompleterSet::Nz => completers!(Nz => Nothing),
+        CompleterSet::S => completers!(S => Nothing),
+        CompleterSet::CheckUnit =>
+            completers!(I => InUnit(Unit::I), M => InUnit(Unit::M), Absent => NoUnit),
+        CompleterSet::Ret => completers!(Ret => Flag(true), Absent => Flag(false)),
+        CompleterSet::MoveWhether =>
+            completers!(Sptk => Small(0), Dptk => Small(2), Absent => Small(1)),
+        CompleterSet::Imp => completers!(Imp => Flag(true), Absent => Flag(false)),
+        CompleterSet::UnitI => completers!(I => InUnit(Unit::I)),
+        CompleterSet::UnitM => completers!(M => InUnit(Unit::M)),
+        CompleterSet::LoadType => completers!(
+            S => Load(LoadKind::S), A => Load(LoadKind::A), Sa => Load(LoadKind::Sa),
+            Bias => Load(LoadKind::Bias), Acq => Load(LoadKind::Acq), CClrAcq => Load(LoadKind::CClrAcq),
+            CClr => Load(LoadKind::CClr), CNc => Load(LoadKind::CNc), Absent => Load(LoadKind::Plain)
+        ),
+        CompleterSet::LoadTypeFill => completers!(
+            S => Load(LoadKind::S), A => Load(LoadKind::A), Sa => Load(LoadKind::Sa),
+            Bias => Load(LoadKind::Bias), Acq => Load(LoadKind::Acq), CClrAcq => Load(LoadKind::CClrAcq),
+            CClr => Load(LoadKind::CClr), CNc => Load(LoadKind::CNc), Fill => Load(LoadKind::Fill),
+            Absent => Load(LoadKind::Plain)
+        ),
+        CompleterSet::LoadHint => completers!(Nt1 => Small(1), Nta => Small(3), Absent => Small(0)),
+        CompleterSet::StoreType =>
+            completers!(Rel => Store(StoreKind::Rel), Absent => Store(StoreKind::Plain)),
+        CompleterSet::StoreTypeSpill => completers!(
+            Rel => Store(StoreKind::Rel), Spill => Store(StoreKind::Spill), Absent => Store(StoreKind::Plain)
+        ),
+        CompleterSet::StoreHint => completers!(Nta => Small(3), Absent => Small(0)),
+        CompleterSet::SemaphoreType => completers!(Acq => Flag(false), Rel => Flag(true)),
+        CompleterSet::A => completers!(A => Nothing),
+        CompleterSet::Nc => completers!(Nc => Nothing),
+        CompleterSet::Clr => completers!(Clr => Nothing),
+        CompleterSet::E => completers!(E => Nothing),
+        CompleterSet::Cond => completers!(Cond => Nothing, Absent => Nothing),
+        CompleterSet::Loop => completers!(
+            Wexit => Branch(BranchKind::Wexit), Wtop => Branch(BranchKind::Wtop),
+            Cloop => Branch(BranchKind::Cloop), Cexit => Branch(BranchKind::Cexit),
+            Ctop => Branch(BranchKind::Ctop)
+        ),
+        CompleterSet::Call => completers!(Call => Nothing),
+        CompleterSet::Return => completers!(Ret => Nothing),
+        CompleterSet::Whether => completers!(
+            Sptk => Small(0), Spnt => Small(1), Dptk => Small(2), Dpnt => Small(3), Absent => Small(0)
+        ),
+        CompleterSet::Prefetch =>
+            completers!(Few => Flag(false), Many => Flag(true), Absent => Flag(false)),
+        CompleterSet::DeallocClr => completers!(Clr => Flag(true), Absent => Flag(false)),
+        CompleterSet::Pr => completers!(Pr => Nothing),
+        CompleterSet::AnyUnit => completers!(
+            M => InUnit(Unit::M), I => InUnit(Unit::I), F => InUnit(Unit::F), B => InUnit(Unit::B),
+            X => InUnit(Unit::X), Absent => NoUnit
+        ),
+        CompleterSet::ShortUnit => completers!(
+            M => InUnit(Unit::M), I => InUnit(Unit::I), F => InUnit(Unit::F), B => InUnit(Unit::B)
+        ),
+        CompleterSet::LongUnit => completers!(X => InUnit(Unit::X), Absent => NoUnit),
+        CompleterSet::HintUnit => completers!(
+            M => InUnit(Unit::M), I => InUnit(Unit::I), B => InUnit(Unit::B), Absent => NoUnit
+        ),
     }
 }

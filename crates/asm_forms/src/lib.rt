@@ -2,15 +2,14 @@
 //!
 //! A line is a leading word, its completers and its operands (volume 3, chapter 2, the assembly syntax
 //! of each instruction). What there is is data: `rows` has a row a form, with the word that leads a line of
-//! the form, the sets of its completers and what stands after it, and `completer` has the completers of each
-//! set. Everything else goes by the rows: `naming` reads a word with its completers, `items` says from which
+//! the form, the sets of its completers, what stands after it, its opcode and which value stands where, and
+//! `completer` has the completers of each set and what each says. Everything else goes by the rows: `naming` reads a word with its completers, `items` says from which
 //! tokens an item is read, `spelling` finds the form of a word and operands at once, and `operands` takes the
 //! operands from between a form's marks. Where a line's first fault is, is said one crate above (`asm_matching`).
 #![tactic(auto)]
 
 mod choices;
 mod completer;
-mod fixed;
 mod form;
 mod items;
 mod laws;
@@ -19,9 +18,8 @@ mod operands;
 mod rows;
 mod spelling;
 
-pub use choices::{AccessSize, CacheHint, CompareRelation, Whether};
-pub use completer::{Completer, CompleterSet, members, text};
-pub use fixed::Fixed;
+pub use choices::AccessSize;
+pub use completer::{Completer, CompleterSet, Said, Suffix, members, text};
 pub use form::Form;
 pub use items::{
     FormItem, Kind, Mark, NumberField, accepts, are_accepted, begins_with_letter, has_room,

@@ -4,8 +4,7 @@ ghost use Rattle.std.specs.Prelude.{◌≡◌, ◌<◌, ◌≤◌, map, length, 
 ghost use Rattle.asm_forms.specs.Items.{operand_count};
 ghost use Rattle.asm_forms.specs.Rows.{rows_to_b, rows_c_to_i, rows_l_to_n, rows_o_to_r, rows_from_s, rows, first_row, row_of, seen, AreValues};
 
-use crate::completer::CompleterSet;
-use crate::fixed::Fixed;
+use crate::completer::{CompleterSet, Said};
 use crate::form::Form;
 use crate::items::FormItem::{Is, Takes};
 use crate::items::{FormItem, Kind, Mark, NumberField};
@@ -16,8 +15,7 @@ use insn_rows::{Opcode, UpdateKind};
 /// the instruction: its opcode, and which value stands where, by its number in `values_of` of `insn_rows`: of each set the
 /// one that its completer says, of each operand its own, and those that no line writes. A number 0 is that of none of
 /// them. A value that no number names is r0, 0 or no, and those of a frame are its parts as they are written. A directive
-/// has no opcode. What a completer or an application register says of an opcode may stand here as anything, but for the
-/// type of a compare, which says whether its relation is one of the ten or that of its word.
+/// has no opcode. What a completer or an application register says of an opcode may stand here as anything.
 ///
 /// The rows stand as in an index, in the order of the first letters of their words, and those of one word
 /// together. The first that the operands have is read: a branch register before a label.
@@ -29,7 +27,7 @@ pub(crate) type FormRow = (
     Option<Opcode>,
     &'static [(CompleterSet, u8)],
     &'static [(Kind, u8)],
-    &'static [(Fixed, u8)],
+    &'static [(Said, u8)],
 );
 
 macro_rules! mark {
@@ -89,7 +87,7 @@ macro_rules! row {
             Some($opcode),
             &[$((CompleterSet::$set, place!($($at)?))),*],
             operands!(() $($($item)*)?),
-            &[$((Fixed::$value($said), $place)),*],
+            &[$((Said::$value($said), $place)),*],
         )
     };
 }
@@ -235,7 +233,7 @@ pub(crate) static ROWS_FROM_S: [FormRow; 34] = [
     row!(ShlNumber, Opcode::DepZ; b"shl", [], Gr(1) = Gr(2), Position(3)),
     row!(Shladd, Opcode::ShlAdd, 1: Flag(false); b"shladd", [], Gr(2) = Gr(3), Count(4), Gr(5)),
     row!(Shladdp4, Opcode::ShlAdd, 1: Flag(true); b"shladdp4", [], Gr(2) = Gr(3), Count(4), Gr(5)),
-    row!(Shr, Opcode::ShiftVar(ShiftFn::Shr); b"shr", [U], Gr(1) = Gr(2), Gr(3)),
+    row!(Shr, Opcode::ShiftVar(ShiftFn::Shr); b"shr", [ShiftU], Gr(1) = Gr(2), Gr(3)),
     row!(ShrNumber, Opcode::Extr; b"shr", [U(1)], Gr(2) = Gr(3), Position(4)),
     row!(Shrp, Opcode::Shrp; b"shrp", [], Gr(1) = Gr(2), Gr(3), Position(4)),
     row!(St1, Opcode::Store(StoreKind::Plain, UpdateKind::None), 1: Small(1); b"st1", [StoreType, StoreHint(2)], [Gr(3)] = Gr(4)),
@@ -252,10 +250,10 @@ pub(crate) static ROWS_FROM_S: [FormRow; 34] = [
     row!(Sxt1, Opcode::Ext, 1: Flag(true), 2: Small(1); b"sxt1", [], Gr(3) = Gr(4)),
     row!(Sxt2, Opcode::Ext, 1: Flag(true), 2: Small(2); b"sxt2", [], Gr(3) = Gr(4)),
     row!(Sxt4, Opcode::Ext, 1: Flag(true), 2: Small(4); b"sxt4", [], Gr(3) = Gr(4)),
-    row!(Tbit, Opcode::Tbit; b"tbit", [Z, Unc(1)], Pr(2), Pr(3) = Gr(4), Position(5)),
-    row!(TbitNz, Opcode::Tbit; b"tbit", [Nz, Unc(1)], Pr(3), Pr(2) = Gr(4), Position(5)),
-    row!(Tnat, Opcode::Tnat; b"tnat", [Z, Unc(1)], Pr(2), Pr(3) = Gr(4)),
-    row!(TnatNz, Opcode::Tnat; b"tnat", [Nz, Unc(1)], Pr(3), Pr(2) = Gr(4)),
+    row!(Tbit, Opcode::Tbit; b"tbit", [Z, TestUnc(1)], Pr(2), Pr(3) = Gr(4), Position(5)),
+    row!(TbitNz, Opcode::Tbit; b"tbit", [Nz, TestUnc(1)], Pr(3), Pr(2) = Gr(4), Position(5)),
+    row!(Tnat, Opcode::Tnat; b"tnat", [Z, TestUnc(1)], Pr(2), Pr(3) = Gr(4)),
+    row!(TnatNz, Opcode::Tnat; b"tnat", [Nz, TestUnc(1)], Pr(3), Pr(2) = Gr(4)),
     row!(Xchg1, Opcode::Xchg, 1: Small(1); b"xchg1", [LoadHint(2)], Gr(3) = [Gr(4)], Gr(5)),
     row!(Xchg2, Opcode::Xchg, 1: Small(2); b"xchg2", [LoadHint(2)], Gr(3) = [Gr(4)], Gr(5)),
     row!(Xchg4, Opcode::Xchg, 1: Small(4); b"xchg4", [LoadHint(2)], Gr(3) = [Gr(4)], Gr(5)),
@@ -384,7 +382,7 @@ impl Form {
     }
 
     /// The values that no line of the form writes, each with its number.
-    pub fn fixed(self) -> &'static [(Fixed, u8)]
+    pub fn fixed(self) -> &'static [(Said, u8)]
         ensures value { result.now ≡ (row_of self).fixed }
         ensures values { AreValues result.now }
     {

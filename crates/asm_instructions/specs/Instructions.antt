@@ -4,27 +4,19 @@ use Rattle.std.specs.Option.{option_map, option_and_then}
 use Rattle.asm_words.specs.declared.tokens.Token.{Token}
 use Rattle.asm_words.specs.declared.tokens.Token.TheVariants as t
 use Rattle.asm_forms.specs.declared.completer.Completer.{Completer}
-use Rattle.asm_forms.specs.declared.completer.Completer.TheVariants as c
 use Rattle.asm_forms.specs.declared.completer.CompleterSet.{CompleterSet}
-use Rattle.asm_forms.specs.declared.choices.CompareRelation.{CompareRelation}
-use Rattle.asm_forms.specs.declared.choices.CompareRelation.TheVariants as crel
-use Rattle.asm_forms.specs.declared.fixed.Fixed.{Fixed}
+use Rattle.asm_forms.specs.declared.completer.Said.{Said}
+use Rattle.asm_forms.specs.declared.completer.Said.TheVariants as said
 use Rattle.asm_forms.specs.declared.form.Form.{Form}
 use Rattle.asm_forms.specs.declared.form.Form.TheVariants as form
 use Rattle.asm_forms.specs.declared.items.Kind.{Kind}
 use Rattle.asm_forms.specs.declared.items.NumberField.TheVariants.{Imm14}
 use Rattle.asm_forms.specs.Items.{has_room}
 use Rattle.asm_forms.specs.Rows.{FormRow, row_of}
-use Rattle.asm_instructions.specs.Operands.{magnitude_at, is_negative_at, small_at, operand_value, completer_value, fixed_value}
+use Rattle.asm_instructions.specs.Operands.{magnitude_at, is_negative_at, small_at, operand_value, said_value}
 use Rattle.ia_insn.specs.declared.insn.Op.{Op}
 use Rattle.ia_insn.specs.declared.insn.Op.TheVariants as op
 use Rattle.ia_insn.specs.declared.registers.Ar.TheVariants as ar
-use Rattle.ia_insn.specs.declared.choices.Rel.{Rel}
-use Rattle.ia_insn.specs.declared.choices.Rel.TheVariants as rel
-use Rattle.ia_insn.specs.declared.choices.CmpKind.{CmpKind}
-use Rattle.ia_insn.specs.declared.choices.CmpKind.TheVariants as cmp
-use Rattle.ia_insn.specs.declared.choices.LaneFn.TheVariants as lane_fn
-use Rattle.ia_insn.specs.declared.choices.ShiftFn.TheVariants as shift
 use Rattle.ia_insn.specs.declared.choices.Unit.TheVariants as unit
 use Rattle.insn_rows.specs.declared.opcode.Opcode.{Opcode}
 use Rattle.insn_rows.specs.declared.opcode.Opcode.TheVariants as o
@@ -33,71 +25,47 @@ use Rattle.insn_rows.specs.declared.value.Value.TheVariants as v
 use Rattle.insn_rows.specs.Values.{at}
 use Rattle.insn_rows.specs.ArmsBack.{op_of as op_with}
 
--- The machine's relation for one of the ten: it has eq, lt and ltu, and the rows of the others exchange the targets, the
--- operands or both.
-abbrev pub machine_relation : CompareRelation → Rel
-machine_relation crel.Eq = rel.Eq
-machine_relation crel.Ne = rel.Eq
-machine_relation crel.Ltu = rel.Ltu
-machine_relation crel.Leu = rel.Ltu
-machine_relation crel.Gtu = rel.Ltu
-machine_relation crel.Geu = rel.Ltu
-machine_relation _ = rel.Lt
-
--- a parallel compare has its relation in its word
-abbrev pub parallel_relation : CompareRelation → Rel
-parallel_relation crel.Ne = rel.Ne
-parallel_relation crel.Lt = rel.Lt
-parallel_relation crel.Le = rel.Le
-parallel_relation crel.Gt = rel.Gt
-parallel_relation crel.Ge = rel.Ge
-parallel_relation _ = rel.Eq
-
-abbrev pub relation_of : CmpKind → CompareRelation → Rel
-relation_of cmp.Normal relation = machine_relation relation
-relation_of kind relation = parallel_relation relation
-
 -- An opcode with what a completer says of it, and None where it is of another unit.
-abbrev pub completed : Opcode → Completer → Option Opcode
-completed (o.Cmp r kind) (c.CompareRelation relation) = Some (o.Cmp (relation_of kind relation) kind)
-completed (o.Cmp r kind) (c.Compare k) = Some (o.Cmp r k)
-completed (o.CmpZero r kind) (c.CompareRelation relation) = Some (o.CmpZero (relation_of kind relation) kind)
-completed (o.CmpZero r kind) (c.Compare k) = Some (o.CmpZero r k)
-completed (o.CmpImm r kind) (c.CompareRelation relation) = Some (o.CmpImm (relation_of kind relation) kind)
-completed (o.CmpImm r kind) (c.Compare k) = Some (o.CmpImm r k)
-completed (o.Lane f) (c.CompareRelation crel.Gt) = Some (o.Lane lane_fn.PcmpGt)
-completed (o.ShiftVar f) c.U = Some (o.ShiftVar shift.ShrU)
-completed (o.ChkS u) (c.Unit w) = Some (o.ChkS w)
-completed (o.MovToAr ar.Unat) (c.Unit unit.I) = None
-completed (o.MovToArImm ar.Unat) (c.Unit unit.I) = None
-completed (o.MovFromAr ar.Unat) (c.Unit unit.I) = None
-completed (o.Load kind u) (c.Load k) = Some (o.Load k u)
-completed (o.Store kind u) (c.Store k) = Some (o.Store k u)
-completed (o.Br kind) (c.Loop k) = Some (o.Br k)
-completed (o.Break u) (c.Unit w) = Some (o.Break w)
-completed (o.Nop u) (c.Unit w) = Some (o.Nop w)
-completed (o.Hint u) (c.Unit w) = Some (o.Hint w)
-completed x completer = Some x
+abbrev pub completed : Said → Opcode → Option Opcode
+completed (said.Relation s) (o.Cmp r kind) = Some (o.Cmp s kind)
+completed (said.Compare k) (o.Cmp r kind) = Some (o.Cmp r k)
+completed (said.Relation s) (o.CmpZero r kind) = Some (o.CmpZero s kind)
+completed (said.Compare k) (o.CmpZero r kind) = Some (o.CmpZero r k)
+completed (said.Relation s) (o.CmpImm r kind) = Some (o.CmpImm s kind)
+completed (said.Compare k) (o.CmpImm r kind) = Some (o.CmpImm r k)
+completed (said.Lane g) (o.Lane f) = Some (o.Lane g)
+completed (said.Shift g) (o.ShiftVar f) = Some (o.ShiftVar g)
+completed (said.Unit w) (o.ChkS u) = Some (o.ChkS w)
+completed (said.Unit unit.I) (o.MovToAr ar.Unat) = None
+completed (said.Unit unit.I) (o.MovToArImm ar.Unat) = None
+completed (said.Unit unit.I) (o.MovFromAr ar.Unat) = None
+completed (said.Load k) (o.Load kind u) = Some (o.Load k u)
+completed (said.Store k) (o.Store kind u) = Some (o.Store k u)
+completed (said.Branch k) (o.Br kind) = Some (o.Br k)
+completed (said.Unit w) (o.Break u) = Some (o.Break w)
+completed (said.Unit w) (o.Nop u) = Some (o.Nop w)
+completed (said.Unit w) (o.Hint u) = Some (o.Hint w)
+completed says x = Some x
 
 abbrev pub completed_by : List Completer → Opcode → Option Opcode
 completed_by [] x = Some x
-completed_by (completer ∷ cs) x = option_and_then (completed_by cs) (completed x completer)
+completed_by (completer ∷ cs) x = option_and_then (completed_by cs) (completed completer.says x)
 
 -- an opcode with the application register that an operand is
-abbrev pub moving : Opcode → Token → Opcode
-moving (o.MovToAr a) (t.Ar b) = o.MovToAr b
-moving (o.MovToArImm a) (t.Ar b) = o.MovToArImm b
-moving (o.MovFromAr a) (t.Ar b) = o.MovFromAr b
-moving x token = x
+abbrev pub moving : Token → Opcode → Opcode
+moving (t.Ar b) (o.MovToAr a) = o.MovToAr b
+moving (t.Ar b) (o.MovToArImm a) = o.MovToArImm b
+moving (t.Ar b) (o.MovFromAr a) = o.MovFromAr b
+moving token x = x
 
 abbrev pub moving_by : List Token → Opcode → Opcode
 moving_by [] x = x
-moving_by (token ∷ ts) x = moving_by ts (moving x token)
+moving_by (token ∷ ts) x = moving_by ts (moving token x)
 
 -- values with those of a form's own, of the operands and of the completers, each put at its number
-abbrev pub with_fixed : List (Fixed × ℕ) → List Value → List Value
+abbrev pub with_fixed : List (Said × ℕ) → List Value → List Value
 with_fixed [] vs = vs
-with_fixed (x ∷ xs) vs = with_fixed xs (slice_set vs x.1 (fixed_value x.0))
+with_fixed (x ∷ xs) vs = with_fixed xs (slice_set vs x.1 (said_value x.0))
 
 abbrev pub with_operands : List (Kind × ℕ) → List Token → List Value → List Value
 with_operands [] ts vs = vs
@@ -107,7 +75,7 @@ with_operands (x ∷ xs) (token ∷ ts) vs = with_operands xs ts (slice_set vs x
 abbrev pub with_completers : List (CompleterSet × ℕ) → List Completer → List Value → List Value
 with_completers [] cs vs = vs
 with_completers (x ∷ xs) [] vs = vs
-with_completers (x ∷ xs) (completer ∷ cs) vs = with_completers xs cs (slice_set vs x.1 (completer_value x.0 completer))
+with_completers (x ∷ xs) (completer ∷ cs) vs = with_completers xs cs (slice_set vs x.1 (said_value completer.says))
 
 abbrev pub no_values : List Value
 no_values = v.Absent ∷ v.Absent ∷ v.Absent ∷ v.Absent ∷ v.Absent ∷ v.Absent ∷ v.Absent ∷ []

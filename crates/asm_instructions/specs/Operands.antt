@@ -3,23 +3,14 @@ use Rattle.std.specs.Prelude.{ℕ, ◌-◌, ◌^◌, ◌%◌, ℤ, pos, ◌-ℤ�
 use lib.IntN.{neg_ℤ}
 use Rattle.asm_words.specs.declared.tokens.Token.{Token}
 use Rattle.asm_words.specs.declared.tokens.Token.TheVariants as t
-use Rattle.asm_forms.specs.declared.completer.Completer.{Completer}
-use Rattle.asm_forms.specs.declared.completer.Completer.TheVariants as c
-use Rattle.asm_forms.specs.declared.completer.CompleterSet.{CompleterSet}
-use Rattle.asm_forms.specs.declared.completer.CompleterSet.TheVariants as set
-use Rattle.asm_forms.specs.declared.fixed.Fixed.{Fixed}
-use Rattle.asm_forms.specs.declared.fixed.Fixed.TheVariants as fixed
+use Rattle.asm_forms.specs.declared.completer.Said.{Said}
+use Rattle.asm_forms.specs.declared.completer.Said.TheVariants as said
 use Rattle.asm_forms.specs.declared.items.Kind.{Kind}
 use Rattle.asm_forms.specs.declared.items.Kind.TheVariants as k
 use Rattle.asm_forms.specs.declared.items.NumberField.{NumberField}
 use Rattle.asm_forms.specs.declared.items.NumberField.TheVariants as f
-use Rattle.asm_forms.specs.declared.choices.Whether.{Whether}
-use Rattle.asm_forms.specs.declared.choices.Whether.TheVariants as wh
-use Rattle.asm_forms.specs.declared.choices.CacheHint.{CacheHint}
-use Rattle.asm_forms.specs.declared.choices.CacheHint.TheVariants as hint
 use Rattle.asm_forms.specs.declared.choices.AccessSize.{AccessSize}
 use Rattle.asm_forms.specs.declared.choices.AccessSize.TheVariants as size
-use Rattle.ia_insn.specs.declared.choices.CmpKind.TheVariants as cmp
 use Rattle.insn_rows.specs.declared.value.Value.{Value}
 use Rattle.insn_rows.specs.declared.value.Value.TheVariants as v
 
@@ -98,76 +89,12 @@ operand_value (k.Number field) (t.Number s m) = number_value field s m
 operand_value k.Label x = v.Displacement (pos 0)
 operand_value _ _ = v.Absent
 
-abbrev pub completer_at : List Completer → ℕ → Completer
-completer_at cs k = slice_index_or cs k c.Absent
-
--- a completer that may be missing is there
-abbrev pub is_present : Completer → Bool
-is_present c.Absent = false
-is_present _ = true
-
--- whether a test is unconditional
-abbrev pub is_unc : Completer → Bool
-is_unc (c.Compare cmp.Unc) = true
-is_unc _ = false
-
--- whether a fetch-and-add is a release
-abbrev pub is_release : Completer → Bool
-is_release c.Rel = true
-is_release _ = false
-
--- whether the prefetch hint is many; few where none is written
-abbrev pub is_many : Completer → Bool
-is_many c.Many = true
-is_many _ = false
-
-abbrev hint_number : CacheHint → ℕ
-hint_number hint.None = 0
-hint_number hint.Nt1 = 1
-hint_number hint.Nta = 3
-
--- the cache hint
-abbrev pub hint_of : Completer → ℕ
-hint_of (c.Hint h) = hint_number h
-hint_of _ = 0
-
-abbrev whether_number : Whether → ℕ
-whether_number wh.Sptk = 0
-whether_number wh.Spnt = 1
-whether_number wh.Dptk = 2
-whether_number wh.Dpnt = 3
-
--- the whether hint of a branch, sptk where none is written
-abbrev pub whether : Completer → ℕ
-whether (c.Whether w) = whether_number w
-whether _ = 0
-
--- the whether hint of a move to a branch register: 0 sptk, 1 none, 2 dptk
-abbrev pub move_whether : Completer → ℕ
-move_whether (c.Whether wh.Sptk) = 0
-move_whether (c.Whether wh.Dptk) = 2
-move_whether _ = 1
-
--- the value that a completer says by its set
-abbrev pub completer_value : CompleterSet → Completer → Value
-completer_value set.Unc x = v.Flag (is_unc x)
-completer_value set.U x = v.Flag (not (is_present x))
-completer_value set.Ret x = v.Flag (is_present x)
-completer_value set.MoveWhether x = v.Small (move_whether x)
-completer_value set.Imp x = v.Flag (is_present x)
-completer_value set.LoadHint x = v.Small (hint_of x)
-completer_value set.StoreHint x = v.Small (hint_of x)
-completer_value set.SemaphoreType x = v.Flag (is_release x)
-completer_value set.Whether x = v.Small (whether x)
-completer_value set.Prefetch x = v.Flag (is_many x)
-completer_value set.DeallocClr x = v.Flag (is_present x)
-completer_value _ x = v.Absent
-
--- the value that no line writes
-abbrev pub fixed_value : Fixed → Value
-fixed_value (fixed.Flag b) = v.Flag b
-fixed_value (fixed.Small n) = v.Small n
-fixed_value (fixed.Mask n) = v.Mask n
+-- the value that is said, by a completer or by a form
+abbrev pub said_value : Said → Value
+said_value (said.Flag b) = v.Flag b
+said_value (said.Small n) = v.Small n
+said_value (said.Mask n) = v.Mask n
+said_value _ = v.Absent
 
 -- how many bytes
 abbrev pub bytes : AccessSize → ℕ

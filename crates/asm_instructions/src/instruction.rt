@@ -2,90 +2,38 @@
 
 ghost use Rattle.std.specs.Prelude.{◌≡◌, length};
 ghost use Rattle.asm_forms.specs.Rows.{row_of, AreValues};
-ghost use Rattle.asm_instructions.specs.Instructions.{machine_relation, parallel_relation, relation_of, completed, completed_by, moving, moving_by, with_fixed, with_operands, with_completers, values_by, op_by, sum, allocation, settled, op_of};
+ghost use Rattle.asm_instructions.specs.Instructions.{completed, completed_by, moving, moving_by, with_fixed, with_operands, with_completers, values_by, op_by, sum, allocation, settled, op_of};
 
-use crate::operands::{
-    completer_value, fixed_value, is_negative_at, magnitude_at, operand_value, small_at,
-};
-use asm_forms::{
-    CompareRelation, Completer, CompleterSet, Fixed, Form, Kind, NumberField, has_room,
-};
+use crate::operands::{is_negative_at, magnitude_at, operand_value, said_value, small_at};
+use asm_forms::{Completer, CompleterSet, Form, Kind, NumberField, Said, has_room};
 use asm_words::Token;
-use ia_insn::{Ar, CmpKind, Gr, LaneFn, Op, Rel, ShiftFn, Unit};
+use ia_insn::{Ar, Gr, Op, Unit};
 use insn_rows::{Opcode, Value, Values, insn_of};
 
-/// The machine's relation for one of the ten: it has eq, lt and ltu, and the rows of the others exchange the targets,
-/// the operands or both.
-fn machine_relation(relation: CompareRelation) -> Rel
-    ensures { result ≡ machine_relation relation }
-{
-    match relation {
-        CompareRelation::Eq | CompareRelation::Ne => Rel::Eq,
-        CompareRelation::Ltu | CompareRelation::Leu | CompareRelation::Gtu | CompareRelation::Geu =>
-            Rel::Ltu,
-        _ => Rel::Lt,
-    }
-}
-
-/// The relation of a parallel compare, which has it in its word.
-fn parallel_relation(relation: CompareRelation) -> Rel
-    ensures { result ≡ parallel_relation relation }
-{
-    match relation {
-        CompareRelation::Ne => Rel::Ne,
-        CompareRelation::Lt => Rel::Lt,
-        CompareRelation::Le => Rel::Le,
-        CompareRelation::Gt => Rel::Gt,
-        CompareRelation::Ge => Rel::Ge,
-        _ => Rel::Eq,
-    }
-}
-
-/// The relation of a compare of this type.
-fn relation_of(kind: CmpKind, relation: CompareRelation) -> Rel
-    ensures { result ≡ relation_of kind relation }
-{
-    match kind {
-        CmpKind::Normal => machine_relation(relation),
-        _ => parallel_relation(relation),
-    }
-}
-
 /// An opcode with what a completer says of it, and None where it is of another unit.
-fn completed(opcode: Opcode, completer: Completer) -> Option<Opcode>
-    ensures { result ≡ completed opcode completer }
+fn completed(said: Said, opcode: Opcode) -> Option<Opcode>
+    ensures { result ≡ completed said opcode }
 {
-    Some(match (opcode, completer) {
-        (Opcode::Cmp(_, kind), Completer::CompareRelation(relation)) => Opcode::Cmp(
-            relation_of(kind, relation),
-            kind,
-        ),
-        (Opcode::Cmp(rel, _), Completer::Compare(kind)) => Opcode::Cmp(rel, kind),
-        (Opcode::CmpZero(_, kind), Completer::CompareRelation(relation)) => Opcode::CmpZero(
-            relation_of(kind, relation),
-            kind,
-        ),
-        (Opcode::CmpZero(rel, _), Completer::Compare(kind)) => Opcode::CmpZero(rel, kind),
-        (Opcode::CmpImm(_, kind), Completer::CompareRelation(relation)) => Opcode::CmpImm(
-            relation_of(kind, relation),
-            kind,
-        ),
-        (Opcode::CmpImm(rel, _), Completer::Compare(kind)) => Opcode::CmpImm(rel, kind),
-        (Opcode::Lane(_), Completer::CompareRelation(CompareRelation::Gt)) => Opcode::Lane(
-            LaneFn::PcmpGt,
-        ),
-        (Opcode::ShiftVar(_), Completer::U) => Opcode::ShiftVar(ShiftFn::ShrU),
-        (Opcode::ChkS(_), Completer::Unit(unit)) => Opcode::ChkS(unit),
+    Some(match (said, opcode) {
+        (Said::Relation(rel), Opcode::Cmp(_, kind)) => Opcode::Cmp(rel, kind),
+        (Said::Compare(kind), Opcode::Cmp(rel, _)) => Opcode::Cmp(rel, kind),
+        (Said::Relation(rel), Opcode::CmpZero(_, kind)) => Opcode::CmpZero(rel, kind),
+        (Said::Compare(kind), Opcode::CmpZero(rel, _)) => Opcode::CmpZero(rel, kind),
+        (Said::Relation(rel), Opcode::CmpImm(_, kind)) => Opcode::CmpImm(rel, kind),
+        (Said::Compare(kind), Opcode::CmpImm(rel, _)) => Opcode::CmpImm(rel, kind),
+        (Said::Lane(f), Opcode::Lane(_)) => Opcode::Lane(f),
+        (Said::Shift(f), Opcode::ShiftVar(_)) => Opcode::ShiftVar(f),
+        (Said::Unit(unit), Opcode::ChkS(_)) => Opcode::ChkS(unit),
         (
+            Said::Unit(Unit::I),
             Opcode::MovToAr(Ar::Unat) | Opcode::MovToArImm(Ar::Unat) | Opcode::MovFromAr(Ar::Unat),
-            Completer::Unit(Unit::I),
         ) => return None,
-        (Opcode::Load(_, update), Completer::Load(kind)) => Opcode::Load(kind, update),
-        (Opcode::Store(_, update), Completer::Store(kind)) => Opcode::Store(kind, update),
-        (Opcode::Br(_), Completer::Loop(kind)) => Opcode::Br(kind),
-        (Opcode::Break(_), Completer::Unit(unit)) => Opcode::Break(unit),
-        (Opcode::Nop(_), Completer::Unit(unit)) => Opcode::Nop(unit),
-        (Opcode::Hint(_), Completer::Unit(unit)) => Opcode::Hint(unit),
+        (Said::Load(kind), Opcode::Load(_, update)) => Opcode::Load(kind, update),
+        (Said::Store(kind), Opcode::Store(_, update)) => Opcode::Store(kind, update),
+        (Said::Branch(kind), Opcode::Br(_)) => Opcode::Br(kind),
+        (Said::Unit(unit), Opcode::Break(_)) => Opcode::Break(unit),
+        (Said::Unit(unit), Opcode::Nop(_)) => Opcode::Nop(unit),
+        (Said::Unit(unit), Opcode::Hint(_)) => Opcode::Hint(unit),
         _ => opcode,
     })
 }
@@ -96,13 +44,16 @@ fn completed_by(completers: &[Completer], opcode: Opcode) -> Option<Opcode>
 {
     match completers {
         [] => Some(opcode),
-        [completer, completers @ ..] => completed_by(completers, completed(opcode, *completer)?),
+        [completer, completers @ ..] => completed_by(
+            completers,
+            completed(completer.says, opcode)?,
+        ),
     }
 }
 
 /// An opcode with the application register that an operand is.
-fn moving(opcode: Opcode, token: Token) -> Opcode
-    ensures { result ≡ moving opcode token }
+fn moving(token: Token, opcode: Opcode) -> Opcode
+    ensures { result ≡ moving token opcode }
 {
     match token {
         Token::Ar(register) => match opcode {
@@ -121,20 +72,20 @@ fn moving_by(tokens: &[Token], opcode: Opcode) -> Opcode
 {
     let mut opcode = opcode;
     for token in tokens {
-        opcode = moving(opcode, *token);
+        opcode = moving(*token, opcode);
     }
     opcode
 }
 
 /// Puts the form's own values at their numbers.
-fn put_fixed(fixed: &[(Fixed, u8)], values: &mut Values)
+fn put_fixed(fixed: &[(Said, u8)], values: &mut Values)
     requires { AreValues fixed.now }
     ensures { values.new ≡ with_fixed fixed.now values.old }
 {
     match fixed {
         [] => {}
         [(value, at), fixed @ ..] => {
-            values[usize::from(*at)] = fixed_value(*value);
+            values[usize::from(*at)] = said_value(*value);
             put_fixed(fixed, values);
         }
     }
@@ -164,10 +115,10 @@ fn put_completers(sets: &[(CompleterSet, u8)], completers: &[Completer], values:
 {
     match sets {
         [] => {}
-        [(set, at), sets @ ..] => match completers {
+        [(_, at), sets @ ..] => match completers {
             [] => {}
             [completer, completers @ ..] => {
-                values[usize::from(*at)] = completer_value(*set, *completer);
+                values[usize::from(*at)] = said_value(completer.says);
                 put_completers(sets, completers, values);
             }
         },

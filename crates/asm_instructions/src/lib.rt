@@ -1,6 +1,6 @@
 //! The instruction that a line of assembly text makes of its form, its completers and its operands.
 //!
-//! `operands` has the value that an operand is and the one that a completer says, and `instruction` puts them where the
+//! `operands` has the value that an operand is, and `instruction` puts them where the
 //! form's row wants them and makes the instruction of the row's opcode (volume 3, chapter 2, the assembly syntax of each
 //! instruction, with the pseudo-operations). Which form a line has is said elsewhere (`asm_matching`), and what a whole line says one crate
 //! above (`asm_reading`). That it is decided of each instruction whether it is listed stands in `proofs`
@@ -11,4 +11,4 @@ mod instruction;
 mod operands;
 
 pub use instruction::op_of;
-pub use operands::{bytes, is_present_at, u32_at, wrapped_below};
+pub use operands::{bytes, u32_at, wrapped_below};

@@ -1,14 +1,11 @@
-//! What the operands and the completers of a line say, as values of an instruction. Where another token or
-//! completer stands there, the answer is the first value of the kind.
+//! What the operands and the completers of a line say, as values of an instruction. Where another token stands there, the
+//! answer is the first value of the kind.
 
 ghost use Rattle.std.specs.Prelude.{◌≡◌, ◌<◌, ◌≤◌, ◌≢◌, negsuc};
-ghost use Rattle.asm_instructions.specs.Operands.{token_at, magnitude_at, is_negative_at, small, small_at, u32_at, long, short, wrapped, even, number_value, operand_value, completer_at, is_present, is_unc, is_release, is_many, hint_of, whether, move_whether, completer_value, fixed_value, bytes};
+ghost use Rattle.asm_instructions.specs.Operands.{token_at, magnitude_at, is_negative_at, small, small_at, u32_at, long, short, wrapped, even, number_value, operand_value, said_value, bytes};
 
-use asm_forms::{
-    AccessSize, CacheHint, Completer, CompleterSet, Fixed, Kind, NumberField, Whether,
-};
+use asm_forms::{AccessSize, Kind, NumberField, Said};
 use asm_words::Token;
-use ia_insn::CmpKind;
 use insn_rows::Value;
 
 fn token_at(tokens: &[Token], at: usize) -> Token
@@ -174,84 +171,15 @@ pub(crate) fn operand_value(kind: Kind, token: Token) -> Value
     }
 }
 
-/// Whether a completer stands there, where it may be missing.
-fn is_present(completer: Completer) -> bool
-    ensures { result ≡ is_present completer }
+/// The value that is said, absent where it is a part of the opcode or nothing.
+pub(crate) fn said_value(said: Said) -> Value
+    ensures { result ≡ said_value said }
 {
-    !matches!(completer, Completer::Absent)
-}
-
-/// Whether a completer stands at a place where it may be missing.
-pub fn is_present_at(completers: &[Completer], at: usize) -> bool
-    ensures { result ≡ is_present (completer_at completers.now at) }
-{
-    match completers.get(at) {
-        Some(completer) => is_present(*completer),
-        None => false,
-    }
-}
-
-/// The cache hint: 0 none, 1 nt1, 3 nta.
-fn hint_of(completer: Completer) -> u8
-    ensures { result ≡ hint_of completer }
-{
-    match completer {
-        Completer::Hint(CacheHint::Nt1) => 1,
-        Completer::Hint(CacheHint::Nta) => 3,
-        _ => 0,
-    }
-}
-
-/// The whether hint of a branch: 0 sptk, 1 spnt, 2 dptk, 3 dpnt; sptk where none is written.
-fn whether(completer: Completer) -> u8
-    ensures { result ≡ whether completer }
-{
-    match completer {
-        Completer::Whether(Whether::Spnt) => 1,
-        Completer::Whether(Whether::Dptk) => 2,
-        Completer::Whether(Whether::Dpnt) => 3,
-        _ => 0,
-    }
-}
-
-/// The whether hint of a move to a branch register: 0 sptk, 1 none, 2 dptk.
-fn move_whether(completer: Completer) -> u8
-    ensures { result ≡ move_whether completer }
-{
-    match completer {
-        Completer::Whether(Whether::Sptk) => 0,
-        Completer::Whether(Whether::Dptk) => 2,
-        _ => 1,
-    }
-}
-
-/// The value that a completer says by its set, absent where it says none.
-pub(crate) fn completer_value(set: CompleterSet, completer: Completer) -> Value
-    ensures { result ≡ completer_value set completer }
-{
-    match set {
-        CompleterSet::Unc => Value::Flag(matches!(completer, Completer::Compare(CmpKind::Unc))),
-        CompleterSet::U => Value::Flag(!is_present(completer)),
-        CompleterSet::Ret | CompleterSet::Imp | CompleterSet::DeallocClr => Value::Flag(is_present(
-            completer,
-        )),
-        CompleterSet::MoveWhether => Value::Small(move_whether(completer)),
-        CompleterSet::LoadHint | CompleterSet::StoreHint => Value::Small(hint_of(completer)),
-        CompleterSet::SemaphoreType => Value::Flag(matches!(completer, Completer::Rel)),
-        CompleterSet::Whether => Value::Small(whether(completer)),
-        CompleterSet::Prefetch => Value::Flag(matches!(completer, Completer::Many)),
+    match said {
+        Said::Flag(value) => Value::Flag(value),
+        Said::Small(value) => Value::Small(value),
+        Said::Mask(value) => Value::Mask(value),
         _ => Value::Absent,
-    }
-}
-
-/// A value that no line writes.
-pub(crate) fn fixed_value(fixed: Fixed) -> Value
-    ensures { result ≡ fixed_value fixed }
-{
-    match fixed {
-        Fixed::Flag(value) => Value::Flag(value),
-        Fixed::Small(value) => Value::Small(value),
-        Fixed::Mask(value) => Value::Mask(value),
     }
 }
 

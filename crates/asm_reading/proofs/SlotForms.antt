@@ -89,10 +89,10 @@ lined : (o : Option Op) (f : Op → Line) → (or_fault o fault.Form >>= λ x. O
 lined None f = refl
 lined (Some x) f = refl
 
--- a form that is read makes its slot line
-pub slot_made : (qp : ℕ) (forms : List Form) (name : List ℕ) (xs : List Token) (after : List KindAndText) (f : Form) (value : Line)
-    → read_form forms (without_stop xs) xs ≡ Ok f → slot_line qp f (completers_or_none f name) xs after ≡ Some value → slot_under qp forms name xs after ≡ Ok value
-slot_made qp forms name xs after f value read is =
+-- a form that is read makes its slot line, or has the fault that it makes none
+pub slot_made : (qp : ℕ) (forms : List Form) (name : List ℕ) (xs : List Token) (after : List KindAndText) (f : Form) (o : Option Line)
+    → read_form forms (without_stop xs) xs ≡ Ok f → slot_line qp f (completers_or_none f name) xs after ≡ o → slot_under qp forms name xs after ≡ or_fault o fault.Form
+slot_made qp forms name xs after f o read is =
     rw read (lined (op_of f (completers_or_none f name) (taken (row_of f).items (without_stop xs))) (λ x. line.Slot (draft_of f (completers_or_none f name) qp after x) (ends_in_stop xs))
     ∙ ap (λ o. or_fault o fault.Form) is)
 
@@ -108,7 +108,7 @@ slot_read name before after qp f cs value plain guarded found named is =
     let all : slot_line qp f (completers_or_none f name) xs after ≡ Some value = rw named is in
     slot_first (named_forms name) (is_spelled (without_stop xs)) f name before after (all_slots name plain) found
     ∙ ap (λ p. p >>= λ q. slot_under q (named_forms name) name xs after) guarded
-    ∙ slot_made qp (named_forms name) name xs after f value (found_read (named_forms name) (without_stop xs) xs f found) all
+    ∙ slot_made qp (named_forms name) name xs after f (Some value) (found_read (named_forms name) (without_stop xs) xs f found) all
 
 pub slot_if_read : (name : List ℕ) (before after : List KindAndText) (qp : ℕ) (f : Form) (cs : List Completer) (o : Option Line)
     → is_directive_name name ≡ false → predicate_of (tokens before) ≡ Ok qp → find (is_spelled (without_stop (tokens after))) (named_forms name) ≡ Some f

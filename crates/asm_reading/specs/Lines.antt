@@ -2,7 +2,7 @@
 -- the leading word names forms, and the first form that the operands have makes the line's value.
 use Rattle.std.specs.Prelude.{◌≡◌, ◌⊎◌, ℕ, ◌+◌, ◌-◌, ◌^◌, ◌*◌, ◌%◌, Bool, true, false, not, ◌&&◌, nat_le, nat_lt, ◌==◌, if◌then◌else◌, List, [], ◌∷◌, map, take, drop, length, Option, Some, None, is_some, unwrap_or, Result, Ok, Err, slice_get, slice_range, codes}
 use Rattle.std.specs.Option.{option_map}
-use Rattle.std.specs.List.{find, All}
+use Rattle.std.specs.List.{All, find, list_any}
 use Rattle.std.specs.Str.{bytes_eq}
 use Rattle.asm_words.specs.declared.limits.TheConstants.{NAME_LIMIT, NUMBER_TOKEN_LIMIT}
 use Rattle.asm_words.specs.declared.tokens.Token.{Token}
@@ -20,6 +20,8 @@ use Rattle.asm_words.specs.Words.{pick, words_from}
 use Rattle.asm_forms.specs.declared.choices.AccessSize.{AccessSize}
 use Rattle.asm_forms.specs.declared.choices.AccessSize.TheVariants as size
 use Rattle.asm_forms.specs.declared.completer.Completer.{Completer}
+use Rattle.asm_forms.specs.declared.completer.Said.{Said}
+use Rattle.asm_forms.specs.declared.completer.Said.TheVariants as said
 use Rattle.asm_forms.specs.declared.form.Form.{Form}
 use Rattle.asm_forms.specs.declared.form.Form.TheVariants as form
 use Rattle.asm_forms.specs.declared.items.FormItem.{FormItem}
@@ -36,7 +38,7 @@ use Rattle.asm_matching.specs.Relations.{named_predicates, agreed_relation, rela
 use Rattle.ia_insn.specs.declared.insn.Op.{Op}
 use Rattle.ia_program.specs.Listed.{IsListed}
 use Rattle.asm_instructions.specs.Instructions.{op_of}
-use Rattle.asm_instructions.specs.Operands.{u32_at, magnitude, is_negative, wrapped, bytes, completer_at, is_present}
+use Rattle.asm_instructions.specs.Operands.{u32_at, magnitude, is_negative, wrapped, bytes}
 use Rattle.asm_reading.specs.declared.line.Line.{Line}
 use Rattle.asm_reading.specs.declared.line.Line.TheVariants as line
 use Rattle.asm_reading.specs.declared.line.Draft.{Draft}
@@ -120,19 +122,16 @@ predicate_of (x ∷ t.Pr p ∷ ys) = Err fault.Form
 predicate_of (x ∷ y ∷ ys) = Err fault.Register
 
 -- the unit letter is missing
-abbrev pub is_bare : Form → List Completer → Bool
-is_bare form.Break cs = not (is_present (completer_at cs 0))
-is_bare form.BreakLong cs = not (is_present (completer_at cs 0))
-is_bare form.Nop cs = not (is_present (completer_at cs 0))
-is_bare form.NopLong cs = not (is_present (completer_at cs 0))
-is_bare form.Hint cs = not (is_present (completer_at cs 0))
-is_bare form.HintImm cs = not (is_present (completer_at cs 0))
-is_bare form.ChkS cs = not (is_present (completer_at cs 1))
-is_bare _ cs = false
+abbrev pub is_missing : Said → Bool
+is_missing said.NoUnit = true
+is_missing _ = false
+
+abbrev pub is_bare : List Completer → Bool
+is_bare cs = list_any (λ c. is_missing c.says) cs
 
 abbrev pub draft_of : Form → List Completer → ℕ → List KindAndText → Op → Draft
 draft_of f cs qp after x =
-    record { insn = record { qp = qp; op = x }; target = label_name (row_of f).items after; bare = is_bare f cs }
+    record { insn = record { qp = qp; op = x }; target = label_name (row_of f).items after; bare = is_bare cs }
 
 abbrev pub completers_or_none : Form → List ℕ → List Completer
 completers_or_none f name = unwrap_or (completers f name) []

@@ -14,10 +14,10 @@ use crate::line::{Draft, Line};
 use crate::relation::relation_of;
 use crate::template_name::template_name_of;
 use asm_forms::{
-    AccessSize, Completer, Completers, Form, FormItem, Spelled, completers, find_spelled,
+    AccessSize, Completer, Completers, Form, FormItem, Said, Spelled, completers, find_spelled,
     is_label_item, named, taken,
 };
-use asm_instructions::{is_present_at, op_of, u32_at};
+use asm_instructions::{op_of, u32_at};
 use asm_matching::read_form;
 use asm_words::limits::LINE_LIMIT;
 use asm_words::{LineFault, Name, Token, Word, WordKind, numbered_register, token, words_into};
@@ -129,15 +129,12 @@ fn predicate(line: &[u8], before: &[Word], buffer: &mut Tokens) -> Result<Pr, Li
 }
 
 /// Whether the unit letter is missing.
-fn is_bare(form: Form, completers: &[Completer]) -> bool
-    ensures { result ≡ is_bare form completers.now }
+fn is_bare(completers: &[Completer]) -> bool
+    ensures { result ≡ is_bare completers.now }
 {
-    match form {
-        Form::Break | Form::BreakLong | Form::Nop | Form::NopLong | Form::Hint | Form::HintImm =>
-            !is_present_at(completers, 0),
-        Form::ChkS => !is_present_at(completers, 1),
-        _ => false,
-    }
+    completers
+        .iter()
+        .any(|completer| matches!(completer.says, Said::NoUnit))
 }
 
 /// The completers of the form in the name, and none where it has others.
@@ -195,7 +192,7 @@ fn slot_line(
         draft: Draft {
             insn: Insn { qp, op },
             target: label_name(line, items, words),
-            bare: is_bare(form, completers),
+            bare: is_bare(completers),
         },
         stop: ends_in_stop(tokens),
     };

@@ -5,12 +5,11 @@ mod CompletersBack
 mod LinesBack
 mod Mnemonic
 pub mod OperandTexts
+mod OperandsBack
+mod FormsBack
+mod FormFound
+mod ReadsApart
 mod ReadsBack
-mod ReadsBackA
-mod ReadsBackB
-mod ReadsBackI
-mod ReadsBackM
-mod ReadsBackX
 pub mod Short
 pub mod SlotLines
 mod Targets

@@ -4,23 +4,16 @@ use Rattle.std.specs.Prelude.{flat_map}
 use Rattle.std.specs.List.{list_all}
 use Rattle.std.proofs.lemmas.Bool.{not-true}
 use Rattle.ia_insn.specs.declared.insn.Op.{Op}
-use Rattle.ia_insn.specs.declared.choices.BranchKind.TheVariants as branch
-use Rattle.ia_insn.specs.declared.choices.CmpKind.TheVariants as cmp
-use Rattle.ia_insn.specs.declared.choices.LoadKind.TheVariants as load
-use Rattle.ia_insn.specs.declared.choices.StoreKind.TheVariants as store
-use Rattle.ia_insn.specs.declared.choices.Unit.TheVariants as unit
 use Rattle.ia_program.proofs.Tests.{left, right}
 use Rattle.asm_words.specs.declared.word.WordKind.TheVariants as kind
 use Rattle.asm_words.specs.Bytes.{is_name_byte, is_digit_byte}
 use Rattle.asm_words.proofs.Lexed.{lexed, is_end}
 use Rattle.asm_words.proofs.Lexing.{name_lexed}
-use Rattle.asm_forms.specs.declared.choices.CompareRelation.TheVariants as rel
-use Rattle.asm_forms.specs.declared.choices.Whether.TheVariants as wh
-use Rattle.asm_forms.specs.declared.choices.CacheHint.TheVariants as hint
 use Rattle.asm_forms.specs.declared.completer.Completer.{Completer}
-use Rattle.asm_forms.specs.declared.completer.Completer.TheVariants as c
+use Rattle.asm_forms.specs.declared.completer.Suffix.{Suffix}
+use Rattle.asm_forms.specs.declared.completer.Suffix.TheVariants as s
 use Rattle.asm_forms.specs.declared.form.Form.{Form}
-use Rattle.asm_forms.specs.Completers.{text_of}
+use Rattle.asm_forms.specs.Completers.{suffix_text, text_of}
 use Rattle.asm_forms.specs.Rows.{rows, row_of}
 use Rattle.asm_forms.proofs.RowFacts.{of_row}
 use Rattle.asm_canonical.proofs.Written.{form_of, completers_of}
@@ -45,25 +38,9 @@ word_bytes : (f : Form) → list_all is_name_byte (row_of f).word ≡ true
 word_bytes f = right (begins_name (row_of f).word) _ (of_row (λ r. begins_name r.word && list_all is_name_byte r.word) f words_plain)
 
 -- and so are those of each completer
-completer_bytes : (completer : Completer) → list_all is_name_byte (text_of completer) ≡ true
-completer_bytes c.Absent = refl
-completer_bytes (c.CompareRelation rel.Eq) = refl
-completer_bytes (c.CompareRelation r) = refl
-completer_bytes (c.Compare cmp.Normal) = refl
-completer_bytes (c.Compare k) = refl
-completer_bytes (c.Whether wh.Sptk) = refl
-completer_bytes (c.Whether w) = refl
-completer_bytes (c.Load load.Plain) = refl
-completer_bytes (c.Load k) = refl
-completer_bytes (c.Store store.Plain) = refl
-completer_bytes (c.Store k) = refl
-completer_bytes (c.Hint hint.None) = refl
-completer_bytes (c.Hint g) = refl
-completer_bytes (c.Loop branch.Cond) = refl
-completer_bytes (c.Loop b) = refl
-completer_bytes (c.Unit unit.L) = refl
-completer_bytes (c.Unit u) = refl
-completer_bytes x = refl
+completer_bytes : (suffix : Suffix) → list_all is_name_byte (suffix_text suffix) ≡ true
+completer_bytes s.Absent = refl
+completer_bytes suffix = refl
 
 names_both : (xs ys : List ℕ) → list_all is_name_byte xs ≡ true → list_all is_name_byte ys ≡ true → list_all is_name_byte (xs ++ ys) ≡ true
 names_both [] ys h k = k
@@ -75,7 +52,7 @@ begins_both (x ∷ xs) ys h = h
 
 completers_bytes : (cs : List Completer) → list_all is_name_byte (flat_map text_of cs) ≡ true
 completers_bytes [] = refl
-completers_bytes (c ∷ cs) = names_both (text_of c) (flat_map text_of cs) (completer_bytes c) (completers_bytes cs)
+completers_bytes (c ∷ cs) = names_both (text_of c) (flat_map text_of cs) (completer_bytes c.suffix) (completers_bytes cs)
 
 -- the bytes of a mnemonic are those of a name
 pub mnemonic_bytes : (f : Form) (cs : List Completer) → list_all is_name_byte (mnemonic_text f cs) ≡ true

@@ -1,61 +1,96 @@
--- Each instruction in its ranges is read back as it is printed.
+-- Each listed instruction is read back as it is printed.
+use Rattle.std.proofs.Common.{◌≡◌, refl, sym, ◌∙◌, inl, inr, ℕ, true, false, get_or, List}
+use Rattle.std.specs.List.{list_all}
+use Rattle.ia_insn.specs.declared.insn.Insn.{Insn}
 use Rattle.ia_insn.specs.declared.insn.Op.{Op}
 use Rattle.ia_insn.specs.declared.insn.Op.TheVariants as op
 use Rattle.ia_insn.specs.Ranges.{HasRanges}
+use Rattle.insn_rows.specs.declared.row.Row.{Row}
+use Rattle.insn_rows.specs.Arms.{opcode_of}
+use Rattle.insn_rows.specs.Codes.{IsListedBy}
+use Rattle.insn_rows.specs.Rows.{listed}
+use Rattle.insn_rows.proofs.RowBack.{no_row}
+use Rattle.insn_rows.proofs.RowWords.{all_get}
+use Rattle.formats_a.specs.Listed.{rows as rows_a}
+use Rattle.formats_i.specs.Listed.{rows as rows_i}
+use Rattle.formats_m.specs.Listed.{rows as rows_m}
+use Rattle.formats_b.specs.ListedB.{rows as rows_b}
+use Rattle.formats_b.specs.ListedF.{rows as rows_f}
+use Rattle.formats_b.specs.ListedX.{rows as rows_x, slot_part}
+use Rattle.formats_b.specs.PartsX.{slot_op}
+use Rattle.ia_program.specs.Listed.{IsListed}
+use Rattle.asm_text.proofs.FormsBack.{begun, said_by, moved}
+use Rattle.asm_text.proofs.FormFound.{is_apart, row_agrees, OpcodesBack, listed_back}
+use Rattle.asm_text.proofs.ReadsApart.{alloc_back, movl_back, break_back, nop_back}
 use Rattle.asm_text.proofs.WayBack.{ReadsBack}
-use Rattle.asm_text.proofs.ReadsBackA.{alu_back, shladd_back, imm8_back, imm14_back, imm22_back, cmp_back, cmp_zero_back, cmp_imm_back, lane_back}
-use Rattle.asm_text.proofs.ReadsBackI.{shift_back, popcnt_back, shrp_back, extr_back, dep_z_back, dep_z_imm_back, dep_imm_back, dep_back, tbit_back, tnat_back, chk_s_back, mov_to_br_back, mov_from_br_back, mov_to_pr_back, mov_to_pr_rot_back, mov_from_ip_back, mov_from_pr_back, to_ar_back, to_ar_imm_back, from_ar_back, ext_back}
-use Rattle.asm_text.proofs.ReadsBackM.{load_back, store_back, exchange_back, fetch_add_back, chk_a_back, invala_back, mf_back, invala_e_back, alloc_back}
-use Rattle.asm_text.proofs.ReadsBackB.{br_back, br_call_back, br_ind_back, br_ret_back, br_call_ind_back, clrrrb_back}
-use Rattle.asm_text.proofs.ReadsBackX.{movl_back, break_back, nop_back, hint_back}
 
-pub reads_back : (x : Op) → HasRanges x → ReadsBack x
-reads_back (op.Alu f r1 r2 r3) h = alu_back f r1 r2 r3
-reads_back (op.ShlAdd p4 r1 r2 count r3) h = shladd_back p4 r1 r2 count r3 h.1 h.2
-reads_back (op.AluImm8 f r1 imm r3) h = imm8_back f r1 imm r3 h.1 h.2
-reads_back (op.AddImm14 p4 r1 imm r3) h = imm14_back p4 r1 imm r3 h.1
-reads_back (op.AddImm22 r1 imm r3) h = imm22_back r1 imm r3 h.1
-reads_back (op.Cmp four rel kind p1 p2 r2 r3) h = cmp_back four kind rel p1 p2 r2 r3 h.1
-reads_back (op.CmpZero four rel kind p1 p2 r3) h = cmp_zero_back four kind rel p1 p2 r3 h.1 h.2
-reads_back (op.CmpImm four rel kind p1 p2 imm r3) h = cmp_imm_back four kind rel p1 p2 imm r3 h.1 h.2
-reads_back (op.Lane f size r1 r2 r3) h = lane_back f size r1 r2 r3 h.1
-reads_back (op.ShiftVar f r1 value count) h = shift_back f r1 value count
-reads_back (op.Popcnt r1 r3) h = popcnt_back r1 r3
-reads_back (op.Shrp r1 r2 r3 count) h = shrp_back r1 r2 r3 count h.1
-reads_back (op.Extr signed r1 r3 lowest len) h = extr_back signed r1 r3 lowest len h.1
-reads_back (op.DepZ r1 r2 lowest len) h = dep_z_back r1 r2 lowest len h.1
-reads_back (op.DepZImm r1 imm lowest len) h = dep_z_imm_back r1 imm lowest len h.1 h.2
-reads_back (op.DepImm r1 ones r3 lowest len) h = dep_imm_back r1 ones r3 lowest len h.1
-reads_back (op.Dep r1 r2 r3 lowest len) h = dep_back r1 r2 r3 lowest len h.1
-reads_back (op.Tbit unc p1 p2 r3 lowest) h = tbit_back unc p1 p2 r3 lowest h.1
-reads_back (op.Tnat unc p1 p2 r3) h = tnat_back unc p1 p2 r3
-reads_back (op.ChkS unit r2 disp) h = chk_s_back unit r2 disp h.0
-reads_back (op.MovToBr b1 r2 ret imp wh tag) h = mov_to_br_back b1 r2 ret imp wh tag h.0 h.1
-reads_back (op.MovFromBr r1 b2) h = mov_from_br_back r1 b2
-reads_back (op.MovToPr r2 mask) h = mov_to_pr_back r2 mask h.0 h.1
-reads_back (op.MovToPrRot imm) h = mov_to_pr_rot_back imm h.0 h.1
-reads_back (op.MovFromIp r1) h = mov_from_ip_back r1
-reads_back (op.MovFromPr r1) h = mov_from_pr_back r1
-reads_back (op.MovToAr ar r2) h = to_ar_back ar r2
-reads_back (op.MovToArImm ar imm) h = to_ar_imm_back ar imm h
-reads_back (op.MovFromAr r1 ar) h = from_ar_back r1 ar
-reads_back (op.Ext signed size r1 r3) h = ext_back signed size r1 r3 h.1
-reads_back (op.Load size kind hint r1 r3 update) h = load_back size kind hint r1 r3 update h.1 h.2 h.3 h.4
-reads_back (op.Store size kind hint r3 r2 update) h = store_back size kind hint r3 r2 update h.0 h.1 h.2
-reads_back (op.Xchg size hint r1 r3 r2) h = exchange_back size hint r1 r3 r2 h.1 h.2 h.3
-reads_back (op.FetchAdd size release hint r1 r3 inc) h = fetch_add_back size release hint r1 r3 inc h.1 h.2 h.3 h.4
-reads_back (op.ChkA clear r1 disp) h = chk_a_back clear r1 disp
-reads_back op.Invala h = invala_back
-reads_back op.Mf h = mf_back
-reads_back (op.InvalaE r1) h = invala_e_back r1
-reads_back (op.Alloc r1 sof sol sor) h = alloc_back r1 sof sol sor h.1 h.2 h.3
-reads_back (op.Br kind wh many clr disp) h = br_back kind wh many clr disp h.0
-reads_back (op.BrCall b1 wh many clr disp) h = br_call_back b1 wh many clr disp h.0
-reads_back (op.BrInd b2 wh many clr) h = br_ind_back b2 wh many clr h
-reads_back (op.BrRet b2 wh many clr) h = br_ret_back b2 wh many clr h
-reads_back (op.BrCallInd b1 b2 wh many clr) h = br_call_ind_back b1 b2 wh many clr h
-reads_back (op.Clrrrb pred_only) h = clrrrb_back pred_only
-reads_back (op.Movl r1 imm) h = movl_back r1 imm h.1
-reads_back (op.Break unit imm) h = break_back unit imm h
-reads_back (op.Nop unit imm) h = nop_back unit imm h
-reads_back (op.Hint unit imm) h = hint_back unit imm h
+agree_a : list_all row_agrees rows_a ≡ true
+unfolding rows_a listed
+agree_a = refl
+
+opcodes_a : OpcodesBack rows_a
+unfolding rows_a listed begun said_by moved
+opcodes_a = refl
+
+agree_i : list_all row_agrees rows_i ≡ true
+unfolding rows_i listed
+agree_i = refl
+
+opcodes_i : OpcodesBack rows_i
+unfolding rows_i listed begun said_by moved
+opcodes_i = refl
+
+agree_m : list_all row_agrees rows_m ≡ true
+unfolding rows_m listed
+agree_m = refl
+
+opcodes_m : OpcodesBack rows_m
+unfolding rows_m listed begun said_by moved
+opcodes_m = refl
+
+agree_b : list_all row_agrees rows_b ≡ true
+unfolding rows_b listed
+agree_b = refl
+
+opcodes_b : OpcodesBack rows_b
+unfolding rows_b listed begun said_by moved
+opcodes_b = refl
+
+agree_f : list_all row_agrees rows_f ≡ true
+unfolding rows_f listed
+agree_f = refl
+
+opcodes_f : OpcodesBack rows_f
+unfolding rows_f listed begun said_by moved
+opcodes_f = refl
+
+-- the rows of long instructions are read back by themselves
+all_apart : list_all (λ r. is_apart r.opcode) rows_x ≡ true
+unfolding rows_x
+all_apart = refl
+
+slot_apart : (x : Op) → is_apart (opcode_of (slot_op x)) ≡ is_apart (opcode_of x)
+slot_apart (op.Movl r1 imm) = refl
+slot_apart (op.Break u imm) = refl
+slot_apart (op.Nop u imm) = refl
+slot_apart x = refl
+
+long_is_apart : (i : Insn) → IsListedBy rows_x (slot_part i) → is_apart (opcode_of i.op) ≡ true
+long_is_apart i l =
+    let h : is_apart (get_or rows_x l.1.place no_row).opcode ≡ true = all_get (λ r. is_apart r.opcode) rows_x l.1.place no_row l.1.inside all_apart in
+    sym (slot_apart i.op) ∙ (rw ((l.1.row no_row).opcode) at h)
+
+by_row : (i : Insn) → IsListed i → is_apart (opcode_of i.op) ≡ false → ReadsBack i.op
+by_row i (inl l) h = listed_back rows_a i agree_a opcodes_a l h
+by_row i (inr (inl l)) h = listed_back rows_i i agree_i opcodes_i l h
+by_row i (inr (inr (inl l))) h = listed_back rows_m i agree_m opcodes_m l h
+by_row i (inr (inr (inr (inl l)))) h = listed_back rows_b i agree_b opcodes_b l h
+by_row i (inr (inr (inr (inr (inl l))))) h = listed_back rows_f i agree_f opcodes_f l h
+by_row i (inr (inr (inr (inr (inr l))))) h = let t = long_is_apart i (l.0, l.1.code) in cc
+
+pub reads_back : (qp : ℕ) (x : Op) → IsListed (record { qp = qp; op = x }) → HasRanges x → ReadsBack x
+reads_back qp (op.Alloc r1 sof sol sor) l h = alloc_back r1 sof sol sor h.1 h.2 h.3
+reads_back qp (op.Movl r1 imm) l h = movl_back r1 imm h.1
+reads_back qp (op.Break u imm) l h = break_back u imm h
+reads_back qp (op.Nop u imm) l h = nop_back u imm h
+reads_back qp x l h = by_row (record { qp = qp; op = x }) l refl

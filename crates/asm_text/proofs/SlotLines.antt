@@ -151,7 +151,7 @@ slot_reads x before after qp name stop back printed p seen n =
     let found : find (is_spelled (tokens_of x)) forms ≡ Some f = row_back f (completers_of x) (operands_of x) back.choice back.fits in
     let cs : completers_or_none f (name_of_op x) ≡ completers_of x = own_completers f (completers_of x) back.choice in
     let xs : taken (items_of x) (without_stop (tokens after)) ≡ operands_of x = ap (taken (items_of x)) w ∙ taken_back (items_of x) (operands_of x) back.fits in
-    let bare : is_bare f (completers_or_none f (name_of_op x)) ≡ false = ap (is_bare f) cs ∙ back.bare in
+    let bare : is_bare (completers_or_none f (name_of_op x)) ≡ false = ap is_bare cs ∙ back.bare in
     joined (predicate_of (tokens before)) (read_form forms (without_stop (tokens after)) (tokens after))
     (λ g. op_of g (completers_or_none g (name_of_op x)) (taken (row_of g).items (without_stop (tokens after))))
     (λ g q y. draft_of g (completers_or_none g (name_of_op x)) q after y) (ends_in_stop (tokens after))
@@ -159,7 +159,7 @@ slot_reads x before after qp name stop back printed p seen n =
     p
     (ap (λ ys. read_form forms ys (tokens after)) w ∙ found_read forms (tokens_of x) (tokens after) f found)
     (ap (op_of f (completers_or_none f (name_of_op x))) xs ∙ ap (λ q. op_of f q (operands_of x)) cs ∙ back.op)
-    (same_draft qp (untargeted x) (label_name (items_of x) after) name (is_bare f (completers_or_none f (name_of_op x))) n bare)
+    (same_draft qp (untargeted x) (label_name (items_of x) after) name (is_bare (completers_or_none f (name_of_op x))) n bare)
     (ap ends_in_stop seen ∙ ends_with (tokens_of x) stop printed)
 
 -- and so with the mnemonic before them

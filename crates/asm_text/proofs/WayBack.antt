@@ -21,16 +21,5 @@ pub record ReadsBack (x : Op) : Type 0 where
   pub fits : fits (row_of (syntax_of x).form).items (syntax_of x).operands ≡ true
   pub label : list_any is_label_item (row_of (syntax_of x).form).items ≡ is_some (displacement x)
   pub slot : is_instruction (syntax_of x).form ≡ true
-  pub bare : is_bare (syntax_of x).form (syntax_of x).completers ≡ false
+  pub bare : is_bare (syntax_of x).completers ≡ false
   pub op : op_of (syntax_of x).form (syntax_of x).completers (syntax_of x).operands ≡ Some (untargeted x)
-
--- a number is its sign and magnitude
-pub signed_back : (z : ℤ) → signed (negative z) (unsigned_abs z) ≡ z
-signed_back (pos n) = refl
-signed_back (negsuc n) = refl
-
--- a mask without its lowest bit comes back
-pub mask_back : (m : ℕ) → m < 131072 → m % 2 ≡ 0 → m % 131072 - m % 131072 % 2 ≡ m
-mask_back m l e =
-    let s : m % 131072 ≡ m = mod-eq_of_lt l in
-    rw (s, e) (omega arith)
