@@ -1,8 +1,7 @@
 -- A completer that an instruction is printed with is of its set, and says again what is so.
-use Rattle.std.proofs.Common.{◌≡◌, refl, sym, subst, ◌∙◌, ap, inl, inr, ◌⊎◌, ℕ, zero, suc, ◌^◌, ◌<◌, ◌≤◌, ◌==◌, Bool, true, false, not, ◌&&◌, cond, eqb, List, [], ◌∷◌, length, map, get_or, Option, Some, None, is_some, lit<, arith}
+use Rattle.std.proofs.Common.{◌≡◌, refl, sym, subst, ◌∙◌, ap, inl, inr, ◌⊎◌, ℕ, zero, suc, ◌^◌, ◌<◌, ◌≤◌, Bool, true, false, not, ◌&&◌, cond, eqb, List, [], ◌∷◌, map, Option, Some, None, is_some, arith}
 use Rattle.std.specs.Prelude.{filter, nat_le, unwrap_or}
 use Rattle.std.specs.List.{Contains, find, list_all}
-use Rattle.std.specs.Option.{option_and_then}
 use Rattle.std.proofs.lemmas.Bool.{eqb-true, le-leb, and_from, not-true}
 use Rattle.ia_program.proofs.Tests.{left, right}
 use Rattle.ia_insn.specs.Ranges.{IsAccessSize}
@@ -18,7 +17,7 @@ use Rattle.asm_forms.specs.declared.completer.Said.{Said}
 use Rattle.asm_forms.specs.declared.completer.Said.TheVariants as said
 use Rattle.asm_forms.specs.Completers.{members}
 use Rattle.asm_forms.proofs.ReadChoice.{IsOneOf, one_mapped}
-use Rattle.asm_instructions.specs.Instructions.{completed, completed_by}
+use Rattle.asm_instructions.specs.Instructions.{completed}
 use Rattle.asm_instructions.specs.Operands.{said_value}
 use Rattle.asm_reading.specs.Lines.{is_missing}
 use Rattle.asm_canonical.specs.Canonical.{is_said, completer_of}
@@ -93,9 +92,9 @@ below (suc n) = n ∷ below n
 is_below : (n k : ℕ) → n < k → IsOneOf n (below k)
 is_below n zero h = absurd (omega (arith, h))
 is_below n (suc k) h = elim (eqb n k) as (λ b. (b ≡ eqb n k) → (n ≡ k) ⊎ IsOneOf n (below k)) [
-    | true ↦ λ e. inl (eqb-true n k (sym e))
-    | false ↦ λ e. inr (is_below n k (grind (arith, h, e)))
-  ] refl
+  | true ↦ λ e. inl (eqb-true n k (sym e))
+  | false ↦ λ e. inr (is_below n k (grind (arith, h, e)))
+] refl
 
 -- the values of a coding that has few
 abbrev pub is_few : Coding → ℕ → Bool

@@ -1,9 +1,8 @@
 -- The form that a listed instruction is printed with agrees with the row of its words: a computation over the rows.
-use Rattle.std.proofs.Common.{◌≡◌, ◌⊎◌, refl, sym, subst, ◌∙◌, ap, ap₂, arith, drop, inl, inr, ℕ, zero, suc, ◌<◌, ◌==◌, Bool, true, false, not, ◌&&◌, ◌||◌, cond, List, [], ◌∷◌, ◌++◌, length, map, get_or, Option, Some, None, is_some}
+use Rattle.std.proofs.Common.{◌≡◌, ◌⊎◌, refl, sym, subst, ◌∙◌, ap, ap₂, arith, drop, inl, inr, ℕ, zero, suc, Bool, true, false, not, ◌&&◌, ◌||◌, cond, List, [], ◌∷◌, map, get_or, Some, is_some}
 use Rattle.std.specs.Prelude.{flat_map, filter, unwrap_or}
 use Rattle.std.specs.List.{find, list_all, list_any}
-use Rattle.std.specs.Option.{option_and_then}
-use Rattle.std.proofs.lemmas.Bool.{and_from, cond-true, not-true}
+use Rattle.std.proofs.lemmas.Bool.{and_from, cond-true}
 use Rattle.ia_program.proofs.Tests.{left, right}
 use Rattle.ia_insn.specs.declared.insn.Insn.{Insn}
 use Rattle.ia_insn.specs.declared.insn.Op.{Op}
@@ -29,13 +28,13 @@ use Rattle.asm_forms.specs.declared.completer.Said.{Said}
 use Rattle.asm_forms.specs.declared.form.Form.{Form}
 use Rattle.asm_forms.specs.declared.form.Form.TheVariants as form
 use Rattle.asm_forms.specs.Items.{is_label_item}
-use Rattle.asm_forms.specs.Rows.{FormRow, rows, first_row, row_of, place}
+use Rattle.asm_forms.specs.Rows.{rows, first_row, row_of, place}
 use Rattle.asm_forms.proofs.ReadChoice.{IsOneOf, one_mapped, one_flat, same_of, same_at, read_choice}
 use Rattle.asm_forms.proofs.RowFacts.{form_back, in_table}
 use Rattle.asm_words.specs.declared.tokens.Token.{Token}
 use Rattle.asm_instructions.specs.Instructions.{settled}
 use Rattle.asm_reading.specs.FaultOrder.{is_instruction}
-use Rattle.asm_canonical.specs.Canonical.{forms_of, is_said, has_fixed, form_of, written, syntax_of}
+use Rattle.asm_canonical.specs.Canonical.{forms_of, is_said, has_fixed, form_of, written}
 use Rattle.asm_canonical.proofs.Printed.{values_first}
 use Rattle.asm_text.specs.ReadBack.{untargeted}
 use Rattle.asm_text.proofs.CompletersBack.{is_few, every, few, all_of}
@@ -282,7 +281,6 @@ of_opcode os x t apart agreed back =
 
 of_row_back : (r : Row) (i : Insn) (w : ℕ) → IsOfRow r i w → is_apart (opcode_of i.op) ≡ false → row_agrees r ≡ true → map (λ f. begun (row_of f) r.opcode) (forms_had (operands r) r.opcode) ≡ map (λ f. Some r.opcode) (forms_had (operands r) r.opcode) → ReadsBack i.op
 of_row_back r i w m apart agreed back = of_opcode (operands r) i.op (taken_under_zero (operands r) i m.listed.takes) apart (rw m.opcode at agreed) (rw m.opcode at back)
-
 
 -- and so is each of a table whose rows do
 pub listed_back : (rs : List Row) (i : Insn) → list_all row_agrees rs ≡ true → OpcodesBack rs → IsListedBy rs i → is_apart (opcode_of i.op) ≡ false → ReadsBack i.op

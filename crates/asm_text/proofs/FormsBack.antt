@@ -1,10 +1,10 @@
 -- A row of forms agrees with a row of words: what is printed by it is read as what was printed. Whether it does is a computation
 -- on the two rows.
-use Rattle.std.proofs.Common.{◌≡◌, refl, sym, subst, ◌∙◌, ap, inl, inr, ℕ, zero, suc, ◌<◌, ◌==◌, Bool, true, false, not, ◌&&◌, ◌||◌, cond, eqb, List, [], ◌∷◌, length, map, get_or, Option, Some, None, is_some, lit<, arith}
-use Rattle.std.specs.Prelude.{ℤ, nat_lt, pos, slice_set}
+use Rattle.std.proofs.Common.{◌≡◌, refl, sym, subst, ◌∙◌, ap, ℕ, zero, suc, ◌<◌, ◌==◌, Bool, true, false, not, ◌&&◌, ◌||◌, cond, eqb, List, [], ◌∷◌, length, map, Option, Some, None}
+use Rattle.std.specs.Prelude.{nat_lt, slice_set}
 use Rattle.std.specs.List.{Contains, list_all, list_any}
 use Rattle.std.specs.Option.{option_map, option_and_then}
-use Rattle.std.proofs.lemmas.Bool.{and_from, eqb-true, eq-eqb, ltb-true, not-true}
+use Rattle.std.proofs.lemmas.Bool.{and_from, eqb-true, eq-eqb, ltb-true}
 use Rattle.std.proofs.lemmas.List.{get_or-set_same, get_or-set_other, length-set}
 use Rattle.ia_program.proofs.Tests.{left, right}
 use Rattle.ia_insn.specs.declared.insn.Op.{Op}
@@ -12,14 +12,13 @@ use Rattle.ia_insn.specs.declared.insn.Op.TheVariants as op
 use Rattle.ia_insn.specs.declared.choices.Update.TheVariants as update
 use Rattle.insn_rows.specs.declared.opcode.Opcode.{Opcode}
 use Rattle.insn_rows.specs.declared.opcode.Opcode.TheVariants as o
-use Rattle.insn_rows.specs.declared.opcode.UpdateKind.TheVariants as updates
 use Rattle.insn_rows.specs.declared.row.Coding.{Coding}
 use Rattle.insn_rows.specs.declared.row.Coding.TheVariants as c
 use Rattle.insn_rows.specs.declared.row.Operand.{Operand}
 use Rattle.insn_rows.specs.declared.value.Value.{Value}
 use Rattle.insn_rows.specs.declared.value.Value.TheVariants as v
 use Rattle.insn_rows.specs.Arms.{opcode_of, operands_of}
-use Rattle.insn_rows.specs.ArmsBack.{op_of as op_with, update_of, gr_of, short_of}
+use Rattle.insn_rows.specs.ArmsBack.{op_of as op_with}
 use Rattle.insn_rows.specs.Codings.{Takes}
 use Rattle.insn_rows.specs.Rows.{operand_width, AllTake}
 use Rattle.insn_rows.specs.Values.{at}
@@ -29,7 +28,6 @@ use Rattle.asm_words.specs.declared.tokens.Token.TheVariants as t
 use Rattle.asm_forms.specs.declared.completer.Completer.{Completer}
 use Rattle.asm_forms.specs.declared.completer.CompleterSet.{CompleterSet}
 use Rattle.asm_forms.specs.declared.completer.Said.{Said}
-use Rattle.asm_forms.specs.declared.form.Form.{Form}
 use Rattle.asm_forms.specs.declared.items.FormItem.{FormItem}
 use Rattle.asm_forms.specs.declared.items.FormItem.TheVariants.{Is, Takes as TakesKind}
 use Rattle.asm_forms.specs.declared.items.Kind.{Kind}
@@ -43,8 +41,8 @@ use Rattle.asm_instructions.specs.Operands.{said_value, operand_value}
 use Rattle.asm_reading.specs.Lines.{is_missing, is_bare}
 use Rattle.asm_canonical.specs.Canonical.{is_said, has_fixed, completer_of, value_token, register_of, operand_of}
 use Rattle.asm_text.specs.ReadBack.{untargeted}
-use Rattle.asm_text.proofs.OperandsBack.{resting, IsBack, is_kind, is_shaped, operand_back}
-use Rattle.asm_text.proofs.CompletersBack.{is_value, said_is, value_rests, says_values, says_opcode, SaysValue, SaysOpcode, says_value, says_own}
+use Rattle.asm_text.proofs.OperandsBack.{resting, is_kind, is_shaped, operand_back}
+use Rattle.asm_text.proofs.CompletersBack.{is_value, said_is, value_rests, says_values, says_opcode, says_value, says_own}
 
 -- how many bits the code of an operand has, by its number
 abbrev pub width_at : List Operand → ℕ → ℕ
@@ -77,9 +75,9 @@ is_new y vs n m l e = subst (λ k. at (slice_set vs n (y n)) k ≡ y k) e (get_o
 
 is_at : (y : ℕ → Value) (vs : List Value) (n m : ℕ) → n < length vs → at vs m ≡ y m → at (slice_set vs n (y n)) m ≡ y m
 is_at y vs n m l e = elim (eqb m n) as (λ b. (b ≡ eqb m n) → at (slice_set vs n (y n)) m ≡ y m) [
-    | true ↦ λ q. is_new y vs n m l (sym (eqb-true m n (sym q)))
-    | false ↦ λ q. get_or-set_other vs n m (y n) v.Absent (λ s. let same = eq-eqb m n s in cc) ∙ e
-  ] refl
+  | true ↦ λ q. is_new y vs n m l (sym (eqb-true m n (sym q)))
+  | false ↦ λ q. get_or-set_other vs n m (y n) v.Absent (λ s. let same = eq-eqb m n s in cc) ∙ e
+] refl
 
 pub put_keeps : (y : ℕ → Value) (ns : List ℕ) (vs : List Value) (m : ℕ) → list_all (λ n. nat_lt n (length vs)) ns ≡ true → at vs m ≡ y m → at (puts y ns vs) m ≡ y m
 put_keeps y [] vs m h e = e
@@ -306,12 +304,12 @@ three y fs ks ss m absent hf hk hs any none =
     elim (list_any (λ n. n == m) fs) as (λ b. (b ≡ list_any (λ n. n == m) fs) → (b || (list_any (λ n. n == m) ks || (list_any (λ n. n == m) ss || absent))) ≡ true → at (puts y ss vk) m ≡ y m) [
       | true ↦ λ q w. put_keeps y ss vk m ns (put_keeps y ks vf m nk (put_sets y fs no_values m hf (sym q)))
       | false ↦ λ q w. elim (list_any (λ n. n == m) ks) as (λ b. (b ≡ list_any (λ n. n == m) ks) → (b || (list_any (λ n. n == m) ss || absent)) ≡ true → at (puts y ss vk) m ≡ y m) [
-          | true ↦ λ r u. put_keeps y ss vk m ns (put_sets y ks vf m nk (sym r))
-          | false ↦ λ r u. elim (list_any (λ n. n == m) ss) as (λ b. (b ≡ list_any (λ n. n == m) ss) → (b || absent) ≡ true → at (puts y ss vk) m ≡ y m) [
-              | true ↦ λ s z. put_sets y ss vk m ns (sym s)
-              | false ↦ λ s z. put_keeps y ss vk m ns (put_keeps y ks vf m nk (put_keeps y fs no_values m hf (none_at m ∙ sym (none z))))
-            ] refl u
-        ] refl w
+        | true ↦ λ r u. put_keeps y ss vk m ns (put_sets y ks vf m nk (sym r))
+        | false ↦ λ r u. elim (list_any (λ n. n == m) ss) as (λ b. (b ≡ list_any (λ n. n == m) ss) → (b || absent) ≡ true → at (puts y ss vk) m ≡ y m) [
+          | true ↦ λ s z. put_sets y ss vk m ns (sym s)
+          | false ↦ λ s z. put_keeps y ss vk m ns (put_keeps y ks vf m nk (put_keeps y fs no_values m hf (none_at m ∙ sym (none z))))
+        ] refl u
+      ] refl w
     ] refl any
 
 absent_value : (x : ℕ → Value) (m : ℕ) → x (suc m) ≡ v.Absent → read_values x (suc m) ≡ v.Absent

@@ -1,9 +1,8 @@
 -- An operand of a kind, printed from a value that its coding takes, is one that the kind prints, and says the value again.
-use Rattle.std.proofs.Common.{◌≡◌, refl, ap, inl, inr, ℕ, suc, ◌-◌, ◌%◌, ◌^◌, ◌<◌, ◌≤◌, ◌==◌, ℤ, pos, negsuc, unsigned_abs, Bool, true, false, ◌&&◌, ltb, leb, lit<, arith}
+use Rattle.std.proofs.Common.{◌≡◌, refl, ap, ℕ, suc, ◌-◌, ◌%◌, ◌^◌, ◌<◌, ◌≤◌, ◌==◌, ℤ, pos, negsuc, unsigned_abs, Bool, true, false, ltb, lit<, arith}
 use Rattle.std.proofs.lemmas.Bool.{le-leb, eqb-true}
 use Rattle.std.proofs.Math.Nat.{mod-eq_of_lt}
 use Rattle.ia_insn.specs.Signed.{twos, FitsSigned}
-use Rattle.ia_insn.specs.Ranges.{IsIncrement}
 use Rattle.insn_rows.specs.declared.opcode.Opcode.{Opcode}
 use Rattle.insn_rows.specs.declared.row.Coding.{Coding}
 use Rattle.insn_rows.specs.declared.row.Coding.TheVariants as c
@@ -12,7 +11,6 @@ use Rattle.insn_rows.specs.declared.value.Value.TheVariants as v
 use Rattle.insn_rows.specs.Codings.{Takes}
 use Rattle.insn_rows.specs.WellMade.{is_of_kind}
 use Rattle.asm_words.specs.declared.tokens.Token.{Token}
-use Rattle.asm_words.specs.declared.tokens.Token.TheVariants as t
 use Rattle.asm_forms.specs.declared.items.Kind.{Kind}
 use Rattle.asm_forms.specs.declared.items.Kind.TheVariants as k
 use Rattle.asm_forms.specs.declared.items.NumberField.{NumberField}

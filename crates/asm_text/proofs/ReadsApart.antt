@@ -8,7 +8,7 @@ use Rattle.std.proofs.Math.Nat.{mod-eq_of_lt}
 use Rattle.ia_insn.specs.declared.insn.Op.TheVariants as op
 use Rattle.ia_insn.specs.declared.choices.Unit.{Unit as ExecutionUnit}
 use Rattle.ia_insn.specs.declared.choices.Unit.TheVariants as unit
-use Rattle.ia_insn.specs.Ranges.{IsNumberOf, IsHintOf}
+use Rattle.ia_insn.specs.Ranges.{IsNumberOf}
 use Rattle.asm_text.proofs.WayBack.{ReadsBack}
 
 -- X2

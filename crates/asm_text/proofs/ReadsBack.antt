@@ -1,11 +1,10 @@
 -- Each listed instruction is read back as it is printed.
-use Rattle.std.proofs.Common.{◌≡◌, refl, sym, ◌∙◌, inl, inr, ℕ, true, false, get_or, List}
+use Rattle.std.proofs.Common.{◌≡◌, refl, sym, ◌∙◌, inl, inr, ℕ, true, false, get_or}
 use Rattle.std.specs.List.{list_all}
 use Rattle.ia_insn.specs.declared.insn.Insn.{Insn}
 use Rattle.ia_insn.specs.declared.insn.Op.{Op}
 use Rattle.ia_insn.specs.declared.insn.Op.TheVariants as op
 use Rattle.ia_insn.specs.Ranges.{HasRanges}
-use Rattle.insn_rows.specs.declared.row.Row.{Row}
 use Rattle.insn_rows.specs.Arms.{opcode_of}
 use Rattle.insn_rows.specs.Codes.{IsListedBy}
 use Rattle.insn_rows.specs.Rows.{listed}

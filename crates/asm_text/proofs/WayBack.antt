@@ -1,7 +1,6 @@
 -- What it takes to read an instruction back.
-use Rattle.std.proofs.Common.{◌≡◌, refl, ℕ, ◌-◌, ◌%◌, ◌<◌, ℤ, pos, negsuc, unsigned_abs, true, false, Some, is_some, flat_map, arith}
+use Rattle.std.proofs.Common.{◌≡◌, true, false, Some, is_some, flat_map}
 use Rattle.std.specs.List.{list_any}
-use Rattle.std.proofs.Math.Nat.{mod-eq_of_lt}
 use Rattle.asm_forms.specs.Completers.{text_of}
 use Rattle.asm_forms.specs.Items.{fits, is_label_item}
 use Rattle.asm_forms.specs.Naming.{completers_in}
@@ -9,10 +8,9 @@ use Rattle.asm_forms.specs.Rows.{row_of}
 use Rattle.ia_insn.specs.declared.insn.Op.{Op}
 use Rattle.ia_insn.specs.Displacements.{displacement}
 use Rattle.asm_instructions.specs.Instructions.{op_of}
-use Rattle.asm_instructions.specs.Operands.{signed}
 use Rattle.asm_reading.specs.Lines.{is_bare}
 use Rattle.asm_reading.specs.FaultOrder.{is_instruction}
-use Rattle.asm_canonical.specs.Canonical.{negative, syntax_of}
+use Rattle.asm_canonical.specs.Canonical.{syntax_of}
 use Rattle.asm_text.specs.ReadBack.{untargeted}
 
 -- The completers and the operands of an instruction are those of its row, and mean the instruction.

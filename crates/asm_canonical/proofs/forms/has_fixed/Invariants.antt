@@ -1,5 +1,4 @@
 use Rattle.std.proofs.Common.{◌≡◌, drop}
-use Rattle.std.specs.List.{list_all}
 use Rattle.insn_rows.specs.Values.{at}
 use Rattle.asm_canonical.specs.Canonical.{has_fixed}
 use Rattle.asm_canonical.proofs.forms.has_fixed.Given as goal
