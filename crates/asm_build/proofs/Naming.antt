@@ -1,5 +1,5 @@
 -- Bundles with the addresses of their names: they fit their templates, and their targets are bundles.
-use Rattle.std.proofs.Common.{ℕ, zero, suc, ◌<◌, ◌++◌, Bool, true, false, if◌then◌else◌, List, [], ◌∷◌, Option, Some, None}
+use Rattle.std.proofs.Common.{◌≡◌, refl, sym, ap, ℕ, zero, suc, ◌<◌, ◌++◌, Bool, true, false, not, ◌&&◌, if◌then◌else◌, List, [], ◌∷◌, Option, Some, None}
 use Rattle.std.specs.Prelude.{IfSome, is_some, unwrap_or}
 use Rattle.std.specs.List.{AllByRecursion}
 use Rattle.std.specs.Map.{values_of}
@@ -11,11 +11,12 @@ use Rattle.ia_program.specs.declared.bundle.Slots.{Slots}
 use Rattle.ia_program.specs.declared.bundle.Slots.TheVariants.{Three, Long}
 use Rattle.ia_program.specs.Bundles.{Bundle, FitUnits, IsBundle, AreBundles}
 use Rattle.ia_program.specs.Fits.{Fits}
+use Rattle.ia_program.proofs.Tests.{left, right}
 use Rattle.asm_build.specs.declared.address.Address.{Address}
 use Rattle.asm_build.specs.declared.draft.BundleLines.{BundleLines}
 use Rattle.asm_build.specs.declared.draft.SlotName.{SlotName}
 use Rattle.asm_build.specs.Addresses.{IsReachable, reach}
-use Rattle.asm_build.specs.Names.{addressed_by, named, put_in, slots_named}
+use Rattle.asm_build.specs.Names.{addressed_by, named, is_named, put_in, stays, all_stay, slot_names, unnamed_among, unnamed_slot, slots_named, bundle_named}
 use Rattle.asm_build.specs.TextParts.{Labels, address_of}
 use Rattle.asm_build.proofs.AddressedTargets.{fit_stays}
 use Rattle.asm_build.proofs.LabelValues.{label_within}
@@ -66,3 +67,36 @@ one_more_fits [] b all is zero = is
 one_more_fits [] b all is (suc n) = tt
 one_more_fits (x ∷ xs) b all is zero = all 0
 one_more_fits (x ∷ xs) b all is (suc n) = one_more_fits xs b (λ k. all (suc k)) is n
+
+not_true : (b : Bool) → not b ≡ true → b ≡ false
+not_true true h = sym h
+not_true false h = refl
+
+-- an instruction without a name that needs none
+named_same : (labels : Labels) (n : ℕ) (x : Op) (target : Option (List ℕ)) → (not (is_some target) && not (is_some (displacement x))) ≡ true → named labels n x target ≡ Some x
+named_same labels n x None h = let none : is_some (displacement x) ≡ false = not_true _ h in rw none refl
+named_same labels n x (Some name) h = cc
+
+put_same : (labels : Labels) (n : ℕ) (i : Insn) (name : SlotName) → stays i name ≡ true → put_in labels n i name ≡ i
+put_same labels n i name h = rw (named_same labels n i.op name.target h) refl
+
+is_same : (labels : Labels) (n : ℕ) (i : Insn) (name : SlotName) → stays i name ≡ true → is_named labels n (i, name) ≡ true
+is_same labels n i name h = rw (named_same labels n i.op name.target h) refl
+
+slots_same : (labels : Labels) (n : ℕ) (slots : Slots) (b : BundleLines) → all_stay slots b ≡ true → slots_named labels n slots b ≡ slots
+slots_same labels n (Three i j k) b h =
+    let more = right (stays i b.first) _ h in
+    rw (put_same labels n i b.first (left _ _ h), put_same labels n j b.second (left _ _ more), put_same labels n k b.third (right (stays j b.second) _ more)) refl
+slots_same labels n (Long i j) b h = rw (put_same labels n i b.first (left _ _ h), put_same labels n j b.second (right (stays i b.first) _ h)) refl
+
+all_named : (labels : Labels) (n : ℕ) (slots : Slots) (b : BundleLines) → all_stay slots b ≡ true → unnamed_among labels n (slot_names slots b) ≡ None
+all_named labels n (Three i j k) b h =
+    let more = right (stays i b.first) _ h in
+    rw (is_same labels n i b.first (left _ _ h), is_same labels n j b.second (left _ _ more), is_same labels n k b.third (right (stays j b.second) _ more)) refl
+all_named labels n (Long i j) b h = rw (is_same labels n i b.first (left _ _ h), is_same labels n j b.second (right (stays i b.first) _ h)) refl
+
+-- a bundle whose instructions have no names and need none stays as it is
+pub bundle_same : (labels : Labels) (n : ℕ) (b : BundleLines) → all_stay b.bundle.slots b ≡ true → (b.bundle ≡ bundle_named labels n b) × (unnamed_slot labels n b ≡ None)
+bundle_same labels n b h =
+    let with_slots : Slots → Bundle = λ slots. record { template = b.bundle.template; slots = slots } in
+    (ap with_slots (sym (slots_same labels n b.bundle.slots b h)), all_named labels n b.bundle.slots b h)

@@ -1,5 +1,5 @@
 -- The names of targets and entries: which bundles and bytes they mean.
-use Rattle.std.specs.Prelude.{ℕ, ◌+◌, ◌-◌, ◌%◌, nat_lt, ◌==◌, Bool, not, if◌then◌else◌, List, [], ◌∷◌, ◌++◌, length, replicate, find, slice_get, Option, Some, None, is_some, unwrap_or, Result, Ok, Err}
+use Rattle.std.specs.Prelude.{ℕ, ◌+◌, ◌-◌, ◌%◌, nat_lt, ◌==◌, Bool, not, ◌&&◌, if◌then◌else◌, List, [], ◌∷◌, ◌++◌, length, replicate, find, slice_get, Option, Some, None, is_some, unwrap_or, Result, Ok, Err}
 use Rattle.std.specs.Option.{option_map}
 use Rattle.std.specs.BTreeSet.{insert_key}
 use Rattle.std.specs.Ordering.{nat_cmp}
@@ -41,6 +41,15 @@ is_named labels n s = is_some (named labels n s.0.op s.1.target)
 -- the instruction with the address of its name, where it has one
 abbrev pub put_in : Labels → ℕ → Insn → SlotName → Insn
 put_in labels n i name = record { qp = i.qp; op = unwrap_or (named labels n i.op name.target) i.op }
+
+-- an instruction has no name and needs none
+abbrev pub stays : Insn → SlotName → Bool
+stays i name = not (is_some name.target) && not (is_some (displacement i.op))
+
+-- no instruction of a bundle has a name or needs one
+abbrev pub all_stay : Slots → BundleLines → Bool
+all_stay (Three i j k) b = stays i b.first && (stays j b.second && stays k b.third)
+all_stay (Long i j) b = stays i b.first && stays j b.second
 
 -- the slots of a bundle with their names
 abbrev pub slot_names : Slots → BundleLines → List (Insn × SlotName)

@@ -31,21 +31,21 @@ use ia_program::{BundleOf, Place, Program, Relation, long_run};
 use std::alloc::{AllocError, Global};
 use std::collections::BTreeSet;
 
-/// Takes the n-th line, which is read with these buffers.
+/// Takes the n-th line, which is read with these buffers and put into `value`.
 fn take_line(
     parts: &mut TextParts,
     buffers: &mut LineBuffers,
+    value: &mut Line,
     n: u32,
     line: &[u8],
 ) -> Result<(), TextError>
-    ensures ok { OnOk result ((value : LineValue) × IsTaken parts.old line.now value × (parts.new ≡ after parts.old n value)) }
+    ensures ok { OnOk result ((said : LineValue) × IsTaken parts.old line.now said × (parts.new ≡ after parts.old n said)) }
     ensures err { IfErr result (λ e. (e ≡ error.Memory) ⊎ ((why : ReasonOf) × (e ≡ error.Fault n why) × IsRefused parts.old line.now why)) }
 {
     if line.len() > LINE_LIMIT {
         return Err(fault(n, Reason::Limit));
     }
-    let mut value = Line::Empty;
-    match read_line_into(line, buffers, &mut value) {
+    match read_line_into(line, buffers, value) {
         Ok(()) => parts.take(n, value),
         Err(why) => Err(fault(n, reason_of(why))),
     }
@@ -66,10 +66,11 @@ fn take_lines(alloc: Global, text: &[u8]) -> Result<Lines, TextError>
 {
     let mut parts = TextParts::new(alloc);
     let mut buffers = LineBuffers::new();
+    let mut value = Line::Empty;
     let mut count = 0;
     for line in text.lines() {
         count += 1;
-        take_line(&mut parts, &mut buffers, count, line)?;
+        take_line(&mut parts, &mut buffers, &mut value, count, line)?;
     }
     Ok(Lines { parts, count })
 }

@@ -121,6 +121,17 @@ impl SlotLine {
         }
     }
 
+    /// Puts the n-th line in its place, a draft in a slot of this unit.
+    #[inline(always)]
+    fn put(&mut self, line: u32, draft: &mut Draft, unit: Unit, stop: bool)
+        ensures { self.new ≡ record { line = line; insn = completed draft.old unit; target = draft.old.target; stop = stop } }
+    {
+        self.line = line;
+        self.insn = completed(draft, unit);
+        self.target = draft.target.take();
+        self.stop = stop;
+    }
+
     /// What is left to be known of it, which is taken out.
     fn take_name(&mut self) -> SlotName
         ensures { result ≡ record { line = self.old.line; target = self.old.target } }
@@ -206,29 +217,25 @@ impl Open {
         }
     }
 
-    /// Puts one more slot line, where there is room for its instruction, which fits.
-    pub fn push(&mut self, line: u32, draft: Draft, stop: bool)
+    /// Puts one more slot line, where there is room for its instruction, which fits. The name of its target is taken out of
+    /// the draft.
+    pub fn push(&mut self, line: u32, draft: &mut Draft, stop: bool)
         requires room { HasSlotRoom self.old }
-        requires fit { FitsNext self.old draft }
-        ensures { self.new ≡ added self.old line draft stop }
+        requires fit { FitsNext self.old draft.old }
+        ensures { self.new ≡ added self.old line draft.old stop }
     {
-        let slot = SlotLine {
-            line,
-            insn: completed(&draft, self.next_unit()),
-            target: draft.target,
-            stop,
-        };
+        let unit = self.next_unit();
         match self.count {
             0 => {
-                self.first = slot;
+                self.first.put(line, draft, unit, stop);
                 self.count = 1;
             }
             1 => {
-                self.second = slot;
+                self.second.put(line, draft, unit, stop);
                 self.count = 2;
             }
             _ => {
-                self.third = slot;
+                self.third.put(line, draft, unit, stop);
                 self.count = 3;
             }
         }

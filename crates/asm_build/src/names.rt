@@ -8,7 +8,7 @@ ghost use Rattle.ia_program.specs.Bundles.{IsBundle, AreBundles};
 ghost use Rattle.asm_build.specs.declared.reason.Reason.TheVariants as reason;
 ghost use Rattle.asm_build.specs.declared.reason.TextError.TheVariants as error;
 ghost use Rattle.asm_build.specs.Addresses.{IsReachable, reach};
-ghost use Rattle.asm_build.specs.Names.{named, put_in, slot_names, unnamed_among, unnamed_slot, unnamed_bundle, slots_named, bundle_named, bundles_named, bundle_at, declared, declared_by, all_declared};
+ghost use Rattle.asm_build.specs.Names.{named, put_in, stays, all_stay, slot_names, unnamed_among, unnamed_slot, unnamed_bundle, slots_named, bundle_named, bundles_named, bundle_at, declared, declared_by, all_declared};
 ghost use Rattle.asm_build.specs.TextParts.{address_of};
 
 use crate::address::{Address, addressed};
@@ -56,6 +56,30 @@ fn put_in(labels: &Labels, n: u32, insn: &Insn, name: &SlotName) -> Result<Insn,
     }
 }
 
+/// Whether an instruction has no name and needs none.
+#[inline(always)]
+fn stays(insn: &Insn, name: &SlotName) -> bool
+    ensures { result ≡ stays insn.now name.now }
+{
+    match &name.target {
+        None => !insn.op.displacement().is_some(),
+        Some(_) => false,
+    }
+}
+
+/// Whether no instruction of a bundle has a name or needs one.
+#[inline(always)]
+fn all_stay(slots: &Slots, lines: &BundleLines) -> bool
+    ensures { result ≡ all_stay slots.now lines.now }
+{
+    match slots {
+        Slots::Three { a, b, c } => {
+            stays(a, &lines.first) && stays(b, &lines.second) && stays(c, &lines.third)
+        }
+        Slots::Long { first, long } => { stays(first, &lines.first) && stays(long, &lines.second) }
+    }
+}
+
 /// The slots of the n-th bundle with the addresses of their names, or the fault of the first without one.
 fn slots_named(
     labels: &Labels,
@@ -89,6 +113,9 @@ fn bundle_named(labels: &Labels, n: u32, lines: &BundleLines) -> Result<BundleOf
     ensures err { IfErr result (λ e. (line : ℕ) × (e ≡ error.Fault line reason.NoLabel) × (unnamed_slot labels.now.entries n lines.now ≡ Some line)) }
     ensures fit { IfOk result IsBundle }
 {
+    if all_stay(lines.bundle.slots(), lines) {
+        return Ok(lines.bundle);
+    }
     let slots = slots_named(labels, n, lines.bundle.slots(), lines)?;
     Ok(BundleOf::of_fitting(lines.bundle.template(), slots))
 }

@@ -94,29 +94,29 @@ impl TextParts {
         }
     }
 
-    /// Takes what the n-th line says.
+    /// Takes what the n-th line says, and the name of a target out of it.
     ///
     /// # Errors
     ///
     /// The first fault of the line after those before it, or want of memory. Nothing is said of what stands here then,
     /// and nothing more is taken.
-    pub(crate) fn take(&mut self, n: u32, value: Line) -> Result<(), TextError>
-        requires { IsListedLine value }
-        ensures ok { OnOk result (ArePassed (value_stages self.old value) × (self.new ≡ after self.old n value)) }
-        ensures err { IfErr result (IsValueError self.old n value) }
+    pub(crate) fn take(&mut self, n: u32, value: &mut Line) -> Result<(), TextError>
+        requires { IsListedLine value.old }
+        ensures ok { OnOk result (ArePassed (value_stages self.old value.old) × (self.new ≡ after self.old n value.old)) }
+        ensures err { IfErr result (IsValueError self.old n value.old) }
     {
         match value {
             Line::Empty => Ok(()),
-            Line::Label { name } => self.label(n, name),
+            Line::Label { name } => self.label(n, name.clone()?),
             Line::Text => self.turn_to(n, Section::Text),
             Line::Data => self.turn_to(n, Section::Data),
-            Line::Entry { name } => self.entry(n, name),
-            Line::Relation { predicates } => self.relation(n, predicates),
+            Line::Entry { name } => self.entry(n, name.clone()?),
+            Line::Relation { predicates } => self.relation(n, predicates.clone()?),
             Line::Ignored => self.ignored(n),
-            Line::Numbers { size, values } => self.numbers(n, size, &values),
-            Line::Skip { count } => self.skip(n, count),
-            Line::Open { name } => self.begin(n, name),
-            Line::Slot { draft, stop } => self.slot(n, draft, stop),
+            Line::Numbers { size, values } => self.numbers(n, *size, values),
+            Line::Skip { count } => self.skip(n, *count),
+            Line::Open { name } => self.begin(n, *name),
+            Line::Slot { draft, stop } => self.slot(n, draft, *stop),
             Line::Stop => self.stop(n),
             Line::Close => self.close(n),
         }
@@ -321,10 +321,10 @@ impl TextParts {
         Ok(())
     }
 
-    fn slot(&mut self, n: u32, draft: Draft, stop: bool) -> Result<(), TextError>
-        requires { IsListed draft.insn }
-        ensures ok { OnOk result (ArePassed (value_stages self.old (line.Slot draft stop)) × (self.new ≡ after self.old n (line.Slot draft stop))) }
-        ensures err { IfErr result (IsValueError self.old n (line.Slot draft stop)) }
+    fn slot(&mut self, n: u32, draft: &mut Draft, stop: bool) -> Result<(), TextError>
+        requires { IsListed draft.old.insn }
+        ensures ok { OnOk result (ArePassed (value_stages self.old (line.Slot draft.old stop)) × (self.new ≡ after self.old n (line.Slot draft.old stop))) }
+        ensures err { IfErr result (IsValueError self.old n (line.Slot draft.old stop)) }
     {
         if !self.is_open {
             return Err(fault(n, Reason::Misplaced));
@@ -332,7 +332,7 @@ impl TextParts {
         if !self.bundle.has_room() {
             return Err(fault(n, Reason::Template));
         }
-        if !self.bundle.fits_next(&draft) {
+        if !self.bundle.fits_next(draft) {
             return Err(fault(n, Reason::SlotKind));
         }
         self.bundle.push(n, draft, stop);

@@ -127,7 +127,7 @@ impl Values {
 }
 
 /// 2 to 15 of p1 to p15, in rising order. Contracts see the list of their numbers.
-#[derive(Debug, Drop)]
+#[derive(Clone, Debug, Drop)]
 pub struct Predicates {
     numbers: ArrayVec<u8, 15>,
 }

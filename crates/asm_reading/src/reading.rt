@@ -5,6 +5,7 @@ ghost use Rattle.std.specs.Option.{option_map};
 ghost use Rattle.asm_words.specs.declared.limits.TheConstants.{LINE_LIMIT};
 ghost use Rattle.asm_words.specs.Tokens.{token_of};
 ghost use Rattle.asm_words.specs.Words.{pick};
+ghost use Rattle.asm_reading.specs.declared.line.Line.TheVariants as line;
 ghost use Rattle.asm_reading.specs.Lines.{put, AreParts, texts, tokens, name_of, label_name, lead_at, past_parenthesis, ends_in_stop, without_stop, predicate_of, is_bare, completers_or_none, slot_under, slot_of, directive_value, directive_of, alone, data_of, relation_of, among, worded, marked, template_name_of, opened, led_by, led, is_colon, is_open, is_close, label_of, value_of, reading_of, IsListedLine, LineOf, FaultOf};
 ghost use Rattle.asm_reading.specs.SlotReading.{slot_line, is_directive_name};
 
@@ -28,7 +29,7 @@ use ia_program::is_listed;
 fn tokens_into(line: &[u8], words: &[Word], buffer: &mut Tokens)
     requires few { length words.now ≤ LINE_LIMIT }
     requires parts { AreParts line.now words.now }
-    ensures { buffer.new.items ≡ tokens (texts line.now words.now) }
+    ensures { buffer.new ≡ tokens (texts line.now words.now) }
 {
     buffer.clear();
     for word in words {
@@ -124,8 +125,13 @@ fn predicate(line: &[u8], before: &[Word], buffer: &mut Tokens) -> Result<Pr, Li
     requires parts { AreParts line.now before.now }
     ensures { result ≡ predicate_of (tokens (texts line.now before.now)) }
 {
-    tokens_into(line, before, buffer);
-    predicate_of(buffer.as_slice())
+    match before {
+        [] => Ok(Pr::default()),
+        [_, ..] => {
+            tokens_into(line, before, buffer);
+            predicate_of(buffer.as_slice())
+        }
+    }
 }
 
 /// Whether the unit letter is missing.
@@ -188,15 +194,30 @@ fn slot_line(
 {
     let items = form.items();
     let op = op_of(form, completers, &taken(items, without_stop(tokens)))?;
-    *value = Line::Slot {
-        draft: Draft {
-            insn: Insn { qp, op },
-            target: label_name(line, items, words),
-            bare: is_bare(completers),
-        },
-        stop: ends_in_stop(tokens),
+    let draft = Draft {
+        insn: Insn { qp, op },
+        target: label_name(line, items, words),
+        bare: is_bare(completers),
     };
+    put_slot(draft, ends_in_stop(tokens), value);
     Some(())
+}
+
+/// Puts a slot line into `value`: where that is one already, its parts alone.
+#[inline(always)]
+fn put_slot(draft: Draft, stop: bool, value: &mut Line)
+    ensures { value.new ≡ line.Slot draft stop }
+{
+    match value {
+        Line::Slot {
+            draft: before,
+            stop: stopped,
+        } => {
+            *before = draft;
+            *stopped = stop;
+        }
+        _ => *value = Line::Slot { draft, stop },
+    }
 }
 
 /// A slot line under a predicate by its name and the tokens after that.
@@ -422,6 +443,23 @@ fn worded(
             return Ok(());
         }
     }
+    worded_by_forms(name, line, before, after, buffer, value)
+}
+
+/// Puts a line that a name leads into `value`, by all forms of the name.
+#[inline(never)]
+fn worded_by_forms(
+    name: &[u8],
+    line: &[u8],
+    before: &[Word],
+    after: &[Word],
+    buffer: &mut Tokens,
+    value: &mut Line,
+) -> Result<(), LineFault>
+    requires few { (length before.now ≤ LINE_LIMIT) × (length after.now ≤ LINE_LIMIT) }
+    requires parts { AreParts line.now before.now × AreParts line.now after.now }
+    ensures { put result value.new ≡ worded name.now (texts line.now before.now) (texts line.now after.now) }
+{
     *value = among(&named(name), name, line, before, after, buffer)?;
     Ok(())
 }

@@ -1,10 +1,10 @@
 -- The words of a line.
-use Rattle.std.specs.Prelude.{ℕ, zero, suc, ◌+◌, Bool, false, ◌&&◌, ◌==◌, if◌then◌else◌, List, [], ◌∷◌, drop}
+use Rattle.std.specs.Prelude.{ℕ, zero, suc, ◌+◌, Bool, true, false, ◌&&◌, ◌==◌, if◌then◌else◌, List, [], ◌∷◌, drop}
 use Rattle.std.specs.List.{list_any}
 use Rattle.asm_words.specs.declared.word.WordKind.{WordKind}
 use Rattle.asm_words.specs.declared.word.WordKind.TheVariants.{Name, Number, Quoted, Mark}
 use Rattle.asm_words.specs.declared.word.Word.{Word}
-use Rattle.asm_words.specs.Bytes.{is_blank, is_digit_byte, is_name_byte, begins_digit, begins_with}
+use Rattle.asm_words.specs.Bytes.{is_blank, is_plain_byte, has_only_plain, is_digit_byte, is_name_byte, begins_digit, begins_with}
 
 -- how many bytes at the front belong to names and numbers
 abbrev pub name_run : List ℕ → ℕ
@@ -63,3 +63,7 @@ words_from zero at (c ∷ cs) =
     else (if begins_comment c cs then []
     else record { kind = kind_at c cs; start = at; end = at + 1 + more_at c cs }
     ∷ words_from (more_at c cs + sharp_at c cs) (at + 1) cs)
+
+-- a word of the kind has only plain bytes, c and these: a name or a number always has
+abbrev pub is_plain_word : WordKind → ℕ → List ℕ → Bool
+is_plain_word k c cs = pick k true true (is_plain_byte c && has_only_plain cs) (is_plain_byte c && has_only_plain cs)

@@ -4,10 +4,10 @@ ghost use Rattle.std.specs.Prelude.{◌≡◌, ◌≤◌, length, [], IfOk, IfEr
 ghost use Rattle.asm_words.specs.declared.limits.TheConstants.{LINE_LIMIT};
 ghost use Rattle.asm_words.specs.Bytes.{has_only_plain};
 ghost use Rattle.asm_words.specs.Slices.{AreSlices, LeavesOutGaps};
-ghost use Rattle.asm_words.specs.Words.{name_run, has_quote, quoted_run, kind_at, more_at, has_sharp, sharp_at, begins_comment, words_from};
+ghost use Rattle.asm_words.specs.Words.{name_run, has_quote, quoted_run, kind_at, more_at, has_sharp, sharp_at, begins_comment, is_plain_word, words_from};
 
 use crate::bytes::{
-    begins_digit, begins_with, has_only_plain, is_blank, is_digit_byte, is_name_byte,
+    begins_digit, begins_with, has_only_plain, is_blank, is_digit_byte, is_name_byte, is_plain_byte,
 };
 use crate::fault::LineFault;
 use crate::limits::LINE_LIMIT;
@@ -41,18 +41,22 @@ pub fn words_into(line: &[u8], list: &mut ArrayVec<Word, LINE_LIMIT>) -> Result<
     ensures emptied { OnErr result (list.new.items ≡ []) }
 {
     list.clear();
-    if !has_only_plain(line) {
-        return Err(LineFault::Char);
+    if cut(line, list) {
+        Ok(())
+    } else {
+        list.clear();
+        Err(LineFault::Char)
     }
-    cut(line, list);
-    Ok(())
 }
 
-// Puts the words of a line into an empty list.
-fn cut(line: &[u8], words: &mut ArrayVec<Word, LINE_LIMIT>)
+// Puts the words of a line into an empty list, and says whether the line has only plain bytes. Of those of a name or a number,
+// of spaces and of tabs that is known.
+#[inline(always)]
+fn cut(line: &[u8], words: &mut ArrayVec<Word, LINE_LIMIT>) -> bool
     requires short { length line.now ≤ LINE_LIMIT }
     requires empty { words.old.items ≡ [] }
-    ensures { words.new.items ≡ words_from 0 0 line.now }
+    ensures plain { result ≡ has_only_plain line.now }
+    ensures words { IsTrue result → words.new.items ≡ words_from 0 0 line.now }
 {
     let mut at = 0;
     while at < line.len() {
@@ -61,10 +65,14 @@ fn cut(line: &[u8], words: &mut ArrayVec<Word, LINE_LIMIT>)
             at += 1;
         } else {
             let rest = &line[at + 1..];
-            if begins_comment(first, rest) {
-                return;
+            let kind = kind_at(first, rest);
+            if is_comment(kind, first, rest) {
+                return has_only_plain(rest);
             }
-            let (kind, more, sharp) = word_at(first, rest);
+            let (more, sharp) = word_at(kind, first, rest);
+            if !is_plain_word(kind, first, &rest[..more]) {
+                return false;
+            }
             words.push(Word {
                 kind,
                 start: at,
@@ -73,33 +81,48 @@ fn cut(line: &[u8], words: &mut ArrayVec<Word, LINE_LIMIT>)
             at = at + 1 + more + sharp;
         }
     }
+    true
 }
 
-// The word that begins with a byte: its kind, how many more bytes it has, and how many that follow
-// belong to no word.
-fn word_at(first: u8, rest: &[u8]) -> (WordKind, usize, usize)
-    ensures kind { result.0 ≡ kind_at first rest.now }
-    ensures more { result.1 ≡ more_at first rest.now }
-    ensures sharp { result.2 ≡ sharp_at first rest.now }
-    ensures bound { result.1 + result.2 ≤ length rest.now }
+// Whether a word of this kind has only plain bytes, the first and these: a name or a number always has.
+#[inline(always)]
+fn is_plain_word(kind: WordKind, first: u8, more: &[u8]) -> bool
+    ensures { result ≡ is_plain_word kind first more.now }
 {
-    let kind = kind_at(first, rest);
-    let more = more_at(kind, first, rest);
-    let after = &rest[more..];
-    if has_sharp(kind, after) {
-        (kind, more, 1)
-    } else {
-        (kind, more, 0)
+    match kind {
+        WordKind::Name | WordKind::Number => true,
+        WordKind::Quoted | WordKind::Mark => is_plain_byte(first) && has_only_plain(more),
     }
 }
 
+// Of the word of this kind that begins with a byte, how many more bytes it has, and how many that follow belong to no word.
+#[inline(always)]
+fn word_at(kind: WordKind, first: u8, rest: &[u8]) -> (usize, usize)
+    requires { kind ≡ kind_at first rest.now }
+    ensures more { result.0 ≡ more_at first rest.now }
+    ensures sharp { result.1 ≡ sharp_at first rest.now }
+    ensures bound { result.0 + result.1 ≤ length rest.now }
+{
+    let more = more_at(kind, first, rest);
+    let after = &rest[more..];
+    if has_sharp(kind, after) {
+        (more, 1)
+    } else {
+        (more, 0)
+    }
+}
+
+#[tactic(auto, using(crate::proofs::Lexing::digit_is_name))]
+#[inline(always)]
 fn kind_at(first: u8, rest: &[u8]) -> WordKind
     ensures { result ≡ kind_at first rest.now }
 {
-    if is_digit_byte(first) {
-        WordKind::Number
-    } else if is_name_byte(first) {
-        WordKind::Name
+    if is_name_byte(first) {
+        if is_digit_byte(first) {
+            WordKind::Number
+        } else {
+            WordKind::Name
+        }
     } else if first == b'-' && begins_digit(rest) {
         WordKind::Number
     } else if first == b'"' && has_quote(rest) {
@@ -109,6 +132,7 @@ fn kind_at(first: u8, rest: &[u8]) -> WordKind
     }
 }
 
+#[inline(never)]
 fn has_quote(bytes: &[u8]) -> bool
     ensures { result ≡ has_quote bytes.now }
 {
@@ -121,6 +145,7 @@ fn has_quote(bytes: &[u8]) -> bool
 }
 
 // How many bytes after the first belong to the word of this kind.
+#[inline(always)]
 fn more_at(kind: WordKind, first: u8, rest: &[u8]) -> usize
     requires { kind ≡ kind_at first rest.now }
     ensures value { result ≡ more_at first rest.now }
@@ -140,6 +165,7 @@ fn more_at(kind: WordKind, first: u8, rest: &[u8]) -> usize
 }
 
 // How many bytes at the front belong to names and numbers.
+#[inline(always)]
 fn name_run(bytes: &[u8]) -> usize
     ensures value { result ≡ name_run bytes.now }
     ensures bound { result ≤ length bytes.now }
@@ -155,6 +181,7 @@ fn name_run(bytes: &[u8]) -> usize
 }
 
 // How many bytes there are up to the first `"`, it among them, or all where there is none.
+#[inline(never)]
 fn quoted_run(bytes: &[u8]) -> usize
     ensures value { result ≡ quoted_run bytes.now }
     ensures bound { result ≤ length bytes.now }
@@ -170,6 +197,7 @@ fn quoted_run(bytes: &[u8]) -> usize
 }
 
 // Whether a sharp follows a name.
+#[inline(always)]
 fn has_sharp(kind: WordKind, rest: &[u8]) -> bool
     ensures value { result ≡ has_sharp kind rest.now }
     ensures bound { IsTrue result → 0 < length rest.now }
@@ -177,6 +205,18 @@ fn has_sharp(kind: WordKind, rest: &[u8]) -> bool
     match kind {
         WordKind::Name => begins_with(b'#', rest),
         _ => false,
+    }
+}
+
+// Whether a comment begins where a word of this kind would: only a mark does.
+#[inline(always)]
+fn is_comment(kind: WordKind, first: u8, rest: &[u8]) -> bool
+    requires { kind ≡ kind_at first rest.now }
+    ensures { result ≡ begins_comment first rest.now }
+{
+    match kind {
+        WordKind::Mark => begins_comment(first, rest),
+        WordKind::Name | WordKind::Number | WordKind::Quoted => false,
     }
 }
 

@@ -12,6 +12,7 @@ use crate::tokens::Token;
 use crate::word::WordKind;
 
 /// What a word of this kind and text may be read as.
+#[inline(always)]
 pub fn token(kind: WordKind, text: &[u8]) -> Token
     ensures { result ≡ token_of kind text.now }
 {
@@ -23,6 +24,7 @@ pub fn token(kind: WordKind, text: &[u8]) -> Token
     }
 }
 
+#[inline(always)]
 fn name_token(name: &[u8]) -> Token
     ensures { result ≡ name_token name.now }
 {
@@ -68,6 +70,7 @@ fn quoted_token(word: &[u8]) -> Token
     }
 }
 
+#[inline(always)]
 fn mark_token(mark: &[u8]) -> Token
     ensures { result ≡ mark_token mark.now }
 {

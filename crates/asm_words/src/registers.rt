@@ -5,12 +5,13 @@ ghost use Rattle.std.specs.Option.{option_map};
 ghost use Rattle.asm_words.specs.Registers.{alias_of, numbered, numbered_register, register_of, has_needless_zero};
 ghost use Rattle.asm_words.specs.declared.tokens.Token.TheVariants as t;
 
-use crate::numbers::{are_digits, numeral};
+use crate::bytes::is_digit_byte;
 use crate::tokens::Token;
 use ia_insn::{Ar, Br, Gr, Pr};
 
 /// The register that the name spells by its number: `r0` to `r127`, `p0` to `p63` and `b0` to `b7`,
 /// with no needless zero in front. No label has such a name.
+#[inline(always)]
 pub fn numbered_register(name: &[u8]) -> Option<Token>
     ensures { result ≡ numbered_register name.now }
 {
@@ -22,6 +23,7 @@ pub fn numbered_register(name: &[u8]) -> Option<Token>
     }
 }
 
+#[inline(always)]
 fn numbered_gr(digits: &[u8]) -> Option<Token>
     ensures { result ≡ option_map (λ n. t.Gr n) (numbered 128 digits.now) }
 {
@@ -31,6 +33,7 @@ fn numbered_gr(digits: &[u8]) -> Option<Token>
     }
 }
 
+#[inline(always)]
 fn numbered_pr(digits: &[u8]) -> Option<Token>
     ensures { result ≡ option_map (λ n. t.Pr n) (numbered 64 digits.now) }
 {
@@ -40,6 +43,7 @@ fn numbered_pr(digits: &[u8]) -> Option<Token>
     }
 }
 
+#[inline(always)]
 fn numbered_br(digits: &[u8]) -> Option<Token>
     ensures { result ≡ option_map (λ n. t.Br n) (numbered 8 digits.now) }
 {
@@ -50,26 +54,31 @@ fn numbered_br(digits: &[u8]) -> Option<Token>
 }
 
 // A number below the limit, spelled with no zero in front.
+#[inline(always)]
 fn numbered(limit: u8, digits: &[u8]) -> Option<u8>
+    requires { 1 ≤ limit }
     ensures value { result ≡ numbered limit digits.now }
     ensures bound { IfSome result (λ n. n < limit) }
 {
-    if !are_digits(10, digits) || has_needless_zero(digits) {
+    if has_needless_zero(digits) {
         return None;
     }
-    match numeral(10, digits) {
-        Some(n) => {
-            if n < u64::from(limit) {
-                Some(n as u8)
-            } else {
-                None
-            }
+    let mut n: u8 = 0;
+    for byte in digits {
+        if !is_digit_byte(*byte) {
+            return None;
         }
-        None => None,
+        let next = u16::from(n) * 10 + u16::from(*byte - b'0');
+        if next >= u16::from(limit) {
+            return None;
+        }
+        n = next as u8;
     }
+    Some(n)
 }
 
 // No digit, or a zero before others.
+#[inline(always)]
 fn has_needless_zero(digits: &[u8]) -> bool
     ensures { result ≡ has_needless_zero digits.now }
 {
@@ -82,6 +91,7 @@ fn has_needless_zero(digits: &[u8]) -> bool
 
 // The register that the name spells, by its number or by a name of its own. No name does both.
 #[tactic(auto, using(crate::proofs::OneRegister::by_own_name))]
+#[inline(always)]
 pub(crate) fn register_of(name: &[u8]) -> Option<Token>
     ensures { result ≡ register_of name.now }
 {
@@ -92,6 +102,7 @@ pub(crate) fn register_of(name: &[u8]) -> Option<Token>
 }
 
 // The registers with names of their own.
+#[inline(never)]
 fn alias_of(name: &[u8]) -> Option<Token>
     ensures { result ≡ alias_of name.now }
 {

@@ -12,7 +12,7 @@ pub returns : goal.returns
 returns c =
     let before = texts c.args.line.now c.args.before.now in
     let after = texts c.args.line.now c.args.after.now in
-    let t : c.as_slice-tokens.result.now ≡ tokens after = c.as_slice-tokens.ensures.value ∙ c.tokens_into.ensures in
+    let t : c.as_slice-tokens.result.now ≡ tokens after = c.as_slice-tokens.ensures ∙ c.tokens_into.ensures in
     let w : c.without_stop.result.now ≡ without_stop (tokens after) = c.without_stop.ensures ∙ ap without_stop t in
     let form = c.in-Some.field-0.form in
     let cs = c.in-Some.field-0.completers.items in

@@ -3,4 +3,4 @@ use Rattle.asm_reading.specs.Lines.{texts, tokens}
 use Rattle.asm_reading.proofs.reading.tokens_into.Given as goal
 
 abbrev pub invariant-loop-word : goal.invariant-loop-word
-invariant-loop-word l = l.buffer.items ≡ tokens (texts l.line (take l.word-index l.words))
+invariant-loop-word l = l.buffer ≡ tokens (texts l.line (take l.word-index l.words))

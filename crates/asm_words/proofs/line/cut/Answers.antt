@@ -1,14 +1,24 @@
-use Rattle.std.proofs.Common.{◌∙◌, sym, ◌+◌, ◌-◌, drop, length, arith, length-drop}
+use Rattle.std.proofs.Common.{◌∙◌, sym, ◌+◌, ◌-◌, true, false, drop, length, arith, length-drop}
 use Rattle.std.proofs.lemmas.List.{take_all}
 use Rattle.asm_words.proofs.Cutting.{turn_rest}
+use Rattle.asm_words.proofs.Plain.{plain_turn}
 use Rattle.asm_words.proofs.line.cut.Goals as goal
+
+pub returns-then-not-is_plain_word-clause-plain : goal.returns-then-not-is_plain_word-clause-plain
+returns-then-not-is_plain_word-clause-plain c =
+    let line = c.args.line.now in
+    let at = c.loop-at.at in
+    let rest = take_all (length line - (at + 1)) (drop (at + 1) line) (omega (arith, length-drop (at + 1) line)) in
+    sym (sym c.loop-at.invariant.plain ∙ plain_turn line _ at _ _ _ false (omega arith) rest c.kind_at-kind.ensures c.word_at-more.ensures.more c.word_at-more.ensures.sharp (sym c.if-not-is_plain_word.true ∙ c.is_plain_word.ensures))
 
 pub loop-at-preserved : goal.loop-at-preserved
 loop-at-preserved c =
     let line = c.args.line.now in
     let at = c.loop-at.at in
+    let rest = take_all (length line - (at + 1)) (drop (at + 1) line) (omega (arith, length-drop (at + 1) line)) in
     record {
-      within = omega (arith, length-drop (at + 1) line, c.word_at-kind.ensures.bound);
+      within = omega (arith, length-drop (at + 1) line, c.word_at-more.ensures.bound);
       room = omega arith;
-      value = turn_rest line _ at _ _ _ _ _ (omega arith) (take_all (length line - (at + 1)) (drop (at + 1) line) (omega (arith, length-drop (at + 1) line))) (sym c.is_blank.ensures ∙ c.if-is_blank.false) (sym c.begins_comment.ensures ∙ c.if-begins_comment.false) c.word_at-kind.ensures.kind c.word_at-kind.ensures.more c.word_at-kind.ensures.sharp c.push.ensures.items ∙ c.loop-at.invariant.value;
+      value = turn_rest line _ at _ _ _ _ _ (omega arith) rest (sym c.is_blank.ensures ∙ c.if-is_blank.false) (sym c.is_comment.ensures ∙ c.if-is_comment.false) c.kind_at-kind.ensures c.word_at-more.ensures.more c.word_at-more.ensures.sharp c.push.ensures.items ∙ c.loop-at.invariant.value;
+      plain = sym (plain_turn line _ at _ _ _ true (omega arith) rest c.kind_at-kind.ensures c.word_at-more.ensures.more c.word_at-more.ensures.sharp (sym c.if-not-is_plain_word.false ∙ c.is_plain_word.ensures)) ∙ c.loop-at.invariant.plain;
     }
