@@ -8,7 +8,7 @@ ghost use Rattle.predicate_rel.specs.Rules.{action_rule, pairs_by, pairs_after};
 
 use crate::bits::{both, has_bit, is_within, lowest, with_bit, with_bit_where, without};
 use crate::edge::Edge;
-use crate::rows::keeps_pairs;
+use crate::rows::{keeps_pairs, written_by};
 use ia_insn::{Insn, Pr};
 use ia_meaning::{Action, action_of};
 use std::marker::Model;
@@ -108,9 +108,10 @@ impl Facts {
         if keeps_pairs(action, edge) {
             return *self;
         }
+        let written = written_by(action);
         let mut rows = [0; 64];
         for x in 0..64u8 {
-            rows[x as usize] = self.action_row(action, edge, qp, x);
+            rows[x as usize] = self.row_past(written, action, edge, qp, x);
         }
         Facts { rows }
     }
