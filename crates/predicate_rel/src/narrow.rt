@@ -60,7 +60,7 @@ impl Facts {
         if rows == u64::MAX {
             return self.intersect(&before.after_action(action, qp, edge));
         }
-        let written = written_by(action);
+        let written = written_by(action, edge);
         let mut rest = rows;
         let mut lost = 0;
         'narrowing: while rest != 0 {

@@ -85,9 +85,12 @@ pub fn keeps_pairs(action: &Action, edge: Edge) -> bool
 }
 
 /// The predicates that an instruction of this action writes; all of them, where it changes pairs in another way.
-pub(crate) fn written_by(action: &Action) -> u64
-    ensures { LeavesOthers action.now result }
+pub(crate) fn written_by(action: &Action, edge: Edge) -> u64
+    ensures { LeavesOthers action.now edge result }
 {
+    if keeps_pairs(action, edge) {
+        return 0;
+    }
     match *action {
         Action::Test { p1, p2, .. } => targets(p1, p2),
         Action::ToPredicates { mask, .. } => masked_row(u64::from(mask)),
@@ -244,7 +247,7 @@ impl Facts {
     #[inline(always)]
     pub(crate) fn row_past(&self, written: u64, action: &Action, edge: Edge, g: Pr, x: u8) -> u64
         requires range { x < 64 }
-        requires written { LeavesOthers action.now written }
+        requires written { LeavesOthers action.now edge written }
         ensures { IsRow result (action_rule action.now edge g x) (pairs_of self.now) }
     {
         let row = self.row(x);
