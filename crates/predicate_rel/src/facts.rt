@@ -102,6 +102,7 @@ impl Facts {
     }
 
     /// The same after an instruction of this action under this qualifying predicate.
+    #[inline(never)]
     pub fn after_action(&self, action: &Action, qp: Pr, edge: Edge) -> Facts
         ensures { pairs_of result ≡ pairs_by (pairs_of self.now) (action_rule action.now edge qp) }
     {

@@ -9,7 +9,6 @@ ghost use Rattle.predicate_rel.specs.Rules.{action_rule, pairs_by};
 use crate::bits::{all_if, either, has_bit, lowest, moved_up, with_bit, with_bit_where, without};
 use crate::edge::Edge;
 use crate::facts::Facts;
-use crate::rows::written_by;
 use ia_insn::Pr;
 use ia_meaning::Action;
 
@@ -60,13 +59,12 @@ impl Facts {
         if rows == u64::MAX {
             return self.intersect(&before.after_action(action, qp, edge));
         }
-        let written = written_by(action, edge);
         let mut rest = rows;
         let mut lost = 0;
         'narrowing: while rest != 0 {
             let x = lowest(rest);
             rest = without(rest, x);
-            if self.narrow_row(x, before.row_past(written, action, edge, qp, x)) {
+            if self.narrow_row(x, before.action_row(action, edge, qp, x)) {
                 lost = with_bit(lost, x, true);
             }
         }

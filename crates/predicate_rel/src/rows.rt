@@ -258,7 +258,7 @@ impl Facts {
     }
 
     /// The pairs of the x-th predicate, below 64, after an instruction of this action.
-    fn action_row(&self, action: &Action, edge: Edge, g: Pr, x: u8) -> u64
+    pub(crate) fn action_row(&self, action: &Action, edge: Edge, g: Pr, x: u8) -> u64
         requires { x < 64 }
         ensures { IsRow result (action_rule action.now edge g x) (pairs_of self.now) }
     {
