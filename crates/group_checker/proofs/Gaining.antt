@@ -3,7 +3,7 @@ use Rattle.std.proofs.Common.{◌≡◌, ℕ, ◌+◌, ◌<◌, ◌⊎◌, Bool,
 use Rattle.std.specs.Prelude.{Contains}
 use Rattle.std.specs.Option.{is_some}
 use Rattle.std.specs.List.{list_any}
-use Rattle.std.proofs.lemmas.Bool.{and_parts, and_from, or_left, or_right, true≢false}
+use Rattle.std.proofs.lemmas.Bool.{and_parts, and_from, true≢false}
 use Rattle.std.proofs.lemmas.List.{take_more}
 use Rattle.std.proofs.lemmas.List.Elements.{Contains-append_left, Contains-push, Contains-push_cases}
 use Rattle.ia_meaning.specs.Actions.{is_alloc}
@@ -17,7 +17,7 @@ use Rattle.resource_sets.specs.declared.clashes.Rule.TheVariants.{AllocFirst, Cl
 use Rattle.resource_sets.specs.ResourceSets.{has_resource}
 use Rattle.resource_sets.specs.Clashes.{clash, clash_of}
 use Rattle.resource_sets.specs.Masks.{may_clash}
-use Rattle.resource_sets.proofs.Members.{not_in_none, cases_in}
+use Rattle.resource_sets.proofs.Members.{any_of}
 use Rattle.slot_table.specs.declared.slot.Slot.{Slot}
 use Rattle.group_checker.specs.declared.violation.Violation.{Violation}
 use Rattle.group_checker.specs.declared.window.EarlierSlot.{EarlierSlot}
@@ -75,18 +75,11 @@ one_found e a b rule common broken stays both old new gains =
     (λ v h. (let q : Some v.rule ≡ Some rule = sym h.clash ∙ broken in (let r : v.rule ≡ rule = cc in r), both v.resource ∙ and_from _ _ h.first_on h.second_on))
     gains
 
-any_holds : (p : Access → Bool) (xs : List Access) (x : Access) → Contains xs x → p x ≡ true → list_any p xs ≡ true
-any_holds p [] x c h = absurd (not_in_none x c)
-any_holds p (y ∷ ys) x c h = elim (cases_in y x ys c) [
-  | inl e ↦ or_left (p y) (list_any p ys) (subst (λ (z : Access). p z ≡ true) (sym e) h)
-  | inr d ↦ or_right (p y) (list_any p ys) (any_holds p ys x d h)
-]
-
 -- accesses that clash may clash
 pub apart_clash : (firsts seconds : List Access) (a b : Access) (rule : Rule) → may_clash firsts seconds ≡ false → Contains firsts a → Contains seconds b → clash a b ≡ Some rule → ⊥
 apart_clash firsts seconds a b rule apart of_first of_second broken =
-    let second : list_any (λ y. is_some (clash a y)) seconds ≡ true = any_holds (λ y. is_some (clash a y)) seconds b of_second (ap is_some broken) in
-    true≢false (sym (any_holds (λ x. list_any (λ y. is_some (clash x y)) seconds) firsts a of_first second) ∙ apart)
+    let second : list_any (λ y. is_some (clash a y)) seconds ≡ true = any_of (λ y. is_some (clash a y)) seconds b of_second (ap is_some broken) in
+    true≢false (sym (any_of (λ x. list_any (λ y. is_some (clash x y)) seconds) firsts a of_first second) ∙ apart)
 
 -- what is noted of the rules on slots
 pub slots_found : (e : EarlierSlot) (s : Slot) (first : Bool) → first ≡ is_alloc s.action → (old mid new : Broken)

@@ -9,10 +9,12 @@ use Rattle.resource_sets.specs.Clashes.{may_write_guard}
 use Rattle.predicate_rel.specs.declared.edge.Edge.TheVariants.{Falls}
 use Rattle.predicate_rel.specs.Pairs.{Pairs, has_bit, pairs_of, IsWithin}
 use Rattle.predicate_rel.specs.Edges.{may_fall}
+use Rattle.predicate_rel.specs.Rules.{action_rule, pairs_by}
 use Rattle.slot_table.specs.declared.slot.Slot.{Slot}
 use Rattle.flow_facts.specs.Graphs.{Graph, insn_in, IsEdgeIn, pairs_past_in}
 use Rattle.flow_facts.specs.Walks.{Walk, EndsIn, NoWalkIn, IsMeetIn, Known, facts_in, group_since}
 use Rattle.group_checker.specs.declared.window.EarlierSlot.{EarlierSlot}
+use Rattle.group_checker.specs.declared.moves.Passed.{Passed}
 use Rattle.group_checker.specs.Excuses.{accesses_at}
 use Rattle.group_checker.specs.Violations.{clears_at}
 
@@ -98,6 +100,10 @@ joins slot = slot.falls && not slot.stop
 -- the bits of the word are the predicates that an instruction with these accesses may write
 abbrev pub IsGuardMask : ℕ → List Access → Type 0
 IsGuardMask mask accesses = (g : ℕ) → g < 64 → has_bit mask g ≡ may_write_guard g accesses
+
+-- The second set is what is known past the slot before which the first is known.
+abbrev pub IsPassed : Slot → Passed → Type 0
+IsPassed slot passed = pairs_of passed.after ≡ pairs_by (pairs_of passed.before) (action_rule slot.action Falls slot.qp)
 
 -- the earlier slot with what is known past the one at j, which may write the predicates of the mask
 pub record GoesOn (g : Graph) (j : Place) (mask : ℕ) (old new : EarlierSlot) : Type 0 where

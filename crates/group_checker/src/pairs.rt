@@ -91,8 +91,8 @@ fn may_break_slot_rule(first: &EarlierSlot, slot: &Slot) -> bool
     first.clears || is_alloc(&slot.action)
 }
 
-/// Whether no access of the n-th slot of the window clashes with one of the slot under way, and no rule on slots is
-/// broken where this comes just after it: the two break no rule.
+/// Whether it is soon seen that no access of the n-th slot of the window clashes with one of the slot under way, and that
+/// no rule on slots is broken where this comes just after it: the two break no rule.
 pub(crate) fn are_apart(window: &[EarlierSlot], n: usize, slot: &Slot, seconds: &Masks) -> bool
     requires inside { n < length window.now }
     ensures { result ≡ true → (g : Graph) (has_stop : Place → Bool) (j : Place) (v : Violation) → HasWindow g has_stop window.now j slot.now seconds.now → IsNthPair window.now n j v → ¬ ViolatesIn g has_stop v }
@@ -112,9 +112,12 @@ pub(crate) fn pair_broken(window: &[EarlierSlot], n: usize, slot: &Slot, seconds
 {
     let mut broken = Broken::nothing();
     let first = &window[n];
-    let firsts = first.masks.access_sets();
-    let seconds = seconds.access_sets();
-    clashes(first, firsts.as_slice(), seconds.as_slice(), &mut broken);
+    clashes(
+        first,
+        first.masks.access_sets(),
+        seconds.access_sets(),
+        &mut broken,
+    );
     if n + 1 < window.len() {
         return broken;
     }

@@ -7,7 +7,7 @@ ghost use Rattle.flow_facts.specs.Graphs.{Graph, next_in};
 ghost use Rattle.group_checker.specs.Firsts.{IsViolatedAt, IsFirstAt};
 ghost use Rattle.group_checker.specs.Windows.{IsWindow, HasWindow, IsKnownAt};
 
-use crate::moves::{advance, clears, joins};
+use crate::moves::{Passed, advance, clears, joins};
 use crate::pairs::{breaks_rule, first_of_pair};
 use crate::violation::Violation;
 use ia_program::Place;
@@ -127,11 +127,16 @@ impl Window {
             return Ok(());
         }
         let written = masks.written_predicates();
-        advance(&mut self.slots, slot, written);
+        let known = here.after_action(&slot.action, slot.qp, Edge::Falls);
+        let passed = Passed {
+            before: *here,
+            after: known,
+        };
+        advance(&mut self.slots, slot, written, passed);
         self.slots.push(EarlierSlot {
             place,
             clears: clears(&slot.action),
-            known: here.after_action(&slot.action, slot.qp, Edge::Falls),
+            known,
             written,
             masks,
         })?;

@@ -4,6 +4,7 @@ pub mod Literals
 pub mod Reached
 pub mod Narrowing
 pub mod OrAndcm
+pub mod Untouched
 mod Examples
 pub mod EdgeEnds
 pub mod RuleLaws

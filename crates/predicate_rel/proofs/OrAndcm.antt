@@ -15,7 +15,7 @@ kept_at t both k k' g x y e same = rw e (by_bool (t (cond (true && eqb x y) 0 y)
     by_bool false u = ap (λ (w : Kept). kept_rule w g x u u) same
 
 -- a row of a predicate that isn't written
-not_written : (t : ℕ → Bool) (both : ℕ → ℕ → PairRule) (k : ℕ → Kept) (g x y : ℕ) → t x ≡ false → written_rule t both k g x y ≡ cond (t y) (kept_rule (k y) g x y x) (one x y)
+pub not_written : (t : ℕ → Bool) (both : ℕ → ℕ → PairRule) (k : ℕ → Kept) (g x y : ℕ) → t x ≡ false → written_rule t both k g x y ≡ cond (t y) (kept_rule (k y) g x y x) (one x y)
 not_written t both k g x y e = rw e (by_bool (t y))
   where
     by_bool : (b : Bool) → by_written false b (both x y) (kept_rule (k x) g x y y) (kept_rule (k y) g x y x) (one x y) ≡ cond b (kept_rule (k y) g x y x) (one x y)

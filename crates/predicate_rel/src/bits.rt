@@ -50,6 +50,13 @@ pub(crate) fn either(a: u64, b: u64) -> u64
     a | b
 }
 
+/// Whether the rows have no bit in common.
+pub(crate) fn is_apart(a: u64, b: u64) -> bool
+    ensures { result ≡ true → (y : ℕ) → has_bit b y ≡ true → has_bit a y ≡ false }
+{
+    a & b == 0
+}
+
 /// Whether each bit of a is in b.
 pub(crate) fn is_within(a: u64, b: u64) -> bool
     ensures within { OnTrue result ((y : ℕ) → y < 64 → has_bit a y ≡ true → has_bit b y ≡ true) }

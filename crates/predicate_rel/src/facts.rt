@@ -1,6 +1,6 @@
 //! Sets of pairs of predicates that are known not to be both 1.
 
-ghost use Rattle.std.specs.Prelude.{◌≡◌, ◌≢◌, ℕ, ◌<◌, ◌&&◌, ◌||◌, ◌==◌, not};
+ghost use Rattle.std.specs.Prelude.{◌≡◌, ◌≢◌, ℕ, ◌<◌, ◌&&◌, ◌||◌, ◌==◌, not, true};
 ghost use Rattle.std.specs.Bool.{OnTrue, OnFalse};
 ghost use Rattle.predicate_rel.specs.Pairs.{Table, has_bit, pairs_of, no_pairs, all_pairs, common, other_of, is_same_pair, with_pair, IsWithin, HasMore};
 ghost use Rattle.predicate_rel.specs.Changes.{AgreeOutside};
@@ -8,7 +8,7 @@ ghost use Rattle.predicate_rel.specs.Rules.{action_rule, pairs_by, pairs_after};
 
 use crate::bits::{both, has_bit, is_within, lowest, with_bit, with_bit_where, without};
 use crate::edge::Edge;
-use crate::rows::keeps_pairs;
+use crate::rows::{keeps_pairs, written_by};
 use ia_insn::{Insn, Pr};
 use ia_meaning::{Action, action_of};
 use std::marker::Model;
@@ -102,17 +102,26 @@ impl Facts {
     }
 
     /// The same after an instruction of this action under this qualifying predicate.
+    #[inline(never)]
     pub fn after_action(&self, action: &Action, qp: Pr, edge: Edge) -> Facts
         ensures { pairs_of result ≡ pairs_by (pairs_of self.now) (action_rule action.now edge qp) }
     {
         if keeps_pairs(action, edge) {
             return *self;
         }
+        let written = written_by(action, edge);
         let mut rows = [0; 64];
         for x in 0..64u8 {
-            rows[x as usize] = self.action_row(action, edge, qp, x);
+            rows[x as usize] = self.row_past(written, action, edge, qp, x);
         }
         Facts { rows }
+    }
+
+    /// Whether both are seen to be one set.
+    pub fn is_same(&self, other: &Facts) -> bool
+        ensures { result ≡ true → pairs_of self.now ≡ pairs_of other.now }
+    {
+        self.rows == other.rows
     }
 
     /// Whether each pair of the set is in the other; where it isn't, one that is missing there.

@@ -4,10 +4,10 @@ ghost use Rattle.std.specs.Prelude.{◌≡◌, ◌≢◌, ℕ, ◌-◌, ◌<◌,
 ghost use Rattle.ia_insn.specs.declared.choices.CmpKind.TheVariants.{Normal, Unc, OrAndcm};
 ghost use Rattle.predicate_rel.specs.Pairs.{has_bit, pairs_of};
 ghost use Rattle.predicate_rel.specs.Rules.{PairRule, one, always, never, is_met, kept_rule, written_rule, raised_rule, is_target, test_rule, is_moved, falls_rule, static_rule, name_before, rotated_rule, loop_rule, action_rule};
-ghost use Rattle.predicate_rel.specs.Rows.{HasBits, IsRow};
+ghost use Rattle.predicate_rel.specs.Rows.{HasBits, IsRow, LeavesOthers};
 
 use crate::bits::{
-    all_if, both, chosen, has_bit, joined, kept_if, moved_up, with_bit, with_bit_where,
+    all_if, both, chosen, has_bit, is_apart, joined, kept_if, moved_up, with_bit, with_bit_where,
 };
 use crate::edge::Edge;
 use crate::facts::Facts;
@@ -81,6 +81,20 @@ pub fn keeps_pairs(action: &Action, edge: Edge) -> bool
             Edge::Falls,
         ) => false,
         _ => true,
+    }
+}
+
+/// The predicates that an instruction of this action writes; all of them, where it changes pairs in another way.
+pub(crate) fn written_by(action: &Action, edge: Edge) -> u64
+    ensures { LeavesOthers action.now edge result }
+{
+    if keeps_pairs(action, edge) {
+        return 0;
+    }
+    match *action {
+        Action::Test { p1, p2, .. } => targets(p1, p2),
+        Action::ToPredicates { mask, .. } => masked_row(u64::from(mask)),
+        _ => u64::MAX,
     }
 }
 
@@ -226,6 +240,21 @@ impl Facts {
             (BranchKind::Cloop | BranchKind::Cond, _) => self.row(x),
             _ => self.static_row(x),
         }
+    }
+
+    /// The pairs of the x-th predicate, below 64, after an instruction of this action, which writes these predicates. They
+    /// stay where it isn't one of them, and neither one of them nor the qualifying predicate has a pair with it.
+    #[inline(always)]
+    pub(crate) fn row_past(&self, written: u64, action: &Action, edge: Edge, g: Pr, x: u8) -> u64
+        requires range { x < 64 }
+        requires written { LeavesOthers action.now edge written }
+        ensures { IsRow result (action_rule action.now edge g x) (pairs_of self.now) }
+    {
+        let row = self.row(x);
+        if is_apart(row, written) && !has_bit(written, x) && !self.at(g.number(), x) {
+            return row;
+        }
+        self.action_row(action, edge, g, x)
     }
 
     /// The pairs of the x-th predicate, below 64, after an instruction of this action.

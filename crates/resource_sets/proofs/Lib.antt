@@ -10,7 +10,6 @@ pub mod Regularity
 pub mod Examples
 pub mod BitWords
 pub mod SetBits
+pub mod RowLists
 pub mod AccessSets
-pub mod AccessColumns
-pub mod BitLists
-pub mod WrittenGuards
+pub mod Summing

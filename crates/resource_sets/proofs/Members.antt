@@ -1,6 +1,8 @@
 -- What lists contain.
-use Rattle.std.proofs.Common.{◌≡◌, zero, suc, ◌⊎◌, List, [], ◌∷◌, refl, arith, inl, inr, ap}
+use Rattle.std.proofs.Common.{◌≡◌, zero, suc, ◌⊎◌, Bool, true, List, [], ◌∷◌, refl, sym, arith, inl, inr, ap, subst, true≢false}
 use Rattle.std.specs.Prelude.{Contains, map}
+use Rattle.std.specs.List.{list_any}
+use Rattle.std.proofs.lemmas.Bool.{or_cases, or_left, or_right}
 
 -- the empty list has no element
 pub not_in_none : {A : Type 0} (x : A) → Contains [] x → ⊥
@@ -33,4 +35,19 @@ from_map g [] y c = absurd (not_in_none y c)
 from_map g (x ∷ xs) y c = elim (cases_in (g x) y (map g xs) c) [
   | inl e ↦ (x, head_in x xs, e)
   | inr d ↦ (let (z, m, e) = from_map g xs y d in (z, in_tail x z xs m, e))
+]
+
+-- an element that passes a test
+pub any_of : {X : Type 0} (p : X → Bool) (xs : List X) (x : X) → Contains xs x → p x ≡ true → list_any p xs ≡ true
+any_of p [] x c h = absurd (not_in_none x c)
+any_of {X} p (y ∷ ys) x c h = elim (cases_in y x ys c) [
+  | inl e ↦ or_left (p y) (list_any p ys) (subst (λ (z : X). p z ≡ true) (sym e) h)
+  | inr d ↦ or_right (p y) (list_any p ys) (any_of p ys x d h)
+]
+
+pub some_of : {X : Type 0} (p : X → Bool) (xs : List X) → list_any p xs ≡ true → (x : X) × Contains xs x × (p x ≡ true)
+some_of p [] h = absurd (true≢false (sym h))
+some_of p (y ∷ ys) h = elim (or_cases (p y) (list_any p ys) h) [
+  | inl e ↦ (y, head_in y ys, e)
+  | inr e ↦ (let (x, c, t) = some_of p ys e in (x, in_tail y x ys c, t))
 ]

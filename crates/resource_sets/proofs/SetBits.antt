@@ -4,7 +4,7 @@ use Rattle.std.specs.Prelude.{bit_or, bit_and, nat_lt, filter, count_ones}
 use lib.Count.{ones-le, ones_step}
 use Rattle.std.specs.Int.{Width, w8, w64, w128}
 use mir.Val.{bits, bool_byte}
-use Rattle.std.proofs.lemmas.Bool.{cases_eq, ne_eqb, lt-ltb}
+use Rattle.std.proofs.lemmas.Bool.{and_right, cases_eq, ne_eqb, lt-ltb}
 use Rattle.std.proofs.lemmas.Nat.Bits.{bit_at-suc, bit_at_lowest}
 use Rattle.std.proofs.lemmas.List.{append-nil}
 use Rattle.ia_meaning.specs.Arithmetic.{bit}
@@ -13,7 +13,7 @@ use Rattle.resource_sets.specs.declared.access.Resource.TheVariants.{Gr, Pr, Br,
 use Rattle.resource_sets.specs.declared.sets.ResourceSet.{ResourceSet}
 use Rattle.resource_sets.specs.Clashes.{is_resource}
 use Rattle.resource_sets.specs.ResourceSets.{has_resource, numbered, others, resources_in}
-use Rattle.resource_sets.proofs.BitWords.{or_false, bit_more, bit_or_at, bit_and_at}
+use Rattle.resource_sets.proofs.BitWords.{or_false, bit_none, bit_more, bit_or_at, bit_and_at}
 
 -- one more bit below a limit
 below_more : (w : Width) (limit a r n : ℕ) → r < limit → limit ≤ bits w
@@ -89,6 +89,26 @@ has_both s t Pfs = refl
 has_both s t Lc = refl
 has_both s t Ec = refl
 has_both s t Cfm = refl
+
+-- sets without a common bit have no common resource
+pub none_met : (s t : ResourceSet) → bit_and s.registers t.registers ≡ 0 → bit_and s.predicates t.predicates ≡ 0 → bit_and s.branches t.branches ≡ 0
+    → (s.unat && t.unat) ≡ false → (s.pfs && t.pfs) ≡ false → (s.lc && t.lc) ≡ false → (s.ec && t.ec) ≡ false → (s.cfm && t.cfm) ≡ false
+    → (q : Resource) → (has_resource s q && has_resource t q) ≡ false
+none_met s t r p b u f l e c q = sym (has_both s t q) ∙ of q
+  where
+    of : (q : Resource) → has_resource (both s t) q ≡ false
+    of (Gr n) = and_right (nat_lt n 128) _ (ap (λ (m : ℕ). bit m n) r ∙ bit_none n)
+    of (Pr n) = and_right (nat_lt n 64) _ (ap (λ (m : ℕ). bit m n) p ∙ bit_none n)
+    of (Br n) = and_right (nat_lt n 8) _ (ap (λ (m : ℕ). bit m n) b ∙ bit_none n)
+    of Unat = u
+    of Pfs = f
+    of Lc = l
+    of Ec = e
+    of Cfm = c
+
+-- a set to which nothing is added
+pub none_added : (x y : Bool) → x ≡ (x || (false && y))
+none_added x y = sym (or_false x)
 
 -- one more resource of a sort
 pub number_more : (h : Resource → Bool) (sort : ℕ → Resource) (old : List Resource) (limit n : ℕ) → n < limit

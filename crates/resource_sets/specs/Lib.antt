@@ -1,9 +1,9 @@
 pub mod Rows
 pub mod Clashes
-pub mod Masks
-pub mod Bits
+pub mod Ranges
 pub mod ResourceSets
 pub mod AccessSets
 pub mod Accesses
+pub mod Masks
 pub mod AccessLaws
 pub mod Regularity

@@ -1,6 +1,6 @@
 //! The accesses of an instruction in sets, each of one kind and under one guard.
 
-ghost use Rattle.std.specs.Prelude.{◌≡◌, ◌+◌, ◌≤◌, ◌<◌, ◌++◌, ◌∷◌, [], ◌&&◌, ◌||◌, List, length};
+ghost use Rattle.std.specs.Prelude.{◌≡◌, ◌+◌, ◌≤◌, ◌<◌, ◌++◌, ◌∷◌, [], ◌&&◌, ◌||◌, false, List, length};
 ghost use Rattle.std.specs.List.{list_any};
 ghost use Rattle.arrayvec.specs.ArrayVec.{array_vec_len};
 ghost use Rattle.resource_sets.specs.declared.access.Access.{Access};
@@ -8,7 +8,7 @@ ghost use Rattle.resource_sets.specs.declared.access.Resource.{Resource};
 ghost use Rattle.resource_sets.specs.Clashes.{is_resource};
 ghost use Rattle.resource_sets.specs.Rows.{listed};
 ghost use Rattle.resource_sets.specs.Accesses.{placed_rows, accesses_of};
-ghost use Rattle.resource_sets.specs.Bits.{IsNumberInRange, AreNumbersInRange};
+ghost use Rattle.resource_sets.specs.Ranges.{IsNumberInRange, AreNumbersInRange};
 ghost use Rattle.resource_sets.specs.ResourceSets.{has_resource};
 ghost use Rattle.resource_sets.specs.AccessSets.{AreSetsOf, placed_kind};
 
@@ -18,7 +18,7 @@ use crate::row::AccessRow;
 use crate::sets::ResourceSet;
 use arrayvec::ArrayVec;
 use ia_insn::Pr;
-use ia_meaning::{Action, Goal};
+use ia_meaning::{Action, FetchSource, Goal};
 
 /// Accesses of an instruction, of one kind and under one guard.
 #[derive(Clone, Copy, Debug)]
@@ -123,15 +123,34 @@ fn placed_kind(action: &Action) -> Kind
     }
 }
 
+/// Whether an instruction of this action accesses predicates by place.
+fn is_placed(action: &Action) -> bool
+    ensures { result ≡ false → placed_rows action.now ≡ [] }
+{
+    matches!(
+        action,
+        Action::Fetch {
+            source: FetchSource::Predicates,
+            ..
+        } | Action::ToPredicates { .. }
+            | Action::JumpIndirect { .. }
+            | Action::Call {
+                goal: Goal::Indirect(_),
+                ..
+            }
+            | Action::Return { .. }
+    )
+}
+
 /// Appends the set of the predicates that an instruction accesses by place, if there are any.
 fn push_placed(out: &mut AccessSets, qp: Pr, action: &Action)
     requires { array_vec_len out.old < ACCESS_SET_LIMIT }
     ensures { (earlier : List Access) → AreSetsOf earlier out.old.items → AreSetsOf (earlier ++ listed qp (placed_rows action.now)) out.new.items }
 {
-    let rows = placed_rows(action);
-    if rows.is_empty() {
+    if !is_placed(action) {
         return;
     }
+    let rows = placed_rows(action);
     out.push(AccessSet {
         resources: resources_of(rows.as_slice()),
         kind: placed_kind(action),

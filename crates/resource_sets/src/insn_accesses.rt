@@ -4,7 +4,7 @@ ghost use Rattle.std.specs.Prelude.{◌≡◌, ◌+◌, ◌-◌, ◌≤◌, ◌<
 ghost use Rattle.arrayvec.specs.ArrayVec.{array_vec_len};
 ghost use Rattle.ia_meaning.specs.Actions.{action_of};
 ghost use Rattle.resource_sets.specs.Rows.{gr, always};
-ghost use Rattle.resource_sets.specs.Bits.{AreNumbersInRange};
+ghost use Rattle.resource_sets.specs.Ranges.{AreNumbersInRange};
 ghost use Rattle.resource_sets.specs.declared.access.Resource.TheVariants as spec;
 ghost use Rattle.resource_sets.specs.declared.access.Kind.TheVariants.{Read, Write};
 ghost use Rattle.resource_sets.specs.Accesses.{test_rows, base_row, own_rows, other_name, application, source_rows, unat_row, loop_rows, call_rows, place_rows, mask_rows, placed_rows, reads_plainly, reads_as_branch, qp_rows, is_framed, any_framed, frame_row, accesses_of, accesses};

@@ -9,10 +9,8 @@
 
 mod access;
 mod access_sets;
-mod bits;
 mod clashes;
 mod insn_accesses;
-mod insn_masks;
 mod laws;
 mod masking;
 mod row;
@@ -22,7 +20,6 @@ pub use access::{ACCESS_LIMIT, Access, Kind, Resource};
 pub use access_sets::{ACCESS_SET_LIMIT, AccessSet};
 pub use clashes::{Rule, clash, clash_of};
 pub use insn_accesses::{accesses, accesses_of};
-pub use insn_masks::masks;
 pub use laws::{accesses_are_regular, accesses_clash, law_reads, law_writes};
 pub use masking::{Masks, masks_of, may_clash};
 pub use sets::{RESOURCE_COUNT, ResourceSet};

@@ -1,62 +1,130 @@
-//! Which instructions may clash, told by bits.
+//! The accesses of an instruction, with what tells soon that another one can't clash with it.
 
-ghost use Rattle.std.specs.Prelude.{◌≡◌, ◌<◌, ◌++◌, ◌∷◌, [], ℕ, true, List};
-ghost use Rattle.resource_sets.specs.declared.access.Access.{Access};
-ghost use Rattle.resource_sets.specs.Rows.{listed};
-ghost use Rattle.resource_sets.specs.Accesses.{accesses_of};
+ghost use Rattle.std.specs.Prelude.{◌≡◌, ◌<◌, ◌++◌, ◌∷◌, [], ◌||◌, ◌&&◌, ℕ, true, false, List};
 ghost use Rattle.ia_meaning.specs.Arithmetic.{bit};
-ghost use Rattle.resource_sets.specs.Clashes.{may_write_guard};
-ghost use Rattle.resource_sets.specs.Masks.{may_clash};
-ghost use Rattle.resource_sets.specs.Bits.{IsNumberInRange, AreNumbersInRange, is_used_so, are_used_so, AreBits};
+ghost use Rattle.ia_meaning.specs.Names.{is_rotating};
+ghost use Rattle.resource_sets.specs.declared.access_sets.AccessSet.{AccessSet};
+ghost use Rattle.resource_sets.specs.Accesses.{accesses_of};
 ghost use Rattle.resource_sets.specs.AccessSets.{AreSetsOf};
+ghost use Rattle.resource_sets.specs.Clashes.{may_write_guard};
+ghost use Rattle.resource_sets.specs.Masks.{may_clash, is_first, is_second, set_writes, IsSummary};
 
+use crate::access::{Kind, Resource};
 use crate::access_sets::{ACCESS_SET_LIMIT, AccessSet, access_sets_of};
-use crate::bits::AccessBits;
-use crate::insn_accesses::{frame_row, own_rows, placed_rows, qp_rows};
-use crate::row::AccessRow;
+use crate::sets::ResourceSet;
 use arrayvec::ArrayVec;
 use ia_insn::Pr;
 use ia_meaning::Action;
-use integer_ops::bit;
 use std::marker::Model;
 
 /// The bits of p16 to p63.
 const ROTATING: u64 = 0xffff_ffff_ffff_0000;
 
-/// The place among other bits of a read of the frame.
-const FRAME: u8 = 5;
+/// What the access sets of an instruction have in all.
+#[derive(Clone, Copy, Debug)]
+pub(crate) struct Summary {
+    /// The resources of accesses that may clash with a later one.
+    pub barred: ResourceSet,
+    /// The resources of accesses that may clash with an earlier one.
+    pub made: ResourceSet,
+    /// The predicates that may be written: bit g is that of the predicate g.
+    pub written: u64,
+}
 
-/// The accesses of an instruction, with the bits by which it is soon seen that another one can't clash with it.
-/// Contracts see the list of the accesses.
+/// The accesses of an instruction in sets, with what these have in all. Contracts see the list of the accesses.
 #[derive(Drop)]
 pub struct Masks {
     qp: Pr,
     action: Action,
-    /// The accesses themselves.
-    made: AccessBits,
-    /// What a later slot of the group may not access.
-    barred: AccessBits,
+    sets: ArrayVec<AccessSet, ACCESS_SET_LIMIT>,
+    summary: Summary,
 }
 
 impl Model for Masks {
     ghost use Rattle.std.specs.Prelude.{List};
     ghost use Rattle.resource_sets.specs.declared.access.Access.{Access};
     ghost use Rattle.resource_sets.specs.Accesses.{accesses_of};
-    ghost use Rattle.resource_sets.specs.Bits.{AreBits};
+    ghost use Rattle.resource_sets.specs.Masks.{AreSummed};
 
     ghost Value = { List Access };
 
     ghost view = { λ m. accesses_of m.qp m.action };
 
-    ghost invariant = { λ m. AreBits (accesses_of m.qp m.action) m.made m.barred };
+    ghost invariant = { λ m. AreSummed (accesses_of m.qp m.action) m.sets.items m.summary };
+}
+
+/// Whether an access of this kind may clash with a later one: all but reads.
+fn is_first(kind: Kind) -> bool
+    ensures { result ≡ is_first kind }
+{
+    !matches!(kind, Kind::Read | Kind::Fill)
+}
+
+/// Whether an access of this kind may clash with an earlier one: all but what branches read.
+fn is_second(kind: Kind) -> bool
+    ensures { result ≡ is_second kind }
+{
+    kind != Kind::BranchRead
+}
+
+/// The predicates of the word, and those of the frame where this is written.
+fn with_frame(named: u64, framed: bool) -> u64
+    ensures { (g : ℕ) → g < 64 → bit result g ≡ (bit named g || (framed && is_rotating g)) }
+{
+    if framed { named | ROTATING } else { named }
+}
+
+/// The predicates that accesses of a set may write.
+fn written_by(set: &AccessSet) -> u64
+    ensures { (g : ℕ) → g < 64 → bit result g ≡ set_writes g set.now }
+{
+    let named = set.resources.predicates();
+    match set.kind {
+        Kind::Write => with_frame(named, set.resources.has(Resource::Cfm)),
+        Kind::LoopWrite | Kind::OrWrite | Kind::AndWrite => named,
+        _ => 0,
+    }
+}
+
+impl Summary {
+    /// No set has anything.
+    fn none() -> Summary
+        ensures { IsSummary [] result }
+    {
+        Summary {
+            barred: ResourceSet::empty(),
+            made: ResourceSet::empty(),
+            written: 0,
+        }
+    }
+
+    /// Takes in one more set.
+    fn add(&mut self, set: &AccessSet)
+        ensures { (sets : List AccessSet) → IsSummary sets self.old → IsSummary (sets ++ set.now ∷ []) self.new }
+    {
+        self.barred.insert_if(is_first(set.kind), &set.resources);
+        self.made.insert_if(is_second(set.kind), &set.resources);
+        self.written |= written_by(set);
+    }
+}
+
+/// What these sets have in all.
+fn summary_of(sets: &[AccessSet]) -> Summary
+    ensures { IsSummary sets.now result }
+{
+    let mut summary = Summary::none();
+    for n in 0..sets.len() {
+        summary.add(&sets[n]);
+    }
+    summary
 }
 
 impl Masks {
     /// The accesses in sets, each of one kind and under one guard.
-    pub fn access_sets(&self) -> ArrayVec<AccessSet, ACCESS_SET_LIMIT>
-        ensures { AreSetsOf self.now result.items }
+    pub fn access_sets(&self) -> &[AccessSet]
+        ensures { AreSetsOf self.now result.now }
     {
-        access_sets_of(self.qp, &self.action)
+        self.sets.as_slice()
     }
 
     /// The predicates that the instruction may write, by their names: those that it writes, and from p16 on all if it
@@ -64,35 +132,7 @@ impl Masks {
     pub fn written_predicates(&self) -> u64
         ensures { (g : ℕ) → g < 64 → bit result g ≡ may_write_guard g self.now }
     {
-        if bit(self.barred.others, FRAME) {
-            self.barred.predicates | ROTATING
-        } else {
-            self.barred.predicates
-        }
-    }
-}
-
-/// Takes in one more row.
-fn take_row(made: &mut AccessBits, barred: &mut AccessBits, row: AccessRow)
-    requires within { IsNumberInRange row.resource }
-    requires fits { is_used_so row.resource row.kind ≡ true }
-    ensures { (qp : ℕ) (earlier : List Access) → AreBits earlier made.old barred.old → AreBits (earlier ++ listed qp (row ∷ [])) made.new barred.new }
-{
-    if !row.there {
-        return;
-    }
-    made.make(row.resource, row.kind);
-    barred.bar(row.resource, row.kind);
-}
-
-/// Takes in more rows.
-fn take_rows(made: &mut AccessBits, barred: &mut AccessBits, rows: &[AccessRow])
-    requires within { AreNumbersInRange rows.now }
-    requires fits { are_used_so rows.now ≡ true }
-    ensures { (qp : ℕ) (earlier : List Access) → AreBits earlier made.old barred.old → AreBits (earlier ++ listed qp rows.now) made.new barred.new }
-{
-    for n in 0..rows.len() {
-        take_row(made, barred, rows[n]);
+        self.summary.written
     }
 }
 
@@ -100,29 +140,20 @@ fn take_rows(made: &mut AccessBits, barred: &mut AccessBits, rows: &[AccessRow])
 pub fn masks_of(qp: Pr, action: &Action) -> Masks
     ensures { result ≡ accesses_of qp action.now }
 {
-    let own = own_rows(action);
-    let mut made = AccessBits::NONE;
-    let mut barred = AccessBits::NONE;
-    take_row(
-        &mut made,
-        &mut barred,
-        frame_row(qp, action, own.as_slice()),
-    );
-    take_rows(&mut made, &mut barred, &qp_rows(qp, action));
-    take_rows(&mut made, &mut barred, own.as_slice());
-    take_rows(&mut made, &mut barred, placed_rows(action).as_slice());
+    let sets = access_sets_of(qp, action);
+    let summary = summary_of(sets.as_slice());
     Masks {
         qp,
         action: *action,
-        made,
-        barred,
+        sets,
+        summary,
     }
 }
 
-/// Whether some access of the first clashes with some access of the second, if the first stands in an earlier slot
-/// of the group. False exactly where `clash` names no rule for any two of them.
+/// Whether some access of the first may clash with some access of the second, if the first stands in an earlier slot
+/// of the group. False only where `clash` names no rule for any two of them.
 pub fn may_clash(first: &Masks, second: &Masks) -> bool
-    ensures { result ≡ may_clash first.now second.now }
+    ensures { result ≡ false → may_clash first.now second.now ≡ false }
 {
-    first.barred.share_bits(&second.made)
+    first.summary.barred.meets(&second.summary.made)
 }

@@ -6,20 +6,20 @@ use Rattle.predicate_rel.proofs.PairLemmas.{pairs_kept}
 use Rattle.group_checker.proofs.Slots.{slot_past}
 use Rattle.group_checker.proofs.moves.pass.Goals as goal
 
-pub returns : goal.returns
-returns c g has_stop j is = record {
+pub returns-clause-goes_on : goal.returns-clause-goes_on
+returns-clause-goes_on c g has_stop j is = record {
   place = refl;
   clears = refl;
   accesses = refl;
-  known = c.after_action-earlier.ensures ∙ slot_past g has_stop j c.args.slot.now is (pairs_of c.args.earlier.now.known);
+  known = c.pass_known.ensures.known ∙ slot_past g has_stop j c.args.slot.now is (pairs_of c.args.earlier.now.known);
   written = refl;
 }
 
-pub returns-then-keeps : goal.returns-then-keeps
-returns-then-keeps c g has_stop j is = record {
+pub returns-then-keeps-clause-goes_on : goal.returns-then-keeps-clause-goes_on
+returns-then-keeps-clause-goes_on c g has_stop j is = record {
   place = refl;
   clears = refl;
   accesses = refl;
-  known = pairs_kept c.args.earlier.now.known (action_rule c.args.slot.now.action Falls c.args.slot.now.qp) (c.requires c.if-keeps.true) ∙ slot_past g has_stop j c.args.slot.now is (pairs_of c.args.earlier.now.known);
+  known = pairs_kept c.args.earlier.now.known (action_rule c.args.slot.now.action Falls c.args.slot.now.qp) (c.requires.keeps c.if-keeps.true) ∙ slot_past g has_stop j c.args.slot.now is (pairs_of c.args.earlier.now.known);
   written = refl;
 }

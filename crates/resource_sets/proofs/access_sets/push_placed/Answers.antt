@@ -4,7 +4,7 @@ use Rattle.resource_sets.specs.declared.access_sets.AccessSet.{AccessSet}
 use Rattle.resource_sets.specs.Rows.{listed}
 use Rattle.resource_sets.specs.Accesses.{placed_rows}
 use Rattle.resource_sets.specs.AccessSets.{placed_kind}
-use Rattle.resource_sets.proofs.BitLists.{placed_within}
+use Rattle.resource_sets.proofs.RowLists.{placed_within}
 use Rattle.resource_sets.proofs.AccessSets.{any_there, sets_append, set_of_alike, placed_alike}
 use Rattle.resource_sets.proofs.access_sets.push_placed.Goals as goal
 

@@ -2,7 +2,7 @@ use Rattle.std.proofs.Common.{◌++◌, List, take, arith, subst}
 use Rattle.resource_sets.specs.declared.access.Access.{Access}
 use Rattle.resource_sets.specs.Rows.{listed}
 use Rattle.resource_sets.specs.AccessSets.{AreSetsOf}
-use Rattle.resource_sets.proofs.BitLists.{rows_taken, within_at}
+use Rattle.resource_sets.proofs.RowLists.{rows_taken, within_at}
 use Rattle.resource_sets.proofs.access_sets.push_sets.Goals as goal
 
 pub push_set-requires-clause-within : goal.push_set-requires-clause-within

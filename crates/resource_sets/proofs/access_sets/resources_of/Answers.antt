@@ -1,4 +1,4 @@
-use Rattle.resource_sets.proofs.BitLists.{within_at}
+use Rattle.resource_sets.proofs.RowLists.{within_at}
 use Rattle.resource_sets.proofs.access_sets.resources_of.Goals as goal
 
 pub insert_row-requires : goal.insert_row-requires

@@ -18,7 +18,7 @@ returns c g has_stop next known u follows =
     (rw c.in-Some.is at known)
     (subst (λ (es : List EarlierSlot). IsWindow g has_stop es j) (sym was) u.window)
     (c.advance.ensures g has_stop j u.slot)
-    (record { place = refl; clears = c.clears.ensures ∙ sym (slot_clears g has_stop j s u.slot); accesses = u.accesses; known = c.after_action.ensures ∙ slot_past g has_stop j s u.slot f; written = refl })
+    (record { place = refl; clears = c.clears.ensures ∙ sym (slot_clears g has_stop j s u.slot); accesses = u.accesses; known = c.after_action-known.ensures ∙ slot_past g has_stop j s u.slot f; written = refl })
     (subst (IsGuardMask c.written_predicates-written.result) u.accesses (guard_mask c.written_predicates-written.result c.args.masks c.written_predicates-written.ensures)))
 
 pub returns-in_default : goal.returns-in_default
