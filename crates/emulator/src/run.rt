@@ -19,7 +19,7 @@ use ia_meaning::{Action, Next, end_or, target_of};
 use ia_program::{End, FaultKind, GroupEvent, How, Place};
 use machine_state::MachineState;
 use slot_effects::{Change, SlotEffect, compute, effect, load, store, turn};
-use slot_table::{Slot, SlotTable};
+use slot_table::{Slot, SlotTable, place_number};
 use std::alloc::{AllocError, Global};
 
 /// The state of a run, its end, the groups begun, the first place of the group under way and the slots
@@ -155,13 +155,13 @@ impl Run {
 
     /// The slot at the place of a run.
     #[inline(always)]
-    #[tactic(auto, using(slot_table::proofs::SlotLaws::not_place))]
     fn slot<'t>(&self, table: &'t SlotTable) -> &'t Slot
         requires program { IsProgram table.now }
         requires place { IsPlaceOf table.now.bundles self.now.place }
         ensures { IsHere table.now (state_of self.now) result.now }
     {
-        let Some(slot) = table.at(self.here()) else {
+        let number = place_number(self.here());
+        let Some(slot) = table.at_number(number) else {
             unreachable!()
         };
         slot

@@ -28,7 +28,6 @@ loop-how-preserved-in-Some c =
     let over = is_over p now next c.in-Some._how c.loop-how.invariant.running c.in-Some.ensures.value (sym c.in-Some.ensures.how) in
     record {
       some = omega (arith, c.loop-how.invariant.some, c.if-left-eq0.false);
-      most = omega (arith, c.loop-how.invariant.most);
       rest = over_groups p now next left c.loop-how.invariant.some over.group ∙ c.loop-how.invariant.rest;
       running = none_of c.advance.new.self.end (sym c.if-is_some.ensures);
       under_way = c.in-Some.ensures.under_way;
@@ -49,7 +48,6 @@ loop-how-preserved c =
     let within = is_within p now next c.requires.program c.loop-how.invariant.under_way c.loop-how.invariant.running c.in_default.ensures.value (sym c.in_default.ensures.how) in
     record {
       some = c.loop-how.invariant.some;
-      most = c.loop-how.invariant.most;
       rest = within_groups p now next left c.loop-how.invariant.some within.group ∙ c.loop-how.invariant.rest;
       running = c.in_default.ensures.goes_on;
       under_way = c.in_default.ensures.under_way;

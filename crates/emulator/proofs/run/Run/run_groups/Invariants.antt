@@ -1,4 +1,4 @@
-use Rattle.std.proofs.Common.{◌≡◌, ◌-◌, ◌*◌, ◌<◌, ◌≤◌}
+use Rattle.std.proofs.Common.{◌≡◌, ◌-◌, ◌*◌, ◌<◌}
 use Rattle.std.specs.Prelude.{None}
 use Rattle.ia_program.specs.declared.limits.TheConstants.{RUN_LIMIT}
 use Rattle.ia_meaning.specs.Progress.{groups_further}
@@ -10,7 +10,6 @@ use Rattle.emulator.proofs.run.Run.run_groups.Given as goal
 abbrev pub invariant-loop-how : goal.invariant-loop-how
 invariant-loop-how l = record {
   some : 0 < l.left;
-  most : l.left ≤ l.groups;
   rest : groups_further l.left l.table (progress_of l.self) ≡ groups_further l.groups l.table (progress_of l.fn.self);
   running : l.self.end ≡ None;
   under_way : IsUnderWay l.table (progress_of l.self);
