@@ -1,6 +1,6 @@
 //! A run under way.
 
-ghost use Rattle.std.specs.Prelude.{◌≡◌, ◌<◌, ◌≤◌, ◌%◌, ◌+◌, ◌^◌, [], length, Some, None, IfNone, IfOk};
+ghost use Rattle.std.specs.Prelude.{◌≡◌, ◌<◌, ◌≤◌, ◌%◌, ◌+◌, ◌^◌, [], length, false, Some, None, IfNone, IfOk};
 ghost use Rattle.ia_program.specs.declared.limits.TheConstants.{DATA_LIMIT, RUN_LIMIT};
 ghost use Rattle.ia_program.specs.Places.{IsPlaceOf};
 ghost use Rattle.ia_program.specs.declared.ending.How.TheVariants as how;
@@ -10,6 +10,7 @@ ghost use Rattle.ia_meaning.specs.Runs.{IsUnderWay, event_further};
 ghost use Rattle.ia_program.specs.Programs.{IsProgram};
 ghost use Rattle.ia_meaning.specs.Sequence.{first_of, next_of, is_stopped};
 ghost use Rattle.ia_meaning.specs.State.{zero_registers};
+ghost use Rattle.ia_meaning.specs.Names.{holds};
 ghost use Rattle.ia_meaning.specs.Steps.{how_falling, seq_step};
 ghost use Rattle.machine_state.specs.Changes.{outcome_with, MayChange};
 ghost use Rattle.emulator.specs.Outcomes.{outcome_of};
@@ -187,6 +188,27 @@ impl Run {
         self.go_on(table, slot, &effect)
     }
 
+    /// Goes past the slot at the place of the run, whose qualifying predicate is 0, and tells how its group ends, where it
+    /// does: tests and loop branches alone may do something.
+    #[inline(always)]
+    fn skip(&mut self, table: &SlotTable, slot: &Slot) -> Option<How>
+        requires here { IsHere table.now (state_of self.old) slot.now }
+        requires skipped { holds self.old.state.registers slot.now.qp ≡ false }
+        requires running { self.old.end ≡ None }
+        requires few { self.old.slots < RUN_LIMIT }
+        ensures value { progress_of self.new ≡ stepped (progress_of self.old) (seq_step table.now (state_of self.old)) }
+        ensures how { result ≡ (seq_step table.now (state_of self.old)).how }
+        ensures goes_on { IfNone result (self.new.end ≡ None) }
+    {
+        match slot.action {
+            Action::Test { .. } | Action::Loop { .. } => self.run_any(table, slot),
+            _ => {
+                let effect = SlotEffect::falls(Change::Nothing);
+                self.go_on(table, slot, &effect)
+            }
+        }
+    }
+
     /// Runs the next slot, and tells how its group ends, where it does. The actions of most loops have code of their
     /// own each, in which it is known what change there is, and none is made and taken apart.
     #[inline(always)]
@@ -201,7 +223,7 @@ impl Run {
     {
         let slot = self.slot(table);
         if !self.state.holds(slot.qp) {
-            return self.run_any(table, slot);
+            return self.skip(table, slot);
         }
         match slot.action {
             Action::Compute {
@@ -236,6 +258,11 @@ impl Run {
             Action::Loop { kind, disp } => {
                 let bundle = target_of(self.place.bundle, disp);
                 let effect = turn(&self.state, kind, true, bundle);
+                self.go_on(table, slot, &effect)
+            }
+            Action::Jump { disp } => {
+                let bundle = target_of(self.place.bundle, disp);
+                let effect = SlotEffect::goes(Change::Nothing, bundle);
                 self.go_on(table, slot, &effect)
             }
             Action::Idle { .. } => {
