@@ -1,10 +1,13 @@
 -- A step of the machine at a place of its program.
-use Rattle.std.proofs.Common.{◌≡◌, ℕ, refl, subst}
+use Rattle.std.proofs.Common.{◌≡◌, ℕ, List, refl, sym, subst, ap}
 use Rattle.std.specs.Prelude.{Option, Some, None}
 use Rattle.ia_insn.specs.declared.insn.Insn.{Insn}
 use Rattle.ia_program.specs.declared.place.Place.{Place}
-use Rattle.ia_program.specs.Places.{insn_at}
+use Rattle.ia_program.specs.Places.{place_number, place_at, insn_at, IsPlaceOf}
+use Rattle.ia_program.specs.Bundles.{Bundle}
 use Rattle.ia_program.specs.Programs.{Program, IsProgram}
+use Rattle.ia_program.proofs.InOrder.{slot_small}
+use Rattle.ia_program.proofs.Reaching.{place_at-number}
 use Rattle.ia_meaning.specs.State.{State}
 use Rattle.ia_meaning.specs.declared.next.Next.TheVariants.{Falls, Goes}
 use Rattle.ia_meaning.specs.Sequence.{first_of, next_of, is_stopped}
@@ -34,6 +37,10 @@ here_of p s insn program at =
 pub slot_here : (p : Program) (s : State) (slot : Slot) → IsProgram p → slot_at p.bundles s.place ≡ Some slot → IsHere p s slot
 slot_here p s slot program e =
     let i = slot_is p.bundles s.place slot e in subst (IsHere p s) i.is (here_of p s i.insn program i.here)
+
+-- the slot at a place is the one with its number
+pub numbered : (bundles : List Bundle) (place : Place) → IsPlaceOf bundles place → slot_at bundles place ≡ slot_at bundles (place_at (place_number place))
+numbered bundles place is = ap (slot_at bundles) (sym (place_at-number place (slot_small bundles place is)))
 
 -- A run goes on to the next place, or to a bundle, with a change.
 pub falls_on : (r : Run) (p : Program) (o : SlotEffect) (next : Place) → r.end ≡ None → o.next ≡ Falls → Some next ≡ next_of p.bundles r.place

@@ -173,7 +173,7 @@ impl<'a> Machine<'a> {
         ensures finished { IfSome self.old.progress.end (λ end. (self.new ≡ self.old) × (result ≡ end)) }
     {
         if self.run.end.is_none() {
-            let _event = self.run.run_groups(&self.slots, groups);
+            self.run.run_groups(&self.slots, groups);
         }
         self.run.ending()
     }

@@ -1,6 +1,6 @@
 //! A run under way.
 
-ghost use Rattle.std.specs.Prelude.{◌≡◌, ◌<◌, ◌≤◌, ◌%◌, ◌+◌, ◌^◌, [], length, Some, None, IfNone, IfOk};
+ghost use Rattle.std.specs.Prelude.{◌≡◌, ◌<◌, ◌≤◌, ◌%◌, ◌+◌, ◌^◌, [], length, false, Some, None, IfNone, IfOk};
 ghost use Rattle.ia_program.specs.declared.limits.TheConstants.{DATA_LIMIT, RUN_LIMIT};
 ghost use Rattle.ia_program.specs.Places.{IsPlaceOf};
 ghost use Rattle.ia_program.specs.declared.ending.How.TheVariants as how;
@@ -10,16 +10,17 @@ ghost use Rattle.ia_meaning.specs.Runs.{IsUnderWay, event_further};
 ghost use Rattle.ia_program.specs.Programs.{IsProgram};
 ghost use Rattle.ia_meaning.specs.Sequence.{first_of, next_of, is_stopped};
 ghost use Rattle.ia_meaning.specs.State.{zero_registers};
+ghost use Rattle.ia_meaning.specs.Names.{holds};
 ghost use Rattle.ia_meaning.specs.Steps.{how_falling, seq_step};
 ghost use Rattle.machine_state.specs.Changes.{outcome_with, MayChange};
 ghost use Rattle.emulator.specs.Outcomes.{outcome_of};
 ghost use Rattle.emulator.specs.Progress.{state_of, progress_of, settled_step, arrived, IsHere};
 
-use ia_meaning::{Next, end_or};
+use ia_meaning::{Action, Next, end_or, target_of};
 use ia_program::{End, FaultKind, GroupEvent, How, Place};
 use machine_state::MachineState;
-use slot_effects::{Change, SlotEffect, effect};
-use slot_table::{Slot, SlotTable};
+use slot_effects::{Change, SlotEffect, compute, effect, load, store, turn};
+use slot_table::{Slot, SlotTable, place_number};
 use std::alloc::{AllocError, Global};
 
 /// The state of a run, its end, the groups begun, the first place of the group under way and the slots
@@ -155,19 +156,61 @@ impl Run {
 
     /// The slot at the place of a run.
     #[inline(always)]
-    #[tactic(auto, using(slot_table::proofs::SlotLaws::not_place))]
     fn slot<'t>(&self, table: &'t SlotTable) -> &'t Slot
         requires program { IsProgram table.now }
         requires place { IsPlaceOf table.now.bundles self.now.place }
         ensures { IsHere table.now (state_of self.now) result.now }
     {
-        let Some(slot) = table.at(self.here()) else {
+        let number = place_number(self.here());
+        let Some(slot) = table.at_number(number) else {
             unreachable!()
         };
         slot
     }
 
-    /// Runs the next slot, and tells how its group ends, where it does.
+    /// Does what the slot at the place of the run does, and tells how its group ends, where it does.
+    #[inline(never)]
+    fn run_any(&mut self, table: &SlotTable, slot: &Slot) -> Option<How>
+        requires here { IsHere table.now (state_of self.old) slot.now }
+        requires running { self.old.end ≡ None }
+        requires few { self.old.slots < RUN_LIMIT }
+        ensures value { progress_of self.new ≡ stepped (progress_of self.old) (seq_step table.now (state_of self.old)) }
+        ensures how { result ≡ (seq_step table.now (state_of self.old)).how }
+        ensures goes_on { IfNone result (self.new.end ≡ None) }
+    {
+        let effect = effect(
+            &self.state,
+            table.program(),
+            self.place.bundle,
+            slot.qp,
+            &slot.action,
+        );
+        self.go_on(table, slot, &effect)
+    }
+
+    /// Goes past the slot at the place of the run, whose qualifying predicate is 0, and tells how its group ends, where it
+    /// does: tests and loop branches alone may do something.
+    #[inline(always)]
+    fn skip(&mut self, table: &SlotTable, slot: &Slot) -> Option<How>
+        requires here { IsHere table.now (state_of self.old) slot.now }
+        requires skipped { holds self.old.state.registers slot.now.qp ≡ false }
+        requires running { self.old.end ≡ None }
+        requires few { self.old.slots < RUN_LIMIT }
+        ensures value { progress_of self.new ≡ stepped (progress_of self.old) (seq_step table.now (state_of self.old)) }
+        ensures how { result ≡ (seq_step table.now (state_of self.old)).how }
+        ensures goes_on { IfNone result (self.new.end ≡ None) }
+    {
+        match slot.action {
+            Action::Test { .. } | Action::Loop { .. } => self.run_any(table, slot),
+            _ => {
+                let effect = SlotEffect::falls(Change::Nothing);
+                self.go_on(table, slot, &effect)
+            }
+        }
+    }
+
+    /// Runs the next slot, and tells how its group ends, where it does. The actions of most loops have code of their
+    /// own each, in which it is known what change there is, and none is made and taken apart.
     #[inline(always)]
     fn run_slot(&mut self, table: &SlotTable) -> Option<How>
         requires program { IsProgram table.now }
@@ -179,14 +222,55 @@ impl Run {
         ensures goes_on { IfNone result (self.new.end ≡ None) }
     {
         let slot = self.slot(table);
-        let effect = effect(
-            &self.state,
-            table.program(),
-            self.place.bundle,
-            slot.qp,
-            &slot.action,
-        );
-        self.go_on(table, slot, &effect)
+        if !self.state.holds(slot.qp) {
+            return self.skip(table, slot);
+        }
+        match slot.action {
+            Action::Compute {
+                r1,
+                r2,
+                r3,
+                ref function,
+            } => {
+                let effect = compute(&self.state, r1, r2, r3, function);
+                self.go_on(table, slot, &effect)
+            }
+            Action::FromMemory {
+                size,
+                kind,
+                r1,
+                r3,
+                update,
+            } => {
+                let effect = load(&self.state, size, kind, r1, r3, update);
+                self.go_on(table, slot, &effect)
+            }
+            Action::ToMemory {
+                size,
+                kind,
+                r3,
+                r2,
+                update,
+            } => {
+                let effect = store(&self.state, size, kind, r3, r2, update);
+                self.go_on(table, slot, &effect)
+            }
+            Action::Loop { kind, disp } => {
+                let bundle = target_of(self.place.bundle, disp);
+                let effect = turn(&self.state, kind, true, bundle);
+                self.go_on(table, slot, &effect)
+            }
+            Action::Jump { disp } => {
+                let bundle = target_of(self.place.bundle, disp);
+                let effect = SlotEffect::goes(Change::Nothing, bundle);
+                self.go_on(table, slot, &effect)
+            }
+            Action::Idle { .. } => {
+                let effect = SlotEffect::falls(Change::Nothing);
+                self.go_on(table, slot, &effect)
+            }
+            _ => self.run_any(table, slot),
+        }
     }
 
     /// Runs one slot more, and tells how its group ends, where it does.
@@ -220,37 +304,30 @@ impl Run {
         }
     }
 
-    /// Runs so many groups, at least one, or up to an end, and tells of the group where it is one. A group that is under
-    /// way is the first of them. Each has at most [`RUN_LIMIT`](ia_program::limits::RUN_LIMIT) slots.
-    pub fn run_groups(&mut self, table: &SlotTable, groups: u64) -> GroupEvent
+    /// Runs so many groups, at least one, or up to an end. A group that is under way is the first of them. Each has at
+    /// most [`RUN_LIMIT`](ia_program::limits::RUN_LIMIT) slots.
+    pub fn run_groups(&mut self, table: &SlotTable, groups: u64)
         requires program { IsProgram table.now }
         requires running { self.old.end ≡ None }
         requires under_way { IsUnderWay table.now (progress_of self.old) }
         requires some { 1 ≤ groups }
         requires room { self.old.groups + groups < 2 ^ 64 }
         ensures value { progress_of self.new ≡ groups_further groups table.now (progress_of self.old) }
-        ensures event { groups ≡ 1 → result ≡ event_further table.now (progress_of self.old) }
         ensures under_way { IsUnderWay table.now (progress_of self.new) }
     {
         let mut left = groups;
         loop {
-            let (last, slots) = (self.here(), self.slots + 1);
-            if let Some(how) = self.advance(table) {
+            if let Some(_how) = self.advance(table) {
                 left -= 1;
                 if left == 0 || self.end.is_some() {
-                    return GroupEvent {
-                        number: self.groups,
-                        first: self.first,
-                        last,
-                        slots,
-                        how,
-                    };
+                    return;
                 }
             }
         }
     }
 
-    /// Runs the group under way to its end, or the next one, and tells of it.
+    /// Runs the group under way to its end, or the next one, and tells of it. It has at most
+    /// [`RUN_LIMIT`](ia_program::limits::RUN_LIMIT) slots.
     pub fn run_group(&mut self, table: &SlotTable) -> GroupEvent
         requires program { IsProgram table.now }
         requires running { self.old.end ≡ None }
@@ -260,7 +337,18 @@ impl Run {
         ensures event { result ≡ event_further table.now (progress_of self.old) }
         ensures under_way { IsUnderWay table.now (progress_of self.new) }
     {
-        self.run_groups(table, 1)
+        loop {
+            let (last, slots) = (self.here(), self.slots + 1);
+            if let Some(how) = self.advance(table) {
+                return GroupEvent {
+                    number: self.groups,
+                    first: self.first,
+                    last,
+                    slots,
+                    how,
+                };
+            }
+        }
     }
 
     /// How a run that stands so ends.

@@ -39,6 +39,10 @@ set_static r (suc n) cell l h = rw (spot_static r.frame (suc n) h) refl
 pub set_zero : (r : Registers) (n : ℕ) (cell : Cell) → n ≡ 0 → apply (set_at (spot r.frame n) cell []) r ≡ r
 set_zero r n cell e = rw (e, spot_static r.frame 0 (omega arith)) refl
 
+pub holds_zero : (r : Registers) (p : ℕ) → p ≡ 0 → holds r p ≡ true
+unfolding holds
+holds_zero r p e = rw e refl
+
 pub holds_is : (r : Registers) (p : ℕ) → get_or r.predicates 0 false ≡ true → get_or r.predicates (predicate_place r.frame p) false ≡ holds r p
 unfolding holds predicate_place
 holds_is r zero e = e

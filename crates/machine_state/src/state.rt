@@ -178,9 +178,14 @@ impl MachineState {
     }
 
     /// Whether a predicate is 1.
+    #[inline(always)]
+    #[tactic(auto, using(crate::proofs::Names::holds_zero))]
     pub fn holds(&self, p: Pr) -> bool
         ensures { result ≡ holds self.now.registers p }
     {
+        if p.is_zero() {
+            return true;
+        }
         self.predicates[self.predicate_place(p)]
     }
 

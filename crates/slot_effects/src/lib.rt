@@ -24,7 +24,9 @@ mod slot_effect;
 
 pub use change::Change;
 pub use effects::effect;
-pub use loops::turn_of;
+pub use loads::{load, store};
+pub use loops::{turn, turn_of};
+pub use moves::compute;
 pub use predicates::predicate_word;
 pub use sees::Sees;
 pub use slot_effect::SlotEffect;

@@ -61,6 +61,7 @@ fn is_check(kind: LoadKind) -> bool
 }
 
 /// A load that fails: where it is speculative the fault is deferred.
+#[inline(always)]
 fn load_failed<S: Sees>(seen: &S, fault: FaultKind, load: &FoundLoad) -> SlotEffect
     requires { IsLoadOf (S.registers seen.now) load.now }
     ensures value { outcome_of_effect (S.registers seen.now) (S.memory seen.now) result ≡ load_failed fault load.now.kind load.now.entry.key (S.memory seen.now) (load_update (S.registers seen.now) load.now.r3 load.now.update) }
@@ -82,6 +83,7 @@ fn load_failed<S: Sees>(seen: &S, fault: FaultKind, load: &FoundLoad) -> SlotEff
 }
 
 /// A check that hits: the target isn't written.
+#[inline(always)]
 fn load_hit<S: Sees>(seen: &S, load: &FoundLoad) -> SlotEffect
     requires { IsLoadOf (S.registers seen.now) load.now }
     ensures value { outcome_of_effect (S.registers seen.now) (S.memory seen.now) result ≡ load_hit load.now.kind load.now.entry.key (S.memory seen.now) (load_update (S.registers seen.now) load.now.r3 load.now.update) }
@@ -96,6 +98,7 @@ fn load_hit<S: Sees>(seen: &S, load: &FoundLoad) -> SlotEffect
 }
 
 /// A load that is made.
+#[inline(always)]
 fn load_made<S: Sees>(seen: &S, load: &FoundLoad, cell: Cell) -> SlotEffect
     requires made { IsLoadOf (S.registers seen.now) load.now }
     requires cell { cell ≡ record { value = loaded (S.memory seen.now).bytes load.now.entry.address load.now.entry.size; nat = load_nat load.now.kind load.now.entry.address (S.unat seen.now) } }
@@ -121,6 +124,7 @@ fn load_made<S: Sees>(seen: &S, load: &FoundLoad, cell: Cell) -> SlotEffect
 }
 
 /// What a load or a fill reads.
+#[inline(always)]
 fn read<S: Sees>(seen: &S, kind: LoadKind, address: u64, size: u8) -> Result<Cell, MemFault>
     requires { IsLoadSize kind size }
     ensures ok { IfOk result (λ c. (access_fault (S.memory seen.now).bytes address size ≡ None) × (c ≡ record { value = loaded (S.memory seen.now).bytes address size; nat = load_nat kind address (S.unat seen.now) })) }
@@ -136,6 +140,7 @@ fn read<S: Sees>(seen: &S, kind: LoadKind, address: u64, size: u8) -> Result<Cel
 }
 
 /// A load that isn't found in the ALAT.
+#[inline(always)]
 fn load_tried<S: Sees>(seen: &S, load: &FoundLoad) -> SlotEffect
     requires size { IsLoadSize load.now.kind load.now.entry.size }
     requires made { IsLoadOf (S.registers seen.now) load.now }
@@ -149,6 +154,7 @@ fn load_tried<S: Sees>(seen: &S, load: &FoundLoad) -> SlotEffect
 }
 
 /// A load whose base has no NaT; a check looks for a hit first.
+#[inline(always)]
 fn load_checked<S: Sees>(seen: &S, load: &FoundLoad) -> SlotEffect
     requires size { IsLoadSize load.now.kind load.now.entry.size }
     requires made { IsLoadOf (S.registers seen.now) load.now }
@@ -163,8 +169,9 @@ fn load_checked<S: Sees>(seen: &S, load: &FoundLoad) -> SlotEffect
 }
 
 /// A load.
+#[inline(always)]
 #[tactic(auto, using(crate::proofs::Named::from_memory_missing))]
-pub(crate) fn load<S: Sees>(
+pub fn load<S: Sees>(
     seen: &S,
     size: u8,
     kind: LoadKind,
@@ -213,8 +220,9 @@ fn is_forbidden(kind: StoreKind, base: Cell, cell: Cell) -> bool
 }
 
 /// A store.
+#[inline(always)]
 #[tactic(auto, using(crate::proofs::Named::to_memory_missing))]
-pub(crate) fn store<S: Sees>(
+pub fn store<S: Sees>(
     seen: &S,
     size: u8,
     kind: StoreKind,

@@ -80,6 +80,7 @@ fn simple_turn(lc: u64) -> Turn
 }
 
 /// The turn of a loop branch. Under a false predicate the while loops alone make one.
+#[inline(always)]
 pub fn turn_of(kind: BranchKind, qp: bool, lc: u64, ec: u64) -> Turn
     ensures value { result ≡ turn_of kind qp lc ec }
     ensures epilog { ec < 64 → IfSome result.ec (λ e. e < 64) }
@@ -95,7 +96,8 @@ pub fn turn_of(kind: BranchKind, qp: bool, lc: u64, ec: u64) -> Turn
 }
 
 /// A loop branch to a bundle.
-pub(crate) fn turn<S: Sees>(seen: &S, kind: BranchKind, qp: bool, bundle: u32) -> SlotEffect
+#[inline(always)]
+pub fn turn<S: Sees>(seen: &S, kind: BranchKind, qp: bool, bundle: u32) -> SlotEffect
     ensures value { outcome_of_effect (S.registers seen.now) (S.memory seen.now) result ≡ turned (turn_of kind qp (S.registers seen.now).lc (S.registers seen.now).ec) (S.registers seen.now).frame bundle (S.memory seen.now) }
     ensures may { MayMake (S.registers seen.now) (S.memory seen.now) result.change }
 {

@@ -13,14 +13,28 @@ use crate::change::Change;
 use crate::operands::operands;
 use crate::sees::Sees;
 use crate::slot_effect::SlotEffect;
-use ia_insn::{Ar, Br, CmpKind, Gr, Pr};
+use ia_insn::{AluFn, Ar, Br, CmpKind, Gr, Pr};
 use ia_meaning::{Cell, Condition, FetchSource, Function, MovedWord};
 use ia_program::{FaultKind, bundle_address};
 use integer_ops::{moved, result_of, value_of};
 
+/// The value of a computation. Sums, which most are, take no call.
+#[inline(always)]
+fn computed_value(function: &Function, a: u64, b: u64) -> u64
+    requires { IsFunction function.now }
+    ensures { result ≡ value_of function.now a b }
+{
+    match *function {
+        Function::Alu(AluFn::Add) => a.wrapping_add(b),
+        Function::AluImmediate { f: AluFn::Add, imm } => imm.cast_unsigned().wrapping_add(b),
+        _ => value_of(function, a, b),
+    }
+}
+
 /// A computation.
+#[inline(always)]
 #[tactic(auto, using(crate::proofs::Named::computed_missing))]
-pub(crate) fn compute<S: Sees>(seen: &S, r1: Gr, r2: Gr, r3: Gr, function: &Function) -> SlotEffect
+pub fn compute<S: Sees>(seen: &S, r1: Gr, r2: Gr, r3: Gr, function: &Function) -> SlotEffect
     requires { IsFunction function.now }
     ensures value { outcome_of_effect (S.registers seen.now) (S.memory seen.now) result ≡ computed (value_of function.now) (spot (S.registers seen.now).frame r1) (look (S.registers seen.now) r2) (look (S.registers seen.now) r3) (S.memory seen.now) }
     ensures may { MayMake (S.registers seen.now) (S.memory seen.now) result.change }
@@ -29,7 +43,7 @@ pub(crate) fn compute<S: Sees>(seen: &S, r1: Gr, r2: Gr, r3: Gr, function: &Func
         return SlotEffect::faults(FaultKind::OutOfFrame);
     };
     let cell = Cell {
-        value: value_of(function, found.first.value, found.second.value),
+        value: computed_value(function, found.first.value, found.second.value),
         nat: found.first.nat || found.second.nat,
     };
     SlotEffect::falls(Change::General { r1, cell })

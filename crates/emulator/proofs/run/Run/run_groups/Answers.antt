@@ -9,7 +9,7 @@ returns-then-left-eq0-clause-value c =
     let p = c.args.table.now in
     let now = progress_of c.loop-how.self in
     let next = progress_of c.advance.new.self in
-    let over = is_over p now next c.in-Some.how c.loop-how.invariant.running c.in-Some.ensures.value (sym c.in-Some.ensures.how) in
+    let over = is_over p now next c.in-Some._how c.loop-how.invariant.running c.in-Some.ensures.value (sym c.in-Some.ensures.how) in
     let rest = over_groups p now next c.loop-how.left c.loop-how.invariant.some over.group ∙ c.loop-how.invariant.rest in
     sym
     (no_further (c.loop-how.left - 1) p next
@@ -19,23 +19,16 @@ returns-then-left-eq0-clause-value c =
     ]))
     ∙ rest
 
-pub returns-then-left-eq0-clause-event : goal.returns-then-left-eq0-clause-event
-returns-then-left-eq0-clause-event c one =
-    let over = is_over c.args.table.now (progress_of c.loop-how.self) (progress_of c.advance.new.self) c.in-Some.how c.loop-how.invariant.running c.in-Some.ensures.value (sym c.in-Some.ensures.how) in
-    rw c.here-last.ensures (over.event ∙ c.loop-how.invariant.event one)
-
 pub loop-how-preserved-in-Some : goal.loop-how-preserved-in-Some
 loop-how-preserved-in-Some c =
     let p = c.args.table.now in
     let now = progress_of c.loop-how.self in
     let next = progress_of c.advance.new.self in
     let left = c.loop-how.left in
-    let over = is_over p now next c.in-Some.how c.loop-how.invariant.running c.in-Some.ensures.value (sym c.in-Some.ensures.how) in
+    let over = is_over p now next c.in-Some._how c.loop-how.invariant.running c.in-Some.ensures.value (sym c.in-Some.ensures.how) in
     record {
       some = omega (arith, c.loop-how.invariant.some, c.if-left-eq0.false);
-      most = omega (arith, c.loop-how.invariant.most);
       rest = over_groups p now next left c.loop-how.invariant.some over.group ∙ c.loop-how.invariant.rest;
-      event = λ one. absurd (omega (arith, one, c.loop-how.invariant.some, c.loop-how.invariant.most, c.if-left-eq0.false));
       running = none_of c.advance.new.self.end (sym c.if-is_some.ensures);
       under_way = c.in-Some.ensures.under_way;
       room = over.room left c.loop-how.invariant.some c.loop-how.invariant.room;
@@ -55,9 +48,7 @@ loop-how-preserved c =
     let within = is_within p now next c.requires.program c.loop-how.invariant.under_way c.loop-how.invariant.running c.in_default.ensures.value (sym c.in_default.ensures.how) in
     record {
       some = c.loop-how.invariant.some;
-      most = c.loop-how.invariant.most;
       rest = within_groups p now next left c.loop-how.invariant.some within.group ∙ c.loop-how.invariant.rest;
-      event = λ one. within.event ∙ c.loop-how.invariant.event one;
       running = c.in_default.ensures.goes_on;
       under_way = c.in_default.ensures.under_way;
       room = within.room left c.loop-how.invariant.room;
