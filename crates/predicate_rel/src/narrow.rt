@@ -32,6 +32,17 @@ fn reached(action: &Action, qp: Pr, changed: u64) -> u64
 }
 
 impl Facts {
+    /// Leaves of the set what is also known past an instruction of this action, where all rows are looked at. It stands
+    /// apart, so that no room is set aside for another set where only some are. Answers as [`Facts::narrow`] does.
+    #[inline(never)]
+    fn narrow_whole(&mut self, before: &Facts, action: &Action, qp: Pr, edge: Edge) -> u64
+        ensures common { pairs_of self.new ≡ common (pairs_of self.old) (pairs_by (pairs_of before.now) (action_rule action.now edge qp)) }
+        ensures lost { AgreeOutside result (pairs_of self.old) (pairs_of self.new) }
+        ensures more { result ≢ 0 → HasMore (pairs_of self.old) (pairs_of self.new) }
+    {
+        self.intersect(&before.after_action(action, qp, edge))
+    }
+
     /// Leaves of the set what is also known past an instruction of this action under this qualifying predicate,
     /// before which `before` is known, where control goes on along the edge. Answers a word of rows, bit x that
     /// of the pairs of the x-th predicate: the others lost nothing, and it is 0 where nothing was lost.
@@ -57,7 +68,7 @@ impl Facts {
     {
         let rows = reached(action, qp, changed);
         if rows == u64::MAX {
-            return self.intersect(&before.after_action(action, qp, edge));
+            return self.narrow_whole(before, action, qp, edge);
         }
         let mut rest = rows;
         let mut lost = 0;

@@ -34,4 +34,4 @@ pub returns-clause-keeps : goal.returns-clause-keeps
 returns-clause-keeps c = narrowed_keeps c.args.self.now c.narrowing.self (pairs_by (pairs_of c.args.before.now) (action_rule c.args.action.now c.args.edge c.args.qp)) (has_bit c.reached-rows.result) (narrowed_wholly _ _ _ _ (has_bit 0) (λ x l. has_bit_none x) (rw c.narrowing-test.false at c.narrowing.invariant.narrowed))
 
 pub returns-then-rows-clause-within : goal.returns-then-rows-clause-within
-returns-then-rows-clause-within c = common_within (pairs_of c.args.self.now) _ (pairs_of c.intersect.new.self) c.intersect.ensures.common
+returns-then-rows-clause-within c = common_within (pairs_of c.args.self.now) _ (pairs_of c.narrow_whole.new.self) c.narrow_whole.ensures.common
