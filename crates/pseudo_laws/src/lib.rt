@@ -1,8 +1,8 @@
 //! The law that says of each pseudo-operation which instruction it is.
 //!
 //! The rows of forms say it by numbers of values (`asm_forms`), and what is printed and read back says nothing of a form by
-//! which nothing is printed. So it is said once more, as the tables of assembly have it: a compare with its targets or its
-//! operands exchanged, a shift by a number as a field, a move as an addition.
+//! which nothing is printed. So it is said once more, of whole lines, as the tables of assembly have it: a compare with its
+//! targets or its operands exchanged, a shift by a number as a field, a move as an addition.
 #![tactic(auto)]
 
 ghost use Rattle.pseudo_laws.specs.Laws.{PseudoOperations};
