@@ -1,11 +1,12 @@
 //! The form that an opcode is printed with.
 
-ghost use Rattle.std.specs.Prelude.{◌≡◌};
+ghost use Rattle.std.specs.Prelude.{◌≡◌, MatchOption, false, true};
+ghost use Rattle.asm_forms.specs.Rows.{row_of};
 ghost use Rattle.insn_rows.specs.Values.{at};
 ghost use Rattle.asm_canonical.specs.Canonical.{forms_of, has_fixed, form_of};
 
 use crate::fields::is_said;
-use asm_forms::{Form, Said};
+use asm_forms::{Form, Row, Said};
 use ia_insn::{AluFn, Ar, BranchKind, CmpKind, LaneFn, ShiftFn, Unit};
 use insn_rows::{Opcode, UpdateKind, Values, value_at};
 
@@ -133,14 +134,27 @@ fn has_fixed(fixed: &[(Said, u8)], opcode: Opcode, values: &Values) -> bool
     true
 }
 
-/// The form of an opcode and values: the first whose own values they are.
-pub(crate) fn form_of(opcode: Opcode, values: &Values) -> Form
+/// The row of a form, where the values that the form has of its own are those of the instruction.
+fn row_where_fixed(form: Form, opcode: Opcode, values: &Values) -> Option<Row>
+    ensures { MatchOption result (has_fixed (row_of form).fixed opcode (at values.now) ≡ false) (λ row. (row ≡ form) × (has_fixed (row_of form).fixed opcode (at values.now) ≡ true)) }
+{
+    let row = form.row();
+    if has_fixed(row.fixed(), opcode, values) {
+        Some(row)
+    } else {
+        None
+    }
+}
+
+/// The row of the form of an opcode and values: of those that the opcode is printed with, the first whose own values they
+/// are.
+pub(crate) fn form_of(opcode: Opcode, values: &Values) -> Row
     ensures { result ≡ form_of opcode (at values.now) }
 {
     for form in forms_of(opcode) {
-        if has_fixed(form.fixed(), opcode, values) {
-            return *form;
+        if let Some(row) = row_where_fixed(*form, opcode, values) {
+            return row;
         }
     }
-    Form::default()
+    Form::default().row()
 }

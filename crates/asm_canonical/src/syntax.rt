@@ -6,7 +6,7 @@ ghost use Rattle.asm_canonical.specs.Canonical.{Syntax as SyntaxOf, syntax, comp
 
 use crate::fields::{completer_of, operand_of};
 use crate::forms::form_of;
-use asm_forms::{Completer, CompleterSet, Completers, Form, Kind, Operands};
+use asm_forms::{Completer, CompleterSet, Completers, Kind, Operands, Row};
 use asm_words::Token;
 use ia_insn::{Insn, Op, Pr};
 use insn_rows::{Opcode, Value, Values, opcode_of, small, value_at, values_of};
@@ -16,7 +16,7 @@ use std::marker::Model;
 /// the two as lists.
 #[derive(Drop)]
 pub struct Syntax {
-    form: Form,
+    row: Row,
     completers: Completers,
     operands: Operands,
 }
@@ -24,15 +24,15 @@ pub struct Syntax {
 impl Model for Syntax {
     ghost Value = { SyntaxOf };
 
-    ghost view = { λ s. syntax s.form s.completers.items s.operands.items };
+    ghost view = { λ s. syntax s.row s.completers.items s.operands.items };
 }
 
 impl Syntax {
-    /// The form.
-    pub fn form(&self) -> Form
-        ensures { result ≡ self.now.form }
+    /// The row of the form.
+    pub fn row(&self) -> &Row
+        ensures { result.now ≡ self.now.form }
     {
-        self.form
+        &self.row
     }
 
     /// A completer for each set of the form, in order.
@@ -75,13 +75,13 @@ fn operands_by(kinds: &[(Kind, u8)], opcode: Opcode, values: &Values) -> Operand
 }
 
 /// The syntax of an opcode and values by the row of a form.
-fn syntax_by(form: Form, opcode: Opcode, values: &Values) -> Syntax
-    ensures { result ≡ syntax_by form opcode values.now }
+fn syntax_by(row: Row, opcode: Opcode, values: &Values) -> Syntax
+    ensures { result ≡ syntax_by row opcode values.now }
 {
     Syntax {
-        form,
-        completers: completers_by(form.completers(), opcode, values),
-        operands: operands_by(form.operands(), opcode, values),
+        completers: completers_by(row.completers(), opcode, values),
+        operands: operands_by(row.operands(), opcode, values),
+        row,
     }
 }
 
@@ -122,6 +122,6 @@ pub fn syntax_of(op: &Op) -> Syntax
         qp: Pr::default(),
         op: *op,
     });
-    let form = form_of(opcode, &values);
-    syntax_by(form, opcode, &written(opcode, values))
+    let row = form_of(opcode, &values);
+    syntax_by(row, opcode, &written(opcode, values))
 }

@@ -203,6 +203,7 @@ pub fn mark_token(mark: Mark) -> Token
 }
 
 /// Whether the token is the mark.
+#[inline(always)]
 fn is_mark(mark: Mark, token: Token) -> bool
     ensures { result ≡ is_mark mark token }
 {
@@ -231,6 +232,7 @@ fn is_mark(mark: Mark, token: Token) -> bool
 }
 
 /// Whether an operand of the kind is read from the token.
+#[inline(always)]
 fn takes(kind: Kind, token: Token) -> bool
     ensures { result ≡ takes kind token }
 {
@@ -251,6 +253,7 @@ fn takes(kind: Kind, token: Token) -> bool
 }
 
 /// Whether the item is read from the token.
+#[inline(always)]
 pub fn accepts(item: FormItem, token: Token) -> bool
     ensures { result ≡ accepts item token }
 {

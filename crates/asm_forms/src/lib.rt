@@ -28,4 +28,5 @@ pub use items::{
 pub use laws::forms_are_read_back;
 pub use naming::{Completers, Named, completers, named};
 pub use operands::{Operands, taken};
-pub use spelling::{Spelled, find_spelled};
+pub use rows::Row;
+pub use spelling::find_spelled;

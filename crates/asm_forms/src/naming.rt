@@ -6,7 +6,7 @@ ghost use Rattle.asm_forms.specs.Completers.{text_of};
 ghost use Rattle.asm_forms.specs.Naming.{begins, ends_part, completers_in, is_named, named_forms, completers};
 ghost use Rattle.asm_forms.specs.Rows.{seen, row_of};
 
-use crate::completer::{Completer, CompleterSet, members, text};
+use crate::completer::{Completer, CompleterSet, Suffix, members, text};
 use crate::form::Form;
 use crate::rows::{FormRow, rows_c_to_i, rows_from_s, rows_l_to_n, rows_o_to_r, rows_to_b};
 use arrayvec::ArrayVec;
@@ -47,13 +47,24 @@ pub(crate) fn begins(name: &[u8], text: &[u8]) -> bool
     !differ_at_the_end(name, text) && ends_part(&name[text.len()..]) && name.starts_with(text)
 }
 
+/// Whether the name begins with the completer, as a part of its own. No name at all does so with the one that is not written
+/// alone.
+fn begins_with(completer: Completer, name: &[u8]) -> bool
+    ensures { result ≡ begins name.now (text_of completer) }
+{
+    match name {
+        [] => matches!(completer.suffix, Suffix::Absent),
+        [_, ..] => begins(name, text(completer)),
+    }
+}
+
 /// The first of the completers with which the name begins.
 fn find_completer(completers: &[Completer], name: &[u8]) -> Option<Completer>
     ensures value { result ≡ find (λ c. begins name.now (text_of c)) completers.now }
     ensures room { IfSome result (λ c. length (text_of c) ≤ length name.now) }
 {
     for completer in completers {
-        if begins(name, text(*completer)) {
+        if begins_with(*completer, name) {
             return Some(*completer);
         }
     }
@@ -139,22 +150,35 @@ fn past<'a>(word: &[u8], name: &'a [u8]) -> &'a [u8]
 pub fn completers(form: Form, name: &[u8]) -> Option<Completers>
     ensures { option_map (λ cs. cs.items) result ≡ completers form name.now }
 {
-    completers_of(form.sets(), past(form.word(), name))
+    let row = form.row();
+    let mut list = Completers::new();
+    if completers_into(row.sets(), past(row.word(), name), &mut list) {
+        Some(list)
+    } else {
+        None
+    }
 }
 
-/// One completer of each set, one after the other.
-pub(crate) fn completers_of(sets: &[CompleterSet], name: &[u8]) -> Option<Completers>
+/// Puts one completer of each set, one after the other, into the list, in the place of what it held. False where the
+/// name has others.
+pub(crate) fn completers_into(sets: &[CompleterSet], name: &[u8], list: &mut Completers) -> bool
     requires { length sets.now ≤ 4 }
-    ensures { option_map (λ cs. cs.items) result ≡ completers_in sets.now name.now }
+    ensures read { IsTrue result → completers_in sets.now name.now ≡ Some list.new.items }
+    ensures others { result ≡ false → completers_in sets.now name.now ≡ None }
 {
-    let mut list = Completers::new();
+    *list = Completers::new();
     let mut at = 0;
     for set in sets {
-        let completer = find_completer(members(*set), rest_of(name, at))?;
+        let Some(completer) = find_completer(members(*set), rest_of(name, at)) else {
+            return false;
+        };
         list.push(completer);
         at += text(completer).len();
     }
-    if at == name.len() { Some(list) } else { None }
+    if at != name.len() {
+        return false;
+    }
+    true
 }
 
 /// What stands from the place on.

@@ -10,6 +10,7 @@ use crate::items::FormItem::{Is, Takes};
 use crate::items::{FormItem, Kind, Mark, NumberField};
 use ia_insn::{AluFn, Ar, BranchKind, CmpKind, LaneFn, LoadKind, Rel, ShiftFn, StoreKind, Unit};
 use insn_rows::{Opcode, UpdateKind};
+use std::marker::Model;
 
 /// A form, the word that leads a line of the form, the sets of the word's completers, and what stands after it; then
 /// the instruction: its opcode, and which value stands where, by its number in `values_of` of `insn_rows`: of each set the
@@ -324,68 +325,112 @@ fn row_at(at: usize) -> &'static FormRow
     &rows_from_s()[at - here.len()]
 }
 
-#[tactic(auto, using(crate::proofs::RowFacts::in_table))]
-fn row(form: Form) -> &'static FormRow
-    ensures { seen result.now ≡ row_of form }
-{
-    row_at(form as usize)
+/// A row of the table. Contracts see the form whose row it is.
+#[derive(Drop)]
+pub struct Row {
+    row: &'static FormRow,
 }
 
-impl Form {
-    /// The word that leads a line of the form: the part of a mnemonic before its completers, or a directive.
-    pub fn word(self) -> &'static [u8]
-        ensures { result.now ≡ (row_of self).word }
+impl Model for Row {
+    ghost use Rattle.std.specs.Prelude.{◌≡◌};
+    ghost use Rattle.asm_forms.specs.declared.form.Form.{Form as FormOf};
+    ghost use Rattle.asm_forms.specs.Rows.{row_of, seen};
+
+    ghost Value = { FormOf };
+
+    ghost view = { λ r. r.row.now.0 };
+
+    ghost invariant = { λ r. row_of r.row.now.0 ≡ seen r.row.now };
+}
+
+impl Row {
+    /// The row that this is.
+    pub(crate) fn of(row: &'static FormRow) -> Self
+        requires { row_of row.now.0 ≡ seen row.now }
+        ensures { result ≡ row.now.0 }
     {
-        row(self).1
+        Row { row }
+    }
+
+    /// The form.
+    pub fn form(&self) -> Form
+        ensures { result ≡ self.now }
+    {
+        self.row.0
+    }
+
+    /// The word that leads a line of the form: the part of a mnemonic before its completers, or a directive.
+    pub fn word(&self) -> &'static [u8]
+        ensures { result.now ≡ (row_of self.now).word }
+    {
+        self.row.1
     }
 
     /// The sets of the word's completers, place by place.
-    pub fn sets(self) -> &'static [CompleterSet]
-        ensures value { result.now ≡ (row_of self).sets }
+    pub fn sets(&self) -> &'static [CompleterSet]
+        ensures value { result.now ≡ (row_of self.now).sets }
         ensures few { length result.now ≤ 4 }
     {
-        row(self).2
+        self.row.2
     }
 
     /// What stands after the word: marks, and operands of which there are at most 5.
-    pub fn items(self) -> &'static [FormItem]
-        ensures value { result.now ≡ (row_of self).items }
+    pub fn items(&self) -> &'static [FormItem]
+        ensures value { result.now ≡ (row_of self.now).items }
         ensures few { operand_count result.now ≤ 5 }
     {
-        row(self).3
+        self.row.3
     }
 
     /// The opcode of the form's instruction, but for what completers and application registers say of it; a directive
     /// has none.
-    pub fn opcode(self) -> Option<Opcode>
-        ensures { result ≡ (row_of self).opcode }
+    pub fn opcode(&self) -> Option<Opcode>
+        ensures { result ≡ (row_of self.now).opcode }
     {
-        row(self).4
+        self.row.4
     }
 
     /// The sets of the word's completers, each with the number of the value that its completer says, 0 for none.
-    pub fn completers(self) -> &'static [(CompleterSet, u8)]
-        ensures value { result.now ≡ (row_of self).completers }
+    pub fn completers(&self) -> &'static [(CompleterSet, u8)]
+        ensures value { result.now ≡ (row_of self.now).completers }
         ensures values { AreValues result.now }
         ensures few { length result.now ≤ 4 }
     {
-        row(self).5
+        self.row.5
     }
 
     /// The kinds of the operands, each with the number of the value that it is, 0 for none.
-    pub fn operands(self) -> &'static [(Kind, u8)]
-        ensures value { result.now ≡ (row_of self).operands }
+    pub fn operands(&self) -> &'static [(Kind, u8)]
+        ensures value { result.now ≡ (row_of self.now).operands }
         ensures values { AreValues result.now }
         ensures few { length result.now ≤ 5 }
     {
-        row(self).6
+        self.row.6
     }
 
     /// The values that no line of the form writes, each with its number.
-    pub fn fixed(self) -> &'static [(Said, u8)]
-        ensures value { result.now ≡ (row_of self).fixed }
+    pub fn fixed(&self) -> &'static [(Said, u8)]
+        ensures value { result.now ≡ (row_of self.now).fixed }
         ensures values { AreValues result.now }
     {
-        row(self).7
+        self.row.7
+    }
+}
+
+impl Form {
+    /// The row of the form.
+    #[tactic(auto, using(crate::proofs::RowFacts::in_table, crate::proofs::RowFacts::form_back))]
+    pub fn row(self) -> Row
+        ensures { result ≡ self }
+    {
+        Row::of(row_at(self as usize))
+    }
+
+    /// What stands after the word of the form.
+    pub fn items(self) -> &'static [FormItem]
+        ensures value { result.now ≡ (row_of self).items }
+        ensures few { operand_count result.now ≤ 5 }
+    {
+        self.row().items()
     }
 }

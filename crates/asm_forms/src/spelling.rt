@@ -1,6 +1,6 @@
 //! The form that a mnemonic and its operands spell.
 
-ghost use Rattle.std.specs.Prelude.{◌≡◌, ◌&&◌, true, false, None, Some, MatchOption};
+ghost use Rattle.std.specs.Prelude.{◌≡◌, ◌&&◌, IsTrue, IfSome, Some};
 ghost use Rattle.std.specs.Cmp.Lexicographic.{pointwise};
 ghost use Rattle.std.specs.List.{find};
 ghost use Rattle.asm_forms.specs.Items.{accepts};
@@ -8,46 +8,33 @@ ghost use Rattle.asm_forms.specs.Naming.{is_named, named_forms, completers};
 ghost use Rattle.asm_forms.specs.Rows.{row_of, seen};
 ghost use Rattle.asm_forms.specs.Spelled.{is_spelled};
 
-use crate::form::Form;
 use crate::items::are_accepted;
-use crate::naming::{Completers, begins, completers_of, rows_by_letter};
-use crate::rows::FormRow;
+use crate::naming::{Completers, begins, completers_into, rows_by_letter};
+use crate::rows::{FormRow, Row};
 use asm_words::Token;
 
-/// A form, and the completers that a mnemonic of it has.
-pub struct Spelled {
-    /// The form.
-    pub form: Form,
-    /// Its completers, place by place.
-    pub completers: Completers,
-}
-
-/// The completers of the mnemonic, where it is the row's word with completers and the operands are the row's.
-fn spelled_by(row: &FormRow, name: &[u8], operands: &[Token]) -> Option<Completers>
+/// Whether the mnemonic is the row's word with completers, which are then put into the list, and the operands are the row's.
+#[inline(always)]
+fn is_spelled(row: &FormRow, name: &[u8], operands: &[Token], list: &mut Completers) -> bool
     requires { row_of row.now.0 ≡ seen row.now }
-    ensures { MatchOption result ((is_named name.now (seen row.now) && pointwise accepts row.now.3.now operands.now) ≡ false)
-        (λ cs. ((is_named name.now (seen row.now) && pointwise accepts row.now.3.now operands.now) ≡ true) × (completers row.now.0 name.now ≡ Some cs.items)) }
+    ensures value { result ≡ (is_named name.now (seen row.now) && pointwise accepts row.now.3.now operands.now) }
+    ensures read { IsTrue result → completers row.now.0 name.now ≡ Some list.new.items }
 {
-    if begins(name, row.1) && are_accepted(row.3, operands) {
-        completers_of(row.2, &name[row.1.len()..])
-    } else {
-        None
-    }
+    begins(name, row.1)
+        && are_accepted(row.3, operands)
+        && completers_into(row.2, &name[row.1.len()..], list)
 }
 
-/// The first of the forms that the mnemonic names whose operands these are, with the mnemonic's completers, and
-/// None where they are those of none.
-pub fn find_spelled(name: &[u8], operands: &[Token]) -> Option<Spelled>
-    ensures { MatchOption result (find (is_spelled operands.now) (named_forms name.now) ≡ None)
-        (λ s. (find (is_spelled operands.now) (named_forms name.now) ≡ Some s.form) × (completers s.form name.now ≡ Some s.completers.items)) }
+/// The row of the first of the forms that the mnemonic names whose operands these are, with the mnemonic's completers in the
+/// list, and None where they are those of none.
+pub fn find_spelled(name: &[u8], operands: &[Token], list: &mut Completers) -> Option<Row>
+    ensures value { result ≡ find (is_spelled operands.now) (named_forms name.now) }
+    ensures read { IfSome result (λ form. completers form name.now ≡ Some list.new.items) }
 {
     let rows = rows_by_letter(name);
     for row in rows {
-        if let Some(completers) = spelled_by(row, name, operands) {
-            return Some(Spelled {
-                form: row.0,
-                completers,
-            });
+        if is_spelled(row, name, operands, list) {
+            return Some(Row::of(row));
         }
     }
     None

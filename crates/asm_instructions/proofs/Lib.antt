@@ -1,1 +1,2 @@
 pub mod DecidedFormats
+mod OtherOperands

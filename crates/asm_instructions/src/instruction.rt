@@ -1,11 +1,18 @@
 //! The instruction that the completers and the operands of a form make, by the form's row.
 
-ghost use Rattle.std.specs.Prelude.{◌≡◌, length};
+ghost use Rattle.std.specs.Prelude.{◌≡◌, List, Some};
+ghost use Rattle.asm_words.specs.declared.tokens.Token.{Token as TokenOf};
+ghost use Rattle.asm_forms.specs.declared.form.Form.TheVariants as form;
+ghost use Rattle.asm_forms.specs.Items.{taken};
 ghost use Rattle.asm_forms.specs.Rows.{row_of, AreValues};
-ghost use Rattle.asm_instructions.specs.Instructions.{completed, completed_by, moving, moving_by, with_fixed, with_operands, with_completers, values_by, op_by, sum, allocation, settled, op_of};
+ghost use Rattle.asm_instructions.specs.Instructions.{completed, completed_by, moving, moving_by, with_fixed, with_operands, with_completers, values_by, sum, allocation, settled, op_of};
+ghost use Rattle.insn_rows.specs.Values.{at};
+ghost use Rattle.insn_rows.specs.ArmsBack.{op_of as op_with};
 
 use crate::operands::{is_negative_at, magnitude_at, operand_value, said_value, small_at};
-use asm_forms::{Completer, CompleterSet, Form, Kind, NumberField, Said, has_room};
+use asm_forms::{
+    Completer, CompleterSet, Form, FormItem, Kind, NumberField, Row, Said, has_room, taken,
+};
 use asm_words::Token;
 use ia_insn::{Ar, Gr, Op, Unit};
 use insn_rows::{Opcode, Value, Values, insn_of};
@@ -42,13 +49,11 @@ fn completed(said: Said, opcode: Opcode) -> Option<Opcode>
 fn completed_by(completers: &[Completer], opcode: Opcode) -> Option<Opcode>
     ensures { result ≡ completed_by completers.now opcode }
 {
-    match completers {
-        [] => Some(opcode),
-        [completer, completers @ ..] => completed_by(
-            completers,
-            completed(completer.says, opcode)?,
-        ),
+    let mut opcode = opcode;
+    for completer in completers {
+        opcode = completed(completer.says, opcode)?;
     }
+    Some(opcode)
 }
 
 /// An opcode with the application register that an operand is.
@@ -77,6 +82,27 @@ fn moving_by(tokens: &[Token], opcode: Opcode) -> Opcode
     opcode
 }
 
+/// An opcode with the application register that is among the operands of a row.
+#[inline(never)]
+fn moving_by_row(row: &Row, tokens: &[Token], opcode: Opcode) -> Opcode
+    ensures { result ≡ moving_by (taken (row_of row.now).items tokens.now) opcode }
+{
+    moving_by(&taken(row.items(), tokens), opcode)
+}
+
+/// The same; only moves have application registers.
+#[tactic(auto, using(crate::proofs::OtherOperands::others_stay))]
+fn moved(row: &Row, tokens: &[Token], opcode: Opcode) -> Opcode
+    ensures { result ≡ moving_by (taken (row_of row.now).items tokens.now) opcode }
+{
+    match opcode {
+        Opcode::MovToAr(_) | Opcode::MovToArImm(_) | Opcode::MovFromAr(_) => moving_by_row(
+            row, tokens, opcode,
+        ),
+        _ => opcode,
+    }
+}
+
 /// Puts the form's own values at their numbers.
 fn put_fixed(fixed: &[(Said, u8)], values: &mut Values)
     requires { AreValues fixed.now }
@@ -91,19 +117,25 @@ fn put_fixed(fixed: &[(Said, u8)], values: &mut Values)
     }
 }
 
-/// Puts the values of operands at their numbers.
-fn put_operands(operands: &[(Kind, u8)], tokens: &[Token], values: &mut Values)
+/// Puts the values of the operands among the tokens of the items at their numbers.
+fn put_operands(items: &[FormItem], operands: &[(Kind, u8)], tokens: &[Token], values: &mut Values)
     requires { AreValues operands.now }
-    ensures { values.new ≡ with_operands operands.now tokens.now values.old }
+    ensures { values.new ≡ with_operands operands.now (taken items.now tokens.now) values.old }
 {
-    match operands {
+    match items {
         [] => {}
-        [(kind, at), operands @ ..] => match tokens {
+        [item, items @ ..] => match tokens {
             [] => {}
-            [token, tokens @ ..] => {
-                values[usize::from(*at)] = operand_value(*kind, *token);
-                put_operands(operands, tokens, values);
-            }
+            [token, tokens @ ..] => match item {
+                FormItem::Is(_) => put_operands(items, operands, tokens, values),
+                FormItem::Takes(_) => match operands {
+                    [] => {}
+                    [(kind, at), operands @ ..] => {
+                        values[usize::from(*at)] = operand_value(*kind, *token);
+                        put_operands(items, operands, tokens, values);
+                    }
+                },
+            },
         },
     }
 }
@@ -125,23 +157,15 @@ fn put_completers(sets: &[(CompleterSet, u8)], completers: &[Completer], values:
     }
 }
 
-/// The values of the instruction of a form.
-fn values_by(form: Form, completers: &[Completer], tokens: &[Token]) -> Values
-    ensures { result ≡ values_by (row_of form) completers.now tokens.now }
+/// The instruction of a row and an opcode.
+fn op_with(row: &Row, completers: &[Completer], tokens: &[Token], opcode: Opcode) -> Op
+    ensures { result ≡ op_with opcode (at (values_by (row_of row.now) completers.now (taken (row_of row.now).items tokens.now))) }
 {
     let mut values = [Value::Absent; 7];
-    put_fixed(form.fixed(), &mut values);
-    put_operands(form.operands(), tokens, &mut values);
-    put_completers(form.completers(), completers, &mut values);
-    values
-}
-
-/// The instruction of a form, by its row.
-fn op_by(form: Form, completers: &[Completer], tokens: &[Token]) -> Option<Op>
-    ensures { result ≡ op_by (row_of form) completers.now tokens.now }
-{
-    let opcode = completed_by(completers, moving_by(tokens, form.opcode()?))?;
-    Some(insn_of(opcode, &values_by(form, completers, tokens)).op)
+    put_fixed(row.fixed(), &mut values);
+    put_operands(row.items(), row.operands(), tokens, &mut values);
+    put_completers(row.completers(), completers, &mut values);
+    insn_of(opcode, &values).op
 }
 
 /// `adds` where that has room for the number, which is operand 1, and `addl` otherwise.
@@ -164,6 +188,17 @@ fn sum(tokens: &[Token], r1: Gr, imm: i64, r3: Gr) -> Op
     }
 }
 
+/// `add` of a number, as `adds` or `addl`.
+#[inline(never)]
+fn summed(row: &Row, tokens: &[Token], op: &Op) -> Op
+    ensures { Some result ≡ settled form.AddImm (taken (row_of row.now).items tokens.now) op.now }
+{
+    match op {
+        Op::AddImm22 { r1, imm, r3 } => sum(&taken(row.items(), tokens), *r1, *imm, *r3),
+        _ => *op,
+    }
+}
+
 /// A frame of inputs, locals, outputs and rotating registers, of at most 96 registers.
 fn allocation(r1: Gr, inputs: u8, locals: u8, outputs: u8, rotating: u8) -> Option<Op>
     ensures { result ≡ allocation r1 inputs locals outputs rotating }
@@ -181,61 +216,79 @@ fn allocation(r1: Gr, inputs: u8, locals: u8, outputs: u8, rotating: u8) -> Opti
     })
 }
 
-/// The forms of which a number is computed: `add` is `adds` or `addl`, a shift by a number has as many bits as are left
-/// of 64, and a frame is written by its parts.
-fn settled(form: Form, tokens: &[Token], op: Op) -> Option<Op>
-    ensures { result ≡ settled form tokens.now op }
+/// A frame by its parts, which are the operands 1 to 4.
+#[inline(never)]
+fn framed(row: &Row, tokens: &[Token], op: &Op) -> Option<Op>
+    ensures { result ≡ settled form.Alloc (taken (row_of row.now).items tokens.now) op.now }
 {
-    match form {
-        Form::AddImm => match op {
-            Op::AddImm22 { r1, imm, r3 } => Some(sum(tokens, r1, imm, r3)),
-            _ => Some(op),
-        },
-        Form::ShlNumber => match op {
-            Op::DepZ { r1, r2, pos, .. } => Some(Op::DepZ {
-                r1,
-                r2,
-                pos,
-                len: 64_u8.saturating_sub(pos),
-            }),
-            _ => Some(op),
-        },
-        Form::ShrNumber => match op {
-            Op::Extr {
-                signed,
-                r1,
-                r3,
-                pos,
-                ..
-            } => Some(Op::Extr {
-                signed,
-                r1,
-                r3,
-                pos,
-                len: 64_u8.saturating_sub(pos),
-            }),
-            _ => Some(op),
-        },
-        Form::Alloc => match op {
-            Op::Alloc { r1, .. } => allocation(
-                r1,
-                small_at(tokens, 1),
-                small_at(tokens, 2),
-                small_at(tokens, 3),
-                small_at(tokens, 4),
-            ),
-            _ => Some(op),
-        },
-        _ => Some(op),
+    match op {
+        Op::Alloc { r1, .. } => {
+            let operands = taken(row.items(), tokens);
+            allocation(
+                *r1,
+                small_at(&operands, 1),
+                small_at(&operands, 2),
+                small_at(&operands, 3),
+                small_at(&operands, 4),
+            )
+        }
+        _ => Some(*op),
     }
 }
 
-/// The instruction of a form with these completers and operands; None where they make none.
-pub fn op_of(form: Form, completers: &[Completer], tokens: &[Token]) -> Option<Op>
-    ensures { result ≡ op_of form completers.now tokens.now }
+/// A shift to the left by a number, with as many bits as are left of 64.
+#[inline(never)]
+fn shifted_left(op: &Op) -> Op
+    ensures { (xs : List TokenOf) → Some result ≡ settled form.ShlNumber xs op.now }
 {
-    match op_by(form, completers, tokens) {
-        Some(op) => settled(form, tokens, op),
-        None => None,
+    match op {
+        Op::DepZ { r1, r2, pos, .. } => Op::DepZ {
+            r1: *r1,
+            r2: *r2,
+            pos: *pos,
+            len: 64_u8.saturating_sub(*pos),
+        },
+        _ => *op,
+    }
+}
+
+/// A shift to the right by a number, with as many bits as are left of 64.
+#[inline(never)]
+fn shifted_right(op: &Op) -> Op
+    ensures { (xs : List TokenOf) → Some result ≡ settled form.ShrNumber xs op.now }
+{
+    match op {
+        Op::Extr {
+            signed,
+            r1,
+            r3,
+            pos,
+            ..
+        } => Op::Extr {
+            signed: *signed,
+            r1: *r1,
+            r3: *r3,
+            pos: *pos,
+            len: 64_u8.saturating_sub(*pos),
+        },
+        _ => *op,
+    }
+}
+
+/// The instruction of a row with these completers and the operands among these tokens, which are those of the row's items;
+/// None where they make none. Of some forms a number is computed: `add` is `adds` or `addl`, a shift by a number has as many
+/// bits as are left of 64, and a frame is written by its parts.
+#[inline(never)]
+pub fn op_of(row: &Row, completers: &[Completer], tokens: &[Token]) -> Option<Op>
+    ensures { result ≡ op_of row.now completers.now (taken (row_of row.now).items tokens.now) }
+{
+    let opcode = completed_by(completers, moved(row, tokens, row.opcode()?))?;
+    let op = op_with(row, completers, tokens, opcode);
+    match row.form() {
+        Form::AddImm => Some(summed(row, tokens, &op)),
+        Form::ShlNumber => Some(shifted_left(&op)),
+        Form::ShrNumber => Some(shifted_right(&op)),
+        Form::Alloc => framed(row, tokens, &op),
+        _ => Some(op),
     }
 }

@@ -10,7 +10,7 @@ ghost use Rattle.asm_printing.specs.SlotTexts.{is_hex, ar_text, number_text, tok
 
 use crate::numerals::{push_bytes, put_bytes, put_decimal, put_hex};
 use asm_canonical::{Syntax, syntax_of};
-use asm_forms::{Completer, Form, FormItem, Kind, Mark, NumberField, mark_token, text};
+use asm_forms::{Completer, FormItem, Kind, Mark, NumberField, Row, mark_token, text};
 use asm_words::Token;
 use ia_insn::{Ar, Insn, Op, Pr};
 use ia_program::Place;
@@ -163,11 +163,11 @@ fn push_completers(out: &mut Vec<u8>, completers: &[Completer]) -> Result<(), Al
 }
 
 #[tactic(auto, using(crate::proofs::Kept::kept_before))]
-fn push_mnemonic(out: &mut Vec<u8>, form: Form, completers: &[Completer]) -> Result<(), AllocError>
-    ensures ok { OnOk result (out.new.items ≡ out.old.items ++ mnemonic_text form completers.now) }
+fn push_mnemonic(out: &mut Vec<u8>, row: &Row, completers: &[Completer]) -> Result<(), AllocError>
+    ensures ok { OnOk result (out.new.items ≡ out.old.items ++ mnemonic_text row.now completers.now) }
     ensures err { OnErr result (StartsWith out.new.items out.old.items) }
 {
-    push_bytes(out, form.word())?;
+    push_bytes(out, row.word())?;
     push_completers(out, completers)
 }
 
@@ -248,8 +248,8 @@ fn push_syntax(
     ensures err { OnErr result (StartsWith out.new.items out.old.items) }
 {
     push_start(out, qp)?;
-    push_mnemonic(out, syntax.form(), syntax.completers())?;
-    push_operands(out, target, syntax.form().items(), syntax.operands())?;
+    push_mnemonic(out, syntax.row(), syntax.completers())?;
+    push_operands(out, target, syntax.row().items(), syntax.operands())?;
     push_stop(out, stop)
 }
 

@@ -4,9 +4,8 @@ ghost use Rattle.std.specs.Prelude.{◌≡◌, ◌<◌, ◌≤◌, ◌++◌, ◌
 ghost use Rattle.asm_words.specs.declared.limits.TheConstants.{LINE_LIMIT};
 ghost use Rattle.asm_words.specs.declared.tokens.Token.{Token as TokenOf};
 
-use arrayvec::ArrayVec;
 use asm_words::limits::LINE_LIMIT;
-use asm_words::{Token, Word};
+use asm_words::{Token, WordList};
 use std::marker::Model;
 
 /// The tokens of a line or of a part of it, in places that the next line uses again; of these, so many count. Contracts
@@ -65,7 +64,7 @@ impl Tokens {
 /// before a line is read has no effect on what the line says.
 #[derive(Debug, Drop)]
 pub struct LineBuffers {
-    pub(crate) words: ArrayVec<Word, LINE_LIMIT>,
+    pub(crate) words: WordList,
     pub(crate) tokens: Tokens,
 }
 
@@ -73,7 +72,7 @@ impl LineBuffers {
     /// Empty buffers.
     pub fn new() -> Self {
         LineBuffers {
-            words: ArrayVec::new(),
+            words: WordList::new(),
             tokens: Tokens::new(),
         }
     }

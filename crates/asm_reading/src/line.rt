@@ -7,7 +7,7 @@ ghost use Rattle.asm_matching.specs.Related.{ArePredicates};
 use arrayvec::ArrayVec;
 use asm_words::Name;
 use asm_words::limits::NUMBER_LIMIT;
-use ia_insn::Insn;
+use ia_insn::{Insn, Op, Pr};
 use std::marker::Model;
 
 /// What a line says.
@@ -171,4 +171,18 @@ pub struct Draft {
     /// Whether the unit letter is missing. The unit is then X for a break or a nop and I for a hint or a
     /// check, until that of the slot is put in.
     pub bare: bool,
+}
+
+impl Draft {
+    /// A place for one.
+    pub(crate) fn blank() -> Self {
+        Draft {
+            insn: Insn {
+                qp: Pr::default(),
+                op: Op::Mf,
+            },
+            target: None,
+            bare: false,
+        }
+    }
 }

@@ -5,7 +5,7 @@ ghost use Rattle.std.specs.Option.{option_map};
 ghost use Rattle.asm_words.specs.declared.limits.TheConstants.{LINE_LIMIT};
 ghost use Rattle.asm_words.specs.Tokens.{token_of};
 ghost use Rattle.asm_words.specs.Words.{pick};
-ghost use Rattle.asm_reading.specs.declared.line.Line.TheVariants as line;
+ghost use Rattle.asm_reading.specs.declared.line.Line.TheVariants as said;
 ghost use Rattle.asm_reading.specs.Lines.{put, AreParts, texts, tokens, name_of, label_name, lead_at, past_parenthesis, ends_in_stop, without_stop, predicate_of, is_bare, completers_or_none, slot_under, slot_of, directive_value, directive_of, alone, data_of, relation_of, among, worded, marked, template_name_of, opened, led_by, led, is_colon, is_open, is_close, label_of, value_of, reading_of, IsListedLine, LineOf, FaultOf};
 ghost use Rattle.asm_reading.specs.SlotReading.{slot_line, is_directive_name};
 
@@ -15,8 +15,8 @@ use crate::line::{Draft, Line};
 use crate::relation::relation_of;
 use crate::template_name::template_name_of;
 use asm_forms::{
-    AccessSize, Completer, Completers, Form, FormItem, Said, Spelled, completers, find_spelled,
-    is_label_item, named, taken,
+    AccessSize, Completer, Completers, Form, FormItem, Row, Said, completers, find_spelled,
+    is_label_item, named,
 };
 use asm_instructions::{op_of, u32_at};
 use asm_matching::read_form;
@@ -178,11 +178,35 @@ fn label_name(line: &[u8], items: &[FormItem], words: &[Word]) -> Option<Name>
     None
 }
 
-/// Puts the slot line of this form, with these completers and the tokens after its name, into `value`. None where
-/// they make no instruction.
+/// Puts the slot line of this row, with these completers and the tokens after its name, into a draft and whether a stop
+/// follows. None where they make no instruction.
+#[inline(never)]
+fn fill(
+    qp: Pr,
+    row: &Row,
+    completers: &[Completer],
+    tokens: &[Token],
+    line: &[u8],
+    words: &[Word],
+    draft: &mut Draft,
+    stop: &mut bool,
+) -> Option<()>
+    requires { AreParts line.now words.now }
+    ensures { option_map (λ x. said.Slot draft.new stop.new) result ≡ slot_line qp row.now completers.now tokens.now (texts line.now words.now) }
+{
+    let op = op_of(row, completers, without_stop(tokens))?;
+    draft.insn = Insn { qp, op };
+    draft.target = label_name(line, row.items(), words);
+    draft.bare = is_bare(completers);
+    *stop = ends_in_stop(tokens);
+    Some(())
+}
+
+/// Puts the slot line of this row, with these completers and the tokens after its name, into `value`: where that is one
+/// already, its parts alone. None where they make no instruction.
 fn slot_line(
     qp: Pr,
-    form: Form,
+    row: &Row,
     completers: &[Completer],
     tokens: &[Token],
     line: &[u8],
@@ -190,33 +214,20 @@ fn slot_line(
     value: &mut Line,
 ) -> Option<()>
     requires { AreParts line.now words.now }
-    ensures { option_map (λ x. value.new) result ≡ slot_line qp form completers.now tokens.now (texts line.now words.now) }
-{
-    let items = form.items();
-    let op = op_of(form, completers, &taken(items, without_stop(tokens)))?;
-    let draft = Draft {
-        insn: Insn { qp, op },
-        target: label_name(line, items, words),
-        bare: is_bare(completers),
-    };
-    put_slot(draft, ends_in_stop(tokens), value);
-    Some(())
-}
-
-/// Puts a slot line into `value`: where that is one already, its parts alone.
-#[inline(always)]
-fn put_slot(draft: Draft, stop: bool, value: &mut Line)
-    ensures { value.new ≡ line.Slot draft stop }
+    ensures { option_map (λ x. value.new) result ≡ slot_line qp row.now completers.now tokens.now (texts line.now words.now) }
 {
     match value {
-        Line::Slot {
-            draft: before,
-            stop: stopped,
-        } => {
-            *before = draft;
-            *stopped = stop;
+        Line::Slot { draft, stop } => {
+            fill(qp, row, completers, tokens, line, words, draft, stop)
         }
-        _ => *value = Line::Slot { draft, stop },
+        _ => {
+            let (mut draft, mut stop) = (Draft::blank(), false);
+            fill(
+                qp, row, completers, tokens, line, words, &mut draft, &mut stop,
+            )?;
+            *value = Line::Slot { draft, stop };
+            Some(())
+        }
     }
 }
 
@@ -235,7 +246,15 @@ fn slot_under(
     let form = read_form(forms, without_stop(tokens), tokens)?;
     let completers = completers_or_none(form, name);
     let mut value = Line::Empty;
-    match slot_line(qp, form, &completers, tokens, line, words, &mut value) {
+    match slot_line(
+        qp,
+        &form.row(),
+        &completers,
+        tokens,
+        line,
+        words,
+        &mut value,
+    ) {
         Some(()) => Ok(value),
         None => Err(LineFault::Form),
     }
@@ -419,10 +438,11 @@ fn slot_without_fault(
     };
     tokens_into(line, after, buffer);
     let tokens = buffer.as_slice();
-    let Some(Spelled { form, completers }) = find_spelled(name, without_stop(tokens)) else {
+    let mut completers = Completers::new();
+    let Some(row) = find_spelled(name, without_stop(tokens), &mut completers) else {
         return None;
     };
-    slot_line(qp, form, &completers, tokens, line, after, value)
+    slot_line(qp, &row, &completers, tokens, line, after, value)
 }
 
 /// Puts a line that a name leads into `value`. All forms of the name are asked for only where a slot line has a fault.

@@ -18,6 +18,7 @@ mod reading;
 mod registers;
 mod tokens;
 mod word;
+mod word_list;
 
 pub use fault::LineFault;
 pub use line::{words, words_into};
@@ -26,3 +27,4 @@ pub use reading::token;
 pub use registers::numbered_register;
 pub use tokens::Token;
 pub use word::{Word, WordKind};
+pub use word_list::WordList;

@@ -12,33 +12,33 @@ use crate::bytes::{
 use crate::fault::LineFault;
 use crate::limits::LINE_LIMIT;
 use crate::word::{Word, WordKind};
-use arrayvec::ArrayVec;
+use crate::word_list::WordList;
 
 /// The words of a line, in order; or Char where a byte is neither a tab nor one from 0x20 to 0x7e,
 /// in a comment too. The words are parts of the line, in order; what they leave out is spaces, tabs,
 /// a `#` directly after a name, and the comment from `//` to the end. A `//` between two quotation marks
 /// begins no comment.
-pub fn words(line: &[u8]) -> Result<ArrayVec<Word, LINE_LIMIT>, LineFault>
+pub fn words(line: &[u8]) -> Result<WordList, LineFault>
     requires { length line.now ≤ LINE_LIMIT }
-    ensures ok { IfOk result (λ ws. (has_only_plain line.now ≡ true) × (ws.items ≡ words_from 0 0 line.now)) }
-    ensures slices { IfOk result (λ ws. AreSlices line.now ws.items) }
-    ensures left_out { IfOk result (λ ws. LeavesOutGaps line.now false 0 ws.items) }
+    ensures ok { IfOk result (λ ws. (has_only_plain line.now ≡ true) × (ws ≡ words_from 0 0 line.now)) }
+    ensures slices { IfOk result (λ ws. AreSlices line.now ws) }
+    ensures left_out { IfOk result (λ ws. LeavesOutGaps line.now false 0 ws) }
     ensures err { IfErr result (λ e. (has_only_plain line.now ≡ false) × (e ≡ LineFault.Char)) }
 {
-    let mut list = ArrayVec::new();
+    let mut list = WordList::new();
     words_into(line, &mut list)?;
     Ok(list)
 }
 
 /// Puts the words of a line, as [`words`] has them, into a list in the place of what it held, so that
 /// one list serves many lines. After Char it is empty.
-pub fn words_into(line: &[u8], list: &mut ArrayVec<Word, LINE_LIMIT>) -> Result<(), LineFault>
+pub fn words_into(line: &[u8], list: &mut WordList) -> Result<(), LineFault>
     requires { length line.now ≤ LINE_LIMIT }
-    ensures ok { OnOk result ((has_only_plain line.now ≡ true) × (list.new.items ≡ words_from 0 0 line.now)) }
-    ensures slices { OnOk result (AreSlices line.now list.new.items) }
-    ensures left_out { OnOk result (LeavesOutGaps line.now false 0 list.new.items) }
+    ensures ok { OnOk result ((has_only_plain line.now ≡ true) × (list.new ≡ words_from 0 0 line.now)) }
+    ensures slices { OnOk result (AreSlices line.now list.new) }
+    ensures left_out { OnOk result (LeavesOutGaps line.now false 0 list.new) }
     ensures err { IfErr result (λ e. (has_only_plain line.now ≡ false) × (e ≡ LineFault.Char)) }
-    ensures emptied { OnErr result (list.new.items ≡ []) }
+    ensures emptied { OnErr result (list.new ≡ []) }
 {
     list.clear();
     if cut(line, list) {
@@ -52,11 +52,11 @@ pub fn words_into(line: &[u8], list: &mut ArrayVec<Word, LINE_LIMIT>) -> Result<
 // Puts the words of a line into an empty list, and says whether the line has only plain bytes. Of those of a name or a number,
 // of spaces and of tabs that is known.
 #[inline(always)]
-fn cut(line: &[u8], words: &mut ArrayVec<Word, LINE_LIMIT>) -> bool
+fn cut(line: &[u8], words: &mut WordList) -> bool
     requires short { length line.now ≤ LINE_LIMIT }
-    requires empty { words.old.items ≡ [] }
+    requires empty { words.old ≡ [] }
     ensures plain { result ≡ has_only_plain line.now }
-    ensures words { IsTrue result → words.new.items ≡ words_from 0 0 line.now }
+    ensures words { IsTrue result → words.new ≡ words_from 0 0 line.now }
 {
     let mut at = 0;
     while at < line.len() {

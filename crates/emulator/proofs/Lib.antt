@@ -1,3 +1,4 @@
+pub mod Decoding
 pub mod SlotSteps
 pub mod Advancing
 pub mod Groups

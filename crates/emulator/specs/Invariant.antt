@@ -6,9 +6,9 @@ use Rattle.emulator.specs.Progress.{progress_of}
 use Rattle.emulator.specs.Execution.{Execution}
 
 abbrev pub execution_of : Inside → Execution
-execution_of m = record { program = m.slots; progress = progress_of m.run }
+execution_of m = record { program = m.code; progress = progress_of m.run }
 
 -- The run is one of the program, and under way.
 pub record IsMachine (m : Inside) : Type 0 where
-  pub program : IsProgram m.slots
-  pub under_way : IsUnderWay m.slots (progress_of m.run)
+  pub program : IsProgram m.code
+  pub under_way : IsUnderWay m.code (progress_of m.run)

@@ -1,3 +1,5 @@
+pub mod Works
+pub mod Codes
 pub mod Outcomes
 pub mod Progress
 pub mod Execution

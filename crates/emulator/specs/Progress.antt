@@ -2,6 +2,7 @@
 use Rattle.std.specs.Prelude.{◌≡◌, ℕ, ◌<◌, ◌^◌, Option}
 use Rattle.ia_program.specs.Programs.{Program}
 use Rattle.ia_program.specs.declared.place.Place.{Place}
+use Rattle.ia_program.specs.Places.{place_at}
 use Rattle.ia_meaning.specs.State.{State}
 use Rattle.ia_meaning.specs.Writes.{frame_changes}
 use Rattle.ia_meaning.specs.Outcomes.{Outcome}
@@ -12,18 +13,20 @@ use Rattle.ia_meaning.specs.Steps.{Step, settled, step_by, registers_after, seq_
 use Rattle.ia_meaning.specs.ResidentRange.{range_of}
 use Rattle.ia_meaning.specs.Progress.{Progress}
 use Rattle.machine_state.specs.Contents.{Contents}
-use Rattle.slot_table.specs.declared.slot.Slot.{Slot}
+use Rattle.emulator.specs.declared.code.Decoded.{Decoded}
 use Rattle.emulator.specs.declared.run.Run.{Run}
+use Rattle.emulator.specs.Works.{action_of, HasTarget}
+use Rattle.emulator.specs.Codes.{numbered}
 
 -- the state of a machine that stands at a place
 abbrev pub state_at : Contents → Place → State
 state_at c place = record { registers = c.registers; memory = c.memory; place = place }
 
 abbrev pub state_of : Run → State
-state_of r = state_at r.state r.place
+state_of r = state_at r.state (place_at r.number)
 
 abbrev pub progress_of : Run → Progress
-progress_of r = record { state = state_of r; end = r.end; groups = r.groups; first = r.first; slots = r.slots; range = r.state.range }
+progress_of r = record { state = state_of r; end = r.end; groups = r.groups; first = place_at r.first; slots = r.slots; range = r.state.range }
 
 -- the step of an outcome with this next place
 abbrev pub settled_step : Program → State → Option Place → Outcome → Step
@@ -38,9 +41,10 @@ arrived m o place slots = record m {
 }
 
 -- At the place of a state stands the slot of an instruction of the program.
-pub record IsHere (p : Program) (s : State) (slot : Slot) : Type 0 where
-  pub bundle : s.place.bundle < 2 ^ 31
-  pub ranges : HasActionRanges slot.action
-  pub next : slot.next ≡ next_of p.bundles s.place
+pub record IsHere (p : Program) (s : State) (slot : Decoded) : Type 0 where
+  pub bundle : s.place.bundle < 2 ^ 30
+  pub ranges : HasActionRanges (action_of slot.work)
+  pub target : HasTarget s.place.bundle slot.work
+  pub next : numbered slot.next ≡ next_of p.bundles s.place
   pub stop : slot.stop ≡ is_stopped p.bundles s.place
-  pub step : seq_step p s ≡ settled_step p s slot.next (guarded (site p s.place.bundle) slot.qp slot.action s.registers s.memory s.registers.unat)
+  pub step : seq_step p s ≡ settled_step p s (next_of p.bundles s.place) (guarded (site p s.place.bundle) slot.qp (action_of slot.work) s.registers s.memory s.registers.unat)

@@ -9,7 +9,9 @@
 //! a slot on to another: where no call takes its address, it stays in registers.
 #![tactic(auto)]
 
+mod code;
 mod machine;
 mod run;
+mod work;
 
 pub use machine::Machine;

@@ -10,10 +10,11 @@ ghost use Rattle.frame_shapes.specs.declared.fault.StackFault.TheVariants as fau
 ghost use Rattle.machine_state.specs.Contents.{stack_of};
 ghost use Rattle.emulator.specs.Execution.{Execution, contents};
 
+use crate::code::Code;
 use crate::run::Run;
 use ia_insn::{Ar, Br, Gr};
-use ia_meaning::Cell;
-use ia_program::{End, GroupEvent, Place, Program};
+use ia_meaning::{Cell, end_or};
+use ia_program::{End, GroupEvent, Place};
 use machine_state::MachineState;
 use nat_alat::{Alat, DataMem};
 use reg_stack::{Stack, StackFault};
@@ -24,7 +25,7 @@ use std::marker::Model;
 /// A machine that runs a program. Contracts see the program and how far it has run.
 #[derive(Drop)]
 pub struct Machine<'a> {
-    slots: SlotTable<'a>,
+    code: Code<'a>,
     run: Run,
 }
 
@@ -41,20 +42,20 @@ impl<'a> Model for Machine<'a> {
 }
 
 impl<'a> Machine<'a> {
-    /// The machine at the start of a program: its state is the zero state. No call after this one takes
-    /// memory.
+    /// The machine at the start of a program, whose slots it is lent: its state is the zero state. No call
+    /// after this one takes memory.
     ///
     /// # Errors
     ///
     /// Want of memory.
     #[tactic(auto, using(ia_meaning::proofs::GroupEnds::begins_under_way))]
-    pub fn open(alloc: Global, program: &'a Program) -> Result<Machine<'a>, AllocError>
-        ensures { IfOk result (λ m. m ≡ record { program = program.now; progress = begun (zero_state program.now) }) }
+    pub fn open(alloc: Global, slots: &'a SlotTable<'a>) -> Result<Machine<'a>, AllocError>
+        ensures { IfOk result (λ m. m ≡ record { program = slots.now; progress = begun (zero_state slots.now) }) }
     {
-        let slots = SlotTable::open(alloc, program)?;
         slots.is_program();
+        let code = Code::open(alloc, slots)?;
         let run = Run::begin(alloc, slots.program().data())?;
-        Ok(Machine { slots, run })
+        Ok(Machine { code, run })
     }
 
     /// How the run ended, where it did. A finished machine changes nothing any more.
@@ -75,7 +76,7 @@ impl<'a> Machine<'a> {
     pub fn place(&self) -> Place
         ensures { result ≡ self.now.progress.state.place }
     {
-        self.run.place
+        self.run.place()
     }
 
     /// What the machine holds: the registers, with the register stack, and the memory.
@@ -145,7 +146,7 @@ impl<'a> Machine<'a> {
         ensures state { self.new ≡ record self.old { progress = advanced self.old.program self.old.progress } }
         ensures end { result ≡ self.new.progress.end }
     {
-        self.run.step(&self.slots);
+        self.run.step(&self.code);
         self.run.end
     }
 
@@ -156,7 +157,14 @@ impl<'a> Machine<'a> {
         ensures state { self.new ≡ record self.old { progress = group_further self.old.program self.old.progress } }
         ensures event { result ≡ event_further self.old.program self.old.progress }
     {
-        self.run.run_group(&self.slots)
+        self.run.run_group(&self.code)
+    }
+
+    /// How a run that stands so ends.
+    fn ending(&self) -> End
+        ensures { result ≡ end_of self.now.progress }
+    {
+        end_or(self.end(), self.place())
     }
 
     /// Runs so many groups more, at least one, or up to an end. A group that is under way is the first
@@ -173,8 +181,8 @@ impl<'a> Machine<'a> {
         ensures finished { IfSome self.old.progress.end (λ end. (self.new ≡ self.old) × (result ≡ end)) }
     {
         if self.run.end.is_none() {
-            self.run.run_groups(&self.slots, groups);
+            self.run.run_groups(&self.code, groups);
         }
-        self.run.ending()
+        self.ending()
     }
 }

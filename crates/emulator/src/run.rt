@@ -1,11 +1,12 @@
 //! A run under way.
 
-ghost use Rattle.std.specs.Prelude.{◌≡◌, ◌<◌, ◌≤◌, ◌%◌, ◌+◌, ◌^◌, [], length, false, Some, None, IfNone, IfOk};
+ghost use Rattle.std.specs.Prelude.{◌≡◌, ◌<◌, ◌≤◌, ◌%◌, ◌+◌, ◌^◌, [], length, true, false, Some, None, IfNone, IfOk};
 ghost use Rattle.ia_program.specs.declared.limits.TheConstants.{DATA_LIMIT, RUN_LIMIT};
-ghost use Rattle.ia_program.specs.Places.{IsPlaceOf};
+ghost use Rattle.ia_program.specs.Places.{place_at, IsPlaceOf};
+ghost use Rattle.ia_program.specs.declared.ending.End.TheVariants as end;
 ghost use Rattle.ia_program.specs.declared.ending.How.TheVariants as how;
 ghost use Rattle.ia_meaning.specs.declared.next.Next.TheVariants.{Falls};
-ghost use Rattle.ia_meaning.specs.Progress.{begun, opened, slots_after, stepped, advanced, group_further, groups_further, end_of};
+ghost use Rattle.ia_meaning.specs.Progress.{begun, opened, slots_after, stepped, advanced, group_further, groups_further};
 ghost use Rattle.ia_meaning.specs.Runs.{IsUnderWay, event_further};
 ghost use Rattle.ia_program.specs.Programs.{IsProgram};
 ghost use Rattle.ia_meaning.specs.Sequence.{first_of, next_of, is_stopped};
@@ -14,24 +15,28 @@ ghost use Rattle.ia_meaning.specs.Names.{holds};
 ghost use Rattle.ia_meaning.specs.Steps.{how_falling, seq_step};
 ghost use Rattle.machine_state.specs.Changes.{outcome_with, MayChange};
 ghost use Rattle.emulator.specs.Outcomes.{outcome_of};
+ghost use Rattle.emulator.specs.declared.work.Work.TheVariants.{Act};
 ghost use Rattle.emulator.specs.Progress.{state_of, progress_of, settled_step, arrived, IsHere};
+ghost use Rattle.emulator.specs.Codes.{numbered};
 
-use ia_meaning::{Action, Next, end_or, target_of};
+use crate::code::{Code, Decoded, NO_PLACE, place_at};
+use crate::work::Work;
+use ia_insn::{AluFn, Gr, LoadKind, StoreKind};
+use ia_meaning::{Action, Function, Next};
 use ia_program::{End, FaultKind, GroupEvent, How, Place};
 use machine_state::MachineState;
-use slot_effects::{Change, SlotEffect, compute, effect, load, store, turn};
-use slot_table::{Slot, SlotTable, place_number};
+use slot_effects::{Change, SlotEffect, compute, effect, load, store, test, turn};
 use std::alloc::{AllocError, Global};
 
-/// The state of a run, its end, the groups begun, the first place of the group under way and the slots
-/// reached in it, 0 between two groups.
+/// The state of a run, the number of the next place, the end, the groups begun, the number of the first place of the group
+/// under way and the slots reached in it, 0 between two groups.
 #[derive(Debug, Drop)]
 pub(crate) struct Run {
     pub state: MachineState,
-    pub place: Place,
+    pub number: usize,
     pub end: Option<End>,
     pub groups: u64,
-    pub first: Place,
+    pub first: u32,
     pub slots: u32,
 }
 
@@ -64,35 +69,33 @@ impl Run {
         let state = MachineState::open(alloc, bytes)?;
         Ok(Run {
             state,
-            place: Place::FIRST,
+            number: 0,
             end: None,
             groups: 0,
-            first: Place::FIRST,
+            first: 0,
             slots: 0,
         })
     }
 
-    /// The place of the next slot. It is read part by part, as it is written: to read both parts as one word
-    /// would wait for both writes.
-    fn here(&self) -> Place
-        ensures { result ≡ self.now.place }
+    /// The place of the next slot.
+    pub fn place(&self) -> Place
+        requires { self.now.number < 2 ^ 32 }
+        ensures { result ≡ place_at self.now.number }
     {
-        Place {
-            bundle: self.place.bundle,
-            slot: self.place.slot,
-        }
+        place_at(self.number as u32)
     }
 
     /// Begins a group where none is under way.
     fn open_group(&mut self)
+        requires small { self.old.number < 2 ^ 32 }
         requires room { self.old.slots ≡ 0 → self.old.groups + 1 < 2 ^ 64 }
         ensures value { progress_of self.new ≡ opened (progress_of self.old) }
         ensures state { self.new.state ≡ self.old.state }
+        ensures number { self.new.number ≡ self.old.number }
     {
         if self.slots == 0 {
             self.groups += 1;
-            self.first.bundle = self.place.bundle;
-            self.first.slot = self.place.slot;
+            self.first = self.number as u32;
         }
     }
 
@@ -106,126 +109,149 @@ impl Run {
         Some(How::Ends)
     }
 
-    /// Goes to a place, with a change, and so many slots of its group before it.
+    /// Ends the run with a fault.
+    fn fault(&mut self, kind: FaultKind) -> Option<How>
+        requires { self.old.number < 2 ^ 32 }
+        ensures value { self.new ≡ record self.old { end = Some (end.Fault kind (place_at self.old.number)); slots = 0 } }
+        ensures how { result ≡ Some how.Ends }
+    {
+        let place = self.place();
+        self.finish(End::Fault { kind, place })
+    }
+
+    /// Goes to the place with a number, with a change, and so many slots of its group before it.
     #[inline(always)]
-    fn arrive(&mut self, change: &Change, place: Place, slots: u32)
+    fn arrive(&mut self, change: &Change, number: usize, slots: u32)
         requires { MayChange self.old.state change.now }
-        ensures { progress_of self.new ≡ arrived (progress_of self.old) (outcome_with self.old.state change.now Falls) place slots }
+        ensures { progress_of self.new ≡ arrived (progress_of self.old) (outcome_with self.old.state change.now Falls) (place_at number) slots }
     {
         self.state.apply(change);
-        self.place.bundle = place.bundle;
-        self.place.slot = place.slot;
+        self.number = number;
         self.slots = slots;
     }
 
     /// Goes on as the effect of a slot says. To fall through where there is no next place is a fault.
     #[inline(always)]
-    #[tactic(auto, using(crate::proofs::SlotSteps::falls_on, crate::proofs::SlotSteps::goes_on))]
-    fn go_on(&mut self, table: &SlotTable, slot: &Slot, effect: &SlotEffect) -> Option<How>
+    #[tactic(auto, using(crate::proofs::SlotSteps::falls_off, crate::proofs::SlotSteps::falls_on, crate::proofs::SlotSteps::goes_on))]
+    fn go_on(&mut self, code: &Code, slot: &Decoded, effect: &SlotEffect) -> Option<How>
         requires may { MayChange self.old.state effect.now.change }
         requires running { self.old.end ≡ None }
         requires few { self.old.slots < RUN_LIMIT }
-        requires next { slot.now.next ≡ next_of table.now.bundles self.old.place }
-        requires stop { slot.now.stop ≡ is_stopped table.now.bundles self.old.place }
-        ensures value { progress_of self.new ≡ stepped (progress_of self.old) (settled_step table.now (state_of self.old) slot.now.next (outcome_of self.old.state effect.now)) }
-        ensures how { result ≡ (settled_step table.now (state_of self.old) slot.now.next (outcome_of self.old.state effect.now)).how }
+        requires small { self.old.number < 2 ^ 32 }
+        requires next { numbered slot.now.next ≡ next_of code.now.bundles (place_at self.old.number) }
+        requires stop { slot.now.stop ≡ is_stopped code.now.bundles (place_at self.old.number) }
+        ensures value { progress_of self.new ≡ stepped (progress_of self.old) (settled_step code.now (state_of self.old) (next_of code.now.bundles (place_at self.old.number)) (outcome_of self.old.state effect.now)) }
+        ensures how { result ≡ (settled_step code.now (state_of self.old) (next_of code.now.bundles (place_at self.old.number)) (outcome_of self.old.state effect.now)).how }
         ensures goes_on { IfNone result (self.new.end ≡ None) }
     {
-        let place = self.here();
-        let (goal, slots, how) = match effect.next {
-            Next::Falls => match slot.next {
-                Some(next) => (
-                    next,
+        let (number, slots, how) = match effect.next {
+            Next::Falls => {
+                if slot.next == NO_PLACE {
+                    return self.fault(FaultKind::FellOff);
+                }
+                (
+                    slot.next as usize,
                     slots_after(self.slots, slot.stop),
                     how_falling(slot.stop),
-                ),
-                None => {
-                    return self.finish(End::Fault {
-                        kind: FaultKind::FellOff,
-                        place,
-                    });
-                }
-            },
-            Next::Goes { bundle } => (Place { bundle, slot: 0 }, 0, Some(How::Taken)),
-            Next::Breaks { imm } => return self.finish(End::Break { imm, place }),
-            Next::Faults { kind } => return self.finish(End::Fault { kind, place }),
+                )
+            }
+            Next::Goes { bundle } => (3 * bundle as usize, 0, Some(How::Taken)),
+            Next::Breaks { imm } => {
+                let place = self.place();
+                return self.finish(End::Break { imm, place });
+            }
+            Next::Faults { kind } => return self.fault(kind),
         };
-        self.arrive(&effect.change, goal, slots);
+        self.arrive(&effect.change, number, slots);
         how
     }
 
     /// The slot at the place of a run.
     #[inline(always)]
-    fn slot<'t>(&self, table: &'t SlotTable) -> &'t Slot
-        requires program { IsProgram table.now }
-        requires place { IsPlaceOf table.now.bundles self.now.place }
-        ensures { IsHere table.now (state_of self.now) result.now }
+    fn slot<'c>(&self, code: &'c Code) -> &'c Decoded
+        requires program { IsProgram code.now }
+        requires place { IsPlaceOf code.now.bundles (place_at self.now.number) }
+        ensures { IsHere code.now (state_of self.now) result.now }
     {
-        let number = place_number(self.here());
-        let Some(slot) = table.at_number(number) else {
-            unreachable!()
-        };
-        slot
+        code.at(self.number)
     }
 
     /// Does what the slot at the place of the run does, and tells how its group ends, where it does.
     #[inline(never)]
-    fn run_any(&mut self, table: &SlotTable, slot: &Slot) -> Option<How>
-        requires here { IsHere table.now (state_of self.old) slot.now }
+    fn run_any(&mut self, code: &Code, slot: &Decoded) -> Option<How>
+        requires here { IsHere code.now (state_of self.old) slot.now }
         requires running { self.old.end ≡ None }
         requires few { self.old.slots < RUN_LIMIT }
-        ensures value { progress_of self.new ≡ stepped (progress_of self.old) (seq_step table.now (state_of self.old)) }
-        ensures how { result ≡ (seq_step table.now (state_of self.old)).how }
+        ensures value { progress_of self.new ≡ stepped (progress_of self.old) (seq_step code.now (state_of self.old)) }
+        ensures how { result ≡ (seq_step code.now (state_of self.old)).how }
         ensures goes_on { IfNone result (self.new.end ≡ None) }
     {
         let effect = effect(
             &self.state,
-            table.program(),
-            self.place.bundle,
+            code.program(),
+            self.place().bundle,
             slot.qp,
-            &slot.action,
+            &slot.work.action(),
         );
-        self.go_on(table, slot, &effect)
+        self.go_on(code, slot, &effect)
+    }
+
+    /// Goes past the slot at the place of the run, whose qualifying predicate is 0, by its action: a test may do something.
+    #[inline(always)]
+    fn skip_act(&mut self, code: &Code, slot: &Decoded, action: &Action) -> Option<How>
+        requires action { slot.now.work ≡ Act action.now }
+        requires here { IsHere code.now (state_of self.old) slot.now }
+        requires skipped { holds self.old.state.registers slot.now.qp ≡ false }
+        requires running { self.old.end ≡ None }
+        requires few { self.old.slots < RUN_LIMIT }
+        ensures value { progress_of self.new ≡ stepped (progress_of self.old) (seq_step code.now (state_of self.old)) }
+        ensures how { result ≡ (seq_step code.now (state_of self.old)).how }
+        ensures goes_on { IfNone result (self.new.end ≡ None) }
+    {
+        match *action {
+            Action::Test { .. } | Action::Loop { .. } => self.run_any(code, slot),
+            _ => {
+                let effect = SlotEffect::falls(Change::Nothing);
+                self.go_on(code, slot, &effect)
+            }
+        }
     }
 
     /// Goes past the slot at the place of the run, whose qualifying predicate is 0, and tells how its group ends, where it
     /// does: tests and loop branches alone may do something.
     #[inline(always)]
-    fn skip(&mut self, table: &SlotTable, slot: &Slot) -> Option<How>
-        requires here { IsHere table.now (state_of self.old) slot.now }
+    fn skip(&mut self, code: &Code, slot: &Decoded) -> Option<How>
+        requires here { IsHere code.now (state_of self.old) slot.now }
         requires skipped { holds self.old.state.registers slot.now.qp ≡ false }
         requires running { self.old.end ≡ None }
         requires few { self.old.slots < RUN_LIMIT }
-        ensures value { progress_of self.new ≡ stepped (progress_of self.old) (seq_step table.now (state_of self.old)) }
-        ensures how { result ≡ (seq_step table.now (state_of self.old)).how }
+        ensures value { progress_of self.new ≡ stepped (progress_of self.old) (seq_step code.now (state_of self.old)) }
+        ensures how { result ≡ (seq_step code.now (state_of self.old)).how }
         ensures goes_on { IfNone result (self.new.end ≡ None) }
     {
-        match slot.action {
-            Action::Test { .. } | Action::Loop { .. } => self.run_any(table, slot),
+        match slot.work {
+            Work::Loop { .. } => self.run_any(code, slot),
+            Work::Act(ref action) => self.skip_act(code, slot, action),
             _ => {
                 let effect = SlotEffect::falls(Change::Nothing);
-                self.go_on(table, slot, &effect)
+                self.go_on(code, slot, &effect)
             }
         }
     }
 
-    /// Runs the next slot, and tells how its group ends, where it does. The actions of most loops have code of their
-    /// own each, in which it is known what change there is, and none is made and taken apart.
+    /// Does what the slot at the place of the run does, whose qualifying predicate is 1, by its action.
     #[inline(always)]
-    fn run_slot(&mut self, table: &SlotTable) -> Option<How>
-        requires program { IsProgram table.now }
+    fn run_act(&mut self, code: &Code, slot: &Decoded, action: &Action) -> Option<How>
+        requires here { IsHere code.now (state_of self.old) slot.now }
+        requires holds { holds self.old.state.registers slot.now.qp ≡ true }
+        requires action { slot.now.work ≡ Act action.now }
         requires running { self.old.end ≡ None }
-        requires place { IsPlaceOf table.now.bundles self.old.place }
         requires few { self.old.slots < RUN_LIMIT }
-        ensures value { progress_of self.new ≡ stepped (progress_of self.old) (seq_step table.now (state_of self.old)) }
-        ensures how { result ≡ (seq_step table.now (state_of self.old)).how }
+        ensures value { progress_of self.new ≡ stepped (progress_of self.old) (seq_step code.now (state_of self.old)) }
+        ensures how { result ≡ (seq_step code.now (state_of self.old)).how }
         ensures goes_on { IfNone result (self.new.end ≡ None) }
     {
-        let slot = self.slot(table);
-        if !self.state.holds(slot.qp) {
-            return self.skip(table, slot);
-        }
-        match slot.action {
+        match *action {
             Action::Compute {
                 r1,
                 r2,
@@ -233,91 +259,128 @@ impl Run {
                 ref function,
             } => {
                 let effect = compute(&self.state, r1, r2, r3, function);
-                self.go_on(table, slot, &effect)
+                self.go_on(code, slot, &effect)
             }
-            Action::FromMemory {
-                size,
+            Action::Test {
                 kind,
+                p1,
+                p2,
+                r2,
+                r3,
+                ref condition,
+            } => {
+                let effect = test(&self.state, kind, (p1, p2), (r2, r3), condition);
+                self.go_on(code, slot, &effect)
+            }
+            Action::Idle { .. } => {
+                let effect = SlotEffect::falls(Change::Nothing);
+                self.go_on(code, slot, &effect)
+            }
+            _ => self.run_any(code, slot),
+        }
+    }
+
+    /// Runs the next slot, and tells how its group ends, where it does. The actions of most loops have code of their
+    /// own each, in which it is known what change there is, and none is made and taken apart.
+    #[inline(always)]
+    fn run_slot(&mut self, code: &Code) -> Option<How>
+        requires program { IsProgram code.now }
+        requires running { self.old.end ≡ None }
+        requires place { IsPlaceOf code.now.bundles (place_at self.old.number) }
+        requires few { self.old.slots < RUN_LIMIT }
+        ensures value { progress_of self.new ≡ stepped (progress_of self.old) (seq_step code.now (state_of self.old)) }
+        ensures how { result ≡ (seq_step code.now (state_of self.old)).how }
+        ensures goes_on { IfNone result (self.new.end ≡ None) }
+    {
+        let slot = self.slot(code);
+        if !self.state.holds(slot.qp) {
+            return self.skip(code, slot);
+        }
+        match slot.work {
+            Work::Sum { r1, r2, r3 } => {
+                let effect = compute(&self.state, r1, r2, r3, &Function::Alu(AluFn::Add));
+                self.go_on(code, slot, &effect)
+            }
+            Work::SumImmediate { r1, r3, imm } => {
+                let function = Function::AluImmediate { f: AluFn::Add, imm };
+                let effect = compute(&self.state, r1, Gr::of_field(0), r3, &function);
+                self.go_on(code, slot, &effect)
+            }
+            Work::Load {
+                size,
                 r1,
                 r3,
                 update,
             } => {
-                let effect = load(&self.state, size, kind, r1, r3, update);
-                self.go_on(table, slot, &effect)
+                let effect = load(&self.state, size, LoadKind::Plain, r1, r3, update);
+                self.go_on(code, slot, &effect)
             }
-            Action::ToMemory {
+            Work::Store {
                 size,
-                kind,
                 r3,
                 r2,
                 update,
             } => {
-                let effect = store(&self.state, size, kind, r3, r2, update);
-                self.go_on(table, slot, &effect)
+                let effect = store(&self.state, size, StoreKind::Plain, r3, r2, update);
+                self.go_on(code, slot, &effect)
             }
-            Action::Loop { kind, disp } => {
-                let bundle = target_of(self.place.bundle, disp);
+            Work::Loop { kind, bundle, .. } => {
                 let effect = turn(&self.state, kind, true, bundle);
-                self.go_on(table, slot, &effect)
+                self.go_on(code, slot, &effect)
             }
-            Action::Jump { disp } => {
-                let bundle = target_of(self.place.bundle, disp);
+            Work::Jump { bundle, .. } => {
                 let effect = SlotEffect::goes(Change::Nothing, bundle);
-                self.go_on(table, slot, &effect)
+                self.go_on(code, slot, &effect)
             }
-            Action::Idle { .. } => {
-                let effect = SlotEffect::falls(Change::Nothing);
-                self.go_on(table, slot, &effect)
-            }
-            _ => self.run_any(table, slot),
+            Work::Act(ref action) => self.run_act(code, slot, action),
         }
     }
 
     /// Runs one slot more, and tells how its group ends, where it does.
     #[inline(always)]
     #[tactic(auto, using(ia_meaning::proofs::WholeRuns::advanced_is, ia_meaning::proofs::GroupEnds::has_few_slots))]
-    fn advance(&mut self, table: &SlotTable) -> Option<How>
-        requires program { IsProgram table.now }
+    fn advance(&mut self, code: &Code) -> Option<How>
+        requires program { IsProgram code.now }
         requires running { self.old.end ≡ None }
-        requires under_way { IsUnderWay table.now (progress_of self.old) }
+        requires under_way { IsUnderWay code.now (progress_of self.old) }
         requires room { self.old.slots ≡ 0 → self.old.groups + 1 < 2 ^ 64 }
-        ensures value { progress_of self.new ≡ advanced table.now (progress_of self.old) }
-        ensures how { result ≡ (seq_step table.now (state_of self.old)).how }
+        ensures value { progress_of self.new ≡ advanced code.now (progress_of self.old) }
+        ensures how { result ≡ (seq_step code.now (state_of self.old)).how }
         ensures goes_on { IfNone result (self.new.end ≡ None) }
-        ensures under_way { IsUnderWay table.now (progress_of self.new) }
+        ensures under_way { IsUnderWay code.now (progress_of self.new) }
     {
         self.open_group();
-        self.run_slot(table)
+        self.run_slot(code)
     }
 
     /// Runs one slot more; after an end nothing changes.
     #[tactic(auto, using(ia_meaning::proofs::GroupEnds::advanced_ended))]
-    pub fn step(&mut self, table: &SlotTable)
-        requires program { IsProgram table.now }
-        requires under_way { IsUnderWay table.now (progress_of self.old) }
+    pub fn step(&mut self, code: &Code)
+        requires program { IsProgram code.now }
+        requires under_way { IsUnderWay code.now (progress_of self.old) }
         requires room { self.old.groups + 1 < 2 ^ 64 }
-        ensures value { progress_of self.new ≡ advanced table.now (progress_of self.old) }
-        ensures under_way { IsUnderWay table.now (progress_of self.new) }
+        ensures value { progress_of self.new ≡ advanced code.now (progress_of self.old) }
+        ensures under_way { IsUnderWay code.now (progress_of self.new) }
     {
         if self.end.is_none() {
-            let _how = self.advance(table);
+            let _how = self.advance(code);
         }
     }
 
     /// Runs so many groups, at least one, or up to an end. A group that is under way is the first of them. Each has at
     /// most [`RUN_LIMIT`](ia_program::limits::RUN_LIMIT) slots.
-    pub fn run_groups(&mut self, table: &SlotTable, groups: u64)
-        requires program { IsProgram table.now }
+    pub fn run_groups(&mut self, code: &Code, groups: u64)
+        requires program { IsProgram code.now }
         requires running { self.old.end ≡ None }
-        requires under_way { IsUnderWay table.now (progress_of self.old) }
+        requires under_way { IsUnderWay code.now (progress_of self.old) }
         requires some { 1 ≤ groups }
         requires room { self.old.groups + groups < 2 ^ 64 }
-        ensures value { progress_of self.new ≡ groups_further groups table.now (progress_of self.old) }
-        ensures under_way { IsUnderWay table.now (progress_of self.new) }
+        ensures value { progress_of self.new ≡ groups_further groups code.now (progress_of self.old) }
+        ensures under_way { IsUnderWay code.now (progress_of self.new) }
     {
         let mut left = groups;
         loop {
-            if let Some(_how) = self.advance(table) {
+            if let Some(_how) = self.advance(code) {
                 left -= 1;
                 if left == 0 || self.end.is_some() {
                     return;
@@ -328,33 +391,26 @@ impl Run {
 
     /// Runs the group under way to its end, or the next one, and tells of it. It has at most
     /// [`RUN_LIMIT`](ia_program::limits::RUN_LIMIT) slots.
-    pub fn run_group(&mut self, table: &SlotTable) -> GroupEvent
-        requires program { IsProgram table.now }
+    pub fn run_group(&mut self, code: &Code) -> GroupEvent
+        requires program { IsProgram code.now }
         requires running { self.old.end ≡ None }
-        requires under_way { IsUnderWay table.now (progress_of self.old) }
+        requires under_way { IsUnderWay code.now (progress_of self.old) }
         requires room { self.old.groups + 1 < 2 ^ 64 }
-        ensures value { progress_of self.new ≡ group_further table.now (progress_of self.old) }
-        ensures event { result ≡ event_further table.now (progress_of self.old) }
-        ensures under_way { IsUnderWay table.now (progress_of self.new) }
+        ensures value { progress_of self.new ≡ group_further code.now (progress_of self.old) }
+        ensures event { result ≡ event_further code.now (progress_of self.old) }
+        ensures under_way { IsUnderWay code.now (progress_of self.new) }
     {
         loop {
-            let (last, slots) = (self.here(), self.slots + 1);
-            if let Some(how) = self.advance(table) {
+            let (last, slots) = (self.place(), self.slots + 1);
+            if let Some(how) = self.advance(code) {
                 return GroupEvent {
                     number: self.groups,
-                    first: self.first,
+                    first: place_at(self.first),
                     last,
                     slots,
                     how,
                 };
             }
         }
-    }
-
-    /// How a run that stands so ends.
-    pub fn ending(&self) -> End
-        ensures { result ≡ end_of (progress_of self.now) }
-    {
-        end_or(self.end, self.place)
     }
 }

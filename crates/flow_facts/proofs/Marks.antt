@@ -1,7 +1,7 @@
 -- Rows that are marked.
-use Rattle.std.proofs.Common.{◌≡◌, ℕ, ◌+◌, ◌<◌, ◌≤◌, ◌⊎◌, Bool, true, false, cond, eqb, None, Some, List, length, get_or, set, length-set, refl, sym, ap, ◌∙◌, subst, arith, inl, inr}
+use Rattle.std.proofs.Common.{◌≡◌, ℕ, ◌+◌, ◌<◌, ◌≤◌, ◌≢◌, ◌⊎◌, Bool, true, false, cond, eqb, None, Some, List, length, get_or, set, length-set, refl, sym, ap, ◌∙◌, subst, arith, inl, inr}
 use Rattle.std.specs.Prelude.{bit_or}
-use Rattle.std.proofs.lemmas.Bool.{cases_Bool, or_parts, true≢false, or_right}
+use Rattle.std.proofs.lemmas.Bool.{cases_Bool, or_parts, true≢false, or_right, ne_eqb}
 use Rattle.std.proofs.lemmas.Option.{none-some}
 use Rattle.std.proofs.lemmas.List.Sums.{sum_by-set}
 use Rattle.ia_program.specs.declared.place.Place.{Place}
@@ -11,6 +11,7 @@ use Rattle.predicate_rel.specs.Changes.{HasAllRows}
 use Rattle.predicate_rel.proofs.BitLemmas.{has_bit_all, has_bit_none, has_bit_or}
 use Rattle.flow_facts.specs.Walks.{Known, known_at}
 use Rattle.flow_facts.specs.Tables.{Shrinks, Joined, IsSameBut, HasCome, MarksChanges, marked, dirty_count}
+use Rattle.flow_facts.proofs.Joining.{at_most_one}
 use Rattle.flow_facts.proofs.Numbering.{cases_place, value_at-place_at, value_at-set_same, value_at-set_other}
 
 -- what is known of a place is the same
@@ -114,7 +115,7 @@ progress_twice a b c d e f g h = record {
 -- with one place marked, at most one more is dirty
 pub dirty_count-set : (d : List ℕ) (n rows : ℕ) → n < length d → dirty_count (set d n rows) ≤ dirty_count d + 1
 dirty_count-set d n rows l = omega (arith, sum_by-set (λ (w : ℕ). cond (eqb w 0) 0 1) d n rows 0 l, at_most_one (eqb rows 0))
-  where
-    at_most_one : (b : Bool) → cond b 0 1 ≤ 1
-    at_most_one true = omega arith
-    at_most_one false = omega arith
+
+-- and with one that is dirty cleared, one is fewer
+pub dirty_count-less : (d : List ℕ) (n : ℕ) → n < length d → get_or d n 0 ≢ 0 → dirty_count (set d n 0) < dirty_count d
+dirty_count-less d n l some = omega (arith, sum_by-set (λ (w : ℕ). cond (eqb w 0) 0 1) d n 0 0 l, ap {B = ℕ} (λ (b : Bool). cond b 0 1) (ne_eqb (get_or d n 0) 0 some))

@@ -1,11 +1,11 @@
 -- What comes along an edge.
-use Rattle.std.proofs.Common.{◌≡◌, ℕ, ◌+◌, ◌<◌, ◌≤◌, ◌⊎◌, false, Option, None, Some, List, length, get_or, set, length-set, refl, sym, ap, ◌∙◌, subst, arith, inl, inr}
+use Rattle.std.proofs.Common.{◌≡◌, ℕ, ◌+◌, ◌<◌, ◌≤◌, ◌⊎◌, false, ◌≢◌, Option, None, Some, List, length, get_or, set, length-set, refl, sym, ap, ◌∙◌, subst, arith, inl, inr}
 use mathlib.Core.Path.{fun_ext}
 use Rattle.std.specs.Prelude.{bit_or}
 use Rattle.std.proofs.lemmas.Option.{same_Some}
 use Rattle.ia_insn.specs.declared.insn.Insn.{Insn}
 use Rattle.ia_program.specs.declared.place.Place.{Place}
-use Rattle.ia_program.specs.Places.{place_number, place_at, insn_at}
+use Rattle.ia_program.specs.Places.{place_number, place_at, insn_at, IsBefore}
 use Rattle.ia_program.specs.Programs.{Program, IsEntry}
 use Rattle.ia_program.proofs.InOrder.{slot_small}
 use Rattle.ia_program.proofs.Reaching.{place_at-number}
@@ -15,14 +15,15 @@ use Rattle.predicate_rel.specs.declared.edge.Edge.TheVariants.{Falls, Taken}
 use Rattle.predicate_rel.specs.Pairs.{Table, Pairs, pairs_of, IsWithin}
 use Rattle.predicate_rel.specs.Rules.{action_rule, pairs_by}
 use Rattle.predicate_rel.proofs.RuleLaws.{WhyMissing, whatever, since, why_missing, pairs_after-within}
+use Rattle.predicate_rel.proofs.EdgeEnds.{falls_next}
 use Rattle.predicate_rel.specs.Edges.{HasEdge, pairs_past, pairs_past_insn}
 use Rattle.slot_table.specs.declared.slot.Slot.{Slot}
 use Rattle.slot_table.specs.Slots.{slot_at}
 use Rattle.slot_table.proofs.SlotLaws.{pairs_by-slot}
 use Rattle.flow_facts.specs.Walks.{Known, known_at, Walk, begins, goes_on, EndsAt, known_first, facts_on}
-use Rattle.flow_facts.specs.Tables.{weight, place_count, AtMost, Joined, IsWitnessedAt, IsWitnessed, IsSameBut, HasCome, MarksChanges, Passed, IsBetweenSteps, marked, dirty_count}
-use Rattle.flow_facts.proofs.Numbering.{number_below, cases_place, value_read, value_at-place_at, value_at-set_other}
-use Rattle.flow_facts.proofs.Marks.{no_progress, progress_marked, progress_same, progress_twice, same_trans, come_unknown, dirty_count-set}
+use Rattle.flow_facts.specs.Tables.{weight, place_count, AtMost, Joined, IsWitnessedAt, IsWitnessed, IsSameBut, HasCome, MarksChanges, MayPass, Passed, IsBetweenSteps, marked, dirty_count}
+use Rattle.flow_facts.proofs.Numbering.{number_below, cases_place, value_at-place_at, value_at-set_other}
+use Rattle.flow_facts.proofs.Marks.{no_progress, progress_marked, progress_same, progress_twice, same_trans, come_unknown, come_shrinks, dirty_count-set, dirty_count-less}
 
 -- more before a place is more past it
 pub past_within : (p : Program) (from : Place) (e : Edge) (f g : Pairs) → IsWithin f g → IsWithin (pairs_past p from e f) (pairs_past p from e g)
@@ -128,12 +129,13 @@ come_by_slot p from e to n slot t w now here there come =
 
 -- nothing comes where there is no edge of this sort
 pub passed_none : (p : Program) (from : Place) (e : Edge) (before : Pairs) (t : List Known) (d : List ℕ) → IsWitnessed p t → ((to : Place) → HasEdge p from e to → ⊥) → Passed p from e before t d t d
-passed_none p from e before t d wit none = record { witnessed = wit; come = λ to edge. absurd (none to edge); progress = no_progress t d; lost = omega arith }
+passed_none p from e before t d wit none = record { witnessed = wit; others = λ k apart. refl; come = λ to edge. absurd (none to edge); progress = no_progress t d; lost = omega arith }
 
 -- what has come along an edge has come along each of its sort
 pub passed_by : (p : Program) (from : Place) (e : Edge) (to : ℕ) (before : Pairs) (t t' : List Known) (d d' : List ℕ) → IsWitnessed p t → IsWitnessedAt p from before → ComesAlong p from e to t t' before → MarksChanges t d t' d' → weight t' + dirty_count d' ≤ weight t + dirty_count d → Passed p from e before t d t' d'
 passed_by p from e to before t t' d d' wit here came progress lost = record {
   witnessed = witnessed_by p t t' (place_at to) _ wit (witnessed_along p from e (place_at to) before here came.edge) came.joined;
+  others = λ k apart. came.joined.others k (λ same. apart (subst (HasEdge p from e) (sym same) came.edge));
   come = λ to' edge. subst (λ (q : Place). AtMost t' q (pairs_past p from e before)) (leads_to_one p from e (place_at to) to' came.edge edge) came.joined.below;
   progress = progress;
   lost = lost;
@@ -149,25 +151,25 @@ passed_changed p from e to rows before t t' d sized wit here came same less =
 pub passed_same : (p : Program) (from : Place) (e : Edge) (to : ℕ) (before : Pairs) (t t' : List Known) (d : List ℕ) → IsWitnessed p t → IsWitnessedAt p from before → ComesAlong p from e to t t' before → IsSameBut 0 (known_at t (place_at to)) (known_at t' (place_at to)) → weight t' ≤ weight t → Passed p from e before t d t' d
 passed_same p from e to before t t' d wit here came same less = passed_by p from e to before t t' d d wit here came (progress_same t t' d to _ came.joined same) (omega (arith, less))
 
--- What is known at the place of a number that is gone on from, and which of its rows changed since it last was.
-pub record GoesOn (p : Program) (t : List Known) (n rows : ℕ) (before : Table) : Type 0 where
-  pub known : known_at t (place_at n) ≡ Some before
-  pub witnessed : IsWitnessedAt p (place_at n) (pairs_of before)
-  pub come : (e : Edge) (to : Place) → HasEdge p (place_at n) e to → HasCome t to (pairs_past p (place_at n) e) rows (Some before)
-
--- by what is read there
-pub goes_on_from : (p : Program) (t : List Known) (d : List ℕ) (n rows : ℕ) (read : Known) (before : Table) → IsBetweenSteps p t d → n < place_count p → read ≡ get_or t n read → read ≡ Some before → rows ≡ get_or d n 0 → GoesOn p t n rows before
-goes_on_from p t d n rows read before u below got is taken = record {
+-- what is known at a place that is gone on from may pass along its edges
+pub may_pass : (p : Program) (t : List Known) (d : List ℕ) (n rows : ℕ) (e : Edge) (before : Table) → IsBetweenSteps p t d → known_at t (place_at n) ≡ Some before → rows ≡ get_or d n 0 → MayPass p (place_at n) e rows t before
+may_pass p t d n rows e before u known taken = record {
+  witnessed = u.witnessed;
   known = known;
-  witnessed = u.witnessed.at (place_at n) before known;
-  come = λ e to edge. subst (λ (w : ℕ). HasCome t to (pairs_past p (place_at n) e) w (Some before)) there (subst (HasCome t to (pairs_past p (place_at n) e) (marked d (place_at n))) known (u.come (place_at n) e to edge));
+  come = λ to edge. subst (λ (w : ℕ). HasCome t to (pairs_past p (place_at n) e) w (Some before)) (value_at-place_at 0 d n ∙ sym taken) (subst (HasCome t to (pairs_past p (place_at n) e) (marked d (place_at n))) known (u.come (place_at n) e to edge));
 }
-  where
-    known : known_at t (place_at n) ≡ Some before
-    known = value_read None t n read (Some before) (omega (arith, below, u.table_length)) got is
 
-    there : marked d (place_at n) ≡ rows
-    there = value_at-place_at 0 d n ∙ sym taken
+not_before_itself : (a : Place) → IsBefore a a → ⊥
+not_before_itself a (inl h) = omega arith
+not_before_itself a (inr h) = omega (arith, h.1)
+
+-- and does so after it has passed along a fall, which leads to another place
+pub may_pass_on : (p : Program) (from : Place) (e : Edge) (rows : ℕ) (t t' : List Known) (d d' : List ℕ) (before : Table) → MayPass p from e rows t before → Passed p from Falls (pairs_of before) t d t' d' → MayPass p from e rows t' before
+may_pass_on p from e rows t t' d d' before may passed = record {
+  witnessed = passed.witnessed;
+  known = passed.others from (λ edge. let next = falls_next p from from edge in not_before_itself from next.after) ∙ may.known;
+  come = λ to edge. come_shrinks t t' to (pairs_past p from e) rows (Some before) passed.progress.shrinks (may.come to edge);
+}
 
 -- a place where nothing is known is gone on from
 pub none_spread : (p : Program) (t : List Known) (d : List ℕ) (n : ℕ) → IsBetweenSteps p t d → known_at t (place_at n) ≡ None → IsBetweenSteps p t (set d n 0)
@@ -221,3 +223,17 @@ two_passes p t t1 t2 d d1 d2 n before u is f g = record {
           same = same_trans (marked (set d n 0) k) (marked d2 k) was.older (known_at t k) (known_at t2 k) (all.keeps k) (subst (λ (w : ℕ). IsSameBut w was.older (known_at t k)) (sym (value_at-set_other 0 0 d n k apart)) was.same) (all.changed k);
           came = λ rows q. all.shrinks.keeps to _ (was.came rows q);
         }
+
+-- and then less is left to lose, or fewer places are to be gone on from
+pub spread_on : (p : Program) (t t1 t2 : List Known) (d d1 d2 : List ℕ) (n rows : ℕ) → IsBetweenSteps p t d → n < place_count p → get_or d n 0 ≢ 0 → (known_at t (place_at n) ≡ None → ⊥) → rows ≡ get_or d n 0
+    → ((before : Table) → MayPass p (place_at n) Falls rows t before → Passed p (place_at n) Falls (pairs_of before) t (set d n 0) t1 d1)
+    → ((before : Table) → MayPass p (place_at n) Taken rows t1 before → Passed p (place_at n) Taken (pairs_of before) t1 d1 t2 d2)
+    → IsBetweenSteps p t2 d2 × (weight t2 + dirty_count d2 < weight t + dirty_count d)
+spread_on p t t1 t2 d d1 d2 n rows u inside dirty some taken falls takes = of (known_at t (place_at n)) refl
+  where
+    of : (o : Known) → known_at t (place_at n) ≡ o → IsBetweenSteps p t2 d2 × (weight t2 + dirty_count d2 < weight t + dirty_count d)
+    of None is = absurd (some is)
+    of (Some before) is =
+        let f = falls before (may_pass p t d n rows Falls before u is taken) in
+        let g = takes before (may_pass_on p (place_at n) Taken rows t t1 (set d n 0) d1 before (may_pass p t d n rows Taken before u is taken) f) in
+        (two_passes p t t1 t2 d d1 d2 n before u is f g, omega (arith, f.lost, g.lost, dirty_count-less d n (omega (arith, inside, u.dirty_length)) dirty))

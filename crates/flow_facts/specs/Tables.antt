@@ -1,13 +1,15 @@
 -- How a table of what is known at each place changes while it is made.
-use Rattle.std.specs.Prelude.{◌≡◌, ◌≢◌, ◌<◌, ◌≤◌, ℕ, zero, suc, ◌+◌, ◌*◌, ◌/◌, ◌==◌, Bool, false, if◌then◌else◌, None, Some, List, length, slice_index_or, sum_by, ◌⊎◌}
+use Rattle.std.specs.Prelude.{◌≡◌, ◌≢◌, ◌<◌, ◌≤◌, ℕ, zero, suc, ◌+◌, ◌*◌, ◌/◌, ◌%◌, ◌^◌, ◌==◌, Bool, false, if◌then◌else◌, None, Some, List, length, slice_index_or, sum_by, ◌⊎◌}
 use Rattle.ia_program.specs.declared.place.Place.{Place}
+use Rattle.ia_program.specs.Places.{place_at}
 use Rattle.ia_program.specs.Programs.{Program, IsEntry}
 use Rattle.ia_meaning.specs.Sequence.{first_of}
 use Rattle.predicate_rel.specs.declared.edge.Edge.{Edge}
 use Rattle.predicate_rel.specs.Pairs.{Table, Pairs, has_bit, pairs_of, IsWithin}
-use Rattle.predicate_rel.specs.Changes.{AgreeOutside, HasAllRows}
+use Rattle.predicate_rel.specs.Changes.{AgreeOutside, HasAllRows, Narrows}
+use Rattle.predicate_rel.specs.Rules.{PairRule, pairs_by}
 use Rattle.predicate_rel.specs.Edges.{HasEdge, pairs_past}
-use Rattle.flow_facts.specs.declared.dirty.TheConstants.{BLOCK, REGION}
+use Rattle.flow_facts.specs.declared.bitmap.TheConstants.{BLOCK}
 use Rattle.flow_facts.specs.Walks.{Walk, EndsAt, Known, known_at, value_at, known_first, facts_on}
 
 -- how many of the first n numbers a row has
@@ -80,6 +82,25 @@ pub record HasCome (table : List Known) (to : Place) (past : Pairs → Pairs) (c
   pub same : IsSameBut changed older now
   pub came : (rows : Table) → older ≡ Some rows → AtMost table to (past (pairs_of rows))
 
+-- What is known at a place is narrowed to what is also known past a slot with these rules, before which `before` is known and
+-- the rows of the first word have changed since that was last done. It has changed in no rows but those of the last word.
+abbrev pub JoinsThere : (ℕ → ℕ → PairRule) → (changed : ℕ) → (before : Pairs) → (old new : Known) → (rows : ℕ) → Type 0
+JoinsThere rules changed before None new rows = (f : Table) × (new ≡ Some f) × (pairs_of f ≡ pairs_by before rules) × HasAllRows rows
+JoinsThere rules changed before (Some old) new rows = (f : Table) × (new ≡ Some f) × Narrows rules changed before (pairs_of old) (pairs_of f) rows
+
+-- What came is joined into the place of this number, of which it changed no rows but those of the word, and where these are
+-- any, the table can lose less.
+pub record JoinedBy (old new : List Known) (to : ℕ) (out : Pairs) (rows : ℕ) : Type 0 where
+  pub joined : Joined old new (place_at to) out
+  pub changed : IsSameBut rows (known_at old (place_at to)) (known_at new (place_at to))
+  pub less : weight new + (if rows == 0 then 0 else 1) ≤ weight old
+
+-- What is known at a place has come along its edges of this sort, but for what has changed since in the rows of the word.
+pub record MayPass (p : Program) (from : Place) (e : Edge) (rows : ℕ) (table : List Known) (before : Table) : Type 0 where
+  pub witnessed : IsWitnessed p table
+  pub known : known_at table from ≡ Some before
+  pub come : (to : Place) → HasEdge p from e to → HasCome table to (pairs_past p from e) rows (Some before)
+
 -- The edge's end knows no more than what comes along the edge.
 pub record EdgeSettled (p : Program) (table : List Known) (from : Place) (e : Edge) (to : Place) : Type 0 where
   pub settles : (rows : Table) → known_at table from ≡ Some rows → AtMost table to (pairs_past p from e (pairs_of rows))
@@ -92,16 +113,27 @@ marked dirty place = value_at 0 dirty place
 abbrev pub dirty_count : List ℕ → ℕ
 dirty_count dirty = sum_by (λ (rows : ℕ). if rows == 0 then 0 else 1) dirty
 
--- The marks of so many places each cover the dirty places: each of these is among places that are marked.
-pub record Covers (size : ℕ) (marks : List Bool) (dirty : List ℕ) : Type 0 where
-  pub long : length dirty ≤ size * length marks
-  pub unmarked : (n : ℕ) → slice_index_or marks (n / size) false ≡ false → slice_index_or dirty n 0 ≡ 0
+-- the n-th mark of words, 64 in each
+abbrev pub is_marked : List ℕ → ℕ → Bool
+is_marked words n = has_bit (slice_index_or words (n / BLOCK) 0) (n % BLOCK)
 
--- How the dirty places are kept: none is below this number, and each is in a block and in a region that are marked.
-pub record IsKept (dirty : List ℕ) (blocks regions : List Bool) (low : ℕ) : Type 0 where
-  pub below : (n : ℕ) → n < low → slice_index_or dirty n 0 ≡ 0
-  pub by_block : Covers BLOCK blocks dirty
-  pub by_region : Covers REGION regions dirty
+-- all words as one number
+abbrev pub sum_of : List ℕ → ℕ
+sum_of words = sum_by (λ (w : ℕ). w) words
+
+-- Each number of the list that isn't 0 has a mark.
+pub record Covers (words numbers : List ℕ) : Type 0 where
+  pub long : length numbers ≤ BLOCK * length words
+  pub unmarked : (n : ℕ) → is_marked words n ≡ false → slice_index_or numbers n 0 ≡ 0
+
+-- How the dirty places are kept: each has a mark in the word of its block, each block that has one in that of its region, and
+-- no region below this number has one.
+pub record IsKept (dirty blocks regions : List ℕ) (low : ℕ) : Type 0 where
+  pub below : (n : ℕ) → n < low → slice_index_or regions n 0 ≡ 0
+  pub by_block : Covers blocks dirty
+  pub by_region : Covers regions blocks
+  pub full : length blocks ≡ BLOCK * length regions
+  pub few : BLOCK * length blocks < 2 ^ 64
 
 -- The place of this number is the lowest dirty one.
 pub record IsLowest (dirty : List ℕ) (n : ℕ) : Type 0 where
@@ -125,9 +157,10 @@ pub record IsBetweenSteps (p : Program) (table : List Known) (dirty : List ℕ) 
   pub come : (from : Place) (e : Edge) (to : Place) → HasEdge p from e to → HasCome table to (pairs_past p from e) (marked dirty from) (known_at table from)
 
 -- What was known at a place has come along its edges of this sort. For each place that this made dirty the table has
--- lost something.
+-- lost something, and the places to which no such edge leads know what they knew.
 pub record Passed (p : Program) (from : Place) (e : Edge) (before : Pairs) (table : List Known) (dirty : List ℕ) (table' : List Known) (dirty' : List ℕ) : Type 0 where
   pub witnessed : IsWitnessed p table'
+  pub others : (place : Place) → (HasEdge p from e place → ⊥) → known_at table' place ≡ known_at table place
   pub come : (to : Place) → HasEdge p from e to → AtMost table' to (pairs_past p from e before)
   pub progress : MarksChanges table dirty table' dirty'
   pub lost : weight table' + dirty_count dirty' ≤ weight table + dirty_count dirty

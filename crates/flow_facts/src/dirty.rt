@@ -3,28 +3,21 @@
 ghost use Rattle.std.specs.Prelude.{◌≡◌, ◌≢◌, ℕ, ◌<◌, IfOk, MatchOption, List, length, slice_index_or, slice_set, replicate, bit_or};
 ghost use Rattle.flow_facts.specs.Tables.{IsKept, IsLowest};
 
+use crate::bitmap::{BLOCK, first, mark, unmark};
 use std::alloc::{AllocError, Global};
 use std::marker::Model;
-
-/// How many places a block has.
-pub(crate) const BLOCK: usize = 64;
-
-/// How many places a region has, as many blocks as a block has places.
-pub(crate) const REGION: usize = BLOCK * BLOCK;
 
 /// The dirty places, and of each the rows that have changed since it was last gone on from: bit x is that of the
 /// pairs of the x-th predicate. Contracts see a list that says of the place of each number which rows are
 /// marked. Where none is, the place isn't dirty.
-///
-/// The lowest of them is found in few steps: the search begins where the last one ended, or at a lower
-/// place that was inserted since, and passes a region or a block that isn't marked in one step.
 #[derive(Drop)]
 pub(crate) struct DirtyPlaces {
     rows: Vec<u64>,
-    // Of each block of places, in order, whether it may have a dirty one; and of each region.
-    blocks: Vec<bool>,
-    regions: Vec<bool>,
-    // No place below this number is dirty.
+    // A word for each block of places, with a bit for each of them that may be dirty.
+    blocks: Vec<u64>,
+    // A word for each region of blocks, with a bit for each of them that may have a dirty place.
+    regions: Vec<u64>,
+    // No region below this number has a dirty place.
     low: usize,
 }
 
@@ -45,9 +38,10 @@ impl DirtyPlaces {
     pub(crate) fn none(alloc: Global, count: usize) -> Result<DirtyPlaces, AllocError>
         ensures { IfOk result (λ dirty. dirty ≡ replicate count 0) }
     {
+        let region_count = count / (BLOCK * BLOCK) + 1;
         let rows = vec![in alloc; 0; count]?;
-        let blocks = vec![in alloc; false; count / BLOCK + 1]?;
-        let regions = vec![in alloc; false; count / REGION + 1]?;
+        let blocks = vec![in alloc; 0; BLOCK * region_count]?;
+        let regions = vec![in alloc; 0; region_count]?;
         Ok(DirtyPlaces {
             rows,
             blocks,
@@ -62,10 +56,11 @@ impl DirtyPlaces {
         ensures { self.new ≡ slice_set self.old n (bit_or (slice_index_or self.old n 0) rows) }
     {
         self.rows[n] |= rows;
-        self.blocks[n / BLOCK] = true;
-        self.regions[n / REGION] = true;
-        if n < self.low {
-            self.low = n;
+        mark(&mut self.blocks, n);
+        mark(&mut self.regions, n / BLOCK);
+        let region = n / BLOCK / BLOCK;
+        if region < self.low {
+            self.low = region;
         }
     }
 
@@ -77,6 +72,7 @@ impl DirtyPlaces {
     {
         let rows = self.rows[n];
         self.rows[n] = 0;
+        unmark(&mut self.blocks, n);
         rows
     }
 
@@ -85,25 +81,23 @@ impl DirtyPlaces {
         ensures same { self.new ≡ self.old }
         ensures lowest { MatchOption result ((n : ℕ) → slice_index_or self.old n 0 ≡ 0) (λ n. IsLowest self.old n) }
     {
-        'looking: while self.low < self.rows.len() {
-            let n = self.low;
-            if !self.regions[n / REGION] {
-                self.low = REGION * (n / REGION + 1);
-            } else if !self.blocks[n / BLOCK] {
-                self.low = BLOCK * (n / BLOCK + 1);
-                // The search has gone past the whole region.
-                if self.low % REGION == 0 {
-                    self.regions[n / REGION] = false;
-                }
-            } else if self.rows[n] != 0 {
-                return Some(n);
-            } else {
-                self.low = n + 1;
-                // The search has gone past the whole block.
-                if n % BLOCK == BLOCK - 1 {
-                    self.blocks[n / BLOCK] = false;
-                }
+        'looking: while self.low < self.regions.len() {
+            let blocks = self.regions[self.low];
+            if blocks == 0 {
+                self.low += 1;
+                continue;
             }
+            let block = BLOCK * self.low + first(blocks);
+            let places = self.blocks[block];
+            if places == 0 {
+                unmark(&mut self.regions, block);
+                continue;
+            }
+            let n = BLOCK * block + first(places);
+            if n < self.rows.len() && self.rows[n] != 0 {
+                return Some(n);
+            }
+            unmark(&mut self.blocks, n);
         }
         None
     }

@@ -4,11 +4,11 @@ ghost use Rattle.std.specs.Prelude.{◌≡◌, ◌≢◌, ◌+◌, ◌<◌, List
 ghost use Rattle.std.specs.Option.{option_copied};
 ghost use Rattle.ia_program.specs.declared.place.Place.{Place};
 ghost use Rattle.ia_program.specs.Places.{place_at};
-ghost use Rattle.predicate_rel.specs.Pairs.{no_pairs, pairs_of};
+ghost use Rattle.predicate_rel.specs.Pairs.{Table, no_pairs, pairs_of};
 ghost use Rattle.predicate_rel.specs.Edges.{HasEdge, pairs_past};
 ghost use Rattle.flow_facts.specs.Graphs.{with_relations};
 ghost use Rattle.flow_facts.specs.Walks.{Known, known_at, known_first, IsSolution};
-ghost use Rattle.flow_facts.specs.Tables.{Passed, weight, dirty_count, IsWitnessed, IsWitnessedAt, HasCome, IsBetweenSteps, marked, place_count};
+ghost use Rattle.flow_facts.specs.Tables.{Passed, weight, dirty_count, IsWitnessed, IsWitnessedAt, HasCome, IsBetweenSteps, MayPass, marked, place_count};
 
 use crate::dirty::DirtyPlaces;
 use crate::table::join;
@@ -45,24 +45,23 @@ impl InFacts {
     }
 }
 
-/// Takes what is known at the place of this number, `before`, along the edge of this sort from its slot, if there is
+/// Takes what is known at the place of this number along the edge of this sort from its slot, if there is
 /// one. The rows of `changed` have changed since that was last done. Those that thereby change at the edge's
 /// end are marked there.
+#[inline(always)]
 fn pass(
     slots: &SlotTable,
-    table: &mut Vec<Option<Facts>>,
+    table: &mut [Option<Facts>],
     dirty: &mut DirtyPlaces,
     from: usize,
     edge: Edge,
-    before: &Facts,
     changed: u64,
 )
-    requires table { length table.old.items ≡ place_count slots.now }
+    requires from { from < place_count slots.now }
+    requires table { length table.old ≡ place_count slots.now }
     requires dirty { length dirty.old ≡ place_count slots.now }
-    requires witnessed { IsWitnessed slots.now table.old.items }
-    requires before { IsWitnessedAt slots.now (place_at from) (pairs_of before.now) }
-    requires come { (to : Place) → HasEdge slots.now (place_at from) edge to → HasCome table.old.items to (pairs_past slots.now (place_at from) edge) changed (Some before.now) }
-    ensures { Passed slots.now (place_at from) edge (pairs_of before.now) table.old.items dirty.old table.new.items dirty.new }
+    ensures same_length { length dirty.new ≡ length dirty.old }
+    ensures passed { (before : Table) → MayPass slots.now (place_at from) edge changed table.old before → Passed slots.now (place_at from) edge (pairs_of before) table.old dirty.old table.new dirty.new }
 {
     slots.is_program();
     let Some(slot) = slots.at_number(from) else {
@@ -72,7 +71,7 @@ fn pass(
         return;
     };
     let to = place_number(to);
-    let lost = join(table, to, before, slot, edge, changed);
+    let lost = join(table, from, to, slot, edge, changed);
     if lost != 0 {
         dirty.insert(to, lost);
     }
@@ -80,26 +79,26 @@ fn pass(
 
 /// Takes what is known at a dirty place along all its edges. It is dirty no more, unless that changes the
 /// place itself.
-fn spread(slots: &SlotTable, table: &mut Vec<Option<Facts>>, dirty: &mut DirtyPlaces, from: usize)
+fn spread(slots: &SlotTable, table: &mut [Option<Facts>], dirty: &mut DirtyPlaces, from: usize)
     requires from { from < place_count slots.now }
     requires dirty { slice_index_or dirty.old from 0 ≢ 0 }
-    requires under_way { IsBetweenSteps slots.now table.old.items dirty.old }
-    ensures under_way { IsBetweenSteps slots.now table.new.items dirty.new }
-    ensures less { weight table.new.items + dirty_count dirty.new < weight table.old.items + dirty_count dirty.old }
+    requires under_way { IsBetweenSteps slots.now table.old dirty.old }
+    ensures under_way { IsBetweenSteps slots.now table.new dirty.new }
+    ensures less { weight table.new + dirty_count dirty.new < weight table.old + dirty_count dirty.old }
 {
     let changed = dirty.take(from);
-    let Some(before) = table[from] else {
+    if table[from].is_none() {
         return;
-    };
-    pass(slots, table, dirty, from, Edge::Falls, &before, changed);
-    pass(slots, table, dirty, from, Edge::Taken, &before, changed);
+    }
+    pass(slots, table, dirty, from, Edge::Falls, changed);
+    pass(slots, table, dirty, from, Edge::Taken, changed);
 }
 
 /// Goes on from the lowest dirty place until none is left. This ends, since a place gets dirty only where
 /// the table loses something.
-fn settle(slots: &SlotTable, table: &mut Vec<Option<Facts>>, dirty: &mut DirtyPlaces)
-    requires { IsBetweenSteps slots.now table.old.items dirty.old }
-    ensures under_way { IsBetweenSteps slots.now table.new.items dirty.new }
+fn settle(slots: &SlotTable, table: &mut [Option<Facts>], dirty: &mut DirtyPlaces)
+    requires { IsBetweenSteps slots.now table.old dirty.old }
+    ensures under_way { IsBetweenSteps slots.now table.new dirty.new }
     ensures clean { (place : Place) → marked dirty.new place ≡ 0 }
 {
     'settling: while let Some(from) = dirty.lowest() {
@@ -130,11 +129,11 @@ fn known_first(program: &Program, bundle: u32) -> Facts
 }
 
 /// Begins with the entries, where what they declare is known.
-fn enter(program: &Program, table: &mut Vec<Option<Facts>>, dirty: &mut DirtyPlaces)
-    requires table { length table.old.items ≡ place_count program.now }
+fn enter(program: &Program, table: &mut [Option<Facts>], dirty: &mut DirtyPlaces)
+    requires table { length table.old ≡ place_count program.now }
     requires dirty { length dirty.old ≡ place_count program.now }
-    requires unknown { (place : Place) → known_at table.old.items place ≡ None }
-    ensures { IsBetweenSteps program.now table.new.items dirty.new }
+    requires unknown { (place : Place) → known_at table.old place ≡ None }
+    ensures { IsBetweenSteps program.now table.new dirty.new }
 {
     for bundle in 0..program.bundle_count() {
         if program.is_entry(bundle) {
@@ -157,12 +156,10 @@ pub fn solve(alloc: Global, slots: &SlotTable) -> Result<InFacts, AllocError>
 {
     let program = slots.program();
     let count = 3 * program.bundle_count() as usize;
-    let mut table = Vec::with_capacity(alloc, count)?;
-    'making: for _ in 0..count {
-        table.push(None)?;
-    }
+    let mut table = vec![in alloc; None; count]?;
     let mut dirty = DirtyPlaces::none(alloc, count)?;
-    enter(program, &mut table, &mut dirty);
-    settle(slots, &mut table, &mut dirty);
+    let places = table.as_mut_slice();
+    enter(program, places, &mut dirty);
+    settle(slots, places, &mut dirty);
     Ok(InFacts { table })
 }

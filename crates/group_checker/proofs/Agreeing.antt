@@ -18,7 +18,7 @@ use Rattle.resource_sets.specs.AccessLaws.{TheUnat, location}
 use Rattle.ia_meaning.specs.Actions.{is_alloc, insn_action, allocates}
 use Rattle.resource_sets.proofs.Members.{in_head, in_tail}
 use Rattle.flow_facts.specs.Walks.{Walk, earlier_in_group}
-use Rattle.group_checker.specs.Reports.{IsFree}
+use Rattle.group_checker.specs.Violations.{IsFree}
 use Rattle.group_checker.specs.Traces.{walk_after, IsKnown}
 use Rattle.ia_meaning.proofs.StepHere.{insn_here}
 use Rattle.ia_meaning.specs.ParallelGroups.{Gathered, gathered_from, slot_outcome, gathers}

@@ -36,7 +36,7 @@ use Rattle.resource_sets.proofs.Regularity.{in_range, guarded, alloc_writes, gua
 use Rattle.state_laws.proofs.StateKept.{keeps_state}
 use Rattle.ia_program.proofs.ListedSlots.{listed_at}
 use Rattle.flow_facts.specs.Walks.{Walk}
-use Rattle.group_checker.specs.Reports.{IsFree}
+use Rattle.group_checker.specs.Violations.{IsFree}
 use Rattle.group_checker.specs.Traces.{IsKnown}
 use Rattle.ia_meaning.proofs.Resizing.{length-resized}
 use Rattle.ia_meaning.proofs.StepHere.{step_here, insn_here}

@@ -29,7 +29,7 @@ use Rattle.resource_sets.proofs.Apart.{apart}
 use Rattle.resource_sets.proofs.Regularity.{named_as_found}
 use Rattle.flow_facts.specs.Graphs.{over_program}
 use Rattle.flow_facts.specs.Walks.{Walk, earlier_in_group}
-use Rattle.group_checker.specs.Reports.{IsFree}
+use Rattle.group_checker.specs.Violations.{IsFree}
 use Rattle.group_checker.specs.Traces.{walk_after, IsKnown, group_after}
 use Rattle.ia_meaning.proofs.StepHere.{step_here, insn_here}
 use Rattle.group_checker.proofs.Walked.{steps_known, walks_group}

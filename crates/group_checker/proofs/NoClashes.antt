@@ -23,7 +23,7 @@ use Rattle.flow_facts.specs.Graphs.{over_program}
 use Rattle.flow_facts.specs.Walks.{Walk, end_of, earlier_in_group}
 use Rattle.group_checker.specs.Excuses.{accesses_at, IsLatest, IsExcused}
 use Rattle.group_checker.specs.Violations.{ClashesUnexcused, allocates_at, Breaks}
-use Rattle.group_checker.specs.Reports.{IsFree}
+use Rattle.group_checker.specs.Violations.{IsFree}
 use Rattle.group_checker.specs.Traces.{IsKnown}
 use Rattle.group_checker.proofs.Untouched.{Mem}
 use Rattle.group_checker.proofs.Gathering.{MayBeWrittenSince, ClashesWithNone}

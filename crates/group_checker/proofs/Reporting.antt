@@ -26,13 +26,13 @@ use Rattle.group_checker.specs.declared.report.TheConstants.{SHOWN_LIMIT}
 use Rattle.group_checker.specs.declared.report.Verdict.TheVariants.{Accepted, Violations}
 use Rattle.group_checker.specs.Order.{Precedes, IsListOf}
 use Rattle.group_checker.specs.Shown.{Report}
-use Rattle.group_checker.specs.Violations.{ViolatesIn, Violates}
+use Rattle.group_checker.specs.Violations.{ViolatesIn, Violates, IsFree}
 use Rattle.group_checker.specs.Reports.{Shows, IsVerdict}
 use Rattle.group_checker.specs.Windows.{IsWindow, IsAt}
 use Rattle.group_checker.specs.Findings.{IsPair, IsNthPair, AreBroken}
 use Rattle.group_checker.specs.declared.broken.Broken.{Broken}
 use Rattle.group_checker.specs.Broken.{is_broken, violations_by, violations_of}
-use Rattle.group_checker.specs.Progress.{HasReported, IsEarlier, IsEarlierPair, IsUpTo, pair_bound, place_bound}
+use Rattle.group_checker.specs.Progress.{HasReported, IsEarlier, IsEarlierPair, IsUpTo, pair_bound, place_bound, ReportsAll}
 use Rattle.group_checker.proofs.EarlierSlots.{at_once}
 use Rattle.group_checker.proofs.ListedViolations.{listed}
 use Rattle.group_checker.proofs.Falling.{before_trans, number_rises, place_cases, next_after, comes_from}
@@ -271,14 +271,8 @@ next_reported p r j next bound more follows l u = retold p r (IsUpTo j) (IsEarli
       | inr e ↦ elim e [ inl same ↦ inr same | inr high ↦ absurd (is.first v.second (second_is_place p v x) high h) ]
     ]
 
--- where no place follows, all are reported
-record ReportsAll (p : Program) (r : Report) : Type 0 where
-  all : List Violation
-  list : IsListOf (Violates p) all
-  shows : Shows r all
-
--- what came up to the last place is all
-all_reported : (p : Program) (r : Report) (j : Place) (bound : ℕ) → next_of p.bundles j ≡ None → HasReported p r (IsUpTo j) bound → ReportsAll p r
+-- where no place follows, what came up to it is all
+pub all_reported : (p : Program) (r : Report) (j : Place) (bound : ℕ) → next_of p.bundles j ≡ None → HasReported p r (IsUpTo j) bound → ReportsAll p r
 all_reported p r j bound end u = record {
   all = u.all;
   list = list_like (λ v. Violates p v × IsUpTo j v) (Violates p) u.all (λ v h. h.0) (λ v x. (x, up_to v x)) u.list;
@@ -294,21 +288,26 @@ all_reported p r j bound end u = record {
       | inr e ↦ elim e [ inl same ↦ inr same | inr high ↦ absurd (none v.second (second_is_place p v x) high) ]
     ]
 
+-- a report of none is one on a program without violations
+pub free_of_none : (p : Program) (r : Report) → ReportsAll p r → r.total ≡ 0 → IsFree p
+free_of_none p r a none = of a.all refl
+  where
+    of : (all : List Violation) → a.all ≡ all → IsFree p
+    of [] e = λ v x. not_in_none v (subst (λ (l : List Violation). Contains l v) e (a.list.has v x))
+    of (v ∷ vs) e = absurd (omega (arith, a.shows.total, ap length e))
+
 -- the verdict of a report
-verdict_of : (p : Program) (r : Report) → ReportsAll p r → IsVerdict p (cond (eqb r.total 0) Accepted (Violations r))
+pub verdict_of : (p : Program) (r : Report) → ReportsAll p r → IsVerdict p (cond (eqb r.total 0) (Accepted p) (Violations r))
 verdict_of p r a = of a.all refl
   where
-    of : (all : List Violation) → a.all ≡ all → IsVerdict p (cond (eqb r.total 0) Accepted (Violations r))
+    of : (all : List Violation) → a.all ≡ all → IsVerdict p (cond (eqb r.total 0) (Accepted p) (Violations r))
     of [] e =
-        let none : eqb r.total 0 ≡ true = eq-eqb r.total 0 (a.shows.total ∙ ap length e) in
-        rw none (λ v x. not_in_none v (subst (λ (l : List Violation). Contains l v) e (a.list.has v x)))
+        let none : r.total ≡ 0 = a.shows.total ∙ ap length e in
+        let is : eqb r.total 0 ≡ true = eq-eqb r.total 0 none in
+        rw is (refl, free_of_none p r a none)
     of (v ∷ vs) e =
         let some : eqb r.total 0 ≡ false = ne_eqb r.total 0 (λ z. omega (arith, a.shows.total, ap length e)) in
         rw some (record { all = a.all; list = a.list; some = omega (arith, ap length e); shows = a.shows })
-
--- and the verdict says it
-pub verdict_reported : (p : Program) (r : Report) (j : Place) (bound : ℕ) → next_of p.bundles j ≡ None → HasReported p r (IsUpTo j) bound → IsVerdict p (cond (eqb r.total 0) Accepted (Violations r))
-verdict_reported p r j bound end u = verdict_of p r (all_reported p r j bound end u)
 
 -- at the first place nothing is reported
 pub none_reported : (p : Program) (r : Report) → r.total ≡ 0 → r.shown ≡ [] → HasReported p r (IsEarlier (first_of 0)) 0

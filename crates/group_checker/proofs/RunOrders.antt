@@ -10,7 +10,8 @@ use Rattle.ia_meaning.proofs.WholeRuns.{step_goes_on}
 use Rattle.flow_facts.specs.Walks.{Walk, begins}
 use Rattle.group_checker.specs.declared.report.Verdict.{Verdict}
 use Rattle.group_checker.specs.declared.report.Verdict.TheVariants.{Accepted}
-use Rattle.group_checker.specs.Reports.{IsFree, IsVerdict}
+use Rattle.group_checker.specs.Violations.{IsFree}
+use Rattle.group_checker.specs.Reports.{IsVerdict}
 use Rattle.group_checker.specs.Traces.{walk_after, IsKnown}
 use Rattle.group_checker.proofs.Walked.{steps_known, known_on_runs, runs_are_known}
 use Rattle.ia_meaning.specs.ParallelGroups.{par_group, code_of}
@@ -68,5 +69,5 @@ pub free_robust : FreeIsRobust
 free_robust p program free n codes s start = runs_ordered n 1 p codes s (begins s.place.bundle) program free (known_on_runs 0 p s program start)
 
 -- so is one whose verdict is that it is accepted
-pub accepted_robust : (p : Program) → IsProgram p → (v : Verdict) → IsVerdict p v → v ≡ Accepted → IsRobust p
-accepted_robust p program v h e = free_robust p program (subst (IsVerdict p) e h)
+pub accepted_robust : (p : Program) → IsProgram p → (v : Verdict) → IsVerdict p v → v ≡ Accepted p → IsRobust p
+accepted_robust p program v h e = let is : IsVerdict p (Accepted p) = subst (IsVerdict p) e h in free_robust p program is.1

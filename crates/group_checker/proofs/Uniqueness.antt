@@ -33,7 +33,7 @@ one_report p r s a b =
 
 -- and so are two verdicts
 pub same_verdict : OneVerdict
-same_verdict p Accepted Accepted a b = refl
-same_verdict p Accepted (Violations s) a b = absurd (not_free p s b a)
-same_verdict p (Violations r) Accepted a b = absurd (not_free p r a b)
+same_verdict p (Accepted q) (Accepted r) a b = ap Accepted (a.0 ∙ sym b.0)
+same_verdict p (Accepted q) (Violations s) a b = absurd (not_free p s b a.1)
+same_verdict p (Violations r) (Accepted q) a b = absurd (not_free p r a b.1)
 same_verdict p (Violations r) (Violations s) a b = ap Violations (one_report p r s a b)

@@ -19,7 +19,7 @@ use Rattle.ia_meaning.specs.Steps.{outcome_of, place_after, step_by, seq_step}
 use Rattle.ia_meaning.specs.ParallelGroups.{Gathered, gathered_from, slot_outcome, frame_ahead, gathers, GatheredGroup, gathered_by, gathered_within}
 use Rattle.ia_meaning.proofs.StepHere.{insn_here}
 use Rattle.flow_facts.specs.Walks.{Walk, earlier_in_group}
-use Rattle.group_checker.specs.Reports.{IsFree}
+use Rattle.group_checker.specs.Violations.{IsFree}
 use Rattle.group_checker.specs.Traces.{walk_after, IsKnown}
 use Rattle.group_checker.specs.GroupSlots.{GatheredSlot, slot_here, slots_within, done_by}
 use Rattle.group_checker.proofs.GatheredSlots.{IsOn, with_slot, by_slots, no_more}

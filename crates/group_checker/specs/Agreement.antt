@@ -14,7 +14,7 @@ use Rattle.ia_meaning.specs.Sequence.{next_of, is_stopped}
 use Rattle.ia_meaning.specs.Steps.{place_after, outcome_of, seq_step}
 use Rattle.resource_sets.specs.AccessLaws.{TheUnat, location}
 use Rattle.flow_facts.specs.Walks.{Walk}
-use Rattle.group_checker.specs.Reports.{IsFree}
+use Rattle.group_checker.specs.Violations.{IsFree}
 use Rattle.group_checker.specs.Traces.{IsKnown}
 use Rattle.ia_meaning.specs.Names.{predicate_place}
 use Rattle.ia_meaning.specs.Actions.{insn_action, is_branch, allocates}

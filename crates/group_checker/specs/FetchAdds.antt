@@ -14,7 +14,7 @@ use Rattle.ia_meaning.specs.Loads.{loaded}
 use Rattle.ia_meaning.specs.Views.{view}
 use Rattle.ia_meaning.specs.ParallelGroups.{now_of, par_group}
 use Rattle.flow_facts.specs.Walks.{Walk}
-use Rattle.group_checker.specs.Reports.{IsFree}
+use Rattle.group_checker.specs.Violations.{IsFree}
 use Rattle.group_checker.specs.Traces.{IsKnown}
 use Rattle.group_checker.specs.GroupSlots.{GatheredSlot, slots_of, done_by}
 use Rattle.group_checker.specs.Targets.{Stands}

@@ -13,7 +13,7 @@ use Rattle.ia_meaning.specs.ParallelGroups.{par_group}
 use Rattle.ia_meaning.specs.OrderIndependence.{IsRobust}
 use Rattle.resource_sets.specs.AccessLaws.{TheFrame, location}
 use Rattle.flow_facts.specs.Walks.{Walk}
-use Rattle.group_checker.specs.Reports.{IsFree}
+use Rattle.group_checker.specs.Violations.{IsFree}
 use Rattle.group_checker.specs.Traces.{IsKnown}
 
 -- Two writes go to two locations, or are one write twice, and not of the frame.

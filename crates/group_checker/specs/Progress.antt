@@ -32,6 +32,12 @@ pub record HasReported (p : Program) (r : Report) (IsDone : Violation → Type 0
   pub shows : Shows r all
   pub small : length all ≤ bound
 
+-- All are.
+pub record ReportsAll (p : Program) (r : Report) : Type 0 where
+  pub all : List Violation
+  pub list : IsListOf (Violates p) all
+  pub shows : Shows r all
+
 -- those with an earlier second slot
 abbrev pub IsEarlier : Place → Violation → Type 0
 IsEarlier j v = IsBefore v.second j

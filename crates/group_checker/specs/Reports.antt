@@ -6,7 +6,7 @@ use Rattle.group_checker.specs.declared.report.TheConstants.{SHOWN_LIMIT}
 use Rattle.group_checker.specs.declared.report.Verdict.{Verdict}
 use Rattle.group_checker.specs.declared.report.Verdict.TheVariants.{Accepted, Violations}
 use Rattle.group_checker.specs.Order.{IsListOf}
-use Rattle.group_checker.specs.Violations.{Violates}
+use Rattle.group_checker.specs.Violations.{Violates, IsFree}
 use Rattle.group_checker.specs.Shown.{Report}
 
 -- The report counts the whole list and shows the first violations, as many as the limit lets.
@@ -21,13 +21,9 @@ pub record IsReport (p : Program) (r : Report) : Type 0 where
   pub some : 1 ≤ length all
   pub shows : Shows r all
 
--- On no walk do two slots of a group break a rule.
-abbrev pub IsFree : Program → Type 0
-IsFree p = (v : Violation) → ¬ Violates p v
-
--- A program is accepted exactly where it has no violation.
+-- A program is accepted, as itself, exactly where it has no violation.
 abbrev pub IsVerdict : Program → Verdict → Type 0
-IsVerdict p Accepted = IsFree p
+IsVerdict p (Accepted q) = (q ≡ p) × IsFree p
 IsVerdict p (Violations r) = IsReport p r
 
 -- A program has one verdict.

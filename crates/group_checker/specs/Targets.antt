@@ -10,7 +10,7 @@ use Rattle.ia_meaning.specs.Actions.{insn_action, is_alloc}
 use Rattle.ia_meaning.specs.Steps.{seq_run}
 use Rattle.ia_meaning.specs.ParallelGroups.{par_group}
 use Rattle.flow_facts.specs.Walks.{Walk}
-use Rattle.group_checker.specs.Reports.{IsFree}
+use Rattle.group_checker.specs.Violations.{IsFree}
 use Rattle.group_checker.specs.Traces.{IsKnown}
 use Rattle.group_checker.specs.GroupSlots.{GatheredSlot, slots_of, done_by}
 

@@ -72,3 +72,7 @@ pub record ViolatesIn (g : Graph) (has_stop : Place → Bool) (v : Violation) : 
 -- So they do in a program with its stops.
 abbrev pub Violates : Program → Violation → Type 0
 Violates p v = ViolatesIn (over_program p) (is_stopped p.bundles) v
+
+-- On no walk do two slots of a group break a rule.
+abbrev pub IsFree : Program → Type 0
+IsFree p = (v : Violation) → ¬ Violates p v

@@ -6,14 +6,15 @@ ghost use Rattle.ia_program.specs.Programs.{Program, IsProgram};
 ghost use Rattle.ia_meaning.specs.OrderIndependence.{IsRobust};
 ghost use Rattle.ia_meaning.specs.Sequence.{is_stopped};
 ghost use Rattle.flow_facts.specs.Graphs.{over_program};
+ghost use Rattle.flow_facts.specs.Walks.{IsSolution};
 ghost use Rattle.group_checker.specs.Reports.{IsVerdict, OneVerdict};
 ghost use Rattle.group_checker.specs.Windows.{HasWindow};
-ghost use Rattle.group_checker.specs.Progress.{HasReported, IsEarlier, IsEarlierPair, IsUpTo, pair_bound, place_bound, second_bound};
+ghost use Rattle.group_checker.specs.Progress.{HasReported, IsEarlier, IsEarlierPair, IsUpTo, ReportsAll, pair_bound, place_bound, second_bound};
 
 use crate::pairs::{are_apart, pair_broken};
 use crate::report::{Report, SHOWN_LIMIT, Verdict};
 use crate::window::{EarlierSlot, Window};
-use flow_facts::solve;
+use flow_facts::{Analysis, InFacts};
 use ia_program::{Place, Program};
 use resource_sets::{Masks, masks_of};
 use slot_table::{Slot, SlotTable};
@@ -73,17 +74,16 @@ fn check_second(
     Ok(())
 }
 
-/// The verdict on the program of a table, place after place.
+/// The report on the program of a table, place after place, by what is known at each.
 ///
 /// # Errors
 ///
 /// Want of memory.
-fn check_slots(alloc: Global, table: &SlotTable) -> Result<Verdict, AllocError>
-    requires { IsProgram table.now }
-    ensures verdict { IfOk result (λ verdict. IsVerdict table.now verdict) }
-    ensures robust { IfOk result (λ verdict. verdict ≡ Verdict.Accepted → IsRobust table.now) }
+fn check_slots(alloc: Global, table: &SlotTable, facts: &InFacts) -> Result<Report, AllocError>
+    requires program { IsProgram table.now }
+    requires facts { IsSolution table.now facts.now }
+    ensures { IfOk result (ReportsAll table.now) }
 {
-    let facts = solve(alloc, table)?;
     let mut report = Report::empty(alloc);
     let mut window = Window::new(alloc);
     let mut second = Place::FIRST;
@@ -95,7 +95,7 @@ fn check_slots(alloc: Global, table: &SlotTable) -> Result<Verdict, AllocError>
         check_second(window.earlier_slots(), second, slot, &seconds, &mut report)?;
         window.move_on(facts.at(second), second, slot, seconds)?;
         let Some(after) = slot.next else {
-            return Ok(report.verdict());
+            return Ok(report);
         };
         second = after;
     }
@@ -115,19 +115,21 @@ fn check_slots(alloc: Global, table: &SlotTable) -> Result<Verdict, AllocError>
 /// the guard of the first. What an entry declares is known where a walk begins there, and not where an edge leads a
 /// walk there.
 ///
-/// An accepted program is order independent: from every start state, for every number of groups and every order
-/// of the writes in each group, groups at once leave what slots one by one leave.
+/// An accepted program is handed back as one ([`Accepted`](crate::Accepted)), and it is order independent: from every start
+/// state, for every number of groups and every order of the writes in each group, groups at once leave what slots one by one
+/// leave.
 ///
 /// # Errors
 ///
 /// Want of memory.
-pub fn check(alloc: Global, program: &Program) -> Result<Verdict, AllocError>
-    ensures verdict { IfOk result (λ verdict. IsVerdict program.now verdict) }
-    ensures robust { IfOk result (λ verdict. verdict ≡ Verdict.Accepted → IsRobust program.now) }
+pub fn check<'p>(alloc: Global, program: &'p Program) -> Result<Verdict<'p>, AllocError>
+    ensures verdict { IfOk result (IsVerdict program.now) }
+    ensures robust { IfOk result (λ verdict. verdict ≡ Verdict.Accepted program.now → IsRobust program.now) }
 {
     program.is_program();
-    let table = SlotTable::open(alloc, program)?;
-    check_slots(alloc, &table)
+    let analysis = Analysis::of(alloc, program)?;
+    let report = check_slots(alloc, analysis.slots(), analysis.facts())?;
+    Ok(report.verdict(analysis))
 }
 
 /// The law that a program has one verdict: no other count and no other list is stated for it. It does

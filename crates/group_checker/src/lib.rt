@@ -14,6 +14,7 @@
 //! the first ones in order, up to [`SHOWN_LIMIT`].
 #![tactic(auto)]
 
+mod accepted;
 mod broken;
 mod checker;
 mod laws;
@@ -23,6 +24,7 @@ mod report;
 mod violation;
 mod window;
 
+pub use accepted::Accepted;
 pub use checker::{check, one_verdict};
 pub use laws::{
     law_fetch_adds, law_orders, law_targets, law_two_orders, law_view, law_walk, law_windows,

@@ -1,12 +1,14 @@
 //! Verdicts and reports.
 
 ghost use Rattle.std.specs.Prelude.{◌≡◌, ◌≤◌, ◌+◌, ◌<◌, ◌^◌, ◌++◌, ◌∷◌, [], length, take, map, OnOk, if◌then◌else◌, ◌==◌};
-ghost use Rattle.group_checker.specs.declared.report.Verdict.TheVariants.{Accepted, Violations};
 ghost use Rattle.group_checker.specs.Broken.{violations_by, violations_of};
+ghost use Rattle.group_checker.specs.Violations.{IsFree};
 ghost use Rattle.group_checker.specs.Progress.{pair_bound};
 
+use crate::accepted::Accepted;
 use crate::broken::Broken;
 use crate::violation::Violation;
+use flow_facts::Analysis;
 use ia_program::Place;
 use resource_sets::{RESOURCE_COUNT, Resource, ResourceSet, Rule};
 use std::alloc::{AllocError, Global};
@@ -32,10 +34,10 @@ impl Model for Report {
 }
 
 /// What the check of a program says (volume 1, chapter 3, instruction dependencies).
-#[derive(Debug, Drop)]
-pub enum Verdict {
-    /// The program has no violation.
-    Accepted,
+#[derive(Drop)]
+pub enum Verdict<'p> {
+    /// The program has no violation. It is handed back as one that is known to have none.
+    Accepted(Accepted<'p>),
     /// The program has violations, at least one.
     Violations(Report),
 }
@@ -118,12 +120,13 @@ impl Report {
         Ok(())
     }
 
-    /// The verdict that has this report.
-    pub(crate) fn verdict(self) -> Verdict
-        ensures { result ≡ (if self.total == 0 then Accepted else Violations self) }
+    /// The verdict on a program that has this report.
+    pub(crate) fn verdict<'p>(self, analysis: Analysis<'p>) -> Verdict<'p>
+        requires { self.total ≡ 0 → IsFree analysis }
+        ensures { result ≡ (if self.total == 0 then Verdict.Accepted analysis.entry else Verdict.Violations self) }
     {
         if self.total == 0 {
-            Verdict::Accepted
+            Verdict::Accepted(Accepted::of(analysis.into_slots()))
         } else {
             Verdict::Violations(self)
         }

@@ -6,9 +6,9 @@ use Rattle.group_engine.specs.Groups.{state_of}
 use Rattle.group_engine.specs.Engine.{Engine}
 
 abbrev pub engine_of : Inside → Engine
-engine_of m = record { program = m.table; state = state_of m.gathering; end = m.end; groups = m.groups; range = m.range }
+engine_of m = record { program = m.table.now; state = state_of m.gathering; end = m.end; groups = m.groups; range = m.range }
 
 -- The next place is one of the program.
 pub record IsEngine (m : Inside) : Type 0 where
-  pub program : IsProgram m.table
-  pub place : IsPlaceOf m.table.bundles m.gathering.place
+  pub program : IsProgram m.table.now
+  pub place : IsPlaceOf m.table.now.bundles m.gathering.place

@@ -8,7 +8,7 @@ ghost use Rattle.group_engine.specs.Engine.{begun, after_run, after_group, group
 use crate::gathering::Gathering;
 use frame_shapes::zero_range;
 use ia_meaning::{Rse, end_or};
-use ia_program::{End, Place, Program};
+use ia_program::{End, Place};
 use slot_table::SlotTable;
 use std::alloc::{AllocError, Global};
 use std::marker::Model;
@@ -17,7 +17,7 @@ use std::marker::Model;
 /// between two groups, the end of its run, the groups begun and the resident range of the register stack.
 #[derive(Drop)]
 pub struct GroupMachine<'a> {
-    table: SlotTable<'a>,
+    table: &'a SlotTable<'a>,
     gathering: Gathering,
     end: Option<End>,
     groups: u64,
@@ -38,20 +38,20 @@ impl<'a> Model for GroupMachine<'a> {
 }
 
 impl<'a> GroupMachine<'a> {
-    /// The engine at the start of a program: its state is the zero state. No call after this one takes memory.
+    /// The engine at the start of a program, whose slots it is lent: its state is the zero state. No call after this
+    /// one takes memory.
     ///
     /// # Errors
     ///
     /// Want of memory.
     #[tactic(auto, using(ia_meaning::proofs::GroupEnds::zero_is_place))]
-    pub fn open(alloc: Global, program: &'a Program) -> Result<GroupMachine<'a>, AllocError>
-        ensures { IfOk result (λ m. m ≡ begun program.now) }
+    pub fn open(alloc: Global, slots: &'a SlotTable<'a>) -> Result<GroupMachine<'a>, AllocError>
+        ensures { IfOk result (λ m. m ≡ begun slots.now) }
     {
-        let table = SlotTable::open(alloc, program)?;
-        table.is_program();
-        let gathering = Gathering::open(alloc, table.program().data())?;
+        slots.is_program();
+        let gathering = Gathering::open(alloc, slots.program().data())?;
         Ok(GroupMachine {
-            table,
+            table: slots,
             gathering,
             end: None,
             groups: 0,
@@ -100,7 +100,7 @@ impl<'a> GroupMachine<'a> {
         requires room { self.old.groups + 1 < 2 ^ 64 }
         ensures { self.new ≡ after_group (numbered_group number self.old.program self.old.state) self.old }
     {
-        self.end = self.gathering.gather(&self.table);
+        self.end = self.gathering.gather(self.table);
         self.range = self.gathering.finish(number, self.range);
         self.groups += 1;
     }

@@ -128,7 +128,7 @@ none_beyond P words c (Some l) e other beyond =
 
 -- A verdict with violations prints clashes alone.
 prints : (p : Program) (bytes : List ℕ) (v : Verdict) → IsVerdict p v → bytes ≡ verdict_text v → Violated ≡ verdict_status v → PrintsClashes p bytes
-prints p bytes Accepted exact printed is = cc
+prints p bytes (Accepted q) exact printed is = cc
 prints p bytes (Violations r) exact printed is = record { report = r; exact = exact; printed = printed }
 
 of_judgement : (p q : Program) (bytes : List ℕ) → q ≡ p → IsJudgement q bytes Violated → PrintsClashes p bytes

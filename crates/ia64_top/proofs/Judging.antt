@@ -5,7 +5,8 @@ use Rattle.ia_program.specs.Programs.{Program, IsProgram}
 use Rattle.group_checker.specs.declared.violation.Violation.{Violation}
 use Rattle.group_checker.specs.declared.report.Verdict.{Verdict}
 use Rattle.group_checker.specs.declared.report.Verdict.TheVariants.{Accepted, Violations}
-use Rattle.group_checker.specs.Reports.{IsReport, IsVerdict, IsFree}
+use Rattle.group_checker.specs.Violations.{IsFree}
+use Rattle.group_checker.specs.Reports.{IsReport, IsVerdict}
 use Rattle.group_checker.specs.Shown.{Report}
 use Rattle.ia64_top.specs.declared.status.Status.{Status}
 use Rattle.ia64_top.specs.declared.status.Status.TheVariants.{Done, Violated, Refused}
@@ -25,11 +26,11 @@ not_free p report r free = let m = some_of r.all r.some in free m.0 (r.list.only
 
 -- the verdict tells whether the program is free
 done_of_verdict : (p : Program) (v : Verdict) → IsVerdict p v → ((verdict_status v ≡ Done) ↔ IsFree p)
-done_of_verdict p Accepted exact = (λ e. exact, λ f. refl)
+done_of_verdict p (Accepted q) exact = (λ e. exact.1, λ f. refl)
 done_of_verdict p (Violations r) exact = (λ e. cc, λ f. absurd (not_free p r exact f))
 
 violated_of_verdict : (p : Program) (v : Verdict) → IsVerdict p v → ((verdict_status v ≡ Violated) ↔ (¬ IsFree p))
-violated_of_verdict p Accepted exact = (λ e. cc, λ n. absurd (n exact))
+violated_of_verdict p (Accepted q) exact = (λ e. cc, λ n. absurd (n exact.1))
 violated_of_verdict p (Violations r) exact = (λ e. not_free p r exact, λ n. refl)
 
 -- a verdict as it is printed and answered

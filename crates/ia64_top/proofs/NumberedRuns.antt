@@ -11,7 +11,7 @@ use Rattle.ia_meaning.specs.StateText.{state_text}
 use Rattle.ia_meaning.specs.Runs.{run_text}
 use Rattle.ia_meaning.specs.NumberedRuns.{numbered_run, numbered_codes, NumberedRunIsParallel}
 use Rattle.image_form.specs.Laws.{ImageSize}
-use Rattle.group_checker.specs.Reports.{IsFree}
+use Rattle.group_checker.specs.Violations.{IsFree}
 use Rattle.group_checker.specs.OrderLaws.{FreeIsRobust}
 use Rattle.group_engine.specs.Engine.{Engine, begun, after_run}
 use Rattle.watch_seam.specs.Watchers.{WatchState}
@@ -115,7 +115,7 @@ same_as_run_within law zero parallel one none words c ws left old new input byte
     (λ groups number is p g free.
     let range = in_range words (Groups groups number) (e ∙ ap Some is) in
     let run = run_given law zero parallel groups number p bytes status (numbered_run_given one none c ws input bytes status o groups number is p g) free in
-    (bytes, output_of (run_words groups) (Run groups) ws input input bytes status (run_command groups range.0 range.1) refl within (run_is state_after groups as_either input p bytes status (g, free) run), appended))
+    (bytes, output_of (run_words groups) (Run groups) ws input input bytes status (run_command groups range.0 range.1) refl within (run_is state_after groups as_either input p bytes status g run), appended))
 
 without_start : (groups : ℕ) → 0 + groups ≡ groups
 without_start groups = omega arith

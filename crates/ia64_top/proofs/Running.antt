@@ -12,8 +12,8 @@ use Rattle.ia_meaning.specs.Progress.{Progress, begun, groups_further, end_of}
 use Rattle.ia_meaning.specs.Runs.{HasRun, ProgressIsRun, run_text}
 use Rattle.ia_meaning.specs.StateText.{state_text}
 use Rattle.ia_meaning.proofs.GroupEnds.{zero_is_place}
-use Rattle.group_checker.specs.Reports.{IsFree}
-use Rattle.group_checker.specs.OrderLaws.{FreeIsRobust}
+use Rattle.group_checker.specs.Violations.{IsFree}
+use Rattle.ia_meaning.specs.OrderIndependence.{IsRobust}
 use Rattle.ia64_top.specs.declared.status.Status.{Status}
 use Rattle.ia64_top.specs.declared.status.Status.TheVariants.{Done, Violated, Limit, Faulted, Refused}
 use Rattle.ia64_top.specs.Judgements.{IsJudgement, IsJudgedViolated}
@@ -21,12 +21,12 @@ use Rattle.ia64_top.specs.Runs.{Printing, run_of, end_status, state_after, watch
 use Rattle.watch_seam.specs.Watchers.{WatchState}
 use Rattle.watch_seam.specs.Watching.{staying}
 use Rattle.ia64_top.specs.Watching.{IsNotRun, HaveWatched}
-use Rattle.ia64_top.specs.Readings.{InputReading, as_either}
+use Rattle.ia64_top.specs.Readings.{InputReading, IsRefusal, as_either}
 use Rattle.std.specs.Prelude.{Some}
 use Rattle.ia64_top.specs.declared.words.Command.{Command}
 use Rattle.ia64_top.specs.declared.words.Command.TheVariants as command
 use Rattle.ia64_top.specs.Words.{groups_of, Judges}
-use Rattle.ia64_top.specs.Output.{IsAcceptedAs, IsUnrunAs, IsRunAs, IsCommandOutput}
+use Rattle.ia64_top.specs.Output.{IsRunAs, IsCommandOutput}
 use Rattle.ia64_top.proofs.Outputs.{GivesOne, RefusesNone, IsTold, holds_where_told}
 use Rattle.ia64_top.proofs.Judging.{violated_of_judgement, done_where_free, violated_where_not_free}
 
@@ -80,8 +80,8 @@ run_violated_where_not_free : (text : Printing) (groups : ℕ) (r : InputReading
 run_violated_where_not_free text groups r one none input bytes status o =
     holds_where_told r (IsRunAnswer text groups) (λ p s. (s ≡ Violated) ↔ (¬ IsFree p)) (violated_of_answer text groups) one none input bytes status (told_of_run text groups r input bytes status o)
 
-pub run_is : (text : Printing) (groups : ℕ) (r : InputReading) (input : List ℕ) (p : Program) (bytes : List ℕ) (status : Status) → IsAcceptedAs r input p → IsRunOf text p groups bytes status → IsRunAs text groups r input bytes status
-run_is text groups r input p bytes status accepted o = run_of_program text groups r input p bytes status accepted.0 (inl o)
+pub run_is : (text : Printing) (groups : ℕ) (r : InputReading) (input : List ℕ) (p : Program) (bytes : List ℕ) (status : Status) → r.Gives input p → IsRunOf text p groups bytes status → IsRunAs text groups r input bytes status
+run_is text groups r input p bytes status gives o = run_of_program text groups r input p bytes status gives (inl o)
 
 -- A run under way that has come so far prints the run, and ends as it does.
 same_text : (e f : End) (g h : ℕ) (r q : Rse) (s t : State) → e ≡ f → g ≡ h → r ≡ q → s ≡ t → state_text e g r s ≡ state_text f h q t
@@ -95,21 +95,23 @@ pub text_of_progress : ProgressIsRun → (groups : ℕ) (p : Program) (m : Progr
 text_of_progress run groups p m e program came ends =
     let has = has_run run groups p m program came in same_text _ _ _ _ _ _ _ _ (ends ∙ has.end) has.groups has.range has.state
 
-pub run_of_progress : FreeIsRobust → ProgressIsRun → (text : Printing) (groups : ℕ) (p : Program) (m : Progress) (e : End) (bytes : List ℕ) (status : Status) → IsProgram p → IsFree p → m ≡ groups_further groups p (begun (zero_state p)) → e ≡ end_of m
+pub run_of_progress : ProgressIsRun → (text : Printing) (groups : ℕ) (p : Program) (m : Progress) (e : End) (bytes : List ℕ) (status : Status) → IsProgram p → IsFree p → IsRobust p → m ≡ groups_further groups p (begun (zero_state p)) → e ≡ end_of m
     → bytes ≡ text (run_of p) groups → status ≡ end_status e → IsRunOf text p groups bytes status
-run_of_progress law run text groups p m e bytes status program free came ends printed answered =
+run_of_progress run text groups p m e bytes status program free robust came ends printed answered =
     let has = has_run run groups p m program came in
-    record { program = program; free = free; robust = law p program free; printed = printed; ends = answered ∙ ap end_status (ends ∙ has.end) }
+    record { program = program; free = free; robust = robust; printed = printed; ends = answered ∙ ap end_status (ends ∙ has.end) }
 
 -- Of the program that was read the watchers have seen the run, and no other program is read.
 pub have_watched : GivesOne as_either → (groups : ℕ) (input : List ℕ) (p : Program) (old now : List WatchState) → as_either.Gives input p → now ≡ staying (run_of p groups).events old → HaveWatched groups input old now
 have_watched one groups input p old now gives is q given free = subst (λ x. now ≡ staying (run_of x groups).events old) (one input p q gives given) is
 
--- What isn't run is read as no accepted program.
-pub not_accepted : GivesOne as_either → RefusesNone as_either → (input bytes : List ℕ) (status : Status) → IsUnrunAs as_either input bytes status → IsNotRun input
-not_accepted one none input bytes status (inl refused) p gives free = none input p bytes gives refused.0
-not_accepted one none input bytes status (inr o) p gives free =
-    let violated = o.2 in (violated_of_judgement o.0 bytes status violated.0).0 violated.1 (subst IsFree (one input p o.0 gives o.1) free)
+-- What is refused, or has violations, is read as no accepted program.
+pub refused_not_run : RefusesNone as_either → (input bytes : List ℕ) (status : Status) → IsRefusal as_either input bytes status → IsNotRun input
+refused_not_run none input bytes status refused p gives free = none input p bytes gives refused.0
+
+pub violated_not_run : GivesOne as_either → (input : List ℕ) (q : Program) (bytes : List ℕ) (status : Status) → as_either.Gives input q → IsJudgedViolated q bytes status → IsNotRun input
+violated_not_run one input q bytes status gives judged p given free =
+    (violated_of_judgement q bytes status judged.0).0 judged.1 (subst IsFree (one input p q given gives) free)
 
 -- What is told of the program that a command reads.
 pub accepted_of : GivesOne as_either → RefusesNone as_either → (c : Command) (ws : List WatchState) (input bytes : List ℕ) (status : Status) → IsCommandOutput c ws input bytes status

@@ -8,9 +8,8 @@ use Rattle.ia_meaning.specs.State.{State, zero_state}
 use Rattle.ia_meaning.specs.Progress.{Progress, begun, groups_further, end_of}
 use Rattle.ia_meaning.specs.Runs.{HasRun, ProgressIsRun}
 use Rattle.ia_meaning.proofs.GroupEnds.{zero_is_place}
-use Rattle.group_checker.specs.declared.report.Verdict.{Verdict}
-use Rattle.group_checker.specs.Reports.{IsFree, IsVerdict}
-use Rattle.group_checker.specs.OrderLaws.{FreeIsRobust}
+use Rattle.group_checker.specs.Violations.{IsFree}
+use Rattle.ia_meaning.specs.OrderIndependence.{IsRobust}
 use Rattle.trial_maker.specs.Trials.{trial_program}
 use Rattle.watch_seam.specs.Watchers.{WatchState}
 use Rattle.ia64_top.specs.declared.words.Command.{Command}
@@ -19,12 +18,11 @@ use Rattle.ia64_top.specs.declared.status.Status.{Status}
 use Rattle.ia64_top.specs.declared.status.Status.TheVariants.{Done, Violated}
 use Rattle.ia64_top.specs.Words.{command_of, IsTrial}
 use Rattle.ia64_top.specs.Statuses.{EndsTrial}
-use Rattle.ia64_top.specs.Texts.{verdict_text}
-use Rattle.ia64_top.specs.Judgements.{verdict_status, IsJudgement}
+use Rattle.ia64_top.specs.Judgements.{IsJudgement, IsJudgedViolated}
 use Rattle.ia64_top.specs.Runs.{run_of}
 use Rattle.ia64_top.specs.Trials.{trial_text, IsTrialOf, IsTrialOutput}
 use Rattle.ia64_top.specs.Output.{IsCommandOutput, GivesTrial, GivesTrialPart}
-use Rattle.ia64_top.proofs.Judging.{judgement_of, violated_of_judgement}
+use Rattle.ia64_top.proofs.Judging.{violated_of_judgement}
 use Rattle.ia64_top.proofs.Answering.{same_command}
 
 -- `Done` is the answer exactly where the program is free, and `Violated` where it isn't
@@ -44,12 +42,10 @@ ends_of_trial seed bundles bytes Violated o = tt
 ends_of_trial seed bundles bytes status o = absurd o
 
 -- a verdict with violations on the program
-pub judged_trial : (seed bundles : ℕ) (p : Program) (v : Verdict) (bytes : List ℕ) (status : Status) → p ≡ trial_program seed bundles → IsProgram p → IsVerdict p v → verdict_status v ≡ Violated
-    → (bytes ≡ verdict_text v) × (status ≡ verdict_status v) → IsTrialOutput seed bundles bytes status
-judged_trial seed bundles p v bytes status made program exact violated told =
-    let j : IsJudgement (trial_program seed bundles) bytes status = subst (λ q. IsJudgement q bytes status) made (judgement_of p v bytes status program exact told) in
-    let is : status ≡ Violated = told.1 ∙ violated in
-    subst (IsTrialOutput seed bundles bytes) (sym is) (subst (IsJudgement (trial_program seed bundles) bytes) is j)
+pub judged_trial : (seed bundles : ℕ) (p : Program) (bytes : List ℕ) (status : Status) → p ≡ trial_program seed bundles → IsJudgedViolated p bytes status → IsTrialOutput seed bundles bytes status
+judged_trial seed bundles p bytes status made judged =
+    let j : IsJudgement (trial_program seed bundles) bytes status = subst (λ q. IsJudgement q bytes status) made judged.0 in
+    subst (IsTrialOutput seed bundles bytes) (sym judged.1) (subst (IsJudgement (trial_program seed bundles) bytes) judged.1 j)
 
 pub tried_trial : (seed bundles : ℕ) (bytes : List ℕ) (status : Status) → IsTrialOf seed bundles bytes × (status ≡ Done) → IsTrialOutput seed bundles bytes status
 tried_trial seed bundles bytes status o = subst (IsTrialOutput seed bundles bytes) (sym o.1) o.0
@@ -58,17 +54,15 @@ tried_trial seed bundles bytes status o = subst (IsTrialOutput seed bundles byte
 same_text : (seed bundles : ℕ) (e f : End) (g h : ℕ) (s t : State) → e ≡ f → g ≡ h → s ≡ t → trial_text seed bundles e g s.registers ≡ trial_text seed bundles f h t.registers
 same_text seed bundles e f g h s t ef gh st = rw (ef, gh, st) refl
 
-pub trial_of_progress : FreeIsRobust → ProgressIsRun → (seed bundles : ℕ) (p : Program) (m : Progress) (e : End) (bytes : List ℕ) → p ≡ trial_program seed bundles → IsProgram p → IsFree p
+pub trial_of_progress : ProgressIsRun → (seed bundles : ℕ) (p : Program) (m : Progress) (e : End) (bytes : List ℕ) → p ≡ trial_program seed bundles → IsProgram p → IsFree p → IsRobust p
     → m ≡ groups_further bundles p (begun (zero_state p)) → e ≡ end_of m → bytes ≡ trial_text seed bundles e m.groups m.state.registers → IsTrialOf seed bundles bytes
-trial_of_progress law run seed bundles p m e bytes made program free came ends printed =
+trial_of_progress run seed bundles p m e bytes made program free robust came ends printed =
     let has : HasRun m (run_of p bundles) = subst (λ x. HasRun x (run_of p bundles)) (sym came) (run bundles p (zero_state p) program (zero_is_place p program)) in
     let text = printed ∙ same_text seed bundles _ _ _ _ _ _ (ends ∙ has.end) has.groups has.state in
-    let its_program = subst IsProgram made program in
-    let its_free = subst IsFree made free in
     record {
-      program = its_program;
-      free = its_free;
-      robust = law (trial_program seed bundles) its_program its_free;
+      program = subst IsProgram made program;
+      free = subst IsFree made free;
+      robust = subst IsRobust made robust;
       printed = subst (λ q. bytes ≡ trial_text seed bundles (run_of q bundles).end (length (run_of q bundles).events) (run_of q bundles).state.registers) made text;
     }
 

@@ -11,7 +11,7 @@ use Rattle.ia64_top.specs.Texts.{verdict_text}
 
 -- a check is done where the program is accepted
 abbrev pub verdict_status : Verdict → Status
-verdict_status Accepted = Done
+verdict_status (Accepted p) = Done
 verdict_status (Violations report) = Violated
 
 -- the bytes and the status of the verdict on a program

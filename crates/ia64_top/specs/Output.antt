@@ -12,12 +12,12 @@ use Rattle.image_form.specs.declared.version.Version.TheVariants.{Two}
 use Rattle.asm_build.specs.CanonicalText.{canonical_text}
 use Rattle.asm_build.specs.Listing.{IsListing}
 use Rattle.ia64_top.specs.Words.{command_of}
-use Rattle.ia64_top.specs.Judgements.{IsJudgement, IsJudgedViolated, PrintsClashes}
+use Rattle.ia64_top.specs.Judgements.{IsJudgement, PrintsClashes}
 use Rattle.trial_maker.specs.Trials.{trial_program}
 use Rattle.watch_seam.specs.Watchers.{WatchState}
 use Rattle.ia64_top.specs.Runs.{Printing, state_after, watch_text, trace_text, IsRunOf, IsNumberedRunOf, IsRunOfEveryOrder}
 use Rattle.ia64_top.specs.Trials.{IsTrialOutput}
-use Rattle.group_checker.specs.Reports.{IsFree}
+use Rattle.group_checker.specs.Violations.{IsFree}
 use Rattle.stop_placer.specs.Packed.{Packed}
 use Rattle.stop_placer.specs.Laws.{KeepsText}
 use Rattle.stop_placer.specs.Placing.{IsPlaced}
@@ -60,16 +60,6 @@ IsCheckedAs reading input bytes Violated =
     (program : Program) × reading.Gives input program × IsJudgement program bytes Violated
 IsCheckedAs reading input bytes Refused = reading.Refuses input bytes
 IsCheckedAs reading input bytes status = ⊥
-
--- The input is read as this program, and it is accepted.
-abbrev pub IsAcceptedAs : InputReading → List ℕ → Program → Type 0
-IsAcceptedAs reading input program = reading.Gives input program × IsFree program
-
--- What is answered to an input that isn't run: its fault, or the verdict on a program with violations.
-abbrev pub IsUnrunAs : InputReading → List ℕ → List ℕ → Status → Type 0
-IsUnrunAs reading input bytes status =
-    IsRefusal reading input bytes status
-    ⊎ ((program : Program) × reading.Gives input program × IsJudgedViolated program bytes status)
 
 -- What is written and answered of an input that is read in a way, where so many groups of its program are run and this is
 -- printed. A program with violations isn't run: it gets the verdict that `check` gives it.

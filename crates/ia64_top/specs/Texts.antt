@@ -49,7 +49,7 @@ violation_text v =
 
 -- `accepted`, or how many violations there are, and a line for each that is shown
 abbrev pub verdict_text : Verdict → List ℕ
-verdict_text Accepted = line (codes "accepted")
+verdict_text (Accepted p) = line (codes "accepted")
 verdict_text (Violations report) =
     line (codes "violations " ++ decimal report.total) ++ flat_map (λ v. line (violation_text v)) report.shown
 

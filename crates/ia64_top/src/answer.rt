@@ -6,9 +6,9 @@ ghost use Rattle.image_form.specs.declared.version.Version.TheVariants.{Two};
 ghost use Rattle.asm_build.specs.Listing.{IsListing};
 ghost use Rattle.ia64_top.specs.declared.limits.TheConstants.{GROUP_LIMIT, INPUT_LIMIT, TRACE_LIMIT, TRIAL_LIMIT};
 ghost use Rattle.ia64_top.specs.Words.{HasNumbersInRange, IsWatch};
-ghost use Rattle.group_checker.specs.Reports.{IsFree};
-ghost use Rattle.ia64_top.specs.Judgements.{IsJudgement, verdict_status};
-ghost use Rattle.ia64_top.specs.Output.{IsCanonical, IsPackedText, IsMadeOutput, IsCheckedAs, IsAcceptedAs, IsUnrunAs, IsRunAs, IsNumberedRunAs, IsCommandOutput};
+ghost use Rattle.group_checker.specs.declared.report.Verdict.TheVariants.{Violations};
+ghost use Rattle.ia64_top.specs.Judgements.{IsJudgement, IsJudgedViolated, verdict_status};
+ghost use Rattle.ia64_top.specs.Output.{IsCanonical, IsPackedText, IsMadeOutput, IsCheckedAs, IsRunAs, IsNumberedRunAs, IsCommandOutput};
 ghost use Rattle.ia64_top.specs.Readings.{as_image, as_bundles, as_text, as_loose, as_either, IsRefusal};
 ghost use Rattle.ia64_top.specs.Runs.{end_status, state_after, watch_text, trace_text, IsRunOf, IsNumberedRunOf};
 ghost use Rattle.watch_seam.specs.Watching.{AwaitGroups};
@@ -19,7 +19,7 @@ ghost use Rattle.ia64_top.specs.Texts.{refusal_text, text_refusal_text, verdict_
 ghost use Rattle.ia64_top.specs.declared.status.Status.{Status};
 
 use crate::status::Status;
-use crate::text::{packed_text, refusal, text_refusal, trial_text, verdict_text};
+use crate::text::{packed_text, refusal, text_refusal, trial_text, violations};
 use crate::tracing::trace_accepted;
 use crate::watching::watch_accepted;
 use crate::words::Command;
@@ -28,7 +28,7 @@ use asm_build::{
     one_text_program,
 };
 use emulator::Machine;
-use group_checker::{Verdict, check, law_orders};
+use group_checker::{Accepted, Report, Verdict, check};
 use group_engine::{GroupMachine, group_text};
 use ia_meaning::progress_is_run;
 use ia_program::{End, Program};
@@ -36,6 +36,7 @@ use image_form::{
     ImageFault, bundles_of, is_image, no_fault_where_spelled, one_program, read_image, wrap_raw,
     write_image, write_image_2_of, write_image_of,
 };
+use slot_table::SlotTable;
 use state_text::state_text;
 use std::alloc::{AllocError, Global};
 use stop_placer::{place_stops, placed_is_free};
@@ -157,24 +158,27 @@ fn lift_input(alloc: Global, input: &[u8]) -> Result<Answer, AllocError>
     }
 }
 
-/// How a call ends that says this of a program: it is done where the program is accepted.
-fn verdict_status(verdict: &Verdict) -> Status
-    ensures { result ≡ verdict_status verdict.now }
+/// The answer to a program with these violations.
+fn violated(alloc: Global, report: &Report) -> Result<Answer, AllocError>
+    ensures { IfOk result (λ answer. (answer.bytes.items ≡ verdict_text (Violations report.now)) × (answer.status ≡ Status.Violated)) }
 {
-    match verdict {
-        Verdict::Accepted => Status::Done,
-        Verdict::Violations(_) => Status::Violated,
-    }
+    Ok(Answer {
+        bytes: violations(alloc, report)?.into_bytes(),
+        status: Status::Violated,
+    })
 }
 
 /// The answer that a verdict is.
-fn judge(alloc: Global, verdict: &Verdict) -> Result<Answer, AllocError>
+fn judge(alloc: Global, verdict: &Verdict<'_>) -> Result<Answer, AllocError>
     ensures { IfOk result (λ answer. (answer.bytes.items ≡ verdict_text verdict.now) × (answer.status ≡ verdict_status verdict.now)) }
 {
-    Ok(Answer {
-        bytes: verdict_text(alloc, verdict)?.into_bytes(),
-        status: verdict_status(verdict),
-    })
+    match verdict {
+        Verdict::Accepted(_) => Ok(Answer {
+            bytes: String::from_str(alloc, "accepted\n")?.into_bytes(),
+            status: Status::Done,
+        }),
+        Verdict::Violations(report) => violated(alloc, report),
+    }
 }
 
 /// The answer of `check` to a program.
@@ -184,6 +188,20 @@ fn check_program(alloc: Global, program: &Program) -> Result<Answer, AllocError>
     program.is_program();
     let verdict = check(alloc, program)?;
     judge(alloc, &verdict)
+}
+
+/// A program, where it is accepted; or the verdict on it that `check` gives.
+fn accept<'p>(
+    alloc: Global,
+    program: &'p Program,
+) -> Result<Result<Accepted<'p>, Answer>, AllocError>
+    ensures { IfOk result (λ judged. MatchResult judged (λ accepted. accepted ≡ program.now) (λ answer. IsJudgedViolated program.now answer.bytes.items answer.status)) }
+{
+    program.is_program();
+    match check(alloc, program)? {
+        Verdict::Accepted(accepted) => Ok(Ok(accepted)),
+        Verdict::Violations(report) => Ok(Err(violated(alloc, &report)?)),
+    }
 }
 
 /// The program of an image, or the answer to one with a fault.
@@ -242,35 +260,15 @@ pub(crate) fn end_status(end: &End) -> Status
     }
 }
 
-/// The program of an image or a text, where it is accepted; or the answer to any other input: its fault, or the
-/// verdict that `check` gives.
-fn take_accepted(alloc: Global, input: &[u8]) -> Result<Result<Program, Answer>, AllocError>
-    requires { length input.now ≤ INPUT_LIMIT }
-    ensures { IfOk result (λ taken. MatchResult taken (IsAcceptedAs as_either input.now) (λ answer. IsUnrunAs as_either input.now answer.bytes.items answer.status)) }
-{
-    let program = match take(alloc, input)? {
-        Ok(program) => program,
-        Err(answer) => return Ok(Err(answer)),
-    };
-    program.is_program();
-    let verdict = check(alloc, &program)?;
-    match &verdict {
-        Verdict::Accepted => Ok(Ok(program)),
-        Verdict::Violations(_) => Ok(Err(judge(alloc, &verdict)?)),
-    }
-}
-
 /// The answer of `run` to an accepted program.
-fn run_accepted(alloc: Global, groups: u64, program: &Program) -> Result<Answer, AllocError>
+fn run_accepted(alloc: Global, groups: u64, accepted: &Accepted<'_>) -> Result<Answer, AllocError>
     requires some { 1 ≤ groups }
     requires few { groups ≤ GROUP_LIMIT }
-    requires free { IsFree program.now }
-    ensures { IfOk result (λ answer. IsRunOf state_after program.now groups answer.bytes.items answer.status) }
+    ensures { IfOk result (λ answer. IsRunOf state_after accepted.now groups answer.bytes.items answer.status) }
 {
     progress_is_run();
-    law_orders();
-    program.is_program();
-    let mut machine = Machine::open(alloc, program)?;
+    accepted.is_robust();
+    let mut machine = Machine::open(alloc, accepted.slots())?;
     let end = machine.run(groups);
     Ok(Answer {
         bytes: state_text(alloc, &machine, &end)?,
@@ -285,8 +283,12 @@ fn run_input(alloc: Global, groups: u64, input: &[u8]) -> Result<Answer, AllocEr
     requires within { length input.now ≤ INPUT_LIMIT }
     ensures { IfOk result (λ answer. IsRunAs state_after groups as_either input.now answer.bytes.items answer.status) }
 {
-    match take_accepted(alloc, input)? {
-        Ok(program) => run_accepted(alloc, groups, &program),
+    let program = match take(alloc, input)? {
+        Ok(program) => program,
+        Err(answer) => return Ok(answer),
+    };
+    match accept(alloc, &program)? {
+        Ok(accepted) => run_accepted(alloc, groups, &accepted),
         Err(answer) => Ok(answer),
     }
 }
@@ -313,8 +315,12 @@ fn watch_input(
     one_text_program();
     no_fault_where_spelled();
     no_fault_where_read();
-    match take_accepted(alloc, input)? {
-        Ok(program) => watch_accepted(alloc, groups, &program, watchers),
+    let program = match take(alloc, input)? {
+        Ok(program) => program,
+        Err(answer) => return Ok(answer),
+    };
+    match accept(alloc, &program)? {
+        Ok(accepted) => watch_accepted(alloc, groups, &accepted, watchers),
         Err(answer) => Ok(answer),
     }
 }
@@ -327,8 +333,12 @@ fn trace_input(alloc: Global, first: u64, count: u64, input: &[u8]) -> Result<An
     requires within { length input.now ≤ INPUT_LIMIT }
     ensures { IfOk result (λ answer. IsRunAs (trace_text first count) (first + count) as_either input.now answer.bytes.items answer.status) }
 {
-    match take_accepted(alloc, input)? {
-        Ok(program) => trace_accepted(alloc, first, count, &program),
+    let program = match take(alloc, input)? {
+        Ok(program) => program,
+        Err(answer) => return Ok(answer),
+    };
+    match accept(alloc, &program)? {
+        Ok(accepted) => trace_accepted(alloc, first, count, &accepted),
         Err(answer) => Ok(answer),
     }
 }
@@ -345,7 +355,8 @@ fn groups_program(
     ensures { IfOk result (λ answer. IsNumberedRunOf program.now groups number answer.bytes.items answer.status) }
 {
     program.is_program();
-    let mut machine = GroupMachine::open(alloc, program)?;
+    let slots = SlotTable::open(alloc, program)?;
+    let mut machine = GroupMachine::open(alloc, &slots)?;
     let end = machine.run(groups, number);
     Ok(Answer {
         bytes: group_text(alloc, &machine, &end)?,
@@ -371,18 +382,16 @@ fn try_accepted(
     alloc: Global,
     seed: u64,
     bundles: u32,
-    program: &Program,
+    accepted: &Accepted<'_>,
 ) -> Result<Answer, AllocError>
     requires some { 1 ≤ bundles }
     requires few { bundles ≤ TRIAL_LIMIT }
-    requires made { program.now ≡ trial_program seed bundles }
-    requires free { IsFree program.now }
+    requires made { accepted.now ≡ trial_program seed bundles }
     ensures { IfOk result (λ answer. IsTrialOf seed bundles answer.bytes.items × (answer.status ≡ Status.Done)) }
 {
     progress_is_run();
-    law_orders();
-    program.is_program();
-    let mut machine = Machine::open(alloc, program)?;
+    accepted.is_robust();
+    let mut machine = Machine::open(alloc, accepted.slots())?;
     let end = machine.run(u64::from(bundles));
     Ok(Answer {
         bytes: trial_text(alloc, seed, bundles, &machine, &end)?.into_bytes(),
@@ -397,11 +406,9 @@ fn try_program(alloc: Global, seed: u64, bundles: u32) -> Result<Answer, AllocEr
     ensures { IfOk result (λ answer. IsTrialOutput seed bundles answer.bytes.items answer.status) }
 {
     let program = make(alloc, seed, bundles)?;
-    program.is_program();
-    let judged = check(alloc, &program)?;
-    match &judged {
-        Verdict::Accepted => try_accepted(alloc, seed, bundles, &program),
-        Verdict::Violations(_) => judge(alloc, &judged),
+    match accept(alloc, &program)? {
+        Ok(accepted) => try_accepted(alloc, seed, bundles, &accepted),
+        Err(answer) => Ok(answer),
     }
 }
 

@@ -10,7 +10,7 @@ ghost use Rattle.asm_build.specs.declared.reason.TextError.TheVariants as error;
 
 use asm_build::{Reason, disassemble};
 use emulator::Machine;
-use group_checker::{Report, Verdict, Violation};
+use group_checker::{Report, Violation};
 use ia_insn::Gr;
 use ia_program::{End, Place};
 use image_form::ImageFault;
@@ -147,7 +147,7 @@ pub(crate) fn packed_text(alloc: Global, packed: &Packed) -> Result<Vec<u8>, All
 }
 
 /// What is printed of a program's violations.
-fn violations(alloc: Global, report: &Report) -> Result<String, AllocError>
+pub(crate) fn violations(alloc: Global, report: &Report) -> Result<String, AllocError>
     ensures { IfOk result (λ text. string_bytes text ≡ verdict_text (Violations report.now)) }
 {
     let total = report.total();
@@ -159,16 +159,6 @@ fn violations(alloc: Global, report: &Report) -> Result<String, AllocError>
         writeln!(text, "{shown}")?;
     }
     Ok(text)
-}
-
-/// What is printed of a program's verdict.
-pub(crate) fn verdict_text(alloc: Global, verdict: &Verdict) -> Result<String, AllocError>
-    ensures { IfOk result (λ text. string_bytes text ≡ verdict_text verdict.now) }
-{
-    match verdict {
-        Verdict::Accepted => String::from_str(alloc, "accepted\n"),
-        Verdict::Violations(report) => violations(alloc, report),
-    }
 }
 
 /// A slot of an image, as it is printed.

@@ -12,7 +12,7 @@ ghost use Rattle.ia64_top.specs.Statuses.{IsAnswer, TellsOfProgram, TellsAccepte
 ghost use Rattle.ia64_top.specs.Inputs.{IsReadOf};
 ghost use Rattle.ia_program.specs.Programs.{Program};
 ghost use Rattle.ia_meaning.specs.OrderIndependence.{IsRobust};
-ghost use Rattle.group_checker.specs.Reports.{IsFree};
+ghost use Rattle.group_checker.specs.Violations.{IsFree};
 ghost use Rattle.ia64_top.specs.Runs.{run_of, numbered_run_of, end_status};
 ghost use Rattle.ia64_top.specs.Readings.{as_either};
 ghost use Rattle.trial_maker.specs.Trials.{trial_program};

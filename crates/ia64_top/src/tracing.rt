@@ -3,16 +3,14 @@
 ghost use Rattle.std.specs.Prelude.{◌≡◌, ◌++◌, ◌≤◌, ◌+◌, OnOk, IfOk};
 ghost use Rattle.ia_meaning.specs.Progress.{end_of};
 ghost use Rattle.ia_meaning.specs.StateText.{state_text};
-ghost use Rattle.group_checker.specs.Reports.{IsFree};
 ghost use Rattle.ia64_top.specs.declared.limits.TheConstants.{GROUP_LIMIT, TRACE_LIMIT};
 ghost use Rattle.ia64_top.specs.Runs.{trace_text, IsRunOf};
 
 use crate::answer::{Answer, end_status};
 use crate::watching::ending;
 use emulator::Machine;
-use group_checker::law_orders;
+use group_checker::Accepted;
 use ia_meaning::progress_is_run;
-use ia_program::Program;
 use state_text::state_text;
 use std::alloc::{AllocError, Global};
 use watch_seam::push_group_line;
@@ -30,18 +28,16 @@ pub(crate) fn trace_accepted(
     alloc: Global,
     first: u64,
     count: u64,
-    program: &Program,
+    accepted: &Accepted<'_>,
 ) -> Result<Answer, AllocError>
     requires before { first ≤ GROUP_LIMIT }
     requires some { 1 ≤ count }
     requires few { count ≤ TRACE_LIMIT }
-    requires free { IsFree program.now }
-    ensures { IfOk result (λ answer. IsRunOf (trace_text first count) program.now (first + count) answer.bytes.items answer.status) }
+    ensures { IfOk result (λ answer. IsRunOf (trace_text first count) accepted.now (first + count) answer.bytes.items answer.status) }
 {
     progress_is_run();
-    law_orders();
-    program.is_program();
-    let mut machine = Machine::open(alloc, program)?;
+    accepted.is_robust();
+    let mut machine = Machine::open(alloc, accepted.slots())?;
     if first > 0 {
         let _end = machine.run(first);
     }

@@ -3,16 +3,15 @@
 ghost use Rattle.std.specs.Prelude.{◌≡◌, ◌≤◌, ◌<◌, ◌+◌, ◌^◌, IfOk, OnOk, OnErr, map};
 ghost use Rattle.ia_meaning.specs.Progress.{groups_further, end_of};
 ghost use Rattle.ia_meaning.specs.Runs.{events_further};
-ghost use Rattle.group_checker.specs.Reports.{IsFree};
 ghost use Rattle.watch_seam.specs.Watching.{AwaitGroups, IsCutShort, numbered, reports, staying};
 ghost use Rattle.ia64_top.specs.declared.limits.TheConstants.{GROUP_LIMIT};
 ghost use Rattle.ia64_top.specs.Runs.{run_of, watch_text, IsRunOf};
 
 use crate::answer::{Answer, end_status};
 use emulator::Machine;
-use group_checker::law_orders;
+use group_checker::Accepted;
 use ia_meaning::{end_or, progress_is_run};
-use ia_program::{End, Program};
+use ia_program::End;
 use state_text::state_text;
 use std::alloc::{AllocError, Global};
 use watch_seam::{Reports, Watch};
@@ -53,22 +52,20 @@ pub(crate) fn ending(machine: &Machine<'_>) -> End
 pub(crate) fn watch_accepted(
     alloc: Global,
     groups: u64,
-    program: &Program,
+    accepted: &Accepted<'_>,
     watchers: &mut Vec<Box<dyn Watch>>,
 ) -> Result<Answer, AllocError>
     requires some { 1 ≤ groups }
     requires few { groups ≤ GROUP_LIMIT }
-    requires free { IsFree program.now }
     requires room { AwaitGroups (map (λ b. state b) watchers.old.items) }
-    ensures output { IfOk result (λ answer. IsRunOf (watch_text (map (λ b. state b) watchers.old.items)) program.now groups answer.bytes.items answer.status) }
-    ensures stay { OnOk result (map (λ b. state b) watchers.new.items ≡ staying (run_of program.now groups).events (map (λ b. state b) watchers.old.items)) }
+    ensures output { IfOk result (λ answer. IsRunOf (watch_text (map (λ b. state b) watchers.old.items)) accepted.now groups answer.bytes.items answer.status) }
+    ensures stay { OnOk result (map (λ b. state b) watchers.new.items ≡ staying (run_of accepted.now groups).events (map (λ b. state b) watchers.old.items)) }
     ensures still_room { OnOk result (AwaitGroups (map (λ b. state b) watchers.new.items)) }
-    ensures cut_short { OnErr result (IsCutShort (run_of program.now groups).events (map (λ b. state b) watchers.old.items) (map (λ b. state b) watchers.new.items)) }
+    ensures cut_short { OnErr result (IsCutShort (run_of accepted.now groups).events (map (λ b. state b) watchers.old.items) (map (λ b. state b) watchers.new.items)) }
 {
     progress_is_run();
-    law_orders();
-    program.is_program();
-    let mut machine = Machine::open(alloc, program)?;
+    accepted.is_robust();
+    let mut machine = Machine::open(alloc, accepted.slots())?;
     let mut bytes = watch_groups(alloc, groups, &mut machine, watchers)?;
     let end = ending(&machine);
     bytes.extend_from_slice(&state_text(alloc, &machine, &end)?)?;

@@ -29,9 +29,19 @@ fn is_masked(mask: u64, n: usize) -> bool
     bit(mask, n.min(16) as u8)
 }
 
+/// Writes a cell, part by part: its padding is left as it is.
+#[inline(always)]
+fn put(kept: &mut Cell, cell: Cell)
+    ensures { kept.new ≡ cell }
+{
+    kept.value = cell.value;
+    kept.nat = cell.nat;
+}
+
 impl MachineState {
     /// Writes a general register; r0 stays as it is, and outside the frame nothing is written.
     #[tactic(auto, using(crate::proofs::Names::set_stacked, crate::proofs::Names::set_static, crate::proofs::Names::set_zero))]
+    #[inline(always)]
     pub(crate) fn set_general(&mut self, r1: Gr, cell: Cell)
         ensures { self.new ≡ record self.old { registers = apply (set_at (spot self.old.registers.frame r1) cell []) self.old.registers } }
     {
@@ -39,7 +49,7 @@ impl MachineState {
         if n >= 32 {
             let _set = self.stack.set(r1, cell);
         } else if n > 0 {
-            self.statics[n] = cell;
+            put(&mut self.statics[n], cell);
         }
     }
 

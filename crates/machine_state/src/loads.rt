@@ -89,6 +89,7 @@ impl MachineState {
     }
 
     /// Stores a register, and where it spills writes its NaT bit to UNAT.
+    #[inline(always)]
     fn store_at(&mut self, address: u64, size: u8, cell: Cell, spills: bool)
         requires { MayStore self.old.memory address size spills }
         ensures { self.new ≡ record self.old { registers = spilled (if spills then Some (unat_bit address, cell.nat) else None) self.old.registers; memory = record { bytes = stored self.old.memory.bytes address size cell.value; alat = untouched self.old.memory.alat address size } } }
@@ -102,6 +103,7 @@ impl MachineState {
     }
 
     /// Stores a register to the address in a base, and writes the base.
+    #[inline(always)]
     pub(crate) fn store(&mut self, r3: Gr, cell: Cell, size: u8, spills: bool, update: &Update)
         requires { MayStore self.old.memory (held self.old.registers r3).value size spills }
         ensures { self.new ≡ left_by (outcome_with self.old (Stored r3 size spills update.now cell) Falls) self.old }

@@ -160,6 +160,7 @@ impl MachineState {
     }
 
     /// What a general register holds, 0 outside the frame.
+    #[inline(always)]
     pub(crate) fn held(&self, r: Gr) -> Cell
         ensures { result ≡ held self.now.registers r }
     {

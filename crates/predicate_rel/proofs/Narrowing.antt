@@ -3,9 +3,10 @@ use Rattle.std.proofs.Common.{◌≡◌, ◌≢◌, ℕ, ◌<◌, Bool, true, fa
 use mathlib.Core.Path.{fun_ext}
 use Rattle.std.proofs.lemmas.Bool.{cases_Bool, cases_eq, ne_eqb, and_parts, and_left, true≢false}
 use Rattle.predicate_rel.specs.Pairs.{Table, Pairs, has_bit, in_range, truth, pairs_of, common, IsWithin, HasMore}
-use Rattle.predicate_rel.specs.Changes.{AgreeOutside}
-use Rattle.predicate_rel.specs.Rules.{PairRule, pairs_by}
+use Rattle.predicate_rel.specs.Changes.{AgreeOutside, Narrows}
+use Rattle.predicate_rel.specs.Rules.{PairRule, one, pairs_by}
 use Rattle.predicate_rel.specs.Rows.{IsRow}
+use Rattle.predicate_rel.proofs.BitLemmas.{has_bit_all}
 use Rattle.predicate_rel.proofs.PairLemmas.{in_range_parts, in_range_from, pairs_of_in, pairs_of_out}
 
 and_true : (b : Bool) → (b && true) ≡ b
@@ -102,10 +103,55 @@ narrowed_keeps old new past is_in h = record { each = λ x y t. by_range x y t (
     by_range x y t (inl i) (inl b) = let p = in_range_parts x y i in h.done x y p.0 p.1 b refl ∙ t
     by_range x y t (inl i) (inr n) = h.outside x y (in_range_parts x y i).0 n ∙ (and_parts (pairs_of old x y) (past x y) t).0
 
--- What both have is within either, and holds itself.
-pub common_within : (f g new : Pairs) → new ≡ common f g → IsWithin new f
-unfolding common
-common_within f g new e = record { each = λ x y t. (and_parts (f x y) (g x y) (sym (ap (λ (h : Pairs). h x y) e) ∙ t)).0 }
+-- The set as it is where its rows have lost what isn't in the other.
+pub narrowed_rows : (old new : Table) (past : Pairs) (is_in : ℕ → Bool) → IsWholly (pairs_of old) past is_in (pairs_of new) → (x y : ℕ) → pairs_of new x y ≡ (pairs_of old x y && (not (is_in x) || past x y))
+narrowed_rows old new past is_in h x y = by_range (cases_Bool (in_range x y)) (cases_Bool (is_in x))
+  where
+    by_range : (in_range x y ≡ true) ⊎ (in_range x y ≡ false) → (is_in x ≡ true) ⊎ (is_in x ≡ false) → pairs_of new x y ≡ (pairs_of old x y && (not (is_in x) || past x y))
+    by_range (inr out) b = pairs_of_out new x y out ∙ sym (and_left (pairs_of old x y) _ (pairs_of_out old x y out))
+    by_range (inl i) (inl t) = let p = in_range_parts x y i in h.done x y p.0 p.1 t refl ∙ (rw t refl)
+    by_range (inl i) (inr n) = h.outside x y (in_range_parts x y i).0 n ∙ (rw n (sym (and_true (pairs_of old x y))))
+
+pub wholly_from : (old new past : Pairs) (rows : ℕ) → ((x y : ℕ) → new x y ≡ (old x y && (not (has_bit rows x) || past x y))) → IsWholly old past (has_bit rows) new
+wholly_from old new past rows h = record {
+  inside = λ x l e. absurd (true≢false (sym e));
+  left = λ x y l e. absurd (true≢false (sym e));
+  outside = λ x y l n. h x y ∙ (rw n (and_true (old x y)));
+  done = λ x y l m t n. h x y ∙ (rw t refl);
+}
+
+-- A set that is narrowed in some rows by what rules leave of another is so as the contract of `narrow` says, where those rows
+-- are all in which the rules leave something else of a set that differs in the rows of the word.
+pub narrows_rows : (rules : ℕ → ℕ → PairRule) (changed reached : ℕ) (before : Pairs) (old new : Table) (lost : ℕ) → IsWholly (pairs_of old) (pairs_by before rules) (has_bit reached) (pairs_of new)
+    → ((x : ℕ) → x < 64 → has_bit changed x ≡ true → has_bit reached x ≡ true)
+    → ((older : Pairs) → AgreeOutside changed older before → AgreeOutside reached (pairs_by older rules) (pairs_by before rules))
+    → AgreeOutside lost (pairs_of old) (pairs_of new) → (lost ≢ 0 → HasMore (pairs_of old) (pairs_of new)) → Narrows rules changed before (pairs_of old) (pairs_of new) lost
+narrows_rows rules changed reached before old new lost h more agrees others some = record {
+  whole = λ all. narrowed_whole old new _ (has_bit reached) h (λ x l. more x l (all x l));
+  narrowed = λ older agree within. narrowed_more old new _ (pairs_by older rules) reached h (agrees older agree) within;
+  within = narrowed_no_more old new _ (has_bit reached) h;
+  keeps = narrowed_keeps old new _ (has_bit reached) h;
+  lost = others;
+  more = some;
+}
+
+-- and where they are all that there are
+pub narrows_all : (rules : ℕ → ℕ → PairRule) (changed : ℕ) (before : Pairs) (old new : Table) (lost : ℕ) → IsWholly (pairs_of old) (pairs_by before rules) (has_bit 18446744073709551615) (pairs_of new)
+    → AgreeOutside lost (pairs_of old) (pairs_of new) → (lost ≢ 0 → HasMore (pairs_of old) (pairs_of new)) → Narrows rules changed before (pairs_of old) (pairs_of new) lost
+narrows_all rules changed before old new lost h others some =
+    let met = narrowed_whole old new _ (has_bit 18446744073709551615) h has_bit_all in
+    record {
+      whole = λ all. met;
+      narrowed = λ older agree within. met;
+      within = narrowed_no_more old new _ (has_bit 18446744073709551615) h;
+      keeps = narrowed_keeps old new _ (has_bit 18446744073709551615) h;
+      lost = others;
+      more = some;
+    }
+
+-- rules that leave each pair leave sets that differ as these do
+pub kept_agree : (rules : ℕ → ℕ → PairRule) (changed : ℕ) (f g : Pairs) → ((x y : ℕ) → rules x y ≡ one x y) → AgreeOutside changed f g → AgreeOutside changed (pairs_by f rules) (pairs_by g rules)
+kept_agree rules changed f g kept agree = record { same = λ x y n. rw (kept x y) (ap (λ (b : Bool). in_range x y && b) (agree.same x y n)) }
 
 -- The rows of which `lost` has no bit have lost nothing, and where it has one, something is lost.
 pub record HasLost (old : Pairs) (lost : ℕ) (now : Pairs) : Type 0 where

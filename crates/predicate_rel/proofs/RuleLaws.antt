@@ -1,5 +1,5 @@
 -- Laws of what an instruction leaves that name no instruction: it keeps meets and order, and a pair is missing for a reason.
-use Rattle.std.proofs.Common.{◌≡◌, ℕ, true, false, ◌&&◌, ◌⊎◌, refl, inl, inr, ◌∙◌}
+use Rattle.std.proofs.Common.{◌≡◌, ℕ, true, false, ◌⊎◌, refl, inl, inr}
 use Rattle.std.proofs.lemmas.Bool.{and_parts, and_from, and_cases, and_left, and_right}
 use Rattle.predicate_rel.specs.declared.edge.Edge.{Edge}
 use Rattle.ia_insn.specs.declared.insn.Insn.{Insn}

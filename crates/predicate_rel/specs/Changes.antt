@@ -1,6 +1,7 @@
--- Sets that differ in some rows only.
-use Rattle.std.specs.Prelude.{◌≡◌, ◌<◌, ℕ, true, false}
-use Rattle.predicate_rel.specs.Pairs.{Pairs, has_bit}
+-- Sets that differ in some rows only, and what a set loses by what comes along an edge.
+use Rattle.std.specs.Prelude.{◌≡◌, ◌≢◌, ◌<◌, ℕ, true, false}
+use Rattle.predicate_rel.specs.Pairs.{Pairs, has_bit, common, IsWithin, HasMore}
+use Rattle.predicate_rel.specs.Rules.{PairRule, pairs_by}
 
 -- The two sets have the same pairs in each row of which the word has no bit.
 pub record AgreeOutside (changed : ℕ) (f g : Pairs) : Type 0 where
@@ -9,3 +10,14 @@ pub record AgreeOutside (changed : ℕ) (f g : Pairs) : Type 0 where
 -- the word has the bit of each row
 abbrev pub HasAllRows : ℕ → Type 0
 HasAllRows changed = (x : ℕ) → x < 64 → has_bit changed x ≡ true
+
+-- The old set is left what these rules leave of `before`, where the word has all rows, or where the old set is within what
+-- they leave of an older set that had other pairs than `before` in no rows but those of the word. Else it may keep more, but
+-- it gets no pair, nor loses one that the rules leave. It loses pairs in no rows but those of the last word, and some where that has one.
+pub record Narrows (rules : ℕ → ℕ → PairRule) (changed : ℕ) (before old new : Pairs) (rows : ℕ) : Type 0 where
+  pub whole : HasAllRows changed → new ≡ common old (pairs_by before rules)
+  pub narrowed : (older : Pairs) → AgreeOutside changed older before → IsWithin old (pairs_by older rules) → new ≡ common old (pairs_by before rules)
+  pub within : IsWithin new old
+  pub keeps : IsWithin (common old (pairs_by before rules)) new
+  pub lost : AgreeOutside rows old new
+  pub more : rows ≢ 0 → HasMore old new

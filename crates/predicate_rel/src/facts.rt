@@ -6,7 +6,7 @@ ghost use Rattle.predicate_rel.specs.Pairs.{Table, has_bit, pairs_of, no_pairs, 
 ghost use Rattle.predicate_rel.specs.Changes.{AgreeOutside};
 ghost use Rattle.predicate_rel.specs.Rules.{action_rule, pairs_by, pairs_after};
 
-use crate::bits::{both, has_bit, is_within, lowest, with_bit, with_bit_where, without};
+use crate::bits::{both, either, has_bit, is_within, lowest, with_bit, with_bit_where, without};
 use crate::edge::Edge;
 use crate::rows::{keeps_pairs, written_by};
 use ia_insn::{Insn, Pr};
@@ -110,11 +110,21 @@ impl Facts {
             return *self;
         }
         let written = written_by(action, edge);
+        let asked = either(written, self.row(qp.number()));
         let mut rows = [0; 64];
         for x in 0..64u8 {
-            rows[x as usize] = self.row_past(written, action, edge, qp, x);
+            rows[x as usize] = self.row_past(written, asked, action, edge, qp, x);
         }
         Facts { rows }
+    }
+
+    /// Takes what is known before an instruction of this action under this qualifying predicate past it.
+    pub fn go_past(&mut self, action: &Action, qp: Pr, edge: Edge)
+        ensures { pairs_of self.new ≡ pairs_by (pairs_of self.old) (action_rule action.now edge qp) }
+    {
+        if !keeps_pairs(action, edge) {
+            *self = self.after_action(action, qp, edge);
+        }
     }
 
     /// Whether both are seen to be one set.
@@ -169,14 +179,15 @@ impl Facts {
         true
     }
 
-    /// Leaves of the set the pairs that are also in the other. Answers a word of the rows that lost something, bit x
-    /// that of the pairs of the x-th predicate.
-    pub(crate) fn intersect(&mut self, other: &Facts) -> u64
-        ensures common { pairs_of self.new ≡ common (pairs_of self.old) (pairs_of other.now) }
+    /// Leaves of the set, in the rows of the word, the pairs that are also in the other. Answers a word of the rows that
+    /// lost something, bit x that of the pairs of the x-th predicate.
+    #[inline(always)]
+    pub(crate) fn intersect(&mut self, other: &Facts, rows: u64) -> u64
+        ensures common { (x y : ℕ) → pairs_of self.new x y ≡ (pairs_of self.old x y && (not (has_bit rows x) || pairs_of other.now x y)) }
         ensures lost { AgreeOutside result (pairs_of self.old) (pairs_of self.new) }
         ensures more { result ≢ 0 → HasMore (pairs_of self.old) (pairs_of self.new) }
     {
-        let mut rest = u64::MAX;
+        let mut rest = rows;
         let mut lost = 0;
         'narrowing: while rest != 0 {
             let x = lowest(rest);

@@ -2,13 +2,14 @@
 
 ghost use Rattle.std.specs.Prelude.{◌≡◌, ◌≢◌, ℕ, ◌<◌, true};
 ghost use Rattle.predicate_rel.specs.declared.edge.Edge.{Edge};
-ghost use Rattle.predicate_rel.specs.Pairs.{Pairs, has_bit, pairs_of, common, IsWithin, HasMore};
-ghost use Rattle.predicate_rel.specs.Changes.{AgreeOutside, HasAllRows};
+ghost use Rattle.predicate_rel.specs.Pairs.{Pairs, has_bit, pairs_of};
+ghost use Rattle.predicate_rel.specs.Changes.{AgreeOutside, Narrows};
 ghost use Rattle.predicate_rel.specs.Rules.{action_rule, pairs_by};
 
 use crate::bits::{all_if, either, has_bit, lowest, moved_up, with_bit, with_bit_where, without};
 use crate::edge::Edge;
 use crate::facts::Facts;
+use crate::rows::keeps_pairs;
 use ia_insn::Pr;
 use ia_meaning::Action;
 
@@ -32,26 +33,18 @@ fn reached(action: &Action, qp: Pr, changed: u64) -> u64
 }
 
 impl Facts {
-    /// Leaves of the set what is also known past an instruction of this action, where all rows are looked at. It stands
-    /// apart, so that no room is set aside for another set where only some are. Answers as [`Facts::narrow`] does.
+    /// The same as [`Facts::narrow`], where all rows are looked at. It stands apart, so that no room is set aside for another
+    /// set where only some are.
     #[inline(never)]
     fn narrow_whole(&mut self, before: &Facts, action: &Action, qp: Pr, edge: Edge) -> u64
-        ensures common { pairs_of self.new ≡ common (pairs_of self.old) (pairs_by (pairs_of before.now) (action_rule action.now edge qp)) }
-        ensures lost { AgreeOutside result (pairs_of self.old) (pairs_of self.new) }
-        ensures more { result ≢ 0 → HasMore (pairs_of self.old) (pairs_of self.new) }
+        ensures { (changed : ℕ) → Narrows (action_rule action.now edge qp) changed (pairs_of before.now) (pairs_of self.old) (pairs_of self.new) result }
     {
-        self.intersect(&before.after_action(action, qp, edge))
+        self.intersect(&before.after_action(action, qp, edge), u64::MAX)
     }
 
-    /// Leaves of the set what is also known past an instruction of this action under this qualifying predicate,
-    /// before which `before` is known, where control goes on along the edge. Answers a word of rows, bit x that
-    /// of the pairs of the x-th predicate: the others lost nothing, and it is 0 where nothing was lost.
-    ///
-    /// So it is where `changed` has all rows, or where the set is within what followed from an older set, which
-    /// had other pairs than `before` in no rows but those of `changed`. Only the rows that these have a part
-    /// in are looked at: else the set may keep more, but it never gets a pair, nor loses one that is also known
-    /// past the instruction.
-    pub fn narrow(
+    /// The same as [`Facts::narrow`]; it says the same of an instruction that leaves what is known as it is, and takes longer.
+    #[inline(never)]
+    fn narrow_past(
         &mut self,
         before: &Facts,
         action: &Action,
@@ -59,12 +52,7 @@ impl Facts {
         edge: Edge,
         changed: u64,
     ) -> u64
-        ensures whole { HasAllRows changed → pairs_of self.new ≡ common (pairs_of self.old) (pairs_by (pairs_of before.now) (action_rule action.now edge qp)) }
-        ensures narrowed { (older : Pairs) → AgreeOutside changed older (pairs_of before.now) → IsWithin (pairs_of self.old) (pairs_by older (action_rule action.now edge qp)) → pairs_of self.new ≡ common (pairs_of self.old) (pairs_by (pairs_of before.now) (action_rule action.now edge qp)) }
-        ensures within { IsWithin (pairs_of self.new) (pairs_of self.old) }
-        ensures keeps { IsWithin (common (pairs_of self.old) (pairs_by (pairs_of before.now) (action_rule action.now edge qp))) (pairs_of self.new) }
-        ensures lost { AgreeOutside result (pairs_of self.old) (pairs_of self.new) }
-        ensures more { result ≢ 0 → HasMore (pairs_of self.old) (pairs_of self.new) }
+        ensures { Narrows (action_rule action.now edge qp) changed (pairs_of before.now) (pairs_of self.old) (pairs_of self.new) result }
     {
         let rows = reached(action, qp, changed);
         if rows == u64::MAX {
@@ -80,5 +68,31 @@ impl Facts {
             }
         }
         lost
+    }
+
+    /// Leaves of the set what is also known past an instruction of this action under this qualifying predicate,
+    /// before which `before` is known, where control goes on along the edge. Answers a word of rows, bit x that
+    /// of the pairs of the x-th predicate: the others lost nothing, and it is 0 where nothing was lost.
+    ///
+    /// So it is where `changed` has all rows, or where the set is within what followed from an older set, which
+    /// had other pairs than `before` in no rows but those of `changed`. Only the rows that these have a part
+    /// in are looked at: else the set may keep more, but it never gets a pair, nor loses one that is also known
+    /// past the instruction.
+    #[inline(always)]
+    pub fn narrow(
+        &mut self,
+        before: &Facts,
+        action: &Action,
+        qp: Pr,
+        edge: Edge,
+        changed: u64,
+    ) -> u64
+        ensures { Narrows (action_rule action.now edge qp) changed (pairs_of before.now) (pairs_of self.old) (pairs_of self.new) result }
+    {
+        if keeps_pairs(action, edge) {
+            self.intersect(before, changed)
+        } else {
+            self.narrow_past(before, action, qp, edge, changed)
+        }
     }
 }

@@ -243,15 +243,25 @@ impl Facts {
     }
 
     /// The pairs of the x-th predicate, below 64, after an instruction of this action, which writes these predicates. They
-    /// stay where it isn't one of them, and neither one of them nor the qualifying predicate has a pair with it.
+    /// stay where it isn't one of them, and neither one of them nor the qualifying predicate has a pair with it: `asked` are
+    /// those that are written or have one with the qualifying predicate.
     #[inline(always)]
-    pub(crate) fn row_past(&self, written: u64, action: &Action, edge: Edge, g: Pr, x: u8) -> u64
+    pub(crate) fn row_past(
+        &self,
+        written: u64,
+        asked: u64,
+        action: &Action,
+        edge: Edge,
+        g: Pr,
+        x: u8,
+    ) -> u64
         requires range { x < 64 }
         requires written { LeavesOthers action.now edge written }
+        requires asked { (y : ℕ) → y < 64 → has_bit asked y ≡ (has_bit written y || pairs_of self.now g y) }
         ensures { IsRow result (action_rule action.now edge g x) (pairs_of self.now) }
     {
         let row = self.row(x);
-        if is_apart(row, written) && !has_bit(written, x) && !self.at(g.number(), x) {
+        if is_apart(row, written) && !has_bit(asked, x) {
             return row;
         }
         self.action_row(action, edge, g, x)

@@ -26,7 +26,7 @@ pub use change::Change;
 pub use effects::effect;
 pub use loads::{load, store};
 pub use loops::{turn, turn_of};
-pub use moves::compute;
+pub use moves::{compute, test};
 pub use predicates::predicate_word;
 pub use sees::Sees;
 pub use slot_effect::SlotEffect;

@@ -44,7 +44,7 @@ pub fn compute<S: Sees>(seen: &S, r1: Gr, r2: Gr, r3: Gr, function: &Function) -
     };
     let cell = Cell {
         value: computed_value(function, found.first.value, found.second.value),
-        nat: found.first.nat || found.second.nat,
+        nat: found.first.nat | found.second.nat,
     };
     SlotEffect::falls(Change::General { r1, cell })
 }
@@ -103,7 +103,8 @@ fn test_change(kind: CmpKind, p1: Pr, p2: Pr, is_one: Option<bool>) -> Change
 }
 
 /// A test.
-pub(crate) fn test<S: Sees>(
+#[inline(always)]
+pub fn test<S: Sees>(
     seen: &S,
     kind: CmpKind,
     targets: (Pr, Pr),

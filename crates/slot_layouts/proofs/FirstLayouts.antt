@@ -1,5 +1,6 @@
 -- The first layout of a list is a layout, and a list of more than three instructions has none.
-use Rattle.std.proofs.Common.{arith, ◌≡◌, ℕ, zero, suc, ◌+◌, ◌/◌, ◌<◌, inl, inr, ◌↔◌, ltb, refl, sym, ◌∙◌, subst, ap, add-one, Bool, true, false, IsTrue, ◌&&◌, cond, List, [], ◌∷◌, length, take, drop, filter, find, get_or, Contains, slice_get, Option, Some, None, IsSome, option_map, unwrap_or}
+use Rattle.std.proofs.Common.{arith, ◌≡◌, ◌≢◌, ℕ, zero, suc, ◌+◌, ◌/◌, ◌<◌, inl, inr, ◌↔◌, ltb, refl, sym, ◌∙◌, subst, ap, add-one, Bool, true, false, IsTrue, ◌&&◌, not, cond, ◌==◌, List, [], ◌∷◌, length, take, drop, filter, find, get_or, Contains, slice_get, Option, Some, None, IsSome, option_map, unwrap_or}
+use Rattle.std.specs.Bool.{beq}
 use Rattle.std.specs.Option.{option_or}
 use Rattle.std.proofs.lemmas.Bool.{ltb-true, and_right}
 use Rattle.ia_insn.specs.declared.choices.Unit.{Unit as ExecutionUnit}
@@ -14,7 +15,7 @@ use Rattle.ia_meaning.specs.Landings.{is_one_of}
 use Rattle.ia_meaning.specs.Sequence.{is_stopped}
 use Rattle.ia_meaning.proofs.Sequences.{stop_same}
 use Rattle.slot_layouts.specs.declared.layout.Wanted.{Wanted}
-use Rattle.slot_layouts.specs.Layouts.{fits_slot, all_fit, are_rising, has_none_before, is_layout, rising_slots, least_slots, first_below, laid_out}
+use Rattle.slot_layouts.specs.Layouts.{fits_slot, all_fit, are_rising, has_none_before, stops_are_wanted, has_stop_where, is_layout, rising_slots, least_slots, first_below, laid_out}
 
 -- what is found passes the test
 pub found_passes : (p : List ℕ → Bool) (lists : List (List ℕ)) (ks : List ℕ) → find p lists ≡ Some ks → p ks ≡ true
@@ -47,15 +48,45 @@ pub laid_out_is_layout : (ws : List Wanted) (end : Bool) (code : ℕ) (ks : List
 unfolding laid_out
 laid_out_is_layout ws end code ks h = below_is_layout 32 ws end (code, ks) h
 
--- more instructions than slots
-unfit : (units : List ExecutionUnit) (ws : List Wanted) (ks : List ℕ) → length ks < length ws → all_fit units ws ks ≡ false
-unfit units [] [] h = absurd (omega arith)
-unfit units [] (k ∷ ks) h = refl
-unfit units (w ∷ ws) [] h = refl
-unfit units (w ∷ ws) (k ∷ ks) h = and_right (fits_slot (slice_get units k) w.class k) (all_fit units ws ks) (unfit units ws ks (omega arith))
+-- not as many instructions as slots
+unlike : (units : List ExecutionUnit) (ws : List Wanted) (ks : List ℕ) → length ks ≢ length ws → all_fit units ws ks ≡ false
+unlike units [] [] h = absurd (h refl)
+unlike units [] (k ∷ ks) h = refl
+unlike units (w ∷ ws) [] h = refl
+unlike units (w ∷ ws) (k ∷ ks) h = and_right (fits_slot (slice_get units k) w.class k) (all_fit units ws ks) (unlike units ws ks (λ e. h (ap suc e)))
 
-not_layout : (code : ℕ) (ws : List Wanted) (end : Bool) (ks : List ℕ) → length ks < length ws → is_layout code ws end ks ≡ false
-not_layout code ws end ks h = rw (unfit (units_of code) ws ks h) refl
+pub unlike_layout : (code : ℕ) (ws : List Wanted) (end : Bool) (ks : List ℕ) → length ks ≢ length ws → is_layout code ws end ks ≡ false
+unlike_layout code ws end ks h = rw (unlike (units_of code) ws ks h) refl
+
+pub differ : (a b end : Bool) → a ≡ b → not (beq a end) ≡ true → b ≢ end
+differ true b true is other = λ e. cc
+differ false b false is other = λ e. cc
+differ true b false is other = λ e. cc
+differ false b true is other = λ e. cc
+
+-- Where the stop at the end of the template isn't as it is wanted, no list is a layout.
+not_at_end : (stops : List ℕ) (ws : List Wanted) (ks : List ℕ) (end : Bool) → is_one_of 2 stops ≢ end → stops_are_wanted stops ws ks end ≡ false
+not_at_end stops [] ks end other = refl
+not_at_end stops (w ∷ []) [] end other = refl
+not_at_end stops (w ∷ x ∷ ws) [] end other = refl
+not_at_end stops (w ∷ []) (k ∷ ks) end other = and_right (has_stop_where stops k 2 false) (has_stop_where stops 2 3 end) (of (is_one_of 2 stops) end other)
+  where
+    of : (b end : Bool) → b ≢ end → (length {A = ℕ} (cond b (2 ∷ []) []) == cond end 1 0) ≡ false
+    of true true other = absurd (other refl)
+    of true false other = refl
+    of false true other = refl
+    of false false other = absurd (other refl)
+not_at_end stops (w ∷ x ∷ ws) (k ∷ []) end other = refl
+not_at_end stops (w ∷ x ∷ ws) (k ∷ l ∷ ks) end other = and_right (has_stop_where stops k l x.gap) (stops_are_wanted stops (x ∷ ws) (l ∷ ks) end) (not_at_end stops (x ∷ ws) (l ∷ ks) end other)
+
+no_list : (p : List ℕ → Bool) (lists : List (List ℕ)) → ((ks : List ℕ) → p ks ≡ false) → find p lists ≡ None
+no_list p [] h = refl
+no_list p (ks ∷ lists) h = rw (h ks) (no_list p lists h)
+
+pub none_at_end : (code : ℕ) (ws : List Wanted) (end : Bool) → is_one_of 2 (stops_of code) ≢ end → least_slots code ws end ≡ None
+none_at_end code ws end other =
+    no_list (is_layout code ws end) rising_slots
+    (λ ks. and_right (all_fit (units_of code) ws ks) _ (and_right (are_rising ks) _ (and_right (has_none_before (stops_of code) ks) _ (not_at_end (stops_of code) ws ks end other))))
 
 abbrev are_short : List (List ℕ) → Bool
 are_short [] = true
@@ -76,7 +107,7 @@ pub too_long : (w x y z : Wanted) (ws : List Wanted) (end : Bool) → laid_out (
 unfolding laid_out
 too_long w x y z ws end =
     none_below 32 (w ∷ x ∷ y ∷ z ∷ ws) end
-    (λ code. none_found (is_layout code (w ∷ x ∷ y ∷ z ∷ ws) end) rising_slots (λ ks short. not_layout code (w ∷ x ∷ y ∷ z ∷ ws) end ks (omega arith)) refl)
+    (λ code. none_found (is_layout code (w ∷ x ∷ y ∷ z ∷ ws) end) rising_slots (λ ks short. unlike_layout code (w ∷ x ∷ y ∷ z ∷ ws) end ks (λ e. omega (arith, e, short))) refl)
 
 -- the test of the stops of a template
 pub stop_is_one_of : (code slot : ℕ) (b : Bool) → IsTrue b ↔ Contains (stops_of code) slot → b ≡ is_one_of slot (stops_of code)

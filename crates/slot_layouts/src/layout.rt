@@ -1,7 +1,7 @@
 //! Layouts: the slots of a template that instructions take.
 
 ghost use Rattle.std.specs.Prelude.{◌≡◌, ℕ, List, ◌<◌, option_map};
-ghost use Rattle.ia_program.specs.Templates.{stops_of};
+ghost use Rattle.ia_program.specs.Templates.{units_of, stops_of};
 ghost use Rattle.ia_meaning.specs.Landings.{is_one_of};
 ghost use Rattle.slot_layouts.specs.Layouts.{all_fit, are_rising, is_stop_between, stops_between, has_stop_where, stops_are_wanted, has_none_before, is_layout, least_slots, laid_out};
 
@@ -148,11 +148,22 @@ fn stops_are_wanted(template: &Template, wanted: &[Wanted], slots: &[u8], end: b
         && stops_are_wanted(template, others, rest, end)
 }
 
-/// Whether the slots are a layout of the instructions in the template.
-fn is_layout(template: &Template, wanted: &[Wanted], end: bool, slots: &[u8]) -> bool
+/// Whether the slots are a layout of the instructions in the template. Its units are given, since many lists are tried.
+#[tactic(auto, using(crate::proofs::FirstLayouts::unlike_layout))]
+fn is_layout(
+    template: &Template,
+    units: &[Unit],
+    wanted: &[Wanted],
+    end: bool,
+    slots: &[u8],
+) -> bool
+    requires { units.now ≡ units_of template.now }
     ensures { result ≡ is_layout template.now wanted.now end slots.now }
 {
-    all_fit(&template.units(), wanted, slots)
+    if slots.len() != wanted.len() {
+        return false;
+    }
+    all_fit(units, wanted, slots)
         && are_rising(slots)
         && has_none_before(template, slots)
         && stops_are_wanted(template, wanted, slots, end)
@@ -161,12 +172,18 @@ fn is_layout(template: &Template, wanted: &[Wanted], end: bool, slots: &[u8]) ->
 /// The rising lists of slots, in order of lists.
 const RISING_SLOTS: [&[u8]; 7] = [&[0], &[0, 1], &[0, 1, 2], &[0, 2], &[1], &[1, 2], &[2]];
 
-/// The least layout of the instructions in the template.
+/// The least layout of the instructions in the template: none where it has a stop at its end and none is wanted there, or
+/// the other way round.
+#[tactic(auto, using(crate::proofs::FirstLayouts::none_at_end))]
 fn least_slots(template: &Template, wanted: &[Wanted], end: bool) -> Option<ArrayVec<u8, 3>>
     ensures { option_map (λ v. v.items) result ≡ least_slots template.now wanted.now end }
 {
+    if stop_follows(template, 2) != end {
+        return None;
+    }
+    let units = template.units();
     for slots in RISING_SLOTS {
-        if is_layout(template, wanted, end, slots) {
+        if is_layout(template, &units, wanted, end, slots) {
             let mut least = ArrayVec::new();
             least.try_extend_from_slice(slots).unwrap();
             return Some(least);

@@ -16,7 +16,7 @@ use Rattle.flow_facts.specs.Graphs.{InsnRow, over_program, over_row, IsEdgeIn}
 use Rattle.flow_facts.specs.Walks.{end_of}
 use Rattle.group_checker.specs.declared.violation.Violation.{Violation}
 use Rattle.group_checker.specs.Violations.{ViolatesIn}
-use Rattle.group_checker.specs.Reports.{IsFree}
+use Rattle.group_checker.specs.Violations.{IsFree}
 use Rattle.group_checker.specs.WindowLaws.{AgreeBefore}
 use Rattle.group_checker.proofs.Falling.{before_trans, not_before_itself, place_cases, comes_from}
 use Rattle.group_checker.proofs.Stops.{violations_agree}

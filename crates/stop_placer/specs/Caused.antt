@@ -9,7 +9,7 @@ use Rattle.slot_table.specs.declared.slot.Slot.{Slot}
 use Rattle.flow_facts.specs.Graphs.{over_program}
 use Rattle.group_checker.specs.declared.violation.Violation.{Violation}
 use Rattle.group_checker.specs.Violations.{ViolatesIn}
-use Rattle.group_checker.specs.Reports.{IsFree}
+use Rattle.group_checker.specs.Violations.{IsFree}
 use Rattle.stop_placer.specs.declared.packing.Cause.{Cause}
 use Rattle.stop_placer.specs.declared.packing.Cause.TheVariants.{Pair}
 use Rattle.stop_placer.specs.declared.packed.StopWhy.{StopWhy}

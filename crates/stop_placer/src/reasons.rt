@@ -13,7 +13,7 @@ ghost use Rattle.stop_placer.specs.Caused.{unstopped, place_in, IsCut, IsDue, Na
 
 use crate::packed::{StopWhy, Why};
 use crate::packing::Cause;
-use flow_facts::{InFacts, solve};
+use flow_facts::{Analysis, InFacts};
 use group_checker::{Violation, Window};
 use ia_program::{Place, Program};
 use resource_sets::masks_of;
@@ -162,6 +162,41 @@ fn behind_stop(slot: &Slot, next: Place, behind: Place) -> Place
     if slot.stop { next } else { behind }
 }
 
+/// The stops of the program of a table, as [`reasons`] says.
+///
+/// # Errors
+///
+/// Want of memory.
+fn named(
+    alloc: Global,
+    table: &SlotTable,
+    facts: &InFacts,
+    places: &[Place],
+    causes: &[Option<Cause>],
+) -> Result<Vec<StopWhy>, AllocError>
+    requires program { IsProgram table.now }
+    requires facts { IsSolution table.now facts.now }
+    requires caused { AreCaused table.now places.now causes.now }
+    ensures { IfOk result (λ stops. NamesStops table.now (place_in places.now) causes.now stops.items) }
+{
+    let mut stops = Vec::new(alloc);
+    let mut behind = Place::FIRST;
+    let mut place = Place::FIRST;
+    let mut n = 0;
+    'places: loop {
+        let Some(slot) = table.at(place) else {
+            unreachable!();
+        };
+        n = last_at(places, n, place);
+        name_at(alloc, table, facts, behind, place, causes[n], &mut stops)?;
+        let Some(next) = slot.next else {
+            return Ok(stops);
+        };
+        behind = behind_stop(slot, next, behind);
+        place = next;
+    }
+}
+
 /// The stops of a packed program, in order, with their reasons. `places` has the places of its instructions, `causes`
 /// the reasons of their gaps. For each pair the two groups beside its stop are gone over once.
 ///
@@ -177,23 +212,7 @@ pub(crate) fn reasons(
     requires { AreCaused program.now places.now causes.now }
     ensures { IfOk result (λ stops. NamesStops program.now (place_in places.now) causes.now stops.items) }
 {
-    let table = SlotTable::open(alloc, program)?;
-    table.is_program();
-    let facts = solve(alloc, &table)?;
-    let mut stops = Vec::new(alloc);
-    let mut behind = Place::FIRST;
-    let mut place = Place::FIRST;
-    let mut n = 0;
-    'places: loop {
-        let Some(slot) = table.at(place) else {
-            unreachable!();
-        };
-        n = last_at(places, n, place);
-        name_at(alloc, &table, &facts, behind, place, causes[n], &mut stops)?;
-        let Some(next) = slot.next else {
-            return Ok(stops);
-        };
-        behind = behind_stop(slot, next, behind);
-        place = next;
-    }
+    let analysis = Analysis::of(alloc, program)?;
+    analysis.slots().is_program();
+    named(alloc, analysis.slots(), analysis.facts(), places, causes)
 }

@@ -6,6 +6,7 @@ ghost use Rattle.group_engine.specs.Engine.{end_of};
 use crate::program::program_of;
 use group_engine::{GroupMachine, group_text};
 use ia_program::{End, Place};
+use slot_table::SlotTable;
 use std::alloc::Global;
 use std::process::Abort;
 use std::test::Fail;
@@ -86,7 +87,8 @@ fn comes_to_the_limit(rt: &impl Abort, machine: &mut GroupMachine) {
 fn two_calls_come_to_what_one_comes_to(rt: HostRuntime) -> Result<(), Fail> {
     let alloc = rt.alloc();
     let program = program_of(&rt, alloc, TEXT)?;
-    let mut machine = GroupMachine::open(alloc, &program)?;
+    let slots = SlotTable::open(alloc, &program)?;
+    let mut machine = GroupMachine::open(alloc, &slots)?;
     comes_to_the_limit(&rt, &mut machine);
     assert_eq!(rt; machine.groups(), 3);
     let end = machine.run(97, 1);
@@ -104,7 +106,8 @@ fn is_at(rt: &impl Abort, machine: &GroupMachine, end: End) {
 fn nothing_changes_after_an_end(rt: HostRuntime) -> Result<(), Fail> {
     let alloc = rt.alloc();
     let program = program_of(&rt, alloc, TEXT)?;
-    let mut machine = GroupMachine::open(alloc, &program)?;
+    let slots = SlotTable::open(alloc, &program)?;
+    let mut machine = GroupMachine::open(alloc, &slots)?;
     let end = machine.run(100, 0);
     is_at(&rt, &machine, end);
     assert!(rt; machine.groups() < 100);

@@ -6,6 +6,7 @@ use ia_insn::{Ar, Br, Gr};
 use ia_program::{End, GroupEvent, How, Place};
 use nat_alat::{AlatEntry, AlatKey};
 use reg_stack::StackFault;
+use slot_table::SlotTable;
 use std::process::Abort;
 use std::test::Fail;
 
@@ -107,7 +108,8 @@ fn ends(rt: &impl Abort, machine: &mut Machine, count: u8, end: End) {
 fn slots_run_one_by_one(rt: HostRuntime) -> Result<(), Fail> {
     let alloc = rt.alloc();
     let program = program_of(&rt, alloc, TEXT)?;
-    let mut machine = Machine::open(alloc, &program)?;
+    let slots = SlotTable::open(alloc, &program)?;
+    let mut machine = Machine::open(alloc, &slots)?;
     for (count, want) in SEEN {
         assert_eq!(rt; steps(&rt, &mut machine, count), None);
         assert_eq!(rt; seen(&machine), want);
@@ -156,7 +158,8 @@ fn comes_to_the_limit(rt: &impl Abort, machine: &mut Machine) {
 fn groups_go_on_within(rt: HostRuntime) -> Result<(), Fail> {
     let alloc = rt.alloc();
     let program = program_of(&rt, alloc, TEXT)?;
-    let mut machine = Machine::open(alloc, &program)?;
+    let slots = SlotTable::open(alloc, &program)?;
+    let mut machine = Machine::open(alloc, &slots)?;
     assert_eq!(rt; steps(&rt, &mut machine, 4), None);
     goes_on_within(&rt, &mut machine);
     assert_eq!(rt; steps(&rt, &mut machine, 1), None);

@@ -73,14 +73,10 @@ fn token_of_word(line: &[u8]) -> Option<Token> {
         return None;
     }
     match words(line) {
-        Ok(words) => {
-            if words.len() == 1 {
-                let word = words[0];
-                Some(token(word.kind, word.text(line)))
-            } else {
-                None
-            }
-        }
+        Ok(words) => match words.as_slice() {
+            [word] => Some(token(word.kind, word.text(line))),
+            _ => None,
+        },
         Err(_) => None,
     }
 }

@@ -2,4 +2,4 @@ use Rattle.std.proofs.Common.{length}
 use Rattle.asm_instructions.proofs.instruction.+put_operands.Given as goal
 
 abbrev pub decreases-put_operands : goal.decreases-put_operands
-decreases-put_operands l = length l.operands.now
+decreases-put_operands l = length l.items.now

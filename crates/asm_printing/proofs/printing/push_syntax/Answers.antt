@@ -29,7 +29,7 @@ of_operands : (target : ℕ) (old new : List ℕ) (is js : List FormItem) (ts us
 of_operands target old new is js ts us d e h = h ∙ ap (λ k. old ++ spaced (operands_text target k ts)) d ∙ ap (λ k. old ++ spaced (operands_text target js k)) e
 
 pub push_operands-requires : goal.push_operands-requires
-push_operands-requires c = omega (arith, ap length c.items.ensures.value, items_are_few c.form-2.result)
+push_operands-requires c = omega (arith, ap length c.items.ensures.value, items_are_few c.row-2.result.now)
 
 pub returns-clause-ok : goal.returns-clause-ok
 returns-clause-ok c =
@@ -40,6 +40,6 @@ returns-clause-ok c =
     (appended c.args.out.now.items (codes "  " ++ predicate_text c.args.qp) (mnemonic_text form completers) (spaced (operands_text c.args.target (row_of form).items operands)) (stop_text c.args.stop)
     c.push_start.new.out.items c.push_mnemonic.new.out.items c.push_operands.new.out.items c.push_stop.new.out.items
     c.in_ok-push_start.ensures.ok
-    (of_mnemonic c.push_start.new.out.items c.push_mnemonic.new.out.items c.form.result form c.completers.result.now completers c.form.ensures c.completers.ensures c.in_ok-push_mnemonic.ensures.ok)
-    (of_operands c.args.target c.push_mnemonic.new.out.items c.push_operands.new.out.items c.items.result.now (row_of form).items c.operands.result.now operands (c.items.ensures.value ∙ ap (λ f. (row_of f).items) c.form-2.ensures) c.operands.ensures c.in_ok-push_operands.ensures.ok))
+    (of_mnemonic c.push_start.new.out.items c.push_mnemonic.new.out.items c.row.result.now form c.completers.result.now completers c.row.ensures c.completers.ensures c.in_ok-push_mnemonic.ensures.ok)
+    (of_operands c.args.target c.push_mnemonic.new.out.items c.push_operands.new.out.items c.items.result.now (row_of form).items c.operands.result.now operands (c.items.ensures.value ∙ ap (λ f. (row_of f).items) c.row-2.ensures) c.operands.ensures c.in_ok-push_operands.ensures.ok))
     c.push_stop.ensures.ok

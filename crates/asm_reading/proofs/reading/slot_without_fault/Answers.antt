@@ -14,9 +14,9 @@ returns c =
     let after = texts c.args.line.now c.args.after.now in
     let t : c.as_slice-tokens.result.now ≡ tokens after = c.as_slice-tokens.ensures ∙ c.tokens_into.ensures in
     let w : c.without_stop.result.now ≡ without_stop (tokens after) = c.without_stop.ensures ∙ ap without_stop t in
-    let form = c.in-Some.field-0.form in
-    let cs = c.in-Some.field-0.completers.items in
+    let form = c.in-Some.row in
+    let cs = c.find_spelled.new.list.items in
     let d : c.deref.result.now ≡ cs = search rules in
     put_there (λ v. worded c.args.name.now before after ≡ Ok v) c.slot_line.result c.slot_line.new.value (slot_if_read c.args.name.now before after c.in-Ok.qp form cs _ c.requires.slot (sym c.predicate.ensures ∙ c.in-Ok.is)
-    (ap (λ xs. find (is_spelled xs) (named_forms c.args.name.now)) (sym w) ∙ c.in-Some.ensures.0) c.in-Some.ensures.1
+    (ap (λ xs. find (is_spelled xs) (named_forms c.args.name.now)) (sym w) ∙ sym c.find_spelled.ensures.value ∙ c.in-Some.is) c.in-Some.ensures.read
     (c.slot_line.ensures ∙ ap (λ ds. slot_line c.in-Ok.qp form ds c.as_slice-tokens.result.now after) d ∙ ap (λ xs. slot_line c.in-Ok.qp form cs xs after) t))

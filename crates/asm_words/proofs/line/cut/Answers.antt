@@ -1,8 +1,13 @@
-use Rattle.std.proofs.Common.{◌∙◌, sym, ◌+◌, ◌-◌, true, false, drop, length, arith, length-drop}
-use Rattle.std.proofs.lemmas.List.{take_all}
+use Rattle.std.proofs.Common.{◌∙◌, sym, ap, ◌≡◌, ◌++◌, ◌∷◌, [], List, ◌+◌, ◌-◌, true, false, drop, length, arith, length-drop}
+use Rattle.std.proofs.lemmas.List.{take_all, length-append}
+use Rattle.asm_words.specs.declared.word.Word.{Word}
 use Rattle.asm_words.proofs.Cutting.{turn_rest}
 use Rattle.asm_words.proofs.Plain.{plain_turn}
 use Rattle.asm_words.proofs.line.cut.Goals as goal
+
+-- a list with one more at its end
+grown : (xs ys : List Word) (w : Word) → ys ≡ xs ++ w ∷ [] → length ys ≡ length xs + 1
+grown xs ys w e = ap length e ∙ length-append xs (w ∷ [])
 
 pub returns-then-not-is_plain_word-clause-plain : goal.returns-then-not-is_plain_word-clause-plain
 returns-then-not-is_plain_word-clause-plain c =
@@ -18,7 +23,7 @@ loop-at-preserved c =
     let rest = take_all (length line - (at + 1)) (drop (at + 1) line) (omega (arith, length-drop (at + 1) line)) in
     record {
       within = omega (arith, length-drop (at + 1) line, c.word_at-more.ensures.bound);
-      room = omega arith;
-      value = turn_rest line _ at _ _ _ _ _ (omega arith) rest (sym c.is_blank.ensures ∙ c.if-is_blank.false) (sym c.is_comment.ensures ∙ c.if-is_comment.false) c.kind_at-kind.ensures c.word_at-more.ensures.more c.word_at-more.ensures.sharp c.push.ensures.items ∙ c.loop-at.invariant.value;
+      room = omega (arith, grown _ _ _ c.push.ensures);
+      value = turn_rest line _ at _ _ _ _ _ (omega arith) rest (sym c.is_blank.ensures ∙ c.if-is_blank.false) (sym c.is_comment.ensures ∙ c.if-is_comment.false) c.kind_at-kind.ensures c.word_at-more.ensures.more c.word_at-more.ensures.sharp c.push.ensures ∙ c.loop-at.invariant.value;
       plain = sym (plain_turn line _ at _ _ _ true (omega arith) rest c.kind_at-kind.ensures c.word_at-more.ensures.more c.word_at-more.ensures.sharp (sym c.if-not-is_plain_word.false ∙ c.is_plain_word.ensures)) ∙ c.loop-at.invariant.plain;
     }

@@ -1,13 +1,15 @@
+use Rattle.std.proofs.Common.{◌≡◌, sym, subst}
 use Rattle.std.specs.Prelude.{◌+◌}
 use Rattle.ia64_top.specs.Runs.{trace_text}
-use Rattle.ia64_top.specs.Output.{IsAcceptedAs}
 use Rattle.ia64_top.specs.Readings.{as_either}
 use Rattle.ia64_top.proofs.Outputs.{if_ok}
 use Rattle.ia64_top.proofs.Running.{run_is}
 use Rattle.ia64_top.proofs.answer.trace_input.Goals as goal
 
-pub returns-in-Ok : goal.returns-in-Ok
-returns-in-Ok c =
-    let accepted : IsAcceptedAs as_either c.args.input.now c.in-Ok.program = rw c.in-Ok.is at c.in_ok-program.ensures in
+pub returns-in-Ok-2 : goal.returns-in-Ok-2
+returns-in-Ok-2 c =
+    let read : as_either.Gives c.args.input.now c.in-Ok.program = rw c.in-Ok.is at c.in_ok-program.ensures in
+    let same : c.in-Ok-2.accepted ≡ c.in-Ok.program = rw c.in-Ok-2.is at c.in_ok-accepted.ensures in
+    let gives = subst (λ q. as_either.Gives c.args.input.now q) (sym same) read in
     if_ok c.trace_accepted.result c.trace_accepted.ensures
-    (λ x a. run_is (trace_text c.args.first c.args.count) (c.args.first + c.args.count) as_either c.args.input.now c.in-Ok.program x.bytes.items x.status accepted a)
+    (λ x a. run_is (trace_text c.args.first c.args.count) (c.args.first + c.args.count) as_either c.args.input.now c.in-Ok-2.accepted x.bytes.items x.status gives a)

@@ -6,7 +6,7 @@ use Rattle.ia64_top.proofs.answer.try_accepted.Goals as goal
 
 pub returns : goal.returns
 returns c =
-    let p = c.args.program.now in
+    let p = c.args.accepted.now in
     let m = c.run-end.new.self.progress in
     let came : m ≡ groups_further c.args.bundles p (begun (zero_state p)) = search rules in
-    (trial_of_progress c.law_orders.ensures.run c.progress_is_run.ensures.run c.args.seed c.args.bundles p m c.run-end.result _ c.requires.made c.is_program.ensures c.requires.free came c.run-end.ensures.end (search rules), refl)
+    (trial_of_progress c.progress_is_run.ensures.run c.args.seed c.args.bundles p m c.run-end.result _ c.requires.made c.is_robust.ensures.program c.is_robust.ensures.free c.is_robust.ensures.robust came c.run-end.ensures.end (search rules), refl)

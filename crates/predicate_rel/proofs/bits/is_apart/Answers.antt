@@ -1,4 +1,4 @@
-use Rattle.std.proofs.Common.{◌≡◌, ℕ, Bool, true, ◌&&◌, sym, ap, ◌∙◌, eqb-true, inl, inr}
+use Rattle.std.proofs.Common.{ℕ, sym, ap, ◌∙◌, eqb-true, inl, inr}
 use Rattle.std.specs.Prelude.{bit_and}
 use Rattle.std.proofs.lemmas.Bool.{cases_Bool, and_from, true≢false}
 use Rattle.predicate_rel.specs.Pairs.{has_bit}

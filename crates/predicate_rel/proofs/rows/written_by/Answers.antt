@@ -2,7 +2,6 @@ use Rattle.std.proofs.Common.{ap, sym, ◌∙◌}
 use Rattle.std.proofs.lemmas.Bool.{true≢false}
 use Rattle.predicate_rel.specs.Rules.{PairRule, is_met}
 use Rattle.predicate_rel.proofs.BitLemmas.{has_bit_all}
-use Rattle.predicate_rel.proofs.Untouched.{test_left, raised_left}
 use Rattle.predicate_rel.proofs.rows.written_by.Goals as goal
 
 pub returns-in_default : goal.returns-in_default

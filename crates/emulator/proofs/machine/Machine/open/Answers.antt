@@ -1,4 +1,5 @@
 use Rattle.std.proofs.Common.{◌≡◌, sym, subst}
+use Rattle.ia_program.specs.Programs.{Program, IsProgram}
 use Rattle.ia_meaning.specs.State.{zero_state}
 use Rattle.ia_meaning.specs.Progress.{begun}
 use Rattle.ia_meaning.specs.Runs.{IsUnderWay}
@@ -8,8 +9,12 @@ use Rattle.emulator.proofs.machine.Machine.open.Goals as goal
 
 pub invariant_of-result : goal.invariant_of-result
 invariant_of-result c =
-    let p = c.in_ok-slots.slots in
+    let p = c.args.slots.now in
     let is = c.is_program.ensures in
     let told = c.in_ok-run.ensures in
     let e : progress_of c.in_ok-run.run' ≡ begun (zero_state p) = rw (c.data.ensures, c.program.ensures) at told in
-    record { program = is; under_way = subst (IsUnderWay p) (sym e) (begins_under_way p is) }
+    let same = sym c.in_ok-code.ensures in
+    record {
+      program = subst IsProgram same is;
+      under_way = subst (λ (q : Program). IsUnderWay q (progress_of c.in_ok-run.run')) same (subst (IsUnderWay p) (sym e) (begins_under_way p is));
+    }

@@ -9,10 +9,10 @@ use Rattle.emulator.proofs.run.Run.run_group.Given as goal
 
 abbrev pub invariant-loop-how : goal.invariant-loop-how
 invariant-loop-how l = record {
-  group : group_further l.table (progress_of l.self) ≡ group_further l.table (progress_of l.fn.self);
-  event : event_further l.table (progress_of l.self) ≡ event_further l.table (progress_of l.fn.self);
+  group : group_further l.code (progress_of l.self) ≡ group_further l.code (progress_of l.fn.self);
+  event : event_further l.code (progress_of l.self) ≡ event_further l.code (progress_of l.fn.self);
   running : l.self.end ≡ None;
-  under_way : IsUnderWay l.table (progress_of l.self);
+  under_way : IsUnderWay l.code (progress_of l.self);
   room : CanCount (progress_of l.self) 1;
 }
 

@@ -6,7 +6,7 @@ use Rattle.emulator.proofs.run.Run.run_groups.Goals.{then-left-eq0-via-then-left
 
 pub returns-then-left-eq0-clause-value : goal.returns-then-left-eq0-clause-value
 returns-then-left-eq0-clause-value c =
-    let p = c.args.table.now in
+    let p = c.args.code.now in
     let now = progress_of c.loop-how.self in
     let next = progress_of c.advance.new.self in
     let over = is_over p now next c.in-Some._how c.loop-how.invariant.running c.in-Some.ensures.value (sym c.in-Some.ensures.how) in
@@ -21,7 +21,7 @@ returns-then-left-eq0-clause-value c =
 
 pub loop-how-preserved-in-Some : goal.loop-how-preserved-in-Some
 loop-how-preserved-in-Some c =
-    let p = c.args.table.now in
+    let p = c.args.code.now in
     let now = progress_of c.loop-how.self in
     let next = progress_of c.advance.new.self in
     let left = c.loop-how.left in
@@ -36,12 +36,12 @@ loop-how-preserved-in-Some c =
 
 pub loop-how-smaller : goal.loop-how-smaller
 loop-how-smaller c =
-    let within = is_within c.args.table.now (progress_of c.loop-how.self) (progress_of c.advance.new.self) c.requires.program c.loop-how.invariant.under_way c.loop-how.invariant.running c.in_default.ensures.value (sym c.in_default.ensures.how) in
+    let within = is_within c.args.code.now (progress_of c.loop-how.self) (progress_of c.advance.new.self) c.requires.program c.loop-how.invariant.under_way c.loop-how.invariant.running c.in_default.ensures.value (sym c.in_default.ensures.how) in
     omega (arith, within.few, within.slots, c.loop-how.invariant.some)
 
 pub loop-how-preserved : goal.loop-how-preserved
 loop-how-preserved c =
-    let p = c.args.table.now in
+    let p = c.args.code.now in
     let now = progress_of c.loop-how.self in
     let next = progress_of c.advance.new.self in
     let left = c.loop-how.left in

@@ -10,9 +10,9 @@ use Rattle.emulator.proofs.run.Run.run_groups.Given as goal
 abbrev pub invariant-loop-how : goal.invariant-loop-how
 invariant-loop-how l = record {
   some : 0 < l.left;
-  rest : groups_further l.left l.table (progress_of l.self) ≡ groups_further l.groups l.table (progress_of l.fn.self);
+  rest : groups_further l.left l.code (progress_of l.self) ≡ groups_further l.groups l.code (progress_of l.fn.self);
   running : l.self.end ≡ None;
-  under_way : IsUnderWay l.table (progress_of l.self);
+  under_way : IsUnderWay l.code (progress_of l.self);
   room : CanCount (progress_of l.self) l.left;
 }
 

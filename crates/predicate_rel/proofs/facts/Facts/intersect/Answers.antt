@@ -1,6 +1,6 @@
 use Rattle.predicate_rel.specs.Pairs.{has_bit, pairs_of}
-use Rattle.predicate_rel.proofs.BitLemmas.{has_bit_all, has_bit_none}
-use Rattle.predicate_rel.proofs.Narrowing.{narrowed_row, narrowed_within, narrowed_wholly, narrowed_whole, lost_row, lost_agrees}
+use Rattle.predicate_rel.proofs.BitLemmas.{has_bit_none}
+use Rattle.predicate_rel.proofs.Narrowing.{narrowed_row, narrowed_within, narrowed_wholly, narrowed_rows, lost_row, lost_agrees}
 use Rattle.predicate_rel.proofs.facts.Facts.intersect.Goals as goal
 
 pub narrowing-preserved-then-narrow_row : goal.narrowing-preserved-then-narrow_row
@@ -16,7 +16,7 @@ narrowing-preserved c = record {
 }
 
 pub returns-clause-common : goal.returns-clause-common
-returns-clause-common c = narrowed_whole c.args.self.now c.narrowing.self (pairs_of c.args.other.now) _ (narrowed_wholly _ _ _ _ (has_bit 0) (λ x l. has_bit_none x) (rw c.narrowing-test.false at c.narrowing.invariant.narrowed)) (λ x l. has_bit_all x l)
+returns-clause-common c = narrowed_rows c.args.self.now c.narrowing.self (pairs_of c.args.other.now) (has_bit c.args.rows) (narrowed_wholly _ _ _ _ (has_bit 0) (λ x l. has_bit_none x) (rw c.narrowing-test.false at c.narrowing.invariant.narrowed))
 
 pub returns-clause-lost : goal.returns-clause-lost
 returns-clause-lost c = lost_agrees c.args.self.now c.narrowing.self c.narrowing.lost c.narrowing.invariant.lost

@@ -1,7 +1,7 @@
 use Rattle.predicate_rel.specs.Pairs.{has_bit, pairs_of}
 use Rattle.predicate_rel.specs.Rules.{action_rule, pairs_by}
 use Rattle.predicate_rel.proofs.Narrowing.{IsNarrowed, HasLost}
-use Rattle.predicate_rel.proofs.facts.Facts.narrow.Given as goal
+use Rattle.predicate_rel.proofs.facts.Facts.narrow_past.Given as goal
 
 abbrev pub invariant-narrowing : goal.invariant-narrowing
 invariant-narrowing l = record {

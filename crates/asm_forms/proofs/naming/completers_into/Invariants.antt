@@ -1,7 +1,7 @@
 use Rattle.std.proofs.Common.{◌≡◌, ◌≤◌, ◌++◌, drop, length, option_map}
 use Rattle.arrayvec.specs.ArrayVec.{array_vec_len}
 use Rattle.asm_forms.specs.Naming.{completers_in}
-use Rattle.asm_forms.proofs.naming.completers_of.Given as goal
+use Rattle.asm_forms.proofs.naming.completers_into.Given as goal
 
 abbrev pub invariant-loop-set : goal.invariant-loop-set
 invariant-loop-set l = record {

@@ -1,0 +1,18 @@
+use Rattle.std.proofs.Common.{◌∙◌, subst}
+use Rattle.group_checker.specs.Progress.{ReportsAll}
+use Rattle.group_checker.proofs.Reporting.{free_of_none, verdict_of}
+use Rattle.group_checker.proofs.RunOrders.{accepted_robust}
+use Rattle.group_checker.proofs.checker.check.Goals as goal
+
+pub verdict-requires : goal.verdict-requires
+verdict-requires c =
+    let all = subst (λ q. ReportsAll q c.in_ok-report.report) c.slots.ensures c.in_ok-report.ensures in
+    free_of_none c.in_ok-analysis.analysis c.in_ok-report.report all
+
+pub returns-clause-verdict : goal.returns-clause-verdict
+returns-clause-verdict c =
+    let all = subst (λ q. ReportsAll q c.in_ok-report.report) (c.slots.ensures ∙ c.in_ok-analysis.ensures) c.in_ok-report.ensures in
+    rw (c.verdict.ensures, c.in_ok-analysis.ensures) (verdict_of c.args.program.now c.in_ok-report.report all)
+
+pub returns-clause-robust : goal.returns-clause-robust
+returns-clause-robust c = accepted_robust c.args.program.now c.is_program.ensures c.verdict.result (returns-clause-verdict c)
