@@ -8,8 +8,7 @@ and a branch to another bundle. A trial makes its own program, checks it and run
 five, with the start of the program; all outputs go to files. The GNU assembler looks for violated dependencies under -xexplicit and not under -xnone; `build` doesn't,
 as `check` does that. `objdump -d` and `list` print bytes and instructions, `show` a text that builds
 again. A loop is run to its `break`; of its speed the slots of its turns are counted alone. `watch` shows
-each group to two watchers and should have at least 0.8 of the speed of `run` on a counted loop, where a
-group is one bundle. `groups` should take at most three times the instructions of `run`. The loose text is that of the
+each group to two watchers; on a counted loop a group is one bundle. The loose text is that of the
 first table without bundles and stops; it is packed into another program, as each label begins a bundle.
 
 The last table has the worst inputs within the limits (`inputs.py`). Its seconds are those of the processor,

@@ -19,7 +19,7 @@
 //
 // It does so of this program, which is wrong, and word for word of the mended one, which is right. Its
 // directive `.pred.rel "mutex",p6,p7` behind the label silences both warnings in both programs. And of the loop
-// in tries/gnu/loop_that_sets.s, which goes wrong in the same way, it says nothing.
+// in tests/gnu/loop_that_sets.s, which goes wrong in the same way, it says nothing.
 { .mii
   cmp.eq p6,p7=r0,r0          // the first turn: p6 is 1, p7 is 0
   mov.i ar.lc=3

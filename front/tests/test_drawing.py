@@ -89,7 +89,7 @@ class Pictures(Draw):
 
     def test_violations(self):
         """Each violation that `check` prints is a line between its slots, with its rule and its resource."""
-        path = ROOT / "tries" / "check" / "every_rule.s"
+        path = ROOT / "tests" / "check" / "every_rule.s"
         lines = subprocess.run([PROGRAM, "check"], input=path.read_bytes(), stdout=subprocess.PIPE, check=False).stdout.decode()
         wanted = sorted(tuple(line.split(" ")) for line in lines.splitlines()[1:])
         root = self.svg(path)
@@ -474,7 +474,7 @@ class Parts(unittest.TestCase):
     def test_nothing_overlaps(self):
         """In a picture with many lines no label meets another, and none a slot or a caption."""
         program = Program(lambda: PROGRAM)
-        file = command.files.File("x", "x", command.Kind.IMAGE, built(ROOT / "tries" / "check" / "every_rule.s"))
+        file = command.files.File("x", "x", command.Kind.IMAGE, built(ROOT / "tests" / "check" / "every_rule.s"))
         shape = geometry.geometry(drawing.of_program(file, file, program, False))
         labels = [wire.label for wire in shape.wires]
         for at, label in enumerate(labels):

@@ -41,8 +41,8 @@ VOID = ("meta", "input", "br", "hr", "img", "link")
 @functools.lru_cache(maxsize=None)
 def maker():
     """What makes the page."""
-    sys.path.insert(0, str(ROOT / "tools"))
-    spec = spec_from_loader("make_page", SourceFileLoader("make_page", str(ROOT / "tools" / "make_page")))
+    sys.path.insert(0, str(ROOT / "generate"))
+    spec = spec_from_loader("make_page", SourceFileLoader("make_page", str(ROOT / "generate" / "make_page")))
     module = module_from_spec(spec)
     spec.loader.exec_module(module)
     return module
@@ -236,7 +236,7 @@ class Scripts(unittest.TestCase):
     @classmethod
     def setUpClass(cls):
         cls.program = Program(lambda: PROGRAM)
-        folders = ("examples", "examples/lessons", "tries", "tries/check")
+        folders = ("examples", "examples/lessons", "tests/run", "tests/check")
         cls.texts = {str(path.relative_to(ROOT)): path.read_text() for folder in folders
                      for path in sorted((ROOT / folder).glob("*.s"))}
         cls.images = {name: cls.raw(["build"], text.encode())[1] for name, text in cls.texts.items()
@@ -521,7 +521,7 @@ class Scripts(unittest.TestCase):
 
     def test_loose_texts(self):
         """The bundles and the stops of a text are taken out as in Python."""
-        texts = [*self.texts.values(), *(path.read_text() for path in (ROOT / "tries" / "loose").glob("*.s")),
+        texts = [*self.texts.values(), *(path.read_text() for path in (ROOT / "tests" / "loose").glob("*.s")),
                  *(chance_text(seed).decode() for seed in range(20)), "", "\n", "x:\n;; // a\nnop 0 ;;\n}\nnop.m 0 // b\n",
                  ".data\n{ .mii\n.text\r\n { .mlx // c\n\tnop 0 ;;\n( p0 )nop.x  0x0\n}\n"
                  "y:\n{ .mib\nchk.s r8,y\nhint 0\nbreak 1\n}"]
@@ -573,7 +573,7 @@ class Scripts(unittest.TestCase):
     def test_sharing(self):
         """A text comes back from the address that it is put into; an example goes by its name."""
         examples = [{"name": "count.s", "text": self.texts["examples/count.s"]}]
-        texts = ["", "nop 0\n", "{ .mii\n\tadd r8=r9,r10 // \u00e9\n", self.texts["tries/lanes.s"], examples[0]["text"]]
+        texts = ["", "nop 0\n", "{ .mii\n\tadd r8=r9,r10 // \u00e9\n", self.texts["tests/run/lanes.s"], examples[0]["text"]]
         fragments = called(*(("sharing.fragment_of", [text, examples]) for text in texts))
         self.assertEqual(fragments[-1], "example=count.s")
         for fragment in fragments:

@@ -28,7 +28,7 @@ from front.tests.test_drawing import END
 NODE = shutil.which("node")
 SCRIPTS = ("drawing", "bundles", "figures", "steps")
 needs_node = unittest.skipUnless(NODE, "node is missing")
-FOLDERS = ("examples", "examples/lessons", "tries/check")
+FOLDERS = ("examples", "examples/lessons", "tests/check")
 UNITS = ("mii", "mlx", "mmi", "mfi", "mib", "mbb", "bbb", "mmb", "mfb")
 # The places behind which a template can have stops, by `;`.
 STOPS = {"mii": ("   ", "  ;", " ; ", " ;;"), "mmi": ("   ", "  ;", ";  ", "; ;"), "mlx": (" ;", "  ")}
@@ -263,7 +263,7 @@ class Steps(unittest.TestCase):
         return found
 
     def test_runs(self):
-        paths = [path for folder in (*FOLDERS, "tries") for path in sorted((ROOT / folder).glob("*.s"))]
+        paths = [path for folder in (*FOLDERS, "tests/run") for path in sorted((ROOT / folder).glob("*.s"))]
         rows = [(path.read_bytes(), first, count) for path in paths for first, count in ((0, 60), (9, 5))]
         found = self.same([row for row in rows if program().raw(["run", "1"], row[0])[0] in (0, 8, 9)])
         told = [step for run in found for step in run["steps"]]

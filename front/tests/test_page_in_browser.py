@@ -1,4 +1,4 @@
-"""The page that runs the program, used by keyboard as tools/try_page_in_browser.py does it, in Chromium, where that is installed."""
+"""The page that runs the program, used by keyboard as gate/try_page_in_browser.py does it, in Chromium, where that is installed."""
 
 import contextlib
 import importlib
@@ -21,7 +21,7 @@ class Used(unittest.TestCase):
 
     def test_all(self):
         """All that is tried is as it has to be, and no process of the browser is left over."""
-        sys.path.insert(0, str(ROOT / "tools"))
+        sys.path.insert(0, str(ROOT / "gate"))
         tool, made, said = importlib.import_module("try_page_in_browser"), maker(), io.StringIO()
         with tempfile.TemporaryDirectory() as folder:
             page = Path(folder) / "index.html"

@@ -817,7 +817,7 @@ class AsTheAssemblerHasIt(unittest.TestCase):
 
     def test_tries(self):
         """An object file has no `.entry`."""
-        paths = sorted((ROOT / "tries" / "gnu").glob("*.s"))
+        paths = sorted((ROOT / "tests" / "gnu").glob("*.s"))
         self.assertGreater(len(paths), 30)
         for path in paths:
             self.same(path.read_text(), path.name, False)

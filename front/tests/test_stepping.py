@@ -253,7 +253,7 @@ class Stepping(Draw):
             self.assertIn(row, seen["state"])
         self.assertIn(["r33 (out0)", "0x15 (21)", "0xc000000000000082"], back["state"])
         entries = [[row for row in each["state"] if row[0].startswith("alat")]
-                   for each in self.seen(ROOT / "tries" / "alat_rules.s", [["range", number] for number in range(1, 60)])]
+                   for each in self.seen(ROOT / "tests" / "run" / "alat_rules.s", [["range", number] for number in range(1, 60)])]
         self.assertIn([["alat r9", "[0x100008], 8 bytes", ""], ["alat r8", "no entry", "[0x100000], 8 bytes"]], entries)
         self.assertIn([["alat r8", "[0x100000], 8 bytes", "no entry"], ["alat r9", "no entry", "[0x100008], 8 bytes"]], entries)
 

@@ -1,4 +1,4 @@
-"""Runs, told group by group: the lines of each kind, by hand; and of all examples and tries, that what is told of a group makes
+"""Runs, told group by group: the lines of each kind, by hand; and of all examples and tests, that what is told of a group makes
 the state behind it of that before it, as the program prints both by `run`."""
 
 import json
@@ -34,7 +34,7 @@ def example(name):
 
 
 def tried(name):
-    return ROOT / "tries" / f"{name}.s"
+    return ROOT / "tests" / "run" / f"{name}.s"
 
 
 def bundle(template, *slots, stop=" ;;"):
@@ -191,7 +191,7 @@ class Groups(Traced):
         page = (ROOT / "docs/FORMATS.md").read_text()
         table = re.search(r"(?s)\nThe kinds of faults\..*?\n\n(\|.*?)\n\n", page)[1]
         self.assertEqual(list(lines.FAULTS), re.findall(r"(?m)^\| `(\w+)` \|", table))
-        for path in sorted((ROOT / "tries").glob("fault_*.s")):
+        for path in sorted((ROOT / "tests" / "run").glob("fault_*.s")):
             kind = "".join(word.title() for word in path.stem.split("_")[1:])
             status, rows, _ = self.call(path, 10_000)
             self.assertEqual(status, 9, path)
@@ -793,12 +793,12 @@ def off_of(image, slots, state):
 
 
 class Whole(unittest.TestCase):
-    """All examples, lessons and tries that are accepted: what is told of each group makes the state behind it, and which of its
+    """All examples, lessons and tests that are accepted: what is told of each group makes the state behind it, and which of its
     slots have a predicate that is 0 is what their words say."""
 
     def test_states(self):
         program, told, off = Program(lambda: PROGRAM), 0, 0
-        folders = (ROOT / "examples", ROOT / "examples/lessons", ROOT / "tries")
+        folders = (ROOT / "examples", ROOT / "examples/lessons", ROOT / "tests/run")
         for path in [path for folder in folders for path in sorted(folder.glob("*.s"))]:
             status, image = raw("build", data=path.read_bytes())
             if status == 0 and raw("check", data=image)[0] == 0:

@@ -2,7 +2,7 @@
 """turned_rows: tries that the tables made outside refuse a row that is wrong.
 
 A row of words or of texts is code and definition at once, so no proof tells its operands from exchanged ones. Each edit here
-turns a row in a copy of the sources, and tools/format_tables.py has to say which one; of the sources as they are it has to say
+turns a row in a copy of the sources, and gate/format_tables.py has to say which one; of the sources as they are it has to say
 nothing. The status is 1 where one isn't refused, or can't be applied."""
 
 import shutil
@@ -14,7 +14,8 @@ from pathlib import Path
 TOP = Path(__file__).resolve().parent.parent
 READ = [
     "docs/FORMATS.md",
-    *(f"tools/{name}.py" for name in ("format_tables", "row_sources", "instruction_rows", "gnu_as")),
+    "gate/format_tables.py",
+    *(f"generate/{name}.py" for name in ("row_sources", "instruction_rows", "gnu_as")),
     *(f"crates/{name}/src" for name in ("insn_rows", "formats_a", "formats_i", "formats_m", "formats_b", "asm_forms", "asm_canonical")),
 ]
 TEXTS = "crates/asm_forms/src/rows.rt"
@@ -55,7 +56,7 @@ def copy(to):
 def said(top):
     """The status of the tool in a copy, and what it says."""
     told = subprocess.run(
-        [sys.executable, str(top / "tools/format_tables.py")], stdout=subprocess.PIPE, stderr=subprocess.STDOUT, universal_newlines=True
+        [sys.executable, str(top / "gate/format_tables.py")], stdout=subprocess.PIPE, stderr=subprocess.STDOUT, universal_newlines=True
     )
     return told.returncode, told.stdout
 

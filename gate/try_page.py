@@ -4,7 +4,7 @@ these headings, and compares what they print with what the pages say.
 
 Commands are blocks ```sh of a page; what they print is the block without a language that stands directly behind one. The
 blocks of a page run in its order, in a folder that stands for the root of the repository: it has the examples and the
-tries, and `./ia64` there is the built program by itself (by default that of this repository, which has to be built), or, where
+tests, and `./ia64` there is the built program by itself (by default that of this repository, which has to be built), or, where
 files are arguments, the front, which asks it. With --root they run in that folder as it is, an unpacked release, say. A page
 says what comes on standard output; nothing may come on standard error, but for the line by which the wrapper says what a
 refusal is.
@@ -51,7 +51,7 @@ esac
 
 def outline(folder, program):
     """What commands of a page find at the root of the repository."""
-    for name in ("examples", "tries"):
+    for name in ("examples", "tests"):
         (folder / name).symlink_to(ROOT / name)
     words = {"program": program, "python": sys.executable, "front": ROOT / "front"}
     (folder / "ia64").write_text(CALL.format(**{name: shlex.quote(str(word)) for name, word in words.items()}))
@@ -113,7 +113,7 @@ def main():
                        help="the sections with these headings alone")
     words.add_argument("--program", default=PROGRAM, metavar="PATH",
                        help="another program than the built one of this repository")
-    words.add_argument("--root", type=Path, metavar="FOLDER", help="where `./ia64`, the examples and the tries stand")
+    words.add_argument("--root", type=Path, metavar="FOLDER", help="where `./ia64`, the examples and the tests stand")
     words.add_argument("--answers", action="store_true", help="each line has to end with an answer, whatever that is")
     options = words.parse_args()
     if options.root is None and shutil.which(options.program) is None:

@@ -163,8 +163,8 @@ for name in loop_edge swap override late_alloc; do
   done
 done
 
-# A text of tries/ says in its first line for how many groups it is run and with which status that ends. All are accepted.
-for text in tries/*.s; do
+# A text of tests/run/ says in its first line for how many groups it is run and with which status that ends. All are accepted.
+for text in tests/run/*.s; do
   read -r _ _ groups _ status _ < <(tr -d ',:' < "$text")
   try "$text" "$status" "${text%.s}.state" "$text" run "$groups"
   try_watch "$text" "$status" "${text%.s}.state" "$text" "$groups"
@@ -226,7 +226,7 @@ printf '{ .mii\nnop 0\nnop 0\nnop 0\n}\n{ .mii\nnop 0\nadd r8=r32,r0\nnop 0 ;;\n
 try 'a fault within a group, watched' 9 "$dir/watched" "$dir/faulty" watch 100
 
 # Two writes of one register leave what the number of their order says, as text and as image. No verdict is made.
-writes=tries/check/two_writes_of_a_register.s
+writes=tests/check/two_writes_of_a_register.s
 "$program" build < "$writes" > "$dir/image"
 for row in '0 2' '1 1' '2 2' '18446744073709551615 1'; do
   read -r number value <<< "$row"
@@ -296,9 +296,9 @@ for name in count predicated behind_a_call counted_loop pipelined_loop call deep
   try "$name, an image" 0 "$dir/accepted" "$dir/image" check
 done
 
-# Each text of tries/check/ has its verdict beside it, and so has its image. Where that is violations, `run` and `watch`
+# Each text of tests/check/ has its verdict beside it, and so has its image. Where that is violations, `run` and `watch`
 # print it too, and nothing else.
-for text in tries/check/*.s; do
+for text in tests/check/*.s; do
   verdict=${text%.s}.verdict
   cmp -s "$verdict" "$dir/accepted"
   status=$?
@@ -681,7 +681,7 @@ refused_stops() {
 }
 
 # The example, whose comment has the lines of its stops.
-try 'a loose text' 0 tries/loose/example.packed examples/loose.s stops
+try 'a loose text' 0 tests/loose/example.packed examples/loose.s stops
 kept_by_stops 'a loose text'
 sed -n 's|^//   ||p' examples/loose.s > "$dir/wanted"
 grep '^//' "$dir/packed" | cmp -s - "$dir/wanted"

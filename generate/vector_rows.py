@@ -9,7 +9,7 @@ from pathlib import Path
 
 FOLDER = Path(__file__).resolve().parent.parent / "crates" / "vectors"
 
-# The parts in their order, each made by tools/make_PART_rows.py, and how many right and wrong rows each has. docs/CLAIMS.md
+# The parts in their order, each made by generate/make_PART_rows.py, and how many right and wrong rows each has. docs/CLAIMS.md
 # names these numbers.
 PARTS = {"bundle": (6417, 5), "line": (5152, 12), "text": (254, 6), "call": (1172, 8)}
 
@@ -22,7 +22,7 @@ ROW = re.compile(r"(?:not )?(?:bundle [0-9a-f]{32}(?: .*)?|slot [0-9a-f]{32} [0-
 
 
 def heading(part):
-    return f"# {part} rows, by tools/make_{part}_rows.py"
+    return f"# {part} rows, by generate/make_{part}_rows.py"
 
 
 def parts():
@@ -48,13 +48,13 @@ def faults(made):
     for part, rows in made.items():
         wrong = sum(row.startswith("not ") for row in rows)
         if (len(rows) - wrong, wrong) != PARTS[part]:
-            yield f"{part}: {len(rows) - wrong} rows, and {wrong} wrong ones, and tools/vector_rows.py says {PARTS[part]}"
+            yield f"{part}: {len(rows) - wrong} rows, and {wrong} wrong ones, and generate/vector_rows.py says {PARTS[part]}"
         yield from (f"{part}: no row that the program can read: {row!r}" for row in rows if not ROW.fullmatch(row))
 
 
 def stale(part, rows):
     """In what the files aren't what the scripts make them, as far as it can be seen without the GNU tools."""
-    found = [f"crates/vectors/{name} isn't what tools/make_{part}_rows.py makes" for name, text in files(part, rows).items()
+    found = [f"crates/vectors/{name} isn't what generate/make_{part}_rows.py makes" for name, text in files(part, rows).items()
              if (FOLDER / name).read_text(encoding="utf-8") != text]
     return found + list(faults(parts()))
 

@@ -38,7 +38,7 @@ def main():
             FOLDER.mkdir(exist_ok=True)
             path.write_bytes(picture)
         elif not path.exists() or path.read_bytes() != picture:
-            print(f"docs/pictures/{path.name} isn't what tools/make_pictures.py draws")
+            print(f"docs/pictures/{path.name} isn't what generate/make_pictures.py draws")
             stale = 1
     sys.exit(stale)
 

@@ -1,7 +1,7 @@
 #!/usr/bin/env python3
-"""Draws the examples, some tries and long functions, and shoots what a browser shows of them, to be looked at by eye.
+"""Draws the examples, some tests and long functions, and shoots what a browser shows of them, to be looked at by eye.
 
-  tools/look_at_pictures.py FOLDER [FILE..]
+  gate/look_at_pictures.py FOLDER [FILE..]
 
 It wants Chromium, and IA64_PROGRAM or a built program. In FOLDER stand then each picture as SVG and as a page, and its shots: as
 wide as a telephone, a page and a screen, in light and in dark.
@@ -76,7 +76,7 @@ def main():
             (folder / f"long{count}.s").write_text(long_text(count))
         examples = ROOT / "examples"
         names = [*sorted(examples.glob("*.s")), examples / "functions.o", examples / "read_after_write.image",
-                 *(ROOT / "tries" / "check" / f"{name}.s" for name in TRIES), folder / "long12.s", folder / "long200.s"]
+                 *(ROOT / "tests" / "check" / f"{name}.s" for name in TRIES), folder / "long12.s", folder / "long200.s"]
     with ThreadPoolExecutor(os.cpu_count()) as pool:
         for row in [shot for name in map(Path, names) for shot in shots(folder, name)]:
             pool.submit(shoot, os.environ.get("CHROMIUM", "chromium"), *row)

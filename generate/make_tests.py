@@ -1,10 +1,10 @@
 #!/usr/bin/env python3
-"""Makes the texts of tries/, programs that tools/try_program.sh runs: loop branches, frames, rotation, spills, faults and
+"""Makes the texts of tests/run/, programs that gate/try_program.sh runs: loop branches, frames, rotation, spills, faults and
 the ALAT. The first line of a text says for how many groups it is run and with which status that ends; NAME.state, which
 this doesn't make, has what is printed."""
 import os
 
-folder = os.path.join(os.path.dirname(os.path.abspath(__file__)), "..", "tries")
+folder = os.path.join(os.path.dirname(os.path.abspath(__file__)), "..", "tests/run")
 
 
 def bundle(shape, *slots):

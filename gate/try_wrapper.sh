@@ -63,7 +63,7 @@ try 'a violation on the way back' 1 "$dir/loop_edge" '' examples/loop_edge.s ./i
 try 'a run with register frames' 0 "$dir/call" '' examples/call.s ./ia64 run 100
 try 'build' 0 examples/read_after_write.image '' examples/read_after_write.s ./ia64 build
 try 'wrap' 0 examples/three_nops.image '' examples/three_nops.bundles ./ia64 wrap
-try 'stops' 0 tries/loose/example.packed '' examples/loose.s ./ia64 stops
+try 'stops' 0 tests/loose/example.packed '' examples/loose.s ./ia64 stops
 (printf IA64IMG2; tail -c +9 examples/three_nops.image) > "$dir/lifted"
 try 'lift' 0 "$dir/lifted" '' examples/three_nops.image ./ia64 lift
 [ "$(./ia64 build < examples/call.s | ./ia64 list | grep -c '^[0-9]')" = 6 ]

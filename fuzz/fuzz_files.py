@@ -2,7 +2,7 @@
 """Looks for damaged files on which the readers of the front end in another way than with an answer or a refusal. It is no part
 of the gate.
 
-Call it by hand: tools/fuzz_files.py [--seed S] [--cases N] [--only N] [--keep FOLDER]. Case n of a seed is the same on every
+Call it by hand: fuzz/fuzz_files.py [--seed S] [--cases N] [--only N] [--keep FOLDER]. Case n of a seed is the same on every
 machine. The files are ELF files of each class and order, PE files, COFF object files and archives, as front/tests/writers.py
 writes them, damaged: bytes, fields of the headers and the tables (0, 1, the highest, the file's length, another field's number),
 rows of tables exchanged and doubled, parts cut, put in and left out. Each is read whole.
@@ -24,8 +24,7 @@ import traceback
 from collections import Counter
 from pathlib import Path
 
-sys.dont_write_bytecode = True
-sys.path.insert(0, str(Path(__file__).resolve().parent.parent))
+import places
 
 from front import archive, elf, pe
 from front.faults import Fault

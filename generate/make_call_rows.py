@@ -3,7 +3,7 @@
 
 It needs nothing but Python 3.8 and the files of this repository. Run
 
-    tools/make_call_rows.py
+    generate/make_call_rows.py
 
 in any folder. It writes its part of `crates/vectors/stdin`, and prints how many rows speak of what. With `--check` it writes
 nothing: it ends with status 1 where that isn't what it makes, or where the file has lost rows of any part.
@@ -14,7 +14,7 @@ or so many times one.
 What is wanted is never the program's own output. The cases that are written here are worked by hand from docs/FORMATS.md,
 which says how a bundle, an image and a text are made, which status comes, and how much of the input is read then. The
 others are of files of this repository: the comment of an example says what `run` or `check` prints, and a text of
-tries/check/ has its verdict beside it, both worked by hand; a text of tries/ has its state beside it, which a model gave
+tests/check/ has its verdict beside it, both worked by hand; a text of tests/run/ has its state beside it, which a model gave
 too that was written apart, as it gave the sum of a long trial.
 
 In the last rows one thing is changed on purpose: the status, a byte of the output, a line of it, what is left of the
@@ -618,7 +618,7 @@ def stops():
     yield Row("stops", "", 3, "line 1: empty\n")
     yield Row("stops", "{ .mii\n", 3, "line 1: misplaced\n")
     yield Row("stops", "br x\nnop 0x200000\n", 3, "line 2: range\n")
-    yield Row("stops", file("examples/loose.s"), 0, file("tries/loose/example.packed"))
+    yield Row("stops", file("examples/loose.s"), 0, file("tests/loose/example.packed"))
 
 
 def texts_that_come_back():
@@ -869,9 +869,9 @@ def examples():
 
 
 def tries():
-    """Texts of tries/, whose first lines say for how many groups they are run and with which status that ends. All are
-    accepted. And those of tries/check/, with their verdicts."""
-    for path in sorted((ROOT / "tries").glob("*.s")):
+    """Texts of tests/run/, whose first lines say for how many groups they are run and with which status that ends. All are
+    accepted. And those of tests/check/, with their verdicts."""
+    for path in sorted((ROOT / "tests" / "run").glob("*.s")):
         text, ended = file(path), file(path.with_suffix(".state"))
         groups, status = map(int, re.match(r"// run (\d+), status (\d)", text).groups())
         yield Row(f"run {groups}", text, status, ended)
@@ -881,7 +881,7 @@ def tries():
             yield Row(f"trace {groups} 1", text, status, ended)
         for order in ORDERS:
             yield Row(f"groups {groups} {order}", text, status, ended)
-    for path in sorted((ROOT / "tries/check").glob("*.s")):
+    for path in sorted((ROOT / "tests/check").glob("*.s")):
         text, verdict = file(path), file(path.with_suffix(".verdict"))
         status = 0 if verdict == "accepted\n" else 1
         yield Row("check", text, status, verdict)

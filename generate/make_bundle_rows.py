@@ -5,7 +5,7 @@ It needs Python 3.9 or later, with its standard library alone, and the GNU assem
 objdump for IA-64 (`ia64-linux-gnu-as` and so on, of Debian's package binutils-ia64-linux-gnu; version
 2.40 made the files that are here). It is no part of the gate, which reads what it wrote. Run
 
-    python3 tools/make_bundle_rows.py
+    python3 generate/make_bundle_rows.py
 
 in any folder. It writes its part of `crates/vectors/stdin`, and prints what that covers. The same tools give the same rows.
 

@@ -1,9 +1,9 @@
 #!/usr/bin/env python3
 """Tries the page that runs the program, in Chromium, by hand.
 
-  tools/try_page_in_browser.py [PAGE] [--pictures FOLDER]
+  gate/try_page_in_browser.py [PAGE] [--pictures FOLDER]
 
-It asks the program in the page what it asks the native one, IA64_PROGRAM or the built one, of all examples, lessons and tries:
+It asks the program in the page what it asks the native one, IA64_PROGRAM or the built one, of all examples, lessons and tests:
 status and bytes have to be the same. Then it uses the page by keyboard alone, and holds what is shown to what the native
 program prints. With --pictures it shoots the page as wide as a telephone, a tablet and a screen, in light and in dark, and as
 it is printed, to be looked at by eye.
@@ -27,7 +27,7 @@ from pathlib import Path
 ROOT = Path(__file__).resolve().parent.parent
 PAGE = ROOT / "docs" / "page" / "index.html"
 PROGRAM = os.environ.get("IA64_PROGRAM", str(ROOT / "crates" / "ia64_cli" / "out" / "ia64_cli"))
-FOLDERS = ("examples", "examples/lessons", "tries", "tries/check", "tries/gnu", "tries/loose")
+FOLDERS = ("examples", "examples/lessons", "tests/run", "tests/check", "tests/gnu", "tests/loose")
 # What is asked of each text, and of the image that `build` makes of it.
 OF_TEXTS = ("check", "run 100", "watch 100", "trace 0 50", "build", "stops", "groups 50 1")
 OF_IMAGES = ("show", "list", "lift", "check")

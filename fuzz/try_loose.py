@@ -2,7 +2,7 @@
 """try_loose.py [--program FILE] [--seed S] [--texts N] [--real]: takes bundles and stops out of programs with
 `ia64 loosen`, and looks at what `stops` makes of what is left. It is no part of the gate.
 
-- Each program of `examples/` and `tries/` that is accepted, and with --real each of `../shared/real` beside the
+- Each program of `examples/` and `tests/` that is accepted, and with --real each of `../shared/real` beside the
   repository, where that is there: `stops` packs it, `build` takes what that prints, `check` accepts it, and it runs to
   the end and the results that the program had before. Registers that hold addresses of bundles aren't compared, since
   the bundles are others. Where data have such addresses, those of declared entries, they are put right in the image.
@@ -23,21 +23,17 @@ import subprocess
 import sys
 from pathlib import Path
 
-sys.dont_write_bytecode = True
+from places import PROGRAM, ROOT
 
 from gnu_as import stop
 from loose_model import Model, Unknown
 from printed_forms import HEAD, Layout
 from random_texts import Shape, random_lines
+from front import loosen
 
-ROOT = Path(__file__).resolve().parent.parent
-PROGRAM = ROOT / "crates" / "ia64_cli" / "out" / "ia64_cli"
 REAL = ROOT.parent / "shared" / "real"
 CODE_START = 0x10000
 GROUPS = "10000000"
-
-sys.path.append(str(ROOT))
-from front import loosen  # noqa: E402
 
 
 class Wrong(Exception):
@@ -126,7 +122,7 @@ def try_image(options, image):
 
 def own_images(options):
     """The accepted programs of the repository that end, by name."""
-    for path in sorted([*(ROOT / "examples").glob("*.s"), *(ROOT / "tries").glob("*.s")]):
+    for path in sorted([*(ROOT / "examples").glob("*.s"), *(ROOT / "tests" / "run").glob("*.s")]):
         status, image = call(options, "build", path.read_bytes())
         if status == 0 and call(options, "check", image)[0] == 0 and call(options, f"run {GROUPS}", image)[0] == 0:
             yield path.name, image

@@ -1,13 +1,13 @@
 #!/usr/bin/env python3
 """Keeps what is said of instructions elsewhere to the rows that the program decodes and encodes by.
 
-  tools/format_tables.py            says which lines of docs/FORMATS.md aren't what the rows say, and of which row of words not just one
+  gate/format_tables.py            says which lines of docs/FORMATS.md aren't what the rows say, and of which row of words not just one
                                     row of instruction_rows.py is, by the ends of its operands and by what is chosen in its opcode;
                                     which zeros of that table are bits that a word may have, and which of its words no form has that
                                     is printed; and which forms that are printed have their completers or operands in the order of
                                     none of its lines, and which forms write a value in another way than its operand in a word is
                                     coded. The status is then 1
-  tools/format_tables.py --write    writes the lines
+  gate/format_tables.py --write    writes the lines
 
 A table of the page has a line for each format of a family. What its first column says, the instructions as a user writes them,
 stands in the page alone; the other columns are made here.
@@ -21,13 +21,15 @@ from pathlib import Path
 from string import Template
 
 sys.dont_write_bytecode = True
+ROOT = Path(__file__).resolve().parent.parent
+sys.path.append(str(ROOT / "generate"))
 
 from instruction_rows import ROWS, combinations  # noqa: E402
 from row_sources import (  # noqa: E402
     FAMILIES, Operand, completer_texts, fields, formats, forms, operand_names, operands, printed_forms, rows,
 )
 
-PAGE = Path(__file__).resolve().parent.parent / "docs" / "FORMATS.md"
+PAGE = ROOT / "docs" / "FORMATS.md"
 # The tables of the page, by their headings, with the families of each.
 TABLES = {
     "### A: M and I slots": "A",

@@ -1,9 +1,9 @@
 #!/usr/bin/env python3
 """Looks for inputs on which the built program doesn't keep docs/FORMATS.md. It is no part of the gate.
 
-Call it when the program is built: tools/fuzz.py [--program FILE] [--seed S] [--cases N] [--processes P].
+Call it when the program is built: fuzz/fuzz.py [--program FILE] [--seed S] [--cases N] [--processes P].
 Case n of a seed is the same on every machine, as far as the program builds the same images of the texts
-of tries/ and examples/. The cases are of ten sorts by turns: random programs as texts, which have to be
+of tests/run/ and examples/. The cases are of ten sorts by turns: random programs as texts, which have to be
 right; such texts and those of the repository, damaged; images of both, damaged; such images with relations,
 of which one may be changed; bare bundles; bytes that are nothing; words near the commands; texts with one
 fault, whose reason and line are known; loose texts, made of such texts as `ia64 loosen` does, some of them damaged;
@@ -44,19 +44,14 @@ import sys
 import time
 from pathlib import Path
 
-sys.dont_write_bytecode = True
+from places import PROGRAM, ROOT
 
 from damage import CODE_EDITS, IMAGE_EDITS, TEXT_EDITS, damaged, flip, random_bytes, relation_edit, relations_added
 from gnu_as import stop
 from calls import COMMANDS, DONE, INPUT_LIMIT, REFUSED, Answer, GivenUp, Calls
 from printed_forms import MAGICS, Layout, head
 from random_texts import FAULT_KINDS, LOOSE_FAULT_KINDS, Shape, random_lines
-
-ROOT = Path(__file__).resolve().parent.parent
-PROGRAM = ROOT / "crates" / "ia64_cli" / "out" / "ia64_cli"
-
-sys.path.append(str(ROOT))
-from front import loosen  # noqa: E402
+from front import loosen
 
 Result = collections.namedtuple("Result", "number sort findings calls seconds slowest")
 
@@ -67,7 +62,7 @@ Result = collections.namedtuple("Result", "number sort findings calls seconds sl
 @functools.lru_cache(maxsize=None)
 def texts():
     """The texts of the repository."""
-    folders = ("examples", "tries", "tries/check", "tries/gnu")
+    folders = ("examples", "tests/run", "tests/check", "tests/gnu")
     return [path.read_bytes() for folder in folders for path in sorted((ROOT / folder).glob("*.s"))]
 
 

@@ -1,5 +1,5 @@
 #!/usr/bin/env python3
-"""Holds the texts of tries/gnu/, on which `check` and the GNU assembler for IA-64 differ, to both.
+"""Holds the texts of tests/gnu/, on which `check` and the GNU assembler for IA-64 differ, to both.
 
 The first line of a text says what the two answer, and the second why they differ:
 
@@ -11,7 +11,7 @@ of its warnings: `RAW r8` where it says that an instruction violates a dependenc
 where it may, and ` at label x` where it says so of an entry at the label. Without any it is
 `accepted`, and `nothing`.
 
-Call it when the program is built: tools/gnu_check.py [PROGRAM]. It prints a line for each answer
+Call it when the program is built: gate/gnu_check.py [PROGRAM]. It prints a line for each answer
 that differs from the text's, and a count; it ends with status 1 where one differs. Without the GNU
 assembler it holds the texts to `check` alone, and says so.
 
@@ -28,10 +28,12 @@ import sys
 from itertools import takewhile
 from pathlib import Path
 
-from gnu_as import PREFIX, stop
-
 ROOT = Path(__file__).resolve().parent.parent
-TEXTS = ROOT / "tries" / "gnu"
+sys.path.append(str(ROOT / "generate"))
+
+from gnu_as import PREFIX, stop  # noqa: E402
+
+TEXTS = ROOT / "tests" / "gnu"
 PROGRAM = ROOT / "crates" / "ia64_cli" / "out" / "ia64_cli"
 ASSEMBLER = PREFIX + "as"
 
@@ -53,7 +55,7 @@ RESOURCES = {"GR%": "r", "PR%": "p", "PR63": "p63", "BR%": "b", "AR[UNAT]": "una
 
 
 class Try:
-    """A text of tries/gnu/: its name and its path, what the two tools answer, why, and its program."""
+    """A text of tests/gnu/: its name and its path, what the two tools answer, why, and its program."""
 
     def __init__(self, path):
         first, second, *self.lines = path.read_text().splitlines()

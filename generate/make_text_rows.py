@@ -4,7 +4,7 @@
 It needs what `gnu_as.py` needs, and `ia64-linux-gnu-ld` and `-nm` of the same package, and is no part of
 the gate. Run
 
-    python3 tools/make_text_rows.py
+    python3 generate/make_text_rows.py
 
 in any folder. It writes its part of `crates/vectors/stdin`, and prints what that covers. The same tools
 give the same rows. They are calls of `build`, in the form of those of `make_call_rows.py`.
@@ -41,7 +41,7 @@ ROOT = Path(__file__).resolve().parent.parent
 CODE, DATA = 0x10000, 0x100000
 
 # Where programs are kept.
-PROGRAMS = ("examples", "tries", "tries/check", "tries/gnu")
+PROGRAMS = ("examples", "tests/run", "tests/check", "tests/gnu")
 
 # How many texts are drawn, and the most bundles of one.
 DRAWN, MOST = 120, 12
@@ -160,7 +160,7 @@ def image(lines):
 
 
 def kept():
-    """The lines of the programs of `examples` and `tries` that have bundles, and that the assembler takes and gives no
+    """The lines of the programs of `examples` and `tests` that have bundles, and that the assembler takes and gives no
     stop more."""
     paths = [path for folder in PROGRAMS for path in sorted((ROOT / folder).glob("*.s")) if "\n{" in path.read_text()]
     texts = [path.read_text().splitlines() for path in paths if is_taken(path)]

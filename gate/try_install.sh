@@ -61,7 +61,7 @@ released=$folder/released/$(basename "$tarball" .tar.gz)
 tries "$released" 'released'
 (cd "$released" && sha256sum --quiet -c SHA256SUMS) && grep -q '^rattle-kit' "$released/LOGIC"
 note $? "the release's files"
-said=$(PATH=$folder/bin:$folder/more tools/try_pages.sh "$released" 2>&1)
+said=$(PATH=$folder/bin:$folder/more gate/try_pages.sh "$released" 2>&1)
 note $? "what the documents say in an unpacked release: $said"
 echo "try_install: $passed passed, $failed failed"
 [ "$failed" = 0 ]

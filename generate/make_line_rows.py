@@ -3,7 +3,7 @@
 
 It needs what `make_bundle_rows.py` needs, and is no part of the gate either. Run
 
-    python3 tools/make_line_rows.py
+    python3 generate/make_line_rows.py
 
 in any folder. It writes its part of `crates/vectors/stdin`, and prints what that covers. The same tools
 give the same rows. They are:
