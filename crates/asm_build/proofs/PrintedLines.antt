@@ -3,15 +3,15 @@ use Rattle.std.proofs.Common.{◌≡◌, ◌∙◌, ℕ, ◌<◌, ◌≤◌, ◌
 use Rattle.std.specs.Fmt.{decimal}
 use Rattle.std.proofs.lemmas.List.{append-nil}
 use Rattle.std.proofs.lemmas.Bool.{cond-false}
-use Rattle.asm_words.specs.declared.limits.TheConstants.{LINE_LIMIT}
-use Rattle.asm_words.specs.declared.word.WordKind.TheVariants as kind
-use Rattle.asm_words.specs.Bytes.{has_only_plain}
-use Rattle.asm_words.proofs.Lexed.{lexed}
-use Rattle.asm_words.proofs.Lexing.{name_lexed}
-use Rattle.asm_words.proofs.Readings.{label_is_short, label_reads, decimal_is_name_bytes, decimal_is_plain, both_plain}
+use Rattle.asm_lexemes.specs.declared.limits.TheConstants.{LINE_LIMIT}
+use Rattle.asm_lexemes.specs.declared.lexeme.LexemeKind.TheVariants as kind
+use Rattle.asm_lexemes.specs.Bytes.{has_only_plain}
+use Rattle.asm_lexemes.proofs.Lexed.{lexed}
+use Rattle.asm_lexemes.proofs.Lexing.{name_lexed}
+use Rattle.asm_lexemes.proofs.Readings.{label_is_short, label_reads, decimal_is_name_bytes, decimal_is_plain, both_plain}
 use Rattle.asm_forms.specs.declared.form.Form.TheVariants as form
 use Rattle.asm_matching.specs.Matching.{read_form}
-use Rattle.asm_words.specs.Tokens.{token_of}
+use Rattle.asm_lexemes.specs.Tokens.{token_of}
 use Rattle.asm_reading.specs.declared.line.Line.{Line}
 use Rattle.asm_reading.specs.declared.line.Line.TheVariants as line
 use Rattle.asm_reading.specs.declared.line.TemplateName.{TemplateName}

@@ -2,15 +2,15 @@
 use Rattle.std.proofs.Common.{◌≡◌, ◌∙◌, ℕ, ◌+◌, ◌*◌, ◌<◌, ◌≤◌, ◌%◌, ◌^◌, true, false, ◌==◌, leb, List, [], ◌∷◌, ◌++◌, length, codes, Ok, refl, ap, arith, length-append}
 use Rattle.std.specs.Fmt.{digits}
 use Rattle.std.proofs.lemmas.Bool.{lt-ltb, le-leb, eq-eqb, ne_eqb, cond-false}
-use Rattle.asm_words.specs.declared.limits.TheConstants.{NUMBER_TOKEN_LIMIT}
-use Rattle.asm_words.specs.declared.word.WordKind.TheVariants as kind
-use Rattle.asm_words.specs.declared.tokens.Token.{Token}
-use Rattle.asm_words.specs.declared.tokens.Token.TheVariants as t
-use Rattle.asm_words.specs.Bytes.{has_only_plain}
-use Rattle.asm_words.specs.Tokens.{token_of}
-use Rattle.asm_words.proofs.Lexed.{lexed, is_end}
-use Rattle.asm_words.proofs.Lexing.{name_lexed}
-use Rattle.asm_words.proofs.Readings.{hex_reads, hex_is_plain, both_plain, hex_lexed}
+use Rattle.asm_lexemes.specs.declared.limits.TheConstants.{NUMBER_TOKEN_LIMIT}
+use Rattle.asm_lexemes.specs.declared.lexeme.LexemeKind.TheVariants as kind
+use Rattle.asm_lexemes.specs.declared.tokens.Token.{Token}
+use Rattle.asm_lexemes.specs.declared.tokens.Token.TheVariants as t
+use Rattle.asm_lexemes.specs.Bytes.{has_only_plain}
+use Rattle.asm_lexemes.specs.Tokens.{token_of}
+use Rattle.asm_lexemes.proofs.Lexed.{lexed, is_end}
+use Rattle.asm_lexemes.proofs.Lexing.{name_lexed}
+use Rattle.asm_lexemes.proofs.Readings.{hex_reads, hex_is_plain, both_plain, hex_lexed}
 use Rattle.asm_forms.specs.declared.choices.AccessSize.TheVariants as size
 use Rattle.asm_forms.specs.declared.items.NumberField.TheVariants as field
 use Rattle.asm_reading.specs.declared.line.Line.TheVariants as line

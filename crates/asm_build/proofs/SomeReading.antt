@@ -4,7 +4,7 @@ use Rattle.std.proofs.Math.Decide.{dec_le, dec_lt}
 use Rattle.std.specs.Map.{values_of}
 use Rattle.first_fault.specs.Stages.{Stage, IsFirstFault, ArePassed}
 use Rattle.first_fault.proofs.Laws.{IsDecided, AreDecided, some_fault}
-use Rattle.asm_words.specs.declared.limits.TheConstants.{LINE_LIMIT}
+use Rattle.asm_lexemes.specs.declared.limits.TheConstants.{LINE_LIMIT}
 use Rattle.insn_rows.proofs.Decided.{all}
 use Rattle.asm_reading.specs.declared.line.Line.{Line}
 use Rattle.asm_reading.specs.SomeAnswer.{LineOrFault}

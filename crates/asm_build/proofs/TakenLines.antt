@@ -2,7 +2,7 @@
 use Rattle.std.proofs.Common.{◌≡◌, ◌⊎◌, inl, inr, ap, ℕ, ◌+◌, ◌≤◌, List, ◌∷◌, length, Result, Ok, Err}
 use Rattle.std.specs.Prelude.{OnOk, IfErr}
 use Rattle.first_fault.specs.Stages.{ArePassed, IsFirstFault}
-use Rattle.asm_words.specs.declared.limits.TheConstants.{LINE_LIMIT}
+use Rattle.asm_lexemes.specs.declared.limits.TheConstants.{LINE_LIMIT}
 use Rattle.asm_reading.specs.declared.line.Line.{Line}
 use Rattle.asm_reading.specs.Lines.{LineOf}
 use Rattle.asm_build.specs.declared.reason.Reason.{Reason}

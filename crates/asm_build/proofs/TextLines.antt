@@ -6,7 +6,7 @@ use Rattle.std.proofs.Math.Seq.{take-append_seam}
 use Rattle.bstr.specs.Text.{lines_of, without_terminator, no_cr}
 use Rattle.bstr.proofs.lemmas.LineLemmas.{lines-append, lines-one}
 use Rattle.ia_program.proofs.Tests.{left, right}
-use Rattle.asm_words.specs.Bytes.{is_plain_byte, has_only_plain}
+use Rattle.asm_lexemes.specs.Bytes.{is_plain_byte, has_only_plain}
 use Rattle.asm_build.specs.CanonicalText.{line}
 use Rattle.asm_build.specs.TextReading.{text_lines}
 

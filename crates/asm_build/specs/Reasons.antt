@@ -1,7 +1,7 @@
 -- Why a text is no program, in words, and why a line is refused by itself.
 use Rattle.std.specs.Prelude.{ℕ, List, codes}
-use Rattle.asm_words.specs.declared.fault.LineFault.{LineFault}
-use Rattle.asm_words.specs.declared.fault.LineFault.TheVariants as fault
+use Rattle.asm_lexemes.specs.declared.fault.LineFault.{LineFault}
+use Rattle.asm_lexemes.specs.declared.fault.LineFault.TheVariants as fault
 use Rattle.asm_build.specs.declared.reason.Reason.{Reason}
 use Rattle.asm_build.specs.declared.reason.Reason.TheVariants as reason
 

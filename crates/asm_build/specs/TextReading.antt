@@ -2,12 +2,12 @@
 use Rattle.std.specs.Prelude.{◌≡◌, ℕ, ◌+◌, ◌<◌, ◌≤◌, ◌⊎◌, List, [], ◌∷◌, map, length, Option, Some, None, Result, Ok, Err}
 use Rattle.bstr.specs.Text.{lines_of, without_terminator}
 use Rattle.first_fault.specs.Stages.{Stage, unless, first, IsFirstFault, ArePassed}
-use Rattle.asm_words.specs.declared.limits.TheConstants.{LINE_LIMIT}
+use Rattle.asm_lexemes.specs.declared.limits.TheConstants.{LINE_LIMIT}
 use Rattle.ia_program.specs.declared.place.Place.{Place}
 use Rattle.ia_program.specs.Places.{EachPlace, IsFirstBad}
 use Rattle.ia_program.specs.Programs.{Program, IsEntryOf}
 use Rattle.ia_program.specs.Runs.{IsWithinRun}
-use Rattle.asm_words.specs.declared.fault.LineFault.{LineFault}
+use Rattle.asm_lexemes.specs.declared.fault.LineFault.{LineFault}
 use Rattle.asm_reading.specs.declared.line.Line.{Line}
 use Rattle.asm_reading.specs.Lines.{LineOf, FaultOf}
 use Rattle.asm_build.specs.declared.reason.Reason.{Reason}

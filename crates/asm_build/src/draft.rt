@@ -10,8 +10,8 @@ ghost use Rattle.asm_build.specs.Drafts.{OpenBundle, AreFitting, letter_of, lett
 ghost use Rattle.asm_build.specs.Names.{slot_line};
 
 use crate::template_name::{template_of, units_named};
+use asm_lexemes::Name;
 use asm_text::{Draft, TemplateName};
-use asm_words::Name;
 use ia_insn::{Insn, Op, Pr, Unit};
 use ia_program::{BundleOf, Slots, fits};
 use slot_layouts::{class_of, place_is_fit};

@@ -15,7 +15,7 @@ use crate::address::{Address, addressed};
 use crate::draft::{BundleLines, SlotName};
 use crate::reason::{Reason, TextError, fault};
 use crate::text_parts::{EntryLine, TextParts};
-use asm_words::Name;
+use asm_lexemes::Name;
 use ia_insn::{Insn, Op};
 use ia_program::limits::ENTRY_LIMIT;
 use ia_program::{BundleOf, Slots};

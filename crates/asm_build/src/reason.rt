@@ -4,7 +4,7 @@ ghost use Rattle.std.specs.Prelude.{◌≡◌, Some};
 ghost use Rattle.asm_build.specs.declared.reason.TextError.TheVariants.{Fault, Memory};
 ghost use Rattle.asm_build.specs.Reasons.{reason_of, reason_text};
 
-use asm_words::LineFault;
+use asm_lexemes::LineFault;
 use std::alloc::{AllocError, AllocFailed};
 use std::fmt;
 use thiserror::Error;
@@ -33,7 +33,7 @@ pub enum Reason {
     Twice,
     /// No label that fits has the name.
     NoLabel,
-    /// A line over [`LINE_LIMIT`](asm_words::limits::LINE_LIMIT) bytes, or a bundle, data, a declared entry or a
+    /// A line over [`LINE_LIMIT`](asm_lexemes::limits::LINE_LIMIT) bytes, or a bundle, data, a declared entry or a
     /// declared relation past its [limit](ia_program::limits).
     Limit,
     /// A slot past [`RUN_LIMIT`](ia_program::limits::RUN_LIMIT) others of its run.

@@ -2,8 +2,8 @@
 -- their whether and prefetch hints, a move to a branch register its tag, a move to the predicates its mask.
 use Rattle.std.specs.Prelude.{ℕ, unsigned_abs, ◌-◌, ◌*◌, ℤ, pos, negsuc, Bool, true, false, not, ◌==◌, if◌then◌else◌, List, [], ◌∷◌, map, unwrap_or}
 use Rattle.std.specs.List.{find, list_all}
-use Rattle.asm_words.specs.declared.tokens.Token.{Token}
-use Rattle.asm_words.specs.declared.tokens.Token.TheVariants as t
+use Rattle.asm_lexemes.specs.declared.tokens.Token.{Token}
+use Rattle.asm_lexemes.specs.declared.tokens.Token.TheVariants as t
 use denote.Enum.Bare.{sameb}
 use Rattle.asm_forms.specs.declared.completer.Completer.{Completer}
 use Rattle.asm_forms.specs.declared.completer.Said.{Said}

@@ -4,7 +4,7 @@ ghost use Rattle.std.specs.Prelude.{◌≡◌};
 ghost use Rattle.asm_canonical.specs.Canonical.{number, natural, ones_number, is_said, completer_of, value_token, register_of, operand_of};
 
 use asm_forms::{Completer, CompleterSet, Kind, Said, members};
-use asm_words::Token;
+use asm_lexemes::Token;
 use ia_insn::Ar;
 use insn_rows::{Opcode, Value};
 

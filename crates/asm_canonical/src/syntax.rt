@@ -7,7 +7,7 @@ ghost use Rattle.asm_canonical.specs.Canonical.{Syntax as SyntaxOf, syntax, comp
 use crate::fields::{completer_of, operand_of};
 use crate::forms::form_of;
 use asm_forms::{Completer, CompleterSet, Completers, Kind, Operands, Row};
-use asm_words::Token;
+use asm_lexemes::Token;
 use ia_insn::{Insn, Op, Pr};
 use insn_rows::{Opcode, Value, Values, opcode_of, small, value_at, values_of};
 use std::marker::Model;

@@ -1,7 +1,7 @@
 -- Which operands are those of a form.
 use Rattle.std.specs.Prelude.{Bool, List}
 use Rattle.std.specs.Cmp.Lexicographic.{pointwise}
-use Rattle.asm_words.specs.declared.tokens.Token.{Token}
+use Rattle.asm_lexemes.specs.declared.tokens.Token.{Token}
 use Rattle.asm_forms.specs.declared.form.Form.{Form}
 use Rattle.asm_forms.specs.Items.{accepts}
 use Rattle.asm_forms.specs.Rows.{row_of}

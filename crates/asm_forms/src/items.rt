@@ -4,7 +4,7 @@ ghost use Rattle.std.specs.Prelude.{◌≡◌};
 ghost use Rattle.std.specs.Cmp.Lexicographic.{pointwise};
 ghost use Rattle.asm_forms.specs.Items.{mark_token, is_mark, takes, accepts, has_room, within, is_label, is_register, is_number, is_label_item, begins_with_letter, is_long_name, is_stop};
 
-use asm_words::Token;
+use asm_lexemes::Token;
 use ia_insn::{Ar, Gr};
 use ia_program::limits::DATA_LIMIT;
 

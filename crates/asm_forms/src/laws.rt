@@ -2,7 +2,7 @@
 
 ghost use Rattle.std.specs.Prelude.{◌≡◌, ◌++◌, true, List, Some, flat_map};
 ghost use Rattle.std.specs.List.{find};
-ghost use Rattle.asm_words.specs.declared.tokens.Token.{Token};
+ghost use Rattle.asm_lexemes.specs.declared.tokens.Token.{Token};
 ghost use Rattle.asm_forms.specs.declared.completer.Completer.{Completer};
 ghost use Rattle.asm_forms.specs.declared.form.Form.{Form};
 ghost use Rattle.asm_forms.specs.Completers.{text_of};

@@ -6,7 +6,7 @@ ghost use Rattle.asm_forms.specs.Items.{operand_count, taken};
 
 use crate::items::FormItem;
 use arrayvec::ArrayVec;
-use asm_words::Token;
+use asm_lexemes::Token;
 
 /// The operands of a line, of which no form takes more than 5.
 pub type Operands = ArrayVec<Token, 5>;

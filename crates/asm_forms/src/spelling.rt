@@ -11,7 +11,7 @@ ghost use Rattle.asm_forms.specs.Spelled.{is_spelled};
 use crate::items::are_accepted;
 use crate::naming::{Completers, begins, completers_into, rows_by_letter};
 use crate::rows::{FormRow, Row};
-use asm_words::Token;
+use asm_lexemes::Token;
 
 /// Whether the mnemonic is the row's word with completers, which are then put into the list, and the operands are the row's.
 #[inline(always)]

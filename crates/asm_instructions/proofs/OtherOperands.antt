@@ -1,7 +1,7 @@
 -- Operands of nothing, and opcodes that name no application register.
 use Rattle.std.proofs.Common.{◌≡◌, ◌∙◌, length, arith, refl, sym, ap, ℕ, Bool, true, false, List, [], ◌∷◌}
-use Rattle.asm_words.specs.declared.tokens.Token.{Token}
-use Rattle.asm_words.specs.declared.tokens.Token.TheVariants as t
+use Rattle.asm_lexemes.specs.declared.tokens.Token.{Token}
+use Rattle.asm_lexemes.specs.declared.tokens.Token.TheVariants as t
 use Rattle.asm_forms.specs.declared.items.FormItem.{FormItem}
 use Rattle.asm_forms.specs.declared.items.Kind.{Kind}
 use Rattle.asm_forms.specs.Items.{taken}

@@ -1,8 +1,8 @@
 -- The instruction that the completers and the operands of a form make, by the form's row (volume 3, chapter 2).
 use Rattle.std.specs.Prelude.{ℕ, ℤ, ◌+◌, ◌-◌, ◌/◌, false, nat_lt, if◌then◌else◌, List, [], ◌∷◌, Option, Some, None, slice_set}
 use Rattle.std.specs.Option.{option_map, option_and_then}
-use Rattle.asm_words.specs.declared.tokens.Token.{Token}
-use Rattle.asm_words.specs.declared.tokens.Token.TheVariants as t
+use Rattle.asm_lexemes.specs.declared.tokens.Token.{Token}
+use Rattle.asm_lexemes.specs.declared.tokens.Token.TheVariants as t
 use Rattle.asm_forms.specs.declared.completer.Completer.{Completer}
 use Rattle.asm_forms.specs.declared.completer.CompleterSet.{CompleterSet}
 use Rattle.asm_forms.specs.declared.completer.Said.{Said}

@@ -1,8 +1,8 @@
 -- What the operands and the completers of a line say, as values of an instruction.
 use Rattle.std.specs.Prelude.{ℕ, ◌-◌, ◌^◌, ◌%◌, ℤ, pos, ◌-ℤ◌, Bool, true, false, not, nat_lt, ◌==◌, if◌then◌else◌, List, slice_index_or}
 use lib.IntN.{neg_ℤ}
-use Rattle.asm_words.specs.declared.tokens.Token.{Token}
-use Rattle.asm_words.specs.declared.tokens.Token.TheVariants as t
+use Rattle.asm_lexemes.specs.declared.tokens.Token.{Token}
+use Rattle.asm_lexemes.specs.declared.tokens.Token.TheVariants as t
 use Rattle.asm_forms.specs.declared.completer.Said.{Said}
 use Rattle.asm_forms.specs.declared.completer.Said.TheVariants as said
 use Rattle.asm_forms.specs.declared.items.Kind.{Kind}

@@ -1,7 +1,7 @@
 //! The instruction that the completers and the operands of a form make, by the form's row.
 
 ghost use Rattle.std.specs.Prelude.{◌≡◌, List, Some};
-ghost use Rattle.asm_words.specs.declared.tokens.Token.{Token as TokenOf};
+ghost use Rattle.asm_lexemes.specs.declared.tokens.Token.{Token as TokenOf};
 ghost use Rattle.asm_forms.specs.declared.form.Form.TheVariants as form;
 ghost use Rattle.asm_forms.specs.Items.{taken};
 ghost use Rattle.asm_forms.specs.Rows.{row_of, AreValues};
@@ -13,7 +13,7 @@ use crate::operands::{is_negative_at, magnitude_at, operand_value, said_value, s
 use asm_forms::{
     Completer, CompleterSet, Form, FormItem, Kind, NumberField, Row, Said, has_room, taken,
 };
-use asm_words::Token;
+use asm_lexemes::Token;
 use ia_insn::{Ar, Gr, Op, Unit};
 use insn_rows::{Opcode, Value, Values, insn_of};
 

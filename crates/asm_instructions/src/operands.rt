@@ -5,7 +5,7 @@ ghost use Rattle.std.specs.Prelude.{◌≡◌, ◌<◌, ◌≤◌, ◌≢◌, ne
 ghost use Rattle.asm_instructions.specs.Operands.{token_at, magnitude_at, is_negative_at, small, small_at, u32_at, long, short, wrapped, even, number_value, operand_value, said_value, bytes};
 
 use asm_forms::{AccessSize, Kind, NumberField, Said};
-use asm_words::Token;
+use asm_lexemes::Token;
 use insn_rows::Value;
 
 fn token_at(tokens: &[Token], at: usize) -> Token

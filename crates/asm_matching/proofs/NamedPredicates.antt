@@ -9,8 +9,8 @@ use Rattle.std.proofs.lemmas.List.Elements.{All-filter}
 use Rattle.std.proofs.lemmas.List.FromFn.{length-range_with_len, get_or-range_with_len}
 use Rattle.std.proofs.lemmas.List.Kept.{IsStrictlyIncreasing-filter}
 use Rattle.std.proofs.lemmas.List.Sums.{length-filter, count_by-le-length}
-use Rattle.asm_words.specs.declared.tokens.Token.{Token}
-use Rattle.asm_words.specs.declared.tokens.Token.TheVariants as t
+use Rattle.asm_lexemes.specs.declared.tokens.Token.{Token}
+use Rattle.asm_lexemes.specs.declared.tokens.Token.TheVariants as t
 use Rattle.asm_matching.specs.Related.{IsRelated, ArePredicates}
 use Rattle.asm_matching.specs.Relations.{is_named, named_predicates}
 

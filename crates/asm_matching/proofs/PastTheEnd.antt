@@ -1,6 +1,6 @@
 -- Where no token is left the items agree on no further one.
 use Rattle.std.proofs.Common.{◌≡◌, ◌≤◌, ℕ, List, [], ◌∷◌, length, drop, refl}
-use Rattle.asm_words.specs.declared.tokens.Token.{Token}
+use Rattle.asm_lexemes.specs.declared.tokens.Token.{Token}
 use Rattle.asm_forms.specs.declared.items.FormItem.{FormItem}
 use Rattle.asm_matching.specs.Matching.{agreed_items}
 use Rattle.std.proofs.lemmas.List.{drop_all}

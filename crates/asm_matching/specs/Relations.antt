@@ -1,10 +1,10 @@
 -- The tokens of a relation line: `"mutex"`, and predicates of p1 to p15, each after a comma and none of them twice.
 use Rattle.std.specs.Prelude.{ℕ, ◌+◌, ◌%◌, Bool, true, false, not, ◌&&◌, nat_le, ◌==◌, if◌then◌else◌, List, [], ◌∷◌, ◌++◌, length, Option, Some, None, slice_get}
 use Rattle.std.specs.List.{filter, list_any, range_with_len}
-use Rattle.asm_words.specs.declared.tokens.Token.{Token}
-use Rattle.asm_words.specs.declared.tokens.Token.TheVariants as t
-use Rattle.asm_words.specs.declared.fault.LineFault.{LineFault}
-use Rattle.asm_words.specs.declared.fault.LineFault.TheVariants as fault
+use Rattle.asm_lexemes.specs.declared.tokens.Token.{Token}
+use Rattle.asm_lexemes.specs.declared.tokens.Token.TheVariants as t
+use Rattle.asm_lexemes.specs.declared.fault.LineFault.{LineFault}
+use Rattle.asm_lexemes.specs.declared.fault.LineFault.TheVariants as fault
 use Rattle.asm_matching.specs.Related.{is_related}
 
 -- the token is this predicate

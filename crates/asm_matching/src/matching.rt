@@ -9,7 +9,7 @@ use asm_forms::{
     Form, FormItem, accepts, are_accepted, begins_with_letter, is_label_item, is_long_name,
     is_number, is_register, is_stop,
 };
-use asm_words::{LineFault, Token};
+use asm_lexemes::{LineFault, Token};
 
 /// A class of items.
 #[derive(Clone, Copy)]

@@ -5,7 +5,7 @@ ghost use Rattle.asm_matching.specs.Related.{is_related};
 ghost use Rattle.asm_matching.specs.Relations.{is_predicate, is_named, named_predicates, is_another, is_mutex, is_comma, wants_predicate, may_follow, agreed_relation, unrelated_fault, relation_fault_at, relation_fault};
 
 use arrayvec::ArrayVec;
-use asm_words::{LineFault, Token};
+use asm_lexemes::{LineFault, Token};
 
 /// Whether a relation may name the predicate.
 fn is_related(p: u8) -> bool

@@ -6,7 +6,7 @@ use Rattle.std.proofs.lemmas.Fmt.{length-decimal-le}
 use Rattle.std.proofs.lemmas.Bool.{leb-true, leb-false}
 use Rattle.std.proofs.lemmas.List.{length-append}
 use native.Mathlib.Nat.{pow-suc}
-use Rattle.asm_words.proofs.HexDigits.{hex_one, hex_step}
+use Rattle.asm_lexemes.proofs.HexDigits.{hex_one, hex_step}
 use Rattle.asm_forms.specs.declared.form.Form.{Form}
 use Rattle.asm_forms.specs.Rows.{rows, row_of}
 use Rattle.asm_forms.proofs.RowFacts.{of_row}

@@ -67,7 +67,7 @@ fn hex_digit(digit: u64) -> u8
 }
 
 /// Puts a number in hexadecimal, in lower case and without a prefix, where there is room for it.
-#[tactic(auto, using(asm_words::proofs::HexDigits::hex_step, asm_words::proofs::HexDigits::hex_one, std::proofs::lemmas::Grind::common_steps))]
+#[tactic(auto, using(asm_lexemes::proofs::HexDigits::hex_step, asm_lexemes::proofs::HexDigits::hex_one, std::proofs::lemmas::Grind::common_steps))]
 pub(crate) fn put_hex(out: &mut Vec<u8>, n: u64)
     requires { vec_len out.old + length (digits 16 false n) ≤ vec_capacity out.old }
     ensures items { out.new.items ≡ out.old.items ++ digits 16 false n }

@@ -11,7 +11,7 @@ ghost use Rattle.asm_printing.specs.SlotTexts.{is_hex, ar_text, number_text, tok
 use crate::numerals::{push_bytes, put_bytes, put_decimal, put_hex};
 use asm_canonical::{Syntax, syntax_of};
 use asm_forms::{Completer, FormItem, Kind, Mark, NumberField, Row, mark_token, text};
-use asm_words::Token;
+use asm_lexemes::Token;
 use ia_insn::{Ar, Insn, Op, Pr};
 use ia_program::Place;
 use std::alloc::AllocError;

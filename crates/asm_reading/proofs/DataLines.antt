@@ -2,8 +2,8 @@
 use Rattle.std.proofs.Common.{◌≡◌, ◌≤◌, ◌<◌, ◌∙◌, sym, ap, refl, ℕ, ◌+◌, List, [], ◌∷◌, ◌++◌, length, drop, get_or, arith}
 use Rattle.std.proofs.lemmas.Bool.{le-ltb}
 use Rattle.std.proofs.lemmas.List.{append_assoc, drop-drop, drop_more}
-use Rattle.asm_words.specs.declared.limits.TheConstants.{NUMBER_TOKEN_LIMIT}
-use Rattle.asm_words.specs.declared.tokens.Token.{Token}
+use Rattle.asm_lexemes.specs.declared.limits.TheConstants.{NUMBER_TOKEN_LIMIT}
+use Rattle.asm_lexemes.specs.declared.tokens.Token.{Token}
 use Rattle.asm_forms.specs.declared.items.NumberField.{NumberField}
 use Rattle.asm_instructions.specs.Operands.{wrapped, is_negative, magnitude}
 use Rattle.asm_reading.specs.Lines.{agreed_data, numbers_of}

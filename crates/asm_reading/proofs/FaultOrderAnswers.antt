@@ -7,13 +7,13 @@ use Rattle.std.proofs.lemmas.Bool.{eqb-true}
 use Rattle.std.proofs.lemmas.Option.{slice_get_within}
 use Rattle.first_fault.specs.Stages.{Stage, IsFirstFault, ArePassed}
 use Rattle.ia_program.proofs.Tests.{left}
-use Rattle.asm_words.specs.declared.tokens.Token.{Token}
-use Rattle.asm_words.specs.declared.tokens.Token.TheVariants as t
-use Rattle.asm_words.specs.declared.word.WordKind.TheVariants as kind
-use Rattle.asm_words.specs.declared.fault.LineFault.{LineFault}
-use Rattle.asm_words.specs.declared.fault.LineFault.TheVariants as fault
-use Rattle.asm_words.specs.Registers.{numbered_register}
-use Rattle.asm_words.specs.Tokens.{token_of}
+use Rattle.asm_lexemes.specs.declared.tokens.Token.{Token}
+use Rattle.asm_lexemes.specs.declared.tokens.Token.TheVariants as t
+use Rattle.asm_lexemes.specs.declared.lexeme.LexemeKind.TheVariants as kind
+use Rattle.asm_lexemes.specs.declared.fault.LineFault.{LineFault}
+use Rattle.asm_lexemes.specs.declared.fault.LineFault.TheVariants as fault
+use Rattle.asm_lexemes.specs.Registers.{numbered_register}
+use Rattle.asm_lexemes.specs.Tokens.{token_of}
 use Rattle.asm_forms.specs.declared.choices.AccessSize.{AccessSize}
 use Rattle.asm_forms.specs.declared.choices.AccessSize.TheVariants as size
 use Rattle.asm_forms.specs.declared.form.Form.{Form}
@@ -28,8 +28,8 @@ use Rattle.asm_instructions.specs.Instructions.{op_of}
 use Rattle.asm_reading.specs.declared.line.Line.{Line}
 use Rattle.asm_reading.specs.declared.line.Line.TheVariants as line
 use Rattle.asm_reading.specs.declared.line.TemplateName.{TemplateName}
-use Rattle.asm_reading.specs.Lines.{◌>>=◌, or_fault, KindAndText, tokens, label_name, name_of, lead_at, without_stop, predicate_of, completers_or_none, slot_under, slot_of, data_field, agreed_data, data_of, relation_of, named, directive_value, directive_of, alone, formed, among, marked, template_name_of, opened_as, mark_led, led_by, led_at, led, is_name_word, is_colon, label_of, value_of}
-use Rattle.asm_reading.specs.FaultOrder.{Beside, beside, beside_name, beside_mark, beside_word, beside_at, beside_lead, beside_of, name_instruction, fault_in, predicate_fault, fault_before, Operands, Numbers, Predicates, OfForms, operands_of, right_count, fault_among, before_stage, after_stage}
+use Rattle.asm_reading.specs.Lines.{◌>>=◌, or_fault, KindAndText, tokens, label_name, name_of, lead_at, without_stop, predicate_of, completers_or_none, slot_under, slot_of, data_field, agreed_data, data_of, relation_of, named, directive_value, directive_of, alone, formed, among, marked, template_name_of, opened_as, mark_led, led_by, led_at, led, is_name_lexeme, is_colon, label_of, value_of}
+use Rattle.asm_reading.specs.FaultOrder.{Beside, beside, beside_name, beside_mark, beside_lexeme, beside_at, beside_lead, beside_of, name_instruction, fault_in, predicate_fault, fault_before, Operands, Numbers, Predicates, OfForms, operands_of, right_count, fault_among, before_stage, after_stage}
 use Rattle.asm_reading.proofs.FaultOrderFronts.{right_within, fault_front, first_wrong, spelled_all, spelled_with_stop, found_all}
 
 -- A fault is what the stages find, or Form where they find nothing.
@@ -69,7 +69,7 @@ or_only : {A : Type 0} (o : Option A) → OnlyForm (or_fault o fault.Form)
 or_only None = refl
 or_only (Some x) = tt
 
--- The stage of the tokens after a leading word of these forms, by itself.
+-- The stage of the tokens after a leading lexeme of these forms, by itself.
 abbrev after_stages : List Form → List Token → List (Stage LineFault)
 after_stages forms xs = after_stage (record { forms = forms; before = []; after = xs }) ∷ []
 
@@ -162,7 +162,7 @@ slot_under_found qp forms name xs after by_form =
     then_found (after_stages forms xs) _ _ (form_found forms (without_stop xs) xs by_form (spelled_with_stop xs))
     (λ f. then_only _ _ (or_only (op_of f (completers_or_none f name) (taken (row_of f).items (without_stop xs)))) (λ x. tt))
 
--- The stages beside a leading word.
+-- The stages beside a leading lexeme.
 abbrev pub beside_stages : Beside → List (Stage LineFault)
 beside_stages b = before_stage b ∷ after_stage b ∷ []
 
@@ -211,7 +211,7 @@ formed_found form.Endp fs name before after = alone_found (form.Endp ∷ fs) bef
 formed_found form.Skip fs name before after = alone_found (form.Skip ∷ fs) before after _ refl (directive_found (form.Skip ∷ fs) after refl)
 formed_found f fs name before after = slot_found (f ∷ fs) name before after refl refl
 
--- A leading word that names nothing is Name, and else the stages beside it find what is answered.
+-- A leading lexeme that names nothing is Name, and else the stages beside it find what is answered.
 abbrev pub Answers : Option Beside → Result Line LineFault → Type 0
 Answers None r = r ≡ Err fault.Name
 Answers (Some b) r = IsFound (beside_stages b) r
@@ -220,7 +220,7 @@ among_answers : (forms : List Form) (name : List ℕ) (before after : List KindA
 among_answers [] name before after = refl
 among_answers (f ∷ fs) name before after = formed_found f fs name before after
 
--- what stands after a word that names no form
+-- what stands after a lexeme that names no form
 beside_none : (w : KindAndText) (ws : List KindAndText) → IsFoundFault (beside_stages (beside [] [] (w ∷ ws))) fault.Form
 beside_none w ws = inl (inr (refl, inl (0, refl, record { right = refl; wrong = λ e. omega (arith, e) })))
 
@@ -240,8 +240,8 @@ mark_led_answers t.OpenBrace before [] = refl
 mark_led_answers t.OpenBrace before (w ∷ after) = opened_as_answers (template_name_of w.1) before after
 mark_led_answers _ before after = refl
 
--- lines by their leading words, and by the places of these
-led_by_answers : (w : KindAndText) (before after : List KindAndText) → Answers (beside_word w before after) (led_by w before after)
+-- lines by their leading lexemes, and by the places of these
+led_by_answers : (w : KindAndText) (before after : List KindAndText) → Answers (beside_lexeme w before after) (led_by w before after)
 led_by_answers (kind.Name, text) before after = among_answers (named_forms text) text before after
 led_by_answers (kind.Number, text) before after = refl
 led_by_answers (kind.Quoted, text) before after = refl
@@ -273,7 +273,7 @@ pub value_answers : (ws : List KindAndText) → Answers (beside_of ws) (value_of
 value_answers [] = (refl, (refl, tt))
 value_answers (w ∷ []) = led_answers (w ∷ [])
 value_answers (w ∷ x ∷ ws) =
-    elim (is_name_word w && is_colon (token_of x.0 x.1)) as (λ b. Answers (if b then Some (beside [] [] ws) else beside_lead (w ∷ x ∷ ws)) (if b then label_of w.1 ws else led (w ∷ x ∷ ws))) [
+    elim (is_name_lexeme w && is_colon (token_of x.0 x.1)) as (λ b. Answers (if b then Some (beside [] [] ws) else beside_lead (w ∷ x ∷ ws)) (if b then label_of w.1 ws else led (w ∷ x ∷ ws))) [
       | true ↦ label_found w.1 ws
       | false ↦ led_answers (w ∷ x ∷ ws)
     ]

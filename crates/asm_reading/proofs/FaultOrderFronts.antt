@@ -8,8 +8,8 @@ use Rattle.std.proofs.Math.Numerals.{add-one}
 use Rattle.std.proofs.lemmas.List.{length-take}
 use Rattle.std.proofs.lemmas.Option.{slice_get_within}
 use Rattle.ia_program.proofs.Tests.{left, right}
-use Rattle.asm_words.specs.declared.limits.TheConstants.{NUMBER_TOKEN_LIMIT}
-use Rattle.asm_words.specs.declared.tokens.Token.{Token}
+use Rattle.asm_lexemes.specs.declared.limits.TheConstants.{NUMBER_TOKEN_LIMIT}
+use Rattle.asm_lexemes.specs.declared.tokens.Token.{Token}
 use Rattle.asm_forms.specs.declared.form.Form.{Form}
 use Rattle.asm_forms.specs.declared.items.FormItem.{FormItem}
 use Rattle.asm_forms.specs.declared.items.NumberField.{NumberField}
@@ -108,7 +108,7 @@ agreed_front items n xs = rw (agreed_walked items (take n xs), agreed_walked ite
 agreed_within : (items : List FormItem) (xs : List Token) → agreed items xs ≤ length xs
 agreed_within items xs = rw (agreed_walked items xs) (walked_within items xs)
 
--- the forms of a word
+-- the forms of a lexeme
 reach_front : (forms : List Form) (n : ℕ) (xs : List Token) → reach forms (take n xs) ≡ min n (reach forms xs)
 reach_front [] n xs = omega arith
 reach_front (f ∷ fs) n xs = omega (arith, agreed_front (row_of f).items n xs, reach_front fs n xs)

@@ -4,22 +4,22 @@ use Rattle.std.specs.Prelude.{unwrap_or, slice_get, IsTrue, IsSome, IsNone}
 use Rattle.std.proofs.Math.Numerals.{add-one}
 use Rattle.std.proofs.Math.Seq.{take-append_seam}
 use Rattle.first_fault.specs.Stages.{unless, IsFirstFault}
-use Rattle.asm_words.specs.declared.tokens.Token.{Token}
-use Rattle.asm_words.specs.declared.tokens.Token.TheVariants as t
-use Rattle.asm_words.specs.declared.fault.LineFault.{LineFault}
-use Rattle.asm_words.specs.declared.fault.LineFault.TheVariants as fault
-use Rattle.asm_words.specs.Bytes.{has_only_plain}
+use Rattle.asm_lexemes.specs.declared.tokens.Token.{Token}
+use Rattle.asm_lexemes.specs.declared.tokens.Token.TheVariants as t
+use Rattle.asm_lexemes.specs.declared.fault.LineFault.{LineFault}
+use Rattle.asm_lexemes.specs.declared.fault.LineFault.TheVariants as fault
+use Rattle.asm_lexemes.specs.Bytes.{has_only_plain}
 use Rattle.asm_forms.specs.declared.form.Form.{Form}
 use Rattle.asm_forms.specs.Items.{is_long_name, begins_with_letter}
 use Rattle.asm_matching.specs.Matching.{reach, number_fault, fault_at}
 use Rattle.asm_matching.specs.Related.{is_related}
 use Rattle.asm_matching.specs.Relations.{wants_predicate, agreed_relation, unrelated_fault, relation_fault_at}
 use Rattle.asm_reading.specs.Lines.{predicate_of, data_field, agreed_data, FaultOf}
-use Rattle.asm_reading.specs.FaultOrder.{words_of, Beside, nothing, beside_of, name_instruction, fault_in, predicate_fault, fault_before, Operands, Numbers, Predicates, OfForms, operands_of, AreRight, fault_among, before_stage, after_stage, HasValue, HasBeside}
+use Rattle.asm_reading.specs.FaultOrder.{lexemes_of, Beside, nothing, beside_of, name_instruction, fault_in, predicate_fault, fault_before, Operands, Numbers, Predicates, OfForms, operands_of, AreRight, fault_among, before_stage, after_stage, HasValue, HasBeside}
 use Rattle.asm_reading.proofs.FaultOrder.{stages, fault_found, found_fault, no_value}
 use Rattle.asm_reading.proofs.SomeAnswer.{line_or_fault}
 
--- one of the four faults that come of what stands beside a leading word
+-- one of the four faults that come of what stands beside a leading lexeme
 abbrev IsBeside : LineFault → Type 0
 IsBeside fault.Char = ⊥
 IsBeside fault.Name = ⊥
@@ -106,18 +106,18 @@ name_read plain o Last (inr (passed, inr (named, found))) = absurd (later_beside
 -- Char comes of a byte that is none of a line's.
 pub char_first : (bytes : List ℕ) → FaultOf bytes fault.Char ↔ (has_only_plain bytes ≡ false)
 char_first bytes = (
-  λ is. char_read (has_only_plain bytes) (beside_of (words_of bytes)) (HasValue bytes) (fault_found bytes fault.Char is),
+  λ is. char_read (has_only_plain bytes) (beside_of (lexemes_of bytes)) (HasValue bytes) (fault_found bytes fault.Char is),
   λ h. found_fault bytes fault.Char (inl (tt, refl, not_both (has_only_plain bytes) h)),
 )
 
--- Name comes of a leading word that names nothing.
-pub name_next : (bytes : List ℕ) → FaultOf bytes fault.Name ↔ (IsTrue (has_only_plain bytes) × IsNone (beside_of (words_of bytes)))
+-- Name comes of a leading lexeme that names nothing.
+pub name_next : (bytes : List ℕ) → FaultOf bytes fault.Name ↔ (IsTrue (has_only_plain bytes) × IsNone (beside_of (lexemes_of bytes)))
 name_next bytes = (
-  λ is. name_read (has_only_plain bytes) (beside_of (words_of bytes)) (HasValue bytes) (fault_found bytes fault.Name is),
-  λ h. found_fault bytes fault.Name (inr (h.0, inl (tt, refl, none_some (beside_of (words_of bytes)) h.1))),
+  λ is. name_read (has_only_plain bytes) (beside_of (lexemes_of bytes)) (HasValue bytes) (fault_found bytes fault.Name is),
+  λ h. found_fault bytes fault.Name (inr (h.0, inl (tt, refl, none_some (beside_of (lexemes_of bytes)) h.1))),
 )
 
--- Where the leading word names something, what stands beside it decides.
+-- Where the leading lexeme names something, what stands beside it decides.
 found_beside : (plain : Bool) (o : Option Beside) (Last : Type 0) (b : Beside) (e : LineFault) → IsTrue plain → o ≡ Some b
     → IsFirstFault (before_stage b ∷ after_stage b ∷ unless Last fault.Form ∷ []) e → IsFirstFault (stages plain o Last) e
 found_beside plain None Last b e passed is found = cc
@@ -128,7 +128,7 @@ found_beside plain (Some c) Last b e passed is found =
 beside_fault : (bytes : List ℕ) (b : Beside) (e : LineFault) → HasBeside bytes b
     → IsFirstFault (before_stage b ∷ after_stage b ∷ unless (HasValue bytes) fault.Form ∷ []) e → FaultOf bytes e
 beside_fault bytes b e has found =
-    found_fault bytes e (found_beside (has_only_plain bytes) (beside_of (words_of bytes)) (HasValue bytes) b e has.plain has.beside found)
+    found_fault bytes e (found_beside (has_only_plain bytes) (beside_of (lexemes_of bytes)) (HasValue bytes) b e has.plain has.beside found)
 
 pub before_decides : (bytes : List ℕ) (b : Beside) (e : LineFault) → HasBeside bytes b → fault_before b ≡ Some e → FaultOf bytes e
 before_decides bytes b e has is = beside_fault bytes b e has (inl (e, refl, is))

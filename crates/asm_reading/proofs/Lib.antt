@@ -5,6 +5,6 @@ mod FaultOrderFronts
 mod FaultOrderLaws
 pub mod NoMarks
 pub mod SlotForms
-mod WordLists
+mod LexemeLists
 mod SomeAnswer
 pub mod TwoPredicates

@@ -4,14 +4,14 @@ use Rattle.std.specs.Option.{option_map}
 use Rattle.std.specs.Str.{bytes_eq}
 use Rattle.std.proofs.lemmas.Bool.{not-true}
 use Rattle.ia_program.proofs.Tests.{left, right}
-use Rattle.asm_words.specs.declared.tokens.Token.{Token}
-use Rattle.asm_words.specs.declared.tokens.Token.TheVariants as t
-use Rattle.asm_words.specs.declared.word.WordKind.{WordKind}
-use Rattle.asm_words.specs.declared.word.WordKind.TheVariants as kind
-use Rattle.asm_words.specs.Bytes.{begins_letter}
-use Rattle.asm_words.specs.Registers.{look_up, aliases, alias_of, numbered, numbered_register, register_of}
-use Rattle.asm_words.specs.Tokens.{other_name, name_token, token_of}
-use Rattle.asm_words.specs.Words.{pick}
+use Rattle.asm_lexemes.specs.declared.tokens.Token.{Token}
+use Rattle.asm_lexemes.specs.declared.tokens.Token.TheVariants as t
+use Rattle.asm_lexemes.specs.declared.lexeme.LexemeKind.{LexemeKind}
+use Rattle.asm_lexemes.specs.declared.lexeme.LexemeKind.TheVariants as kind
+use Rattle.asm_lexemes.specs.Bytes.{begins_letter}
+use Rattle.asm_lexemes.specs.Registers.{look_up, aliases, alias_of, numbered, numbered_register, register_of}
+use Rattle.asm_lexemes.specs.Tokens.{other_name, name_token, token_of}
+use Rattle.asm_lexemes.specs.Lexemes.{pick}
 use Rattle.asm_reading.specs.Lines.{is_open, is_close, is_colon}
 
 abbrev is_mark : Token → Bool
@@ -97,17 +97,17 @@ not_colon x h = refl
 pub name_is_not_open : (name : List ℕ) → is_open (name_token name) ≡ false
 name_is_not_open name = not_open (name_token name) (name_no_mark name)
 
-named_mark : (k : WordKind) (text : List ℕ) → pick k true false false false ≡ true → is_mark (token_of k text) ≡ false
+named_mark : (k : LexemeKind) (text : List ℕ) → pick k true false false false ≡ true → is_mark (token_of k text) ≡ false
 named_mark kind.Name text h = name_no_mark text
 named_mark kind.Number text h = cc
 named_mark kind.Quoted text h = cc
 named_mark kind.Mark text h = cc
 
-pub name_opens_nothing : (k : WordKind) (text : List ℕ) → pick k true false false false ≡ true → false ≡ is_open (token_of k text)
+pub name_opens_nothing : (k : LexemeKind) (text : List ℕ) → pick k true false false false ≡ true → false ≡ is_open (token_of k text)
 name_opens_nothing k text h = sym (not_open (token_of k text) (named_mark k text h))
 
-pub name_closes_nothing : (k : WordKind) (text : List ℕ) → pick k true false false false ≡ true → false ≡ is_close (token_of k text)
+pub name_closes_nothing : (k : LexemeKind) (text : List ℕ) → pick k true false false false ≡ true → false ≡ is_close (token_of k text)
 name_closes_nothing k text h = sym (not_close (token_of k text) (named_mark k text h))
 
-pub name_is_no_colon : (k : WordKind) (text : List ℕ) → pick k true false false false ≡ true → false ≡ is_colon (token_of k text)
+pub name_is_no_colon : (k : LexemeKind) (text : List ℕ) → pick k true false false false ≡ true → false ≡ is_colon (token_of k text)
 name_is_no_colon k text h = sym (not_colon (token_of k text) (named_mark k text h))

@@ -6,8 +6,8 @@ use Rattle.std.specs.Option.{option_map}
 use Rattle.std.proofs.lemmas.Bool.{eqb-true, and_from}
 use Rattle.ia_insn.specs.declared.insn.Op.{Op}
 use Rattle.ia_program.proofs.Tests.{left, right}
-use Rattle.asm_words.specs.declared.tokens.Token.{Token}
-use Rattle.asm_words.specs.declared.fault.LineFault.TheVariants as fault
+use Rattle.asm_lexemes.specs.declared.tokens.Token.{Token}
+use Rattle.asm_lexemes.specs.declared.fault.LineFault.TheVariants as fault
 use Rattle.asm_forms.specs.declared.completer.Completer.{Completer}
 use Rattle.asm_forms.specs.declared.completer.CompleterSet.{CompleterSet}
 use Rattle.asm_forms.specs.declared.form.Form.{Form}
@@ -43,7 +43,7 @@ pub slot_first : (fs : List Form) (p : Form → Bool) (f : Form) (name : List �
 slot_first [] p f name before after h e = cc
 slot_first (g ∷ gs) p f name before after h e = formed_slot g (g ∷ gs) name before after (left _ _ h)
 
--- what a word begins with, so does a name of it
+-- what a lexeme begins with, so does a name of it
 same_byte : (c d : ℕ) → nat_eq d c ≡ true → c ≡ d
 same_byte c d h = sym (eqb-true d c h)
 
@@ -58,22 +58,22 @@ directive_so (c ∷ b ∷ name) (d ∷ e ∷ w) h k =
     let rest : (nat_eq e b && starts_with nat_eq name w) ≡ true = right (nat_eq d c) _ h in
     rw (same_byte c d first, same_byte b e (left _ _ rest)) k
 
--- the rows of other words are of slot lines
-words_tell : list_all (λ r. is_directive_name r.word || is_instruction r.form) rows ≡ true
-words_tell = refl
+-- the rows of other lexemes are of slot lines
+lexemes_tell : list_all (λ r. is_directive_name r.lexeme || is_instruction r.form) rows ≡ true
+lexemes_tell = refl
 
 named_begins : (b : Bool) (sets : List CompleterSet) (rest : List ℕ) → has_completers_if b sets rest ≡ true → b ≡ true
 named_begins true sets rest h = refl
 named_begins false sets rest h = h
 
-one_slot : (name : List ℕ) (r : FormRow) → is_directive_name name ≡ false → (is_directive_name r.word || is_instruction r.form) ≡ true → is_named name r ≡ true → is_instruction r.form ≡ true
-one_slot name r plain known named = other (is_directive_name r.word) refl known
+one_slot : (name : List ℕ) (r : FormRow) → is_directive_name name ≡ false → (is_directive_name r.lexeme || is_instruction r.form) ≡ true → is_named name r ≡ true → is_instruction r.form ≡ true
+one_slot name r plain known named = other (is_directive_name r.lexeme) refl known
   where
-    other : (b : Bool) → b ≡ is_directive_name r.word → (b || is_instruction r.form) ≡ true → is_instruction r.form ≡ true
+    other : (b : Bool) → b ≡ is_directive_name r.lexeme → (b || is_instruction r.form) ≡ true → is_instruction r.form ≡ true
     other false e k = k
-    other true e k = let so : is_directive_name name ≡ true = directive_so name r.word (left _ _ (named_begins (begins name r.word) r.sets _ named)) (sym e) in cc
+    other true e k = let so : is_directive_name name ≡ true = directive_so name r.lexeme (left _ _ (named_begins (begins name r.lexeme) r.sets _ named)) (sym e) in cc
 
-kept_slots : (name : List ℕ) (rs : List FormRow) → is_directive_name name ≡ false → list_all (λ r. is_directive_name r.word || is_instruction r.form) rs ≡ true → list_all is_instruction (map (λ r. r.form) (filter (is_named name) rs)) ≡ true
+kept_slots : (name : List ℕ) (rs : List FormRow) → is_directive_name name ≡ false → list_all (λ r. is_directive_name r.lexeme || is_instruction r.form) rs ≡ true → list_all is_instruction (map (λ r. r.form) (filter (is_named name) rs)) ≡ true
 kept_slots name [] plain known = refl
 kept_slots name (r ∷ rs) plain known = kept_one (is_named name r) refl (kept_slots name rs plain (right _ _ known))
   where
@@ -82,7 +82,7 @@ kept_slots name (r ∷ rs) plain known = kept_one (is_named name r) refl (kept_s
     kept_one false e m = m
 
 pub all_slots : (name : List ℕ) → is_directive_name name ≡ false → list_all is_instruction (named_forms name) ≡ true
-all_slots name plain = kept_slots name rows plain words_tell
+all_slots name plain = kept_slots name rows plain lexemes_tell
 
 -- what is made of an instruction, where there is one
 lined : (o : Option Op) (f : Op → Line) → (or_fault o fault.Form >>= λ x. Ok (f x)) ≡ or_fault (option_map f o) fault.Form

@@ -1,7 +1,7 @@
 -- A line has a value or a first fault.
 use Rattle.std.proofs.Common.{◌≡◌, inl, inr, refl, ℕ, List, Result, Ok, Err}
-use Rattle.asm_words.specs.declared.fault.LineFault.{LineFault}
-use Rattle.asm_words.specs.declared.fault.LineFault.TheVariants as fault
+use Rattle.asm_lexemes.specs.declared.fault.LineFault.{LineFault}
+use Rattle.asm_lexemes.specs.declared.fault.LineFault.TheVariants as fault
 use Rattle.asm_instructions.proofs.DecidedFormats.{listed}
 use Rattle.asm_reading.specs.declared.line.Line.{Line}
 use Rattle.asm_reading.specs.declared.line.Line.TheVariants as line

@@ -1,16 +1,16 @@
--- The order in which the first fault of a line is looked for: its bytes, its leading word, what stands before
+-- The order in which the first fault of a line is looked for: its bytes, its leading lexeme, what stands before
 -- that, the tokens after it from left to right, and what is left.
 use Rattle.std.specs.Prelude.{◌≡◌, ℕ, ◌+◌, Bool, true, false, IsTrue, ◌&&◌, if◌then◌else◌, List, [], ◌∷◌, take, drop, length, Option, Some, None, IsSome, unwrap_or, slice_get, Result, Ok, Err}
 use Rattle.std.specs.Option.{option_and_then, option_map}
 use Rattle.first_fault.specs.Stages.{Stage, unless, first}
-use Rattle.asm_words.specs.declared.tokens.Token.{Token}
-use Rattle.asm_words.specs.declared.tokens.Token.TheVariants as t
-use Rattle.asm_words.specs.declared.word.WordKind.TheVariants as kind
-use Rattle.asm_words.specs.declared.fault.LineFault.{LineFault}
-use Rattle.asm_words.specs.declared.fault.LineFault.TheVariants as fault
-use Rattle.asm_words.specs.Bytes.{has_only_plain}
-use Rattle.asm_words.specs.Tokens.{token_of}
-use Rattle.asm_words.specs.Words.{words_from}
+use Rattle.asm_lexemes.specs.declared.tokens.Token.{Token}
+use Rattle.asm_lexemes.specs.declared.tokens.Token.TheVariants as t
+use Rattle.asm_lexemes.specs.declared.lexeme.LexemeKind.TheVariants as kind
+use Rattle.asm_lexemes.specs.declared.fault.LineFault.{LineFault}
+use Rattle.asm_lexemes.specs.declared.fault.LineFault.TheVariants as fault
+use Rattle.asm_lexemes.specs.Bytes.{has_only_plain}
+use Rattle.asm_lexemes.specs.Tokens.{token_of}
+use Rattle.asm_lexemes.specs.Lexemes.{lexemes_from}
 use Rattle.asm_forms.specs.declared.choices.AccessSize.{AccessSize}
 use Rattle.asm_forms.specs.declared.choices.AccessSize.TheVariants as size
 use Rattle.asm_forms.specs.declared.form.Form.{Form}
@@ -19,12 +19,12 @@ use Rattle.asm_forms.specs.Naming.{named_forms}
 use Rattle.asm_matching.specs.Matching.{reach, fault_of}
 use Rattle.asm_matching.specs.Relations.{agreed_relation, relation_fault}
 use Rattle.asm_reading.specs.declared.line.Line.{Line}
-use Rattle.asm_reading.specs.Lines.{KindAndText, texts, tokens, lead_at, predicate_of, data_field, agreed_data, data_fault, template_name_of, is_name_word, is_colon, LineOf}
+use Rattle.asm_reading.specs.Lines.{KindAndText, texts, tokens, lead_at, predicate_of, data_field, agreed_data, data_fault, template_name_of, is_name_lexeme, is_colon, LineOf}
 
-abbrev pub words_of : List ℕ → List KindAndText
-words_of bytes = texts bytes (words_from 0 0 bytes)
+abbrev pub lexemes_of : List ℕ → List KindAndText
+lexemes_of bytes = texts bytes (lexemes_from 0 0 bytes)
 
--- What stands beside a leading word, and the forms that the word names. A mark names none, nor does a label,
+-- What stands beside a leading lexeme, and the forms that the lexeme names. A mark names none, nor does a label,
 -- and nothing may stand beside these.
 pub record Beside : Type 0 where
   pub forms : List Form
@@ -49,26 +49,26 @@ beside_mark t.CloseBrace before after = Some (beside [] before after)
 beside_mark t.OpenBrace before (w ∷ after) = option_map (λ s. beside [] before after) (template_name_of w.1)
 beside_mark _ before after = None
 
-abbrev pub beside_word : KindAndText → List KindAndText → List KindAndText → Option Beside
-beside_word (kind.Name, text) before after = beside_name (named_forms text) before after
-beside_word (kind.Number, text) before after = None
-beside_word (kind.Quoted, text) before after = None
-beside_word (kind.Mark, text) before after = beside_mark (token_of kind.Mark text) before after
+abbrev pub beside_lexeme : KindAndText → List KindAndText → List KindAndText → Option Beside
+beside_lexeme (kind.Name, text) before after = beside_name (named_forms text) before after
+beside_lexeme (kind.Number, text) before after = None
+beside_lexeme (kind.Quoted, text) before after = None
+beside_lexeme (kind.Mark, text) before after = beside_mark (token_of kind.Mark text) before after
 
--- the leading word is the one at this place
+-- the leading lexeme is the one at this place
 abbrev pub beside_at : List KindAndText → ℕ → Option Beside
-beside_at ws k = option_and_then (λ w. beside_word w (take k ws) (drop (k + 1) ws)) (slice_get ws k)
+beside_at ws k = option_and_then (λ w. beside_lexeme w (take k ws) (drop (k + 1) ws)) (slice_get ws k)
 
 abbrev pub beside_lead : List KindAndText → Option Beside
 beside_lead ws = option_and_then (beside_at ws) (lead_at (tokens ws))
 
--- What stands beside the leading word of a line, and None where the word names nothing. A blank line has nothing,
+-- What stands beside the leading lexeme of a line, and None where the lexeme names nothing. A blank line has nothing,
 -- and a label what follows its colon.
 abbrev pub beside_of : List KindAndText → Option Beside
 beside_of [] = Some nothing
 beside_of (w ∷ []) = beside_lead (w ∷ [])
 beside_of (w ∷ x ∷ ws) =
-    if is_name_word w && is_colon (token_of x.0 x.1) then Some (beside [] [] ws) else beside_lead (w ∷ x ∷ ws)
+    if is_name_lexeme w && is_colon (token_of x.0 x.1) then Some (beside [] [] ws) else beside_lead (w ∷ x ∷ ws)
 
 -- the form is an instruction's, and no directive's
 abbrev pub is_instruction : Form → Bool
@@ -95,18 +95,18 @@ abbrev pub fault_in : {A : Type 0} → Result A LineFault → Option LineFault
 fault_in (Ok x) = None
 fault_in (Err e) = Some e
 
--- the fault of a predicate, which may stand before an instruction's name; nothing may before another word
+-- the fault of a predicate, which may stand before an instruction's name; nothing may before another lexeme
 abbrev pub predicate_fault : Bool → List Token → Option LineFault
 predicate_fault instruction [] = None
 predicate_fault false (x ∷ xs) = Some fault.Form
 predicate_fault true (x ∷ xs) = fault_in (predicate_of (x ∷ xs))
 
--- the fault of what stands before the leading word
+-- the fault of what stands before the leading lexeme
 abbrev pub fault_before : Beside → Option LineFault
 fault_before b = predicate_fault (name_instruction b.forms) b.before
 
--- What stands after a leading word: the numbers of a data line, the predicates of a relation line, or what one of
--- the word's forms has.
+-- What stands after a leading lexeme: the numbers of a data line, the predicates of a relation line, or what one of
+-- the lexeme's forms has.
 pub data Operands : Type 0 where
   Numbers : AccessSize → Operands
   Predicates : Operands
@@ -146,7 +146,7 @@ pub record IsFirstWrong (forms : List Form) (xs : List Token) (at : ℕ) : Type 
 abbrev pub fault_of_token : List Form → List Token → ℕ → LineFault
 fault_of_token forms xs at = fault_among (operands_of forms) forms (take (at + 1) xs)
 
--- What is looked for beside a leading word: the fault of what stands before it, and the first wrong token after it.
+-- What is looked for beside a leading lexeme: the fault of what stands before it, and the first wrong token after it.
 abbrev pub before_stage : Beside → Stage LineFault
 before_stage b = first LineFault (λ e. e) (λ e. fault_before b ≡ Some e) (fault_before b ≡ None)
 
@@ -157,19 +157,19 @@ after_stage b = first ℕ (fault_of_token b.forms b.after) (IsFirstWrong b.forms
 abbrev pub HasValue : List ℕ → Type 0
 HasValue bytes = (value : Line) × LineOf bytes value
 
--- What is looked for in a line, in this order: a byte that is none of a line's, a leading word that names
--- nothing, a fault before that word, the first wrong token after it, and that the line says nothing all the same:
+-- What is looked for in a line, in this order: a byte that is none of a line's, a leading lexeme that names
+-- nothing, a fault before that lexeme, the first wrong token after it, and that the line says nothing all the same:
 -- an operand is missing, the instruction isn't listed, no label has such a name, or a stop follows a directive.
 abbrev pub line_stages : List ℕ → List (Stage LineFault)
 line_stages bytes =
     unless (IsTrue (has_only_plain bytes)) fault.Char
-    ∷ unless (IsSome (beside_of (words_of bytes))) fault.Name
-    ∷ before_stage (unwrap_or (beside_of (words_of bytes)) nothing)
-    ∷ after_stage (unwrap_or (beside_of (words_of bytes)) nothing)
+    ∷ unless (IsSome (beside_of (lexemes_of bytes))) fault.Name
+    ∷ before_stage (unwrap_or (beside_of (lexemes_of bytes)) nothing)
+    ∷ after_stage (unwrap_or (beside_of (lexemes_of bytes)) nothing)
     ∷ unless (HasValue bytes) fault.Form
     ∷ []
 
--- Each byte is one of a line's, the leading word names something, and this stands beside it.
+-- Each byte is one of a line's, the leading lexeme names something, and this stands beside it.
 pub record HasBeside (bytes : List ℕ) (b : Beside) : Type 0 where
   pub plain : IsTrue (has_only_plain bytes)
-  pub beside : beside_of (words_of bytes) ≡ Some b
+  pub beside : beside_of (lexemes_of bytes) ≡ Some b

@@ -1,22 +1,22 @@
--- What a line says, and its first fault. A line is read by its words, each of a kind and with a text:
--- the leading word names forms, and the first form that the operands have makes the line's value.
+-- What a line says, and its first fault. A line is read by its lexemes, each of a kind and with a text:
+-- the leading lexeme names forms, and the first form that the operands have makes the line's value.
 use Rattle.std.specs.Prelude.{◌≡◌, ◌⊎◌, ℕ, ◌+◌, ◌-◌, ◌^◌, ◌*◌, ◌%◌, Bool, true, false, not, ◌&&◌, nat_le, nat_lt, ◌==◌, if◌then◌else◌, List, [], ◌∷◌, map, take, drop, length, Option, Some, None, is_some, unwrap_or, Result, Ok, Err, slice_get, slice_range, codes}
 use Rattle.std.specs.Option.{option_map}
 use Rattle.std.specs.List.{All, find, list_any}
 use Rattle.std.specs.Str.{bytes_eq}
-use Rattle.asm_words.specs.declared.limits.TheConstants.{NAME_LIMIT, NUMBER_TOKEN_LIMIT}
-use Rattle.asm_words.specs.declared.tokens.Token.{Token}
-use Rattle.asm_words.specs.declared.tokens.Token.TheVariants as t
-use Rattle.asm_words.specs.declared.word.WordKind.{WordKind}
-use Rattle.asm_words.specs.declared.word.WordKind.TheVariants as kind
-use Rattle.asm_words.specs.declared.fault.LineFault.{LineFault}
-use Rattle.asm_words.specs.declared.fault.LineFault.TheVariants as fault
-use Rattle.asm_words.specs.declared.word.Word.{Word}
-use Rattle.asm_words.specs.Bytes.{has_only_plain}
-use Rattle.asm_words.specs.Registers.{numbered_register}
-use Rattle.asm_words.specs.Slices.{IsPart}
-use Rattle.asm_words.specs.Tokens.{token_of}
-use Rattle.asm_words.specs.Words.{pick, words_from}
+use Rattle.asm_lexemes.specs.declared.limits.TheConstants.{NAME_LIMIT, NUMBER_TOKEN_LIMIT}
+use Rattle.asm_lexemes.specs.declared.tokens.Token.{Token}
+use Rattle.asm_lexemes.specs.declared.tokens.Token.TheVariants as t
+use Rattle.asm_lexemes.specs.declared.lexeme.LexemeKind.{LexemeKind}
+use Rattle.asm_lexemes.specs.declared.lexeme.LexemeKind.TheVariants as kind
+use Rattle.asm_lexemes.specs.declared.fault.LineFault.{LineFault}
+use Rattle.asm_lexemes.specs.declared.fault.LineFault.TheVariants as fault
+use Rattle.asm_lexemes.specs.declared.lexeme.Lexeme.{Lexeme}
+use Rattle.asm_lexemes.specs.Bytes.{has_only_plain}
+use Rattle.asm_lexemes.specs.Registers.{numbered_register}
+use Rattle.asm_lexemes.specs.Slices.{IsPart}
+use Rattle.asm_lexemes.specs.Tokens.{token_of}
+use Rattle.asm_lexemes.specs.Lexemes.{pick, lexemes_from}
 use Rattle.asm_forms.specs.declared.choices.AccessSize.{AccessSize}
 use Rattle.asm_forms.specs.declared.choices.AccessSize.TheVariants as size
 use Rattle.asm_forms.specs.declared.completer.Completer.{Completer}
@@ -59,16 +59,16 @@ abbrev pub put : {A : Type 0} → Result A LineFault → Line → Result Line Li
 put (Ok x) value = Ok value
 put (Err e) value = Err e
 
--- a word by its kind and its text
+-- a lexeme by its kind and its text
 abbrev pub KindAndText : Type 0
-KindAndText = WordKind × List ℕ
+KindAndText = LexemeKind × List ℕ
 
--- the words of a line by their kinds and texts
-abbrev pub texts : List ℕ → List Word → List KindAndText
+-- the lexemes of a line by their kinds and texts
+abbrev pub texts : List ℕ → List Lexeme → List KindAndText
 texts bytes ws = map (λ w. (w.kind, slice_range bytes w.start w.end)) ws
 
 -- each is a part of the line
-abbrev pub AreParts : List ℕ → List Word → Type 0
+abbrev pub AreParts : List ℕ → List Lexeme → Type 0
 AreParts bytes ws = All (IsPart (length bytes)) ws
 
 abbrev pub tokens : List KindAndText → List Token
@@ -92,12 +92,12 @@ abbrev pub is_close : Token → Bool
 is_close t.CloseParenthesis = true
 is_close _ = false
 
--- how many words there are up to the first `)`
+-- how many lexemes there are up to the first `)`
 abbrev pub past_parenthesis : List Token → Option ℕ
 past_parenthesis [] = None
 past_parenthesis (x ∷ xs) = if is_close x then Some 1 else option_map (λ n. n + 1) (past_parenthesis xs)
 
--- how many words stand before the leading one: a qualifying predicate, or nothing
+-- how many lexemes stand before the leading one: a qualifying predicate, or nothing
 abbrev pub lead_at : List Token → Option ℕ
 lead_at [] = None
 lead_at (x ∷ xs) = if is_open x then past_parenthesis (x ∷ xs) else Some 0
@@ -113,7 +113,7 @@ ends_in_stop xs = is_some_stop (slice_get xs (length xs - 1))
 abbrev pub without_stop : List Token → List Token
 without_stop xs = if ends_in_stop xs then take (length xs - 1) xs else xs
 
--- The qualifying predicate: a register between parentheses, and p0 where no word stands before the leading one.
+-- The qualifying predicate: a register between parentheses, and p0 where no lexeme stands before the leading one.
 abbrev pub predicate_of : List Token → Result ℕ LineFault
 predicate_of [] = Ok 0
 predicate_of (x ∷ []) = Err fault.Form
@@ -256,7 +256,7 @@ abbrev pub all_template_names : List TemplateName
 all_template_names =
     template.Mii ∷ template.Mlx ∷ template.Mmi ∷ template.Mfi ∷ template.Mmf ∷ template.Mib ∷ template.Mbb ∷ template.Bbb ∷ template.Mmb ∷ template.Mfb ∷ []
 
--- the template name that a word is
+-- the template name that a lexeme is
 abbrev pub template_name_of : List ℕ → Option TemplateName
 template_name_of text = find (λ s. bytes_eq (template_name_text s) text) all_template_names
 
@@ -294,8 +294,8 @@ led_at ws (Some k) = led_by_some (slice_get ws k) (take k ws) (drop (k + 1) ws)
 abbrev pub led : List KindAndText → Result Line LineFault
 led ws = led_at ws (lead_at (tokens ws))
 
-abbrev pub is_name_word : KindAndText → Bool
-is_name_word w = pick w.0 true false false false
+abbrev pub is_name_lexeme : KindAndText → Bool
+is_name_lexeme w = pick w.0 true false false false
 
 abbrev pub is_colon : Token → Bool
 is_colon t.Colon = true
@@ -306,17 +306,17 @@ abbrev pub label_of : List ℕ → List KindAndText → Result Line LineFault
 label_of text [] = if is_some (numbered_register text) then Err fault.Form else named (name_of text) (λ name. line.Label name)
 label_of text (w ∷ ws) = Err fault.Form
 
--- What the words of a line say: nothing, a label where the second word is a colon, or what the leading
--- word leads.
+-- What the lexemes of a line say: nothing, a label where the second lexeme is a colon, or what the leading
+-- lexeme leads.
 abbrev pub value_of : List KindAndText → Result Line LineFault
 value_of [] = Ok line.Empty
 value_of (w ∷ []) = led (w ∷ [])
 value_of (w ∷ x ∷ ws) =
-    if is_name_word w && is_colon (token_of x.0 x.1) then label_of w.1 ws else led (w ∷ x ∷ ws)
+    if is_name_lexeme w && is_colon (token_of x.0 x.1) then label_of w.1 ws else led (w ∷ x ∷ ws)
 
 -- what the bytes of a line say, but for whether its instruction is listed
 abbrev pub reading_of : List ℕ → Result Line LineFault
-reading_of bytes = if has_only_plain bytes then value_of (texts bytes (words_from 0 0 bytes)) else Err fault.Char
+reading_of bytes = if has_only_plain bytes then value_of (texts bytes (lexemes_from 0 0 bytes)) else Err fault.Char
 
 -- the instruction of a slot line is listed
 abbrev pub IsListedLine : Line → Type 0
@@ -328,7 +328,7 @@ pub record LineOf (bytes : List ℕ) (value : Line) : Type 0 where
   pub reading : reading_of bytes ≡ Ok value
   pub listed : IsListedLine value
 
--- The line has this first fault: where its bytes are read, that of its words, and Form where all is read and the
+-- The line has this first fault: where its bytes are read, that of its lexemes, and Form where all is read and the
 -- instruction isn't listed. The law `faults_in_order` has the stages in which it is looked for.
 abbrev pub FaultOf : List ℕ → LineFault → Type 0
 FaultOf bytes e =

@@ -1,6 +1,6 @@
 -- A line has one value or one first fault, and not both.
 use Rattle.std.specs.Prelude.{◌≡◌, ℕ, List}
-use Rattle.asm_words.specs.declared.fault.LineFault.{LineFault}
+use Rattle.asm_lexemes.specs.declared.fault.LineFault.{LineFault}
 use Rattle.asm_reading.specs.declared.line.Line.{Line}
 use Rattle.asm_reading.specs.Lines.{LineOf, FaultOf}
 

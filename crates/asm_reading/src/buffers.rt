@@ -1,11 +1,11 @@
 //! The buffers of lines.
 
 ghost use Rattle.std.specs.Prelude.{◌≡◌, ◌<◌, ◌≤◌, ◌++◌, ◌∷◌, [], List, length, take};
-ghost use Rattle.asm_words.specs.declared.limits.TheConstants.{LINE_LIMIT};
-ghost use Rattle.asm_words.specs.declared.tokens.Token.{Token as TokenOf};
+ghost use Rattle.asm_lexemes.specs.declared.limits.TheConstants.{LINE_LIMIT};
+ghost use Rattle.asm_lexemes.specs.declared.tokens.Token.{Token as TokenOf};
 
-use asm_words::limits::LINE_LIMIT;
-use asm_words::{Token, WordList};
+use asm_lexemes::limits::LINE_LIMIT;
+use asm_lexemes::{LexemeList, Token};
 use std::marker::Model;
 
 /// The tokens of a line or of a part of it, in places that the next line uses again; of these, so many count. Contracts
@@ -60,11 +60,11 @@ impl Tokens {
     }
 }
 
-/// Room for the words and the tokens of one line, which one line after the other may use. What is in it
+/// Room for the lexemes and the tokens of one line, which one line after the other may use. What is in it
 /// before a line is read has no effect on what the line says.
 #[derive(Debug, Drop)]
 pub struct LineBuffers {
-    pub(crate) words: WordList,
+    pub(crate) lexemes: LexemeList,
     pub(crate) tokens: Tokens,
 }
 
@@ -72,7 +72,7 @@ impl LineBuffers {
     /// Empty buffers.
     pub fn new() -> Self {
         LineBuffers {
-            words: WordList::new(),
+            lexemes: LexemeList::new(),
             tokens: Tokens::new(),
         }
     }

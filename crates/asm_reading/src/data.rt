@@ -1,7 +1,7 @@
 //! The numbers of a data line.
 
 ghost use Rattle.std.specs.Prelude.{◌≡◌, ◌≤◌, ◌<◌, ◌+◌, ◌*◌, ◌^◌, ◌%◌, length};
-ghost use Rattle.asm_words.specs.declared.limits.TheConstants.{NUMBER_TOKEN_LIMIT};
+ghost use Rattle.asm_lexemes.specs.declared.limits.TheConstants.{NUMBER_TOKEN_LIMIT};
 ghost use Rattle.asm_instructions.specs.Operands.{wrapped, bytes, is_negative, magnitude};
 ghost use Rattle.asm_reading.specs.Lines.{data_field, data_item, agreed_data, numbers_of, wants_number, data_fault, data_of};
 
@@ -9,9 +9,9 @@ use crate::line::{Line, Values};
 use arrayvec::ArrayVec;
 use asm_forms::{AccessSize, FormItem, Kind, Mark, NumberField, accepts};
 use asm_instructions::{bytes, wrapped_below};
+use asm_lexemes::limits::{NUMBER_LIMIT, NUMBER_TOKEN_LIMIT};
+use asm_lexemes::{LineFault, Token};
 use asm_matching::fault_at;
-use asm_words::limits::{NUMBER_LIMIT, NUMBER_TOKEN_LIMIT};
-use asm_words::{LineFault, Token};
 
 /// The field of a number of this size.
 fn data_field(size: AccessSize) -> NumberField

@@ -1,12 +1,12 @@
 //! What a line says.
 
 ghost use Rattle.std.specs.Prelude.{◌≡◌, ℕ, ◌≤◌, List, length};
-ghost use Rattle.asm_words.specs.declared.limits.TheConstants.{NUMBER_LIMIT};
+ghost use Rattle.asm_lexemes.specs.declared.limits.TheConstants.{NUMBER_LIMIT};
 ghost use Rattle.asm_matching.specs.Related.{ArePredicates};
 
 use arrayvec::ArrayVec;
-use asm_words::Name;
-use asm_words::limits::NUMBER_LIMIT;
+use asm_lexemes::Name;
+use asm_lexemes::limits::NUMBER_LIMIT;
 use ia_insn::{Insn, Op, Pr};
 use std::marker::Model;
 

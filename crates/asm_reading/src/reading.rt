@@ -1,10 +1,10 @@
-//! Reading a line: from its words to its value or its first fault.
+//! Reading a line: from its lexemes to its value or its first fault.
 
 ghost use Rattle.std.specs.Prelude.{◌≡◌, ◌≤◌, ◌<◌, ◌+◌, ◌-◌, ◌*◌, ◌^◌, ◌↔◌, IsTrue, IfOk, IfErr, OnOk, IfSome, length, take, drop, slice_range, Some, Ok, true, false};
 ghost use Rattle.std.specs.Option.{option_map};
-ghost use Rattle.asm_words.specs.declared.limits.TheConstants.{LINE_LIMIT};
-ghost use Rattle.asm_words.specs.Tokens.{token_of};
-ghost use Rattle.asm_words.specs.Words.{pick};
+ghost use Rattle.asm_lexemes.specs.declared.limits.TheConstants.{LINE_LIMIT};
+ghost use Rattle.asm_lexemes.specs.Tokens.{token_of};
+ghost use Rattle.asm_lexemes.specs.Lexemes.{pick};
 ghost use Rattle.asm_reading.specs.declared.line.Line.TheVariants as said;
 ghost use Rattle.asm_reading.specs.Lines.{put, AreParts, texts, tokens, name_of, label_name, lead_at, past_parenthesis, ends_in_stop, without_stop, predicate_of, is_bare, completers_or_none, slot_under, slot_of, directive_value, directive_of, alone, data_of, relation_of, among, worded, marked, template_name_of, opened, led_by, led, is_colon, is_open, is_close, label_of, value_of, reading_of, IsListedLine, LineOf, FaultOf};
 ghost use Rattle.asm_reading.specs.SlotReading.{slot_line, is_directive_name};
@@ -19,34 +19,36 @@ use asm_forms::{
     is_label_item, named,
 };
 use asm_instructions::{op_of, u32_at};
+use asm_lexemes::limits::LINE_LIMIT;
+use asm_lexemes::{
+    Lexeme, LexemeKind, LineFault, Name, Token, lexemes_into, numbered_register, token,
+};
 use asm_matching::read_form;
-use asm_words::limits::LINE_LIMIT;
-use asm_words::{LineFault, Name, Token, Word, WordKind, numbered_register, token, words_into};
 use ia_insn::{Insn, Pr};
 use ia_program::is_listed;
 
-/// Puts what the words may be read as into the buffer, in the place of what it held.
-fn tokens_into(line: &[u8], words: &[Word], buffer: &mut Tokens)
-    requires few { length words.now ≤ LINE_LIMIT }
-    requires parts { AreParts line.now words.now }
-    ensures { buffer.new ≡ tokens (texts line.now words.now) }
+/// Puts what the lexemes may be read as into the buffer, in the place of what it held.
+fn tokens_into(line: &[u8], lexemes: &[Lexeme], buffer: &mut Tokens)
+    requires few { length lexemes.now ≤ LINE_LIMIT }
+    requires parts { AreParts line.now lexemes.now }
+    ensures { buffer.new ≡ tokens (texts line.now lexemes.now) }
 {
     buffer.clear();
-    for word in words {
-        buffer.push(token(word.kind, word.text(line)));
+    for lexeme in lexemes {
+        buffer.push(token(lexeme.kind, lexeme.text(line)));
     }
 }
 
-/// How many words stand before the leading one: a qualifying predicate, or nothing.
-fn lead_at(line: &[u8], words: &[Word]) -> Option<usize>
-    requires { AreParts line.now words.now }
-    ensures { result ≡ lead_at (tokens (texts line.now words.now)) }
+/// How many lexemes stand before the leading one: a qualifying predicate, or nothing.
+fn lead_at(line: &[u8], lexemes: &[Lexeme]) -> Option<usize>
+    requires { AreParts line.now lexemes.now }
+    ensures { result ≡ lead_at (tokens (texts line.now lexemes.now)) }
 {
-    match words {
+    match lexemes {
         [] => None,
         [first, ..] => {
             if is_open(first, line) {
-                past_parenthesis(line, words)
+                past_parenthesis(line, lexemes)
             } else {
                 Some(0)
             }
@@ -54,31 +56,39 @@ fn lead_at(line: &[u8], words: &[Word]) -> Option<usize>
     }
 }
 
-/// Whether the word is `(`.
+/// Whether the lexeme is `(`.
 #[tactic(auto, using(crate::proofs::NoMarks::name_opens_nothing))]
-fn is_open(word: &Word, line: &[u8]) -> bool
-    requires { (word.now.start ≤ word.now.end) × (word.now.end ≤ length line.now) }
-    ensures { result ≡ is_open (token_of word.now.kind (slice_range line.now word.now.start word.now.end)) }
+fn is_open(lexeme: &Lexeme, line: &[u8]) -> bool
+    requires { (lexeme.now.start ≤ lexeme.now.end) × (lexeme.now.end ≤ length line.now) }
+    ensures { result ≡ is_open (token_of lexeme.now.kind (slice_range line.now lexeme.now.start lexeme.now.end)) }
 {
-    !is_name(word) && matches!(token(word.kind, word.text(line)), Token::OpenParenthesis)
+    !is_name(lexeme)
+        && matches!(
+            token(lexeme.kind, lexeme.text(line)),
+            Token::OpenParenthesis
+        )
 }
 
-/// Whether the word is `)`.
+/// Whether the lexeme is `)`.
 #[tactic(auto, using(crate::proofs::NoMarks::name_closes_nothing))]
-fn is_close(word: &Word, line: &[u8]) -> bool
-    requires { (word.now.start ≤ word.now.end) × (word.now.end ≤ length line.now) }
-    ensures { result ≡ is_close (token_of word.now.kind (slice_range line.now word.now.start word.now.end)) }
+fn is_close(lexeme: &Lexeme, line: &[u8]) -> bool
+    requires { (lexeme.now.start ≤ lexeme.now.end) × (lexeme.now.end ≤ length line.now) }
+    ensures { result ≡ is_close (token_of lexeme.now.kind (slice_range line.now lexeme.now.start lexeme.now.end)) }
 {
-    !is_name(word) && matches!(token(word.kind, word.text(line)), Token::CloseParenthesis)
+    !is_name(lexeme)
+        && matches!(
+            token(lexeme.kind, lexeme.text(line)),
+            Token::CloseParenthesis
+        )
 }
 
-/// How many words there are up to the first `)`.
-fn past_parenthesis(line: &[u8], words: &[Word]) -> Option<usize>
-    requires { AreParts line.now words.now }
-    ensures { result ≡ past_parenthesis (tokens (texts line.now words.now)) }
+/// How many lexemes there are up to the first `)`.
+fn past_parenthesis(line: &[u8], lexemes: &[Lexeme]) -> Option<usize>
+    requires { AreParts line.now lexemes.now }
+    ensures { result ≡ past_parenthesis (tokens (texts line.now lexemes.now)) }
 {
-    for (at, word) in words.iter().enumerate() {
-        if is_close(word, line) {
+    for (at, lexeme) in lexemes.iter().enumerate() {
+        if is_close(lexeme, line) {
             return Some(at + 1);
         }
     }
@@ -106,7 +116,7 @@ fn without_stop(tokens: &[Token]) -> &[Token]
     }
 }
 
-/// The qualifying predicate: a register between parentheses, and p0 where no word stands before the leading
+/// The qualifying predicate: a register between parentheses, and p0 where no lexeme stands before the leading
 /// one.
 fn predicate_of(tokens: &[Token]) -> Result<Pr, LineFault>
     ensures { result ≡ predicate_of tokens.now }
@@ -119,8 +129,8 @@ fn predicate_of(tokens: &[Token]) -> Result<Pr, LineFault>
     }
 }
 
-/// The qualifying predicate of the words before the leading one.
-fn predicate(line: &[u8], before: &[Word], buffer: &mut Tokens) -> Result<Pr, LineFault>
+/// The qualifying predicate of the lexemes before the leading one.
+fn predicate(line: &[u8], before: &[Lexeme], buffer: &mut Tokens) -> Result<Pr, LineFault>
     requires few { length before.now ≤ LINE_LIMIT }
     requires parts { AreParts line.now before.now }
     ensures { result ≡ predicate_of (tokens (texts line.now before.now)) }
@@ -161,17 +171,17 @@ fn name_of(text: &[u8]) -> Option<Name>
 }
 
 /// The name at the place of the label among these items.
-fn label_name(line: &[u8], items: &[FormItem], words: &[Word]) -> Option<Name>
-    requires { AreParts line.now words.now }
-    ensures { result ≡ label_name items.now (texts line.now words.now) }
+fn label_name(line: &[u8], items: &[FormItem], lexemes: &[Lexeme]) -> Option<Name>
+    requires { AreParts line.now lexemes.now }
+    ensures { result ≡ label_name items.now (texts line.now lexemes.now) }
 {
-    let mut left = words;
+    let mut left = lexemes;
     for item in items {
-        let [word, rest @ ..] = left else {
+        let [lexeme, rest @ ..] = left else {
             return None;
         };
         if is_label_item(*item) {
-            return name_of(word.text(line));
+            return name_of(lexeme.text(line));
         }
         left = rest;
     }
@@ -187,16 +197,16 @@ fn fill(
     completers: &[Completer],
     tokens: &[Token],
     line: &[u8],
-    words: &[Word],
+    lexemes: &[Lexeme],
     draft: &mut Draft,
     stop: &mut bool,
 ) -> Option<()>
-    requires { AreParts line.now words.now }
-    ensures { option_map (λ x. said.Slot draft.new stop.new) result ≡ slot_line qp row.now completers.now tokens.now (texts line.now words.now) }
+    requires { AreParts line.now lexemes.now }
+    ensures { option_map (λ x. said.Slot draft.new stop.new) result ≡ slot_line qp row.now completers.now tokens.now (texts line.now lexemes.now) }
 {
     let op = op_of(row, completers, without_stop(tokens))?;
     draft.insn = Insn { qp, op };
-    draft.target = label_name(line, row.items(), words);
+    draft.target = label_name(line, row.items(), lexemes);
     draft.bare = is_bare(completers);
     *stop = ends_in_stop(tokens);
     Some(())
@@ -210,20 +220,20 @@ fn slot_line(
     completers: &[Completer],
     tokens: &[Token],
     line: &[u8],
-    words: &[Word],
+    lexemes: &[Lexeme],
     value: &mut Line,
 ) -> Option<()>
-    requires { AreParts line.now words.now }
-    ensures { option_map (λ x. value.new) result ≡ slot_line qp row.now completers.now tokens.now (texts line.now words.now) }
+    requires { AreParts line.now lexemes.now }
+    ensures { option_map (λ x. value.new) result ≡ slot_line qp row.now completers.now tokens.now (texts line.now lexemes.now) }
 {
     match value {
         Line::Slot { draft, stop } => {
-            fill(qp, row, completers, tokens, line, words, draft, stop)
+            fill(qp, row, completers, tokens, line, lexemes, draft, stop)
         }
         _ => {
             let (mut draft, mut stop) = (Draft::blank(), false);
             fill(
-                qp, row, completers, tokens, line, words, &mut draft, &mut stop,
+                qp, row, completers, tokens, line, lexemes, &mut draft, &mut stop,
             )?;
             *value = Line::Slot { draft, stop };
             Some(())
@@ -238,10 +248,10 @@ fn slot_under(
     name: &[u8],
     tokens: &[Token],
     line: &[u8],
-    words: &[Word],
+    lexemes: &[Lexeme],
 ) -> Result<Line, LineFault>
-    requires { AreParts line.now words.now }
-    ensures { result ≡ slot_under qp forms.now name.now tokens.now (texts line.now words.now) }
+    requires { AreParts line.now lexemes.now }
+    ensures { result ≡ slot_under qp forms.now name.now tokens.now (texts line.now lexemes.now) }
 {
     let form = read_form(forms, without_stop(tokens), tokens)?;
     let completers = completers_or_none(form, name);
@@ -252,7 +262,7 @@ fn slot_under(
         &completers,
         tokens,
         line,
-        words,
+        lexemes,
         &mut value,
     ) {
         Some(()) => Ok(value),
@@ -264,17 +274,17 @@ fn slot_under(
 fn directive_value(
     form: Form,
     line: &[u8],
-    words: &[Word],
+    lexemes: &[Lexeme],
     operands: &[Token],
 ) -> Result<Line, LineFault>
-    requires parts { AreParts line.now words.now }
-    requires operands { operands.now ≡ tokens (texts line.now words.now) }
-    ensures { result ≡ directive_value form (texts line.now words.now) }
+    requires parts { AreParts line.now lexemes.now }
+    requires operands { operands.now ≡ tokens (texts line.now lexemes.now) }
+    ensures { result ≡ directive_value form (texts line.now lexemes.now) }
 {
     match form {
         Form::Text => Ok(Line::Text),
         Form::Data => Ok(Line::Data),
-        Form::Entry => match label_name(line, Form::Entry.items(), words) {
+        Form::Entry => match label_name(line, Form::Entry.items(), lexemes) {
             Some(name) => Ok(Line::Entry { name }),
             None => Err(LineFault::Form),
         },
@@ -290,17 +300,17 @@ fn directive_value(
 fn directive_of(
     forms: &[Form],
     line: &[u8],
-    words: &[Word],
+    lexemes: &[Lexeme],
     buffer: &mut Tokens,
 ) -> Result<Line, LineFault>
-    requires few { length words.now ≤ LINE_LIMIT }
-    requires parts { AreParts line.now words.now }
-    ensures { result ≡ directive_of forms.now (texts line.now words.now) }
+    requires few { length lexemes.now ≤ LINE_LIMIT }
+    requires parts { AreParts line.now lexemes.now }
+    ensures { result ≡ directive_of forms.now (texts line.now lexemes.now) }
 {
-    tokens_into(line, words, buffer);
+    tokens_into(line, lexemes, buffer);
     let operands = buffer.as_slice();
     let form = read_form(forms, operands, operands)?;
-    directive_value(form, line, words, operands)
+    directive_value(form, line, lexemes, operands)
 }
 
 /// A slot line, by its forms.
@@ -308,8 +318,8 @@ fn slot_of(
     forms: &[Form],
     name: &[u8],
     line: &[u8],
-    before: &[Word],
-    after: &[Word],
+    before: &[Lexeme],
+    after: &[Lexeme],
     buffer: &mut Tokens,
 ) -> Result<Line, LineFault>
     requires few { (length before.now ≤ LINE_LIMIT) × (length after.now ≤ LINE_LIMIT) }
@@ -325,8 +335,8 @@ fn slot_of(
 fn data_line(
     size: AccessSize,
     line: &[u8],
-    before: &[Word],
-    after: &[Word],
+    before: &[Lexeme],
+    after: &[Lexeme],
     buffer: &mut Tokens,
 ) -> Result<Line, LineFault>
     requires few { length after.now ≤ LINE_LIMIT }
@@ -345,8 +355,8 @@ fn data_line(
 /// A relation line, before which no predicate stands.
 fn relation_line(
     line: &[u8],
-    before: &[Word],
-    after: &[Word],
+    before: &[Lexeme],
+    after: &[Lexeme],
     buffer: &mut Tokens,
 ) -> Result<Line, LineFault>
     requires few { length after.now ≤ LINE_LIMIT }
@@ -366,8 +376,8 @@ fn relation_line(
 fn directive_line(
     forms: &[Form],
     line: &[u8],
-    before: &[Word],
-    after: &[Word],
+    before: &[Lexeme],
+    after: &[Lexeme],
     buffer: &mut Tokens,
 ) -> Result<Line, LineFault>
     requires few { length after.now ≤ LINE_LIMIT }
@@ -385,8 +395,8 @@ fn among(
     forms: &[Form],
     name: &[u8],
     line: &[u8],
-    before: &[Word],
-    after: &[Word],
+    before: &[Lexeme],
+    after: &[Lexeme],
     buffer: &mut Tokens,
 ) -> Result<Line, LineFault>
     requires few { (length before.now ≤ LINE_LIMIT) × (length after.now ≤ LINE_LIMIT) }
@@ -423,8 +433,8 @@ fn is_directive_name(name: &[u8]) -> bool
 fn slot_without_fault(
     name: &[u8],
     line: &[u8],
-    before: &[Word],
-    after: &[Word],
+    before: &[Lexeme],
+    after: &[Lexeme],
     buffer: &mut Tokens,
     value: &mut Line,
 ) -> Option<()>
@@ -449,8 +459,8 @@ fn slot_without_fault(
 fn worded(
     name: &[u8],
     line: &[u8],
-    before: &[Word],
-    after: &[Word],
+    before: &[Lexeme],
+    after: &[Lexeme],
     buffer: &mut Tokens,
     value: &mut Line,
 ) -> Result<(), LineFault>
@@ -471,8 +481,8 @@ fn worded(
 fn worded_by_forms(
     name: &[u8],
     line: &[u8],
-    before: &[Word],
-    after: &[Word],
+    before: &[Lexeme],
+    after: &[Lexeme],
     buffer: &mut Tokens,
     value: &mut Line,
 ) -> Result<(), LineFault>
@@ -488,8 +498,8 @@ fn worded_by_forms(
 fn marked(
     said: Line,
     line: &[u8],
-    before: &[Word],
-    after: &[Word],
+    before: &[Lexeme],
+    after: &[Lexeme],
     value: &mut Line,
 ) -> Result<(), LineFault>
     ensures { put result value.new ≡ marked said (texts line.now before.now) (texts line.now after.now) }
@@ -504,12 +514,17 @@ fn marked(
 }
 
 /// Puts `{` and a template name into `value`.
-fn opened(line: &[u8], before: &[Word], after: &[Word], value: &mut Line) -> Result<(), LineFault>
+fn opened(
+    line: &[u8],
+    before: &[Lexeme],
+    after: &[Lexeme],
+    value: &mut Line,
+) -> Result<(), LineFault>
     requires { AreParts line.now after.now }
     ensures { put result value.new ≡ opened (texts line.now before.now) (texts line.now after.now) }
 {
     match after {
-        [word, rest @ ..] => match template_name_of(word.text(line)) {
+        [lexeme, rest @ ..] => match template_name_of(lexeme.text(line)) {
             Some(name) => marked(Line::Open { name }, line, before, rest, value),
             None => Err(LineFault::Name),
         },
@@ -517,25 +532,25 @@ fn opened(line: &[u8], before: &[Word], after: &[Word], value: &mut Line) -> Res
     }
 }
 
-/// Puts a line that this word leads into `value`.
+/// Puts a line that this lexeme leads into `value`.
 fn led_by(
-    word: &Word,
+    lexeme: &Lexeme,
     line: &[u8],
-    before: &[Word],
-    after: &[Word],
+    before: &[Lexeme],
+    after: &[Lexeme],
     buffer: &mut Tokens,
     value: &mut Line,
 ) -> Result<(), LineFault>
     requires few { (length before.now ≤ LINE_LIMIT) × (length after.now ≤ LINE_LIMIT) }
     requires parts { AreParts line.now before.now × AreParts line.now after.now }
-    requires word { (word.now.start ≤ word.now.end) × (word.now.end ≤ length line.now) }
-    ensures { put result value.new ≡ led_by (word.now.kind, slice_range line.now word.now.start word.now.end) (texts line.now before.now) (texts line.now after.now) }
+    requires lexeme { (lexeme.now.start ≤ lexeme.now.end) × (lexeme.now.end ≤ length line.now) }
+    ensures { put result value.new ≡ led_by (lexeme.now.kind, slice_range line.now lexeme.now.start lexeme.now.end) (texts line.now before.now) (texts line.now after.now) }
 {
-    let text = word.text(line);
-    match word.kind {
-        WordKind::Name => worded(text, line, before, after, buffer, value),
-        WordKind::Number | WordKind::Quoted => Err(LineFault::Name),
-        WordKind::Mark => match token(WordKind::Mark, text) {
+    let text = lexeme.text(line);
+    match lexeme.kind {
+        LexemeKind::Name => worded(text, line, before, after, buffer, value),
+        LexemeKind::Number | LexemeKind::Quoted => Err(LineFault::Name),
+        LexemeKind::Mark => match token(LexemeKind::Mark, text) {
             Token::Stop => marked(Line::Stop, line, before, after, value),
             Token::CloseBrace => marked(Line::Close, line, before, after, value),
             Token::OpenBrace => opened(line, before, after, value),
@@ -544,46 +559,51 @@ fn led_by(
     }
 }
 
-/// The words before a place.
-fn before(words: &[Word], at: usize) -> &[Word]
-    requires { at ≤ length words.now }
-    ensures { result.now ≡ take at words.now }
+/// The lexemes before a place.
+fn before(lexemes: &[Lexeme], at: usize) -> &[Lexeme]
+    requires { at ≤ length lexemes.now }
+    ensures { result.now ≡ take at lexemes.now }
 {
-    &words[..at]
+    &lexemes[..at]
 }
 
-/// The words from a place on.
-fn from(words: &[Word], at: usize) -> &[Word]
-    requires { at ≤ length words.now }
-    ensures { result.now ≡ drop at words.now }
+/// The lexemes from a place on.
+fn from(lexemes: &[Lexeme], at: usize) -> &[Lexeme]
+    requires { at ≤ length lexemes.now }
+    ensures { result.now ≡ drop at lexemes.now }
 {
-    &words[at..]
+    &lexemes[at..]
 }
 
 /// Puts a line that is no label into `value`.
-fn led(line: &[u8], words: &[Word], buffer: &mut Tokens, value: &mut Line) -> Result<(), LineFault>
-    requires few { length words.now ≤ LINE_LIMIT }
-    requires parts { AreParts line.now words.now }
-    ensures { put result value.new ≡ led (texts line.now words.now) }
+fn led(
+    line: &[u8],
+    lexemes: &[Lexeme],
+    buffer: &mut Tokens,
+    value: &mut Line,
+) -> Result<(), LineFault>
+    requires few { length lexemes.now ≤ LINE_LIMIT }
+    requires parts { AreParts line.now lexemes.now }
+    ensures { put result value.new ≡ led (texts line.now lexemes.now) }
 {
-    let Some(lead) = lead_at(line, words) else {
+    let Some(lead) = lead_at(line, lexemes) else {
         return Err(LineFault::Name);
     };
-    if lead >= words.len() {
+    if lead >= lexemes.len() {
         return Err(LineFault::Name);
     }
     led_by(
-        &words[lead],
+        &lexemes[lead],
         line,
-        before(words, lead),
-        from(words, lead + 1),
+        before(lexemes, lead),
+        from(lexemes, lead + 1),
         buffer,
         value,
     )
 }
 
 /// A label: it stands alone, and is spelled as no register by number.
-fn label_of(text: &[u8], line: &[u8], rest: &[Word]) -> Result<Line, LineFault>
+fn label_of(text: &[u8], line: &[u8], rest: &[Lexeme]) -> Result<Line, LineFault>
     ensures { result ≡ label_of text.now (texts line.now rest.now) }
 {
     match rest {
@@ -600,45 +620,45 @@ fn label_of(text: &[u8], line: &[u8], rest: &[Word]) -> Result<Line, LineFault>
     }
 }
 
-/// Whether the word is a name.
-fn is_name(word: &Word) -> bool
-    ensures { result ≡ pick word.now.kind true false false false }
+/// Whether the lexeme is a name.
+fn is_name(lexeme: &Lexeme) -> bool
+    ensures { result ≡ pick lexeme.now.kind true false false false }
 {
-    matches!(word.kind, WordKind::Name)
+    matches!(lexeme.kind, LexemeKind::Name)
 }
 
-/// Whether the word is a colon.
+/// Whether the lexeme is a colon.
 #[tactic(auto, using(crate::proofs::NoMarks::name_is_no_colon))]
-fn is_colon(word: &Word, line: &[u8]) -> bool
-    requires { (word.now.start ≤ word.now.end) × (word.now.end ≤ length line.now) }
-    ensures { result ≡ is_colon (token_of word.now.kind (slice_range line.now word.now.start word.now.end)) }
+fn is_colon(lexeme: &Lexeme, line: &[u8]) -> bool
+    requires { (lexeme.now.start ≤ lexeme.now.end) × (lexeme.now.end ≤ length line.now) }
+    ensures { result ≡ is_colon (token_of lexeme.now.kind (slice_range line.now lexeme.now.start lexeme.now.end)) }
 {
-    !is_name(word) && matches!(token(word.kind, word.text(line)), Token::Colon)
+    !is_name(lexeme) && matches!(token(lexeme.kind, lexeme.text(line)), Token::Colon)
 }
 
-/// Puts what the words of a line say into `value`.
+/// Puts what the lexemes of a line say into `value`.
 fn value_of(
     line: &[u8],
-    words: &[Word],
+    lexemes: &[Lexeme],
     buffer: &mut Tokens,
     value: &mut Line,
 ) -> Result<(), LineFault>
-    requires few { length words.now ≤ LINE_LIMIT }
-    requires parts { AreParts line.now words.now }
-    ensures { put result value.new ≡ value_of (texts line.now words.now) }
+    requires few { length lexemes.now ≤ LINE_LIMIT }
+    requires parts { AreParts line.now lexemes.now }
+    ensures { put result value.new ≡ value_of (texts line.now lexemes.now) }
 {
-    match words {
+    match lexemes {
         [] => {
             *value = Line::Empty;
             Ok(())
         }
-        [_] => led(line, words, buffer, value),
+        [_] => led(line, lexemes, buffer, value),
         [name, colon, rest @ ..] => {
             if is_name(name) && is_colon(colon, line) {
                 *value = label_of(name.text(line), line, rest)?;
                 Ok(())
             } else {
-                led(line, words, buffer, value)
+                led(line, lexemes, buffer, value)
             }
         }
     }
@@ -649,8 +669,8 @@ fn reading_of(line: &[u8], buffers: &mut LineBuffers, value: &mut Line) -> Resul
     requires { length line.now ≤ LINE_LIMIT }
     ensures { put result value.new ≡ reading_of line.now }
 {
-    words_into(line, &mut buffers.words)?;
-    value_of(line, buffers.words.as_slice(), &mut buffers.tokens, value)
+    lexemes_into(line, &mut buffers.lexemes)?;
+    value_of(line, buffers.lexemes.as_slice(), &mut buffers.tokens, value)
 }
 
 /// Whether the instruction of a slot line is listed.
@@ -663,10 +683,10 @@ fn is_listed_line(value: &Line) -> bool
     }
 }
 
-/// What a line says, or its first fault: of its bytes, its leading word, what stands before that, and the tokens
+/// What a line says, or its first fault: of its bytes, its leading lexeme, what stands before that, and the tokens
 /// after it from left to right ([`faults_in_order`](crate::faults_in_order)).
 ///
-/// The line is at most [`LINE_LIMIT`] bytes long, and has no line feed. A leading word names one or more forms. Its
+/// The line is at most [`LINE_LIMIT`] bytes long, and has no line feed. A leading lexeme names one or more forms. Its
 /// operands are followed as far as any of them goes, and what those that got there want next decides: a
 /// register, a number, or anything else. Form comes too where all is read and the instruction is none of
 /// the profile. It takes no memory.

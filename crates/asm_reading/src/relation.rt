@@ -4,8 +4,8 @@ ghost use Rattle.std.specs.Prelude.{◌≡◌};
 ghost use Rattle.asm_reading.specs.Lines.{relation_of};
 
 use crate::line::{Line, Predicates};
+use asm_lexemes::{LineFault, Token};
 use asm_matching::{agreed_relation, named_predicates, relation_fault};
-use asm_words::{LineFault, Token};
 
 /// A relation line: `"mutex"`, and 2 to 15 predicates of p1 to p15, each after a comma and none of them twice.
 pub(crate) fn relation_of(tokens: &[Token]) -> Result<Line, LineFault>

@@ -31,7 +31,7 @@ use Rattle.asm_forms.specs.Items.{is_label_item}
 use Rattle.asm_forms.specs.Rows.{rows, first_row, row_of, place}
 use Rattle.asm_forms.proofs.ReadChoice.{IsOneOf, one_mapped, one_flat, same_of, same_at, read_choice}
 use Rattle.asm_forms.proofs.RowFacts.{form_back, in_table}
-use Rattle.asm_words.specs.declared.tokens.Token.{Token}
+use Rattle.asm_lexemes.specs.declared.tokens.Token.{Token}
 use Rattle.asm_instructions.specs.Instructions.{settled}
 use Rattle.asm_reading.specs.FaultOrder.{is_instruction}
 use Rattle.asm_canonical.specs.Canonical.{forms_of, is_said, has_fixed, form_of, written}

@@ -23,8 +23,8 @@ use Rattle.insn_rows.specs.Codings.{Takes}
 use Rattle.insn_rows.specs.Rows.{operand_width, AllTake}
 use Rattle.insn_rows.specs.Values.{at}
 use Rattle.insn_rows.specs.WellMade.{coding_at}
-use Rattle.asm_words.specs.declared.tokens.Token.{Token}
-use Rattle.asm_words.specs.declared.tokens.Token.TheVariants as t
+use Rattle.asm_lexemes.specs.declared.tokens.Token.{Token}
+use Rattle.asm_lexemes.specs.declared.tokens.Token.TheVariants as t
 use Rattle.asm_forms.specs.declared.completer.Completer.{Completer}
 use Rattle.asm_forms.specs.declared.completer.CompleterSet.{CompleterSet}
 use Rattle.asm_forms.specs.declared.completer.Said.{Said}

@@ -6,8 +6,8 @@ use Rattle.std.specs.Option.{option_map}
 use Rattle.std.specs.List.{AllByRecursion, list_all, list_any}
 use Rattle.std.proofs.lemmas.Bool.{and_from}
 use Rattle.ia_program.proofs.Tests.{left, right}
-use Rattle.asm_words.specs.declared.tokens.Token.{Token}
-use Rattle.asm_words.specs.declared.tokens.Token.TheVariants as t
+use Rattle.asm_lexemes.specs.declared.tokens.Token.{Token}
+use Rattle.asm_lexemes.specs.declared.tokens.Token.TheVariants as t
 use Rattle.asm_forms.specs.declared.form.Form.{Form}
 use Rattle.asm_forms.specs.declared.items.FormItem.{FormItem}
 use Rattle.asm_forms.specs.declared.items.FormItem.TheVariants.{Is, Takes}
@@ -20,7 +20,7 @@ use Rattle.asm_forms.specs.Rows.{rows, row_of}
 use Rattle.asm_forms.proofs.RowFacts.{of_row}
 use Rattle.asm_canonical.proofs.InRange.{IsTokenInRange}
 use Rattle.asm_canonical.proofs.Written.{IsPrinted}
-use Rattle.asm_text.proofs.OperandTexts.{is_wordlike, are_apart, label_token}
+use Rattle.asm_text.proofs.OperandTexts.{is_lexemelike, are_apart, label_token}
 
 -- a token for each item
 pub as_many : (is : List FormItem) (xs : List Token) → fits is xs ≡ true → length is ≡ length (filled is xs)
@@ -31,7 +31,7 @@ as_many (Takes kind ∷ is) (x ∷ xs) h = rw (as_many is xs (right (prints kind
 
 -- no two words next to one another
 abbrev pub is_run : FormItem → Bool
-is_run (Is mark) = is_wordlike (mark_token mark)
+is_run (Is mark) = is_lexemelike (mark_token mark)
 is_run (Takes kind) = true
 
 abbrev pub items_apart : List FormItem → Bool
@@ -57,9 +57,9 @@ apart (Takes kind ∷ []) [] h e = cc
 apart (Takes kind ∷ []) (x ∷ xs) h e = refl
 apart (Is a ∷ Is b ∷ is) xs h e = and_from _ _ (left _ _ e) (apart (Is b ∷ is) xs h (right _ _ e))
 apart (Is a ∷ Takes kind ∷ is) [] h e = cc
-apart (Is a ∷ Takes kind ∷ is) (x ∷ xs) h e = and_from _ _ (first_of_two (is_wordlike (mark_token a)) (is_wordlike x) (left _ _ e)) (apart (Takes kind ∷ is) (x ∷ xs) h (right _ _ e))
+apart (Is a ∷ Takes kind ∷ is) (x ∷ xs) h e = and_from _ _ (first_of_two (is_lexemelike (mark_token a)) (is_lexemelike x) (left _ _ e)) (apart (Takes kind ∷ is) (x ∷ xs) h (right _ _ e))
 apart (Takes kind ∷ is) [] h e = cc
-apart (Takes kind ∷ Is b ∷ is) (x ∷ xs) h e = and_from _ _ (second_of_two (is_wordlike x) (is_wordlike (mark_token b)) (left _ _ e)) (apart (Is b ∷ is) xs (right _ _ h) (right _ _ e))
+apart (Takes kind ∷ Is b ∷ is) (x ∷ xs) h e = and_from _ _ (second_of_two (is_lexemelike x) (is_lexemelike (mark_token b)) (left _ _ e)) (apart (Is b ∷ is) xs (right _ _ h) (right _ _ e))
 apart (Takes kind ∷ Takes other ∷ is) (x ∷ xs) h e = cc
 
 pub row_apart : (f : Form) (xs : List Token) → fits (row_of f).items xs ≡ true → are_apart (filled (row_of f).items xs) ≡ true

@@ -5,10 +5,10 @@ use Rattle.std.specs.List.{list_all}
 use Rattle.std.proofs.lemmas.Bool.{not-true}
 use Rattle.ia_insn.specs.declared.insn.Op.{Op}
 use Rattle.ia_program.proofs.Tests.{left, right}
-use Rattle.asm_words.specs.declared.word.WordKind.TheVariants as kind
-use Rattle.asm_words.specs.Bytes.{is_name_byte, is_digit_byte}
-use Rattle.asm_words.proofs.Lexed.{lexed, is_end}
-use Rattle.asm_words.proofs.Lexing.{name_lexed}
+use Rattle.asm_lexemes.specs.declared.lexeme.LexemeKind.TheVariants as kind
+use Rattle.asm_lexemes.specs.Bytes.{is_name_byte, is_digit_byte}
+use Rattle.asm_lexemes.proofs.Lexed.{lexed, is_end}
+use Rattle.asm_lexemes.proofs.Lexing.{name_lexed}
 use Rattle.asm_forms.specs.declared.completer.Completer.{Completer}
 use Rattle.asm_forms.specs.declared.completer.Suffix.{Suffix}
 use Rattle.asm_forms.specs.declared.completer.Suffix.TheVariants as s
@@ -28,14 +28,14 @@ begins_name [] = false
 begins_name (c ∷ cs) = is_name_byte c && not (is_digit_byte c)
 
 -- the bytes of each word are those of a name
-words_plain : list_all (λ r. begins_name r.word && list_all is_name_byte r.word) rows ≡ true
-words_plain = refl
+lexemes_plain : list_all (λ r. begins_name r.word && list_all is_name_byte r.word) rows ≡ true
+lexemes_plain = refl
 
-word_begins : (f : Form) → begins_name (row_of f).word ≡ true
-word_begins f = left _ _ (of_row (λ r. begins_name r.word && list_all is_name_byte r.word) f words_plain)
+lexeme_begins : (f : Form) → begins_name (row_of f).word ≡ true
+lexeme_begins f = left _ _ (of_row (λ r. begins_name r.word && list_all is_name_byte r.word) f lexemes_plain)
 
-word_bytes : (f : Form) → list_all is_name_byte (row_of f).word ≡ true
-word_bytes f = right (begins_name (row_of f).word) _ (of_row (λ r. begins_name r.word && list_all is_name_byte r.word) f words_plain)
+lexeme_bytes : (f : Form) → list_all is_name_byte (row_of f).word ≡ true
+lexeme_bytes f = right (begins_name (row_of f).word) _ (of_row (λ r. begins_name r.word && list_all is_name_byte r.word) f lexemes_plain)
 
 -- and so are those of each completer
 completer_bytes : (suffix : Suffix) → list_all is_name_byte (suffix_text suffix) ≡ true
@@ -56,10 +56,10 @@ completers_bytes (c ∷ cs) = names_both (text_of c) (flat_map text_of cs) (comp
 
 -- the bytes of a mnemonic are those of a name
 pub mnemonic_bytes : (f : Form) (cs : List Completer) → list_all is_name_byte (mnemonic_text f cs) ≡ true
-mnemonic_bytes f cs = names_both (row_of f).word (flat_map text_of cs) (word_bytes f) (completers_bytes cs)
+mnemonic_bytes f cs = names_both (row_of f).word (flat_map text_of cs) (lexeme_bytes f) (completers_bytes cs)
 
 pub mnemonic_begins : (f : Form) (cs : List Completer) → begins_name (mnemonic_text f cs) ≡ true
-mnemonic_begins f cs = begins_both (row_of f).word (flat_map text_of cs) (word_begins f)
+mnemonic_begins f cs = begins_both (row_of f).word (flat_map text_of cs) (lexeme_begins f)
 
 -- a name before an end is one word
 pub name_cut : (n cs : List ℕ) → begins_name n ≡ true → list_all is_name_byte n ≡ true → is_end cs ≡ true → lexed 0 (n ++ cs) ≡ (kind.Name, n) ∷ lexed 0 cs

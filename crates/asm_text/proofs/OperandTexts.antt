@@ -9,16 +9,16 @@ use Rattle.std.proofs.lemmas.Bool.{le-leb}
 use Rattle.std.proofs.lemmas.Option.{same_Some}
 use Rattle.ia_insn.specs.declared.registers.Ar.TheVariants as ar
 use Rattle.ia_program.proofs.Tests.{left, right}
-use Rattle.asm_words.specs.declared.limits.TheConstants.{NAME_LIMIT}
-use Rattle.asm_words.specs.declared.tokens.Token.{Token}
-use Rattle.asm_words.specs.declared.tokens.Token.TheVariants as t
-use Rattle.asm_words.specs.declared.word.WordKind.{WordKind}
-use Rattle.asm_words.specs.declared.word.WordKind.TheVariants as kind
-use Rattle.asm_words.specs.Bytes.{is_name_byte, is_digit_byte, has_only_plain}
-use Rattle.asm_words.proofs.Lexed.{lexed, is_end}
-use Rattle.asm_words.specs.Tokens.{token_of}
-use Rattle.asm_words.proofs.Lexing.{name_lexed}
-use Rattle.asm_words.proofs.Readings.{gr_reads, pr_reads, br_reads, decimal_reads, minus_reads, hex_reads, minus_hex_reads, decimal_is_name_bytes, decimal_is_plain, hex_is_plain, both_plain, decimal_lexed, minus_decimal_lexed, hex_lexed, minus_hex_lexed}
+use Rattle.asm_lexemes.specs.declared.limits.TheConstants.{NAME_LIMIT}
+use Rattle.asm_lexemes.specs.declared.tokens.Token.{Token}
+use Rattle.asm_lexemes.specs.declared.tokens.Token.TheVariants as t
+use Rattle.asm_lexemes.specs.declared.lexeme.LexemeKind.{LexemeKind}
+use Rattle.asm_lexemes.specs.declared.lexeme.LexemeKind.TheVariants as kind
+use Rattle.asm_lexemes.specs.Bytes.{is_name_byte, is_digit_byte, has_only_plain}
+use Rattle.asm_lexemes.proofs.Lexed.{lexed, is_end}
+use Rattle.asm_lexemes.specs.Tokens.{token_of}
+use Rattle.asm_lexemes.proofs.Lexing.{name_lexed}
+use Rattle.asm_lexemes.proofs.Readings.{gr_reads, pr_reads, br_reads, decimal_reads, minus_reads, hex_reads, minus_hex_reads, decimal_is_name_bytes, decimal_is_plain, hex_is_plain, both_plain, decimal_lexed, minus_decimal_lexed, hex_lexed, minus_hex_lexed}
 use Rattle.asm_forms.specs.declared.items.FormItem.{FormItem}
 use Rattle.asm_forms.specs.declared.items.FormItem.TheVariants.{Is, Takes}
 use Rattle.asm_forms.specs.Items.{mark_token, filled, is_label_item}
@@ -43,42 +43,42 @@ filled_text target (Takes kind ∷ is) [] = refl
 filled_text target (Takes kind ∷ is) (x ∷ xs) = ap (λ cs. token_text target (is_hex kind) x ++ cs) (filled_text target is xs)
 
 -- the kind of the word that an operand is printed as
-abbrev pub word_kind_of : Token → WordKind
-word_kind_of (t.Gr n) = kind.Name
-word_kind_of (t.Pr n) = kind.Name
-word_kind_of (t.Br n) = kind.Name
-word_kind_of (t.Ar a) = kind.Name
-word_kind_of t.Predicates = kind.Name
-word_kind_of t.RotatingPredicates = kind.Name
-word_kind_of t.Ip = kind.Name
-word_kind_of t.Name = kind.Name
-word_kind_of (t.Number s m) = kind.Number
-word_kind_of _ = kind.Mark
+abbrev pub lexeme_kind_of : Token → LexemeKind
+lexeme_kind_of (t.Gr n) = kind.Name
+lexeme_kind_of (t.Pr n) = kind.Name
+lexeme_kind_of (t.Br n) = kind.Name
+lexeme_kind_of (t.Ar a) = kind.Name
+lexeme_kind_of t.Predicates = kind.Name
+lexeme_kind_of t.RotatingPredicates = kind.Name
+lexeme_kind_of t.Ip = kind.Name
+lexeme_kind_of t.Name = kind.Name
+lexeme_kind_of (t.Number s m) = kind.Number
+lexeme_kind_of _ = kind.Mark
 
 -- a name or a number, which runs on where another one follows
-abbrev pub is_wordlike : Token → Bool
-is_wordlike (t.Gr n) = true
-is_wordlike (t.Pr n) = true
-is_wordlike (t.Br n) = true
-is_wordlike (t.Ar a) = true
-is_wordlike t.Predicates = true
-is_wordlike t.RotatingPredicates = true
-is_wordlike t.Ip = true
-is_wordlike t.Name = true
-is_wordlike (t.Number s m) = true
-is_wordlike _ = false
+abbrev pub is_lexemelike : Token → Bool
+is_lexemelike (t.Gr n) = true
+is_lexemelike (t.Pr n) = true
+is_lexemelike (t.Br n) = true
+is_lexemelike (t.Ar a) = true
+is_lexemelike t.Predicates = true
+is_lexemelike t.RotatingPredicates = true
+is_lexemelike t.Ip = true
+is_lexemelike t.Name = true
+is_lexemelike (t.Number s m) = true
+is_lexemelike _ = false
 
 -- no two neighbours would run into one another
 abbrev pub are_apart : List Token → Bool
 are_apart [] = true
 are_apart (x ∷ []) = true
-are_apart (x ∷ y ∷ xs) = not (is_wordlike x && is_wordlike y) && are_apart (y ∷ xs)
+are_apart (x ∷ y ∷ xs) = not (is_lexemelike x && is_lexemelike y) && are_apart (y ∷ xs)
 
 -- the words that operands are printed as
-abbrev pub words_of : ℕ → List FormItem → List Token → List KindAndText
-words_of target [] xs = []
-words_of target (i ∷ is) [] = []
-words_of target (i ∷ is) (x ∷ xs) = (word_kind_of x, token_text target (item_hex i) x) ∷ words_of target is xs
+abbrev pub lexemes_of : ℕ → List FormItem → List Token → List KindAndText
+lexemes_of target [] xs = []
+lexemes_of target (i ∷ is) [] = []
+lexemes_of target (i ∷ is) (x ∷ xs) = (lexeme_kind_of x, token_text target (item_hex i) x) ∷ lexemes_of target is xs
 
 -- the operand at the place of the first label
 abbrev pub label_token : List FormItem → List Token → Option Token
@@ -104,8 +104,8 @@ numbered : (c n : ℕ) (cs : List ℕ) → is_name_byte c ≡ true → is_digit_
 numbered c n cs a d l e = name_lexed c (decimal n) cs a d (decimal_is_name_bytes n l) e
 
 -- An operand's text before anything, or before an end where it would run on, is one word.
-one_lexed : (target : ℕ) (hex : Bool) (x : Token) (cs : List ℕ) → target < 2 ^ 34 → IsPrinted x → (is_wordlike x ≡ true → is_end cs ≡ true)
-    → lexed 0 (token_text target hex x ++ cs) ≡ (word_kind_of x, token_text target hex x) ∷ lexed 0 cs
+one_lexed : (target : ℕ) (hex : Bool) (x : Token) (cs : List ℕ) → target < 2 ^ 34 → IsPrinted x → (is_lexemelike x ≡ true → is_end cs ≡ true)
+    → lexed 0 (token_text target hex x ++ cs) ≡ (lexeme_kind_of x, token_text target hex x) ∷ lexed 0 cs
 one_lexed target hex (t.Gr n) cs l p e = numbered 114 n cs refl refl (omega arith) (e refl)
 one_lexed target hex (t.Pr n) cs l p e = numbered 112 n cs refl refl (omega arith) (e refl)
 one_lexed target hex (t.Br n) cs l p e = numbered 98 n cs refl refl (omega arith) (e refl)
@@ -128,7 +128,7 @@ one_lexed target hex t.CloseBracket cs l p e = refl
 one_lexed target hex x cs l p e = absurd p
 
 -- and that word may be read as the operand
-one_reads : (target : ℕ) (hex : Bool) (x : Token) → target < 2 ^ 34 → IsPrinted x → token_of (word_kind_of x) (token_text target hex x) ≡ x
+one_reads : (target : ℕ) (hex : Bool) (x : Token) → target < 2 ^ 34 → IsPrinted x → token_of (lexeme_kind_of x) (token_text target hex x) ≡ x
 one_reads target hex (t.Gr n) l p = gr_reads n p
 one_reads target hex (t.Pr n) l p = pr_reads n p
 one_reads target hex (t.Br n) l p = br_reads n p
@@ -172,7 +172,7 @@ operands_plain target (i ∷ is) [] l p = refl
 operands_plain target (i ∷ is) (x ∷ xs) l p = both_plain (token_text target (item_hex i) x) (tokens_text target is xs) (one_plain target (item_hex i) x l p.0) (operands_plain target is xs l p.1)
 
 -- a mark ends what stands before it
-mark_ends : (target : ℕ) (hex : Bool) (x : Token) (cs : List ℕ) → IsPrinted x → is_wordlike x ≡ false → is_end (token_text target hex x ++ cs) ≡ true
+mark_ends : (target : ℕ) (hex : Bool) (x : Token) (cs : List ℕ) → IsPrinted x → is_lexemelike x ≡ false → is_end (token_text target hex x ++ cs) ≡ true
 mark_ends target hex t.Equals cs p w = refl
 mark_ends target hex t.Comma cs p w = refl
 mark_ends target hex t.OpenBracket cs p w = refl
@@ -193,24 +193,24 @@ second true true e h = sym h
 second true false e h = refl
 second false b e h = cc
 
-end_after : (target : ℕ) (is : List FormItem) (x : Token) (xs : List Token) (cs : List ℕ) → length is ≡ length xs → AllByRecursion IsPrinted xs → are_apart (x ∷ xs) ≡ true → is_wordlike x ≡ true → is_end cs ≡ true
+end_after : (target : ℕ) (is : List FormItem) (x : Token) (xs : List Token) (cs : List ℕ) → length is ≡ length xs → AllByRecursion IsPrinted xs → are_apart (x ∷ xs) ≡ true → is_lexemelike x ≡ true → is_end cs ≡ true
     → is_end (tokens_text target is xs ++ cs) ≡ true
 end_after target [] x [] cs n p a w e = e
 end_after target [] x (y ∷ ys) cs n p a w e = cc
 end_after target (i ∷ is) x [] cs n p a w e = cc
 end_after target (i ∷ is) x (y ∷ ys) cs n p a w e =
-    rw (append_assoc (token_text target (item_hex i) y) (tokens_text target is ys) cs) (mark_ends target (item_hex i) y (tokens_text target is ys ++ cs) p.0 (second (is_wordlike x) (is_wordlike y) w (left _ (are_apart (y ∷ ys)) a)))
+    rw (append_assoc (token_text target (item_hex i) y) (tokens_text target is ys) cs) (mark_ends target (item_hex i) y (tokens_text target is ys ++ cs) p.0 (second (is_lexemelike x) (is_lexemelike y) w (left _ (are_apart (y ∷ ys)) a)))
 
 apart_tail : (x : Token) (xs : List Token) → are_apart (x ∷ xs) ≡ true → are_apart xs ≡ true
 apart_tail x [] a = refl
-apart_tail x (y ∷ ys) a = right (not (is_wordlike x && is_wordlike y)) _ a
+apart_tail x (y ∷ ys) a = right (not (is_lexemelike x && is_lexemelike y)) _ a
 
 same_tail : (m n : ℕ) → suc m ≡ suc n → m ≡ n
 same_tail m n h = cc
 
 -- The text of the operands before an end is cut into a word for each operand.
 pub operands_lexed : (target : ℕ) (is : List FormItem) (xs : List Token) (cs : List ℕ) → target < 2 ^ 34 → length is ≡ length xs → AllByRecursion IsPrinted xs → are_apart xs ≡ true → is_end cs ≡ true
-    → lexed 0 (tokens_text target is xs ++ cs) ≡ words_of target is xs ++ lexed 0 cs
+    → lexed 0 (tokens_text target is xs ++ cs) ≡ lexemes_of target is xs ++ lexed 0 cs
 operands_lexed target [] [] cs l n p a e = refl
 operands_lexed target [] (x ∷ xs) cs l n p a e = cc
 operands_lexed target (i ∷ is) [] cs l n p a e = cc
@@ -218,48 +218,48 @@ operands_lexed target (i ∷ is) (x ∷ xs) cs l n p a e =
     let m : length is ≡ length xs = same_tail _ _ n in
     rw (append_assoc (token_text target (item_hex i) x) (tokens_text target is xs) cs)
     (one_lexed target (item_hex i) x (tokens_text target is xs ++ cs) l p.0 (λ w. end_after target is x xs cs m p.1 a w e)
-    ∙ ap (λ ws. (word_kind_of x, token_text target (item_hex i) x) ∷ ws) (operands_lexed target is xs cs l m p.1 (apart_tail x xs a) e))
+    ∙ ap (λ ws. (lexeme_kind_of x, token_text target (item_hex i) x) ∷ ws) (operands_lexed target is xs cs l m p.1 (apart_tail x xs a) e))
 
 -- what these words may be read as
-pub words_read : (target : ℕ) (is : List FormItem) (xs : List Token) (ws : List KindAndText) → target < 2 ^ 34 → length is ≡ length xs → AllByRecursion IsPrinted xs → tokens (words_of target is xs ++ ws) ≡ xs ++ tokens ws
-words_read target [] [] ws l n p = refl
-words_read target [] (x ∷ xs) ws l n p = cc
-words_read target (i ∷ is) [] ws l n p = cc
-words_read target (i ∷ is) (x ∷ xs) ws l n p =
-    ap (λ y. y ∷ tokens (words_of target is xs ++ ws)) (one_reads target (item_hex i) x l p.0) ∙ ap (λ ys. x ∷ ys) (words_read target is xs ws l (same_tail _ _ n) p.1)
+pub lexemes_read : (target : ℕ) (is : List FormItem) (xs : List Token) (ws : List KindAndText) → target < 2 ^ 34 → length is ≡ length xs → AllByRecursion IsPrinted xs → tokens (lexemes_of target is xs ++ ws) ≡ xs ++ tokens ws
+lexemes_read target [] [] ws l n p = refl
+lexemes_read target [] (x ∷ xs) ws l n p = cc
+lexemes_read target (i ∷ is) [] ws l n p = cc
+lexemes_read target (i ∷ is) (x ∷ xs) ws l n p =
+    ap (λ y. y ∷ tokens (lexemes_of target is xs ++ ws)) (one_reads target (item_hex i) x l p.0) ∙ ap (λ ys. x ∷ ys) (lexemes_read target is xs ws l (same_tail _ _ n) p.1)
 
 -- The text of the operands before an end may be read as those operands.
 pub operands_back : (target : ℕ) (is : List FormItem) (xs : List Token) (cs : List ℕ) → target < 2 ^ 34 → length is ≡ length xs → AllByRecursion IsPrinted xs → are_apart xs ≡ true → is_end cs ≡ true
     → tokens (lexed 0 (tokens_text target is xs ++ cs)) ≡ xs ++ tokens (lexed 0 cs)
-operands_back target is xs cs l n p a e = ap tokens (operands_lexed target is xs cs l n p a e) ∙ words_read target is xs (lexed 0 cs) l n p
+operands_back target is xs cs l n p a e = ap tokens (operands_lexed target is xs cs l n p a e) ∙ lexemes_read target is xs (lexed 0 cs) l n p
 
 name_at : (target : ℕ) (hex : Bool) (x : Token) → target < 2 ^ 34 → x ≡ t.Name → name_of (token_text target hex x) ≡ Some (label_text target)
 name_at target hex x l e = rw e (label_is_name target l)
 
-words_name : (target : ℕ) (is : List FormItem) (xs : List Token) (ws : List KindAndText) → target < 2 ^ 34 → label_token is xs ≡ Some t.Name → label_name is (words_of target is xs ++ ws) ≡ Some (label_text target)
-words_name target [] xs ws l h = cc
-words_name target (i ∷ is) [] ws l h = cc
-words_name target (i ∷ is) (x ∷ xs) ws l h =
-    elim (is_label_item i) as (λ b. cond b (Some x) (label_token is xs) ≡ Some t.Name → cond b (name_of (token_text target (item_hex i) x)) (label_name is (words_of target is xs ++ ws)) ≡ Some (label_text target)) [
+lexemes_name : (target : ℕ) (is : List FormItem) (xs : List Token) (ws : List KindAndText) → target < 2 ^ 34 → label_token is xs ≡ Some t.Name → label_name is (lexemes_of target is xs ++ ws) ≡ Some (label_text target)
+lexemes_name target [] xs ws l h = cc
+lexemes_name target (i ∷ is) [] ws l h = cc
+lexemes_name target (i ∷ is) (x ∷ xs) ws l h =
+    elim (is_label_item i) as (λ b. cond b (Some x) (label_token is xs) ≡ Some t.Name → cond b (name_of (token_text target (item_hex i) x)) (label_name is (lexemes_of target is xs ++ ws)) ≡ Some (label_text target)) [
       | true ↦ λ k. name_at target (item_hex i) x l (same_Some x t.Name k)
-      | false ↦ λ k. words_name target is xs ws l k
+      | false ↦ λ k. lexemes_name target is xs ws l k
     ] h
 
-words_no_name : (target : ℕ) (is : List FormItem) (xs : List Token) (ws : List KindAndText) → length is ≡ length xs → label_token is xs ≡ None → label_name is (words_of target is xs ++ ws) ≡ None
-words_no_name target [] xs ws n h = refl
-words_no_name target (i ∷ is) [] ws n h = cc
-words_no_name target (i ∷ is) (x ∷ xs) ws n h =
-    elim (is_label_item i) as (λ b. cond b (Some x) (label_token is xs) ≡ None → cond b (name_of (token_text target (item_hex i) x)) (label_name is (words_of target is xs ++ ws)) ≡ None) [
+lexemes_no_name : (target : ℕ) (is : List FormItem) (xs : List Token) (ws : List KindAndText) → length is ≡ length xs → label_token is xs ≡ None → label_name is (lexemes_of target is xs ++ ws) ≡ None
+lexemes_no_name target [] xs ws n h = refl
+lexemes_no_name target (i ∷ is) [] ws n h = cc
+lexemes_no_name target (i ∷ is) (x ∷ xs) ws n h =
+    elim (is_label_item i) as (λ b. cond b (Some x) (label_token is xs) ≡ None → cond b (name_of (token_text target (item_hex i) x)) (label_name is (lexemes_of target is xs ++ ws)) ≡ None) [
       | true ↦ λ k. cc
-      | false ↦ λ k. words_no_name target is xs ws (same_tail _ _ n) k
+      | false ↦ λ k. lexemes_no_name target is xs ws (same_tail _ _ n) k
     ] h
 
 -- Where a name is printed at the place of the label, the name of the line is the label of the target.
 pub label_found : (target : ℕ) (is : List FormItem) (xs : List Token) (cs : List ℕ) → target < 2 ^ 34 → length is ≡ length xs → AllByRecursion IsPrinted xs → are_apart xs ≡ true → is_end cs ≡ true → label_token is xs ≡ Some t.Name
     → label_name is (lexed 0 (tokens_text target is xs ++ cs)) ≡ Some (label_text target)
-label_found target is xs cs l n p a e h = ap (label_name is) (operands_lexed target is xs cs l n p a e) ∙ words_name target is xs (lexed 0 cs) l h
+label_found target is xs cs l n p a e h = ap (label_name is) (operands_lexed target is xs cs l n p a e) ∙ lexemes_name target is xs (lexed 0 cs) l h
 
 -- Where there is no place of a label, the line has no name.
 pub label_missing : (target : ℕ) (is : List FormItem) (xs : List Token) (cs : List ℕ) → target < 2 ^ 34 → length is ≡ length xs → AllByRecursion IsPrinted xs → are_apart xs ≡ true → is_end cs ≡ true → label_token is xs ≡ None
     → label_name is (lexed 0 (tokens_text target is xs ++ cs)) ≡ None
-label_missing target is xs cs l n p a e h = ap (label_name is) (operands_lexed target is xs cs l n p a e) ∙ words_no_name target is xs (lexed 0 cs) n h
+label_missing target is xs cs l n p a e h = ap (label_name is) (operands_lexed target is xs cs l n p a e) ∙ lexemes_no_name target is xs (lexed 0 cs) n h

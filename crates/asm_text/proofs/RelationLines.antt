@@ -2,13 +2,13 @@
 use Rattle.std.proofs.Common.{◌≡◌, ◌∙◌, ◌≤◌, ◌<◌, ◌^◌, ℕ, true, List, [], ◌∷◌, ◌++◌, codes, Ok, refl, sym, ap, arith, append_assoc}
 use Rattle.std.specs.Fmt.{decimal}
 use Rattle.std.proofs.lemmas.List.{append-nil}
-use Rattle.asm_words.specs.declared.word.WordKind.TheVariants as kind
-use Rattle.asm_words.specs.declared.tokens.Token.TheVariants as t
-use Rattle.asm_words.specs.Bytes.{has_only_plain}
-use Rattle.asm_words.specs.Tokens.{token_of}
-use Rattle.asm_words.proofs.Lexed.{lexed}
-use Rattle.asm_words.proofs.Lexing.{name_lexed}
-use Rattle.asm_words.proofs.Readings.{pr_reads, decimal_is_name_bytes, decimal_is_plain, both_plain}
+use Rattle.asm_lexemes.specs.declared.lexeme.LexemeKind.TheVariants as kind
+use Rattle.asm_lexemes.specs.declared.tokens.Token.TheVariants as t
+use Rattle.asm_lexemes.specs.Bytes.{has_only_plain}
+use Rattle.asm_lexemes.specs.Tokens.{token_of}
+use Rattle.asm_lexemes.proofs.Lexed.{lexed}
+use Rattle.asm_lexemes.proofs.Lexing.{name_lexed}
+use Rattle.asm_lexemes.proofs.Readings.{pr_reads, decimal_is_name_bytes, decimal_is_plain, both_plain}
 use Rattle.asm_reading.specs.declared.line.Line.TheVariants as line
 use Rattle.asm_reading.specs.Lines.{KindAndText, value_of, reading_of, relation_of}
 use Rattle.asm_reading.proofs.TwoPredicates.{two_read}

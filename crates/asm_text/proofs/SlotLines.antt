@@ -7,17 +7,17 @@ use Rattle.std.specs.Fmt.{decimal}
 use Rattle.std.proofs.lemmas.Bool.{eqb-true, cond-true, cond-false}
 use Rattle.std.proofs.lemmas.List.{length-append}
 use Rattle.std.proofs.Math.Seq.{drop-append_seam}
-use Rattle.asm_words.specs.declared.tokens.Token.{Token}
-use Rattle.asm_words.specs.declared.tokens.Token.TheVariants as t
-use Rattle.asm_words.specs.declared.word.WordKind.TheVariants as kind
-use Rattle.asm_words.specs.declared.fault.LineFault.{LineFault}
-use Rattle.asm_words.specs.declared.fault.LineFault.TheVariants as fault
-use Rattle.asm_words.specs.Bytes.{has_only_plain}
-use Rattle.asm_words.proofs.Lexed.{lexed, is_end}
-use Rattle.asm_words.specs.Tokens.{name_token, token_of}
-use Rattle.asm_words.proofs.Bridge.{words_lexed}
-use Rattle.asm_words.proofs.Lexing.{name_lexed}
-use Rattle.asm_words.proofs.Readings.{pr_reads, decimal_is_name_bytes, decimal_is_plain, name_bytes_are_plain, both_plain}
+use Rattle.asm_lexemes.specs.declared.tokens.Token.{Token}
+use Rattle.asm_lexemes.specs.declared.tokens.Token.TheVariants as t
+use Rattle.asm_lexemes.specs.declared.lexeme.LexemeKind.TheVariants as kind
+use Rattle.asm_lexemes.specs.declared.fault.LineFault.{LineFault}
+use Rattle.asm_lexemes.specs.declared.fault.LineFault.TheVariants as fault
+use Rattle.asm_lexemes.specs.Bytes.{has_only_plain}
+use Rattle.asm_lexemes.proofs.Lexed.{lexed, is_end}
+use Rattle.asm_lexemes.specs.Tokens.{name_token, token_of}
+use Rattle.asm_lexemes.proofs.Bridge.{lexemes_lexed}
+use Rattle.asm_lexemes.proofs.Lexing.{name_lexed}
+use Rattle.asm_lexemes.proofs.Readings.{pr_reads, decimal_is_name_bytes, decimal_is_plain, name_bytes_are_plain, both_plain}
 use Rattle.asm_forms.specs.declared.form.Form.{Form}
 use Rattle.asm_forms.specs.declared.items.FormItem.{FormItem}
 use Rattle.asm_forms.specs.Items.{is_stop, taken}
@@ -36,7 +36,7 @@ use Rattle.asm_instructions.specs.Instructions.{op_of}
 use Rattle.asm_reading.specs.declared.line.Draft.{Draft}
 use Rattle.asm_reading.specs.declared.line.Line.{Line}
 use Rattle.asm_reading.specs.declared.line.Line.TheVariants as line
-use Rattle.asm_reading.specs.Lines.{◌>>=◌, or_fault, KindAndText, tokens, label_name, is_open, is_close, lead_at, led_at, is_some_stop, ends_in_stop, without_stop, predicate_of, is_bare, draft_of, completers_or_none, slot_of, worded, led, is_name_word, is_colon, value_of, reading_of}
+use Rattle.asm_reading.specs.Lines.{◌>>=◌, or_fault, KindAndText, tokens, label_name, is_open, is_close, lead_at, led_at, is_some_stop, ends_in_stop, without_stop, predicate_of, is_bare, draft_of, completers_or_none, slot_of, worded, led, is_name_lexeme, is_colon, value_of, reading_of}
 use Rattle.asm_printing.specs.SlotTexts.{label_text, spaced, mnemonic_text, predicate_text, stop_text, target_of, or_zero, slot_text}
 use Rattle.asm_reading.proofs.NoMarks.{name_is_not_open}
 use Rattle.asm_reading.proofs.SlotForms.{slot_first, found_read}
@@ -108,7 +108,7 @@ neither false b x y h = refl
 
 no_label : (w : KindAndText) (ws : List KindAndText) → begins_colon (tokens ws) ≡ false → value_of (w ∷ ws) ≡ led (w ∷ ws)
 no_label w [] h = refl
-no_label w (x ∷ ws) h = neither (is_name_word w) (is_colon (token_of x.0 x.1)) _ _ h
+no_label w (x ∷ ws) h = neither (is_name_lexeme w) (is_colon (token_of x.0 x.1)) _ _ h
 
 -- the words before the leading one
 lead_first : (m : List ℕ) (ws : List KindAndText) → lead_at (tokens ((kind.Name, m) ∷ ws)) ≡ Some 0
@@ -260,7 +260,7 @@ parts_lexed : (pr m d s : List ℕ) → lexed 0 (codes "  " ++ pr ++ m ++ d ++ s
 parts_lexed pr m d s = ap (lexed 0) (append_assoc (pr ++ m) d s ∙ append_assoc pr m (d ++ s))
 
 pub read_plain : (bytes : List ℕ) → has_only_plain bytes ≡ true → reading_of bytes ≡ value_of (lexed 0 bytes)
-read_plain bytes h = cond-true (has_only_plain bytes) _ _ h ∙ ap value_of (words_lexed bytes)
+read_plain bytes h = cond-true (has_only_plain bytes) _ _ h ∙ ap value_of (lexemes_lexed bytes)
 
 -- the operands of a line by the number of their target
 line_back : (x : Op) (qp : ℕ) (target : Option ℕ) (stop : Bool) → ReadsBack x → AllByRecursion IsPrinted (tokens_of x) → qp < 64 → are_apart (tokens_of x) ≡ true

@@ -1,4 +1,4 @@
--- The entries of the program are the bundles of those of the row, and declare the same.
+-- The entries of the program are the bundles of those of the sequence, and declare the same.
 use Rattle.std.proofs.Common.{arith, ◌≡◌, ℕ, zero, suc, ◌-◌, ◌<◌, ◌≤◌, ◌⊎◌, inl, inr, refl, sym, ◌∙◌, ap, subst, Bool, true, false, ◌==◌, cond, List, [], ◌∷◌, map, length, Option, Some, None, slice_get, if◌then◌else◌, Contains}
 use Rattle.std.specs.Prelude.{IsSomeAnd}
 use Rattle.std.proofs.lemmas.Bool.Decides.{same_from_decides, Decides-eqb}
@@ -13,14 +13,14 @@ use Rattle.ia_program.specs.Places.{bundle_insn, insn_at}
 use Rattle.ia_program.specs.Programs.{IsCall, HasCall, IsAfterCall, IsEntryOf, no_relation, relation_at, relations_at}
 use Rattle.resource_sets.proofs.Members.{in_map, from_map}
 use Rattle.predicate_rel.specs.Pairs.{Pairs, no_pairs, with_pair}
-use Rattle.flow_facts.specs.Graphs.{IsRowEntry, with_relations, known_at_entry}
+use Rattle.flow_facts.specs.Graphs.{IsSequenceEntry, with_relations, known_at_entry}
 use Rattle.slot_layouts.specs.Filled.{filled}
-use Rattle.row_laws.specs.Spreads.{IsFiller, IsHead}
+use Rattle.sequence_laws.specs.Spreads.{IsFiller, IsHead}
 use Rattle.loose_items.specs.declared.item.Item.{Item}
 use Rattle.loose_text.specs.LooseTexts.{Loose, IsLoose, BreaksAt}
 use Rattle.bundling.specs.Chunk.{Chunk}
 use Rattle.bundling.specs.Chunks.{AreChunks}
-use Rattle.bundling.specs.Bundled.{row_of, targeted, layout_of, place_of, bundle_of, relation_moved}
+use Rattle.bundling.specs.Bundled.{sequence_of, targeted, layout_of, place_of, bundle_of, relation_moved}
 use Rattle.bundling.proofs.Lists.{element}
 use Rattle.std.proofs.lemmas.List.Elements.{Contains-get_or}
 use Rattle.bundling.proofs.Locating.{breaks_inside, AreLayouts, held, part_of, IsAt, spot, held-suc, length-bundles, bundle_at, in_bundle, placed, bundle_there, next_first, first_there, below_all, first_is_head, head_is_first, begins_first, behind_call_first, call_is_last, first_of_all}
@@ -118,13 +118,13 @@ ends_with_call laws s cs loose are k b is has = of (fillers laws cs s.items (tar
           next = ap (λ (k : ℕ). held cs (suc k)) bundle ∙ (let next : held cs (suc one.bundle) ≡ suc n = omega arith in next);
         }
 
--- An entry of the program is the bundle of an entry of the row.
+-- An entry of the program is the bundle of an entry of the sequence.
 held_none : (cs : List Chunk) → held cs 0 ≡ 0
 held_none [] = refl
 held_none (c ∷ cs) = refl
 
 pub entry_from : AreLayouts → (s : Loose) (cs : List Chunk) → IsLoose s → AreChunks cs s.items → (bundle : ℕ) → IsEntryOf (bundles_of s cs) (map (bundle_of cs) s.entries) bundle
-    → (n : ℕ) × IsRowEntry (row_of s) n × (bundle_of cs n ≡ bundle) × IsHead (place_of cs) n
+    → (n : ℕ) × IsSequenceEntry (sequence_of s) n × (bundle_of cs n ≡ bundle) × IsHead (place_of cs) n
 entry_from laws s cs loose are bundle entry =
     let chunk = element cs bundle (subst (λ m. bundle < m) (length-bundles cs (targeted (bundle_of cs) s)) entry.inside) in
     let first = first_there cs s.items bundle chunk.0 laws are chunk.1 in (
@@ -186,7 +186,7 @@ behind_call laws s cs loose are m more call =
     in
     subst (IsAfterCall (bundles_of s cs)) (sym bundle) (omega arith, subst (λ m. IsSomeAnd (slice_get (bundles_of s cs) m) (λ b. HasCall b.slots)) (sym before) here)
 
-pub entry_of : AreLayouts → (s : Loose) (cs : List Chunk) → IsLoose s → AreChunks cs s.items → (n : ℕ) → IsRowEntry (row_of s) n
+pub entry_of : AreLayouts → (s : Loose) (cs : List Chunk) → IsLoose s → AreChunks cs s.items → (n : ℕ) → IsSequenceEntry (sequence_of s) n
     → IsEntryOf (bundles_of s cs) (map (bundle_of cs) s.entries) (bundle_of cs n) × IsHead (place_of cs) n
 entry_of laws s cs loose are n entry =
     let less : n < length s.items = subst (λ m. n < m) (length-targeted itself 0 s.items s.targets loose.targets) entry.inside in
@@ -252,7 +252,7 @@ relations_same f n g (r ∷ rs) same =
 relation_there : (rs : List Relation) (k : ℕ) → k < length rs → Contains rs (relation_at rs k)
 relation_there rs k inside = Contains-get_or rs k no_relation inside
 
-pub knows_same : AreLayouts → (s : Loose) (cs : List Chunk) → IsLoose s → AreChunks cs s.items → (n : ℕ) → IsRowEntry (row_of s) n
+pub knows_same : AreLayouts → (s : Loose) (cs : List Chunk) → IsLoose s → AreChunks cs s.items → (n : ℕ) → IsSequenceEntry (sequence_of s) n
     → known_at_entry s.relations n ≡ known_at_entry (map (relation_moved (bundle_of cs)) s.relations) (bundle_of cs n)
 unfolding known_at_entry
 knows_same laws s cs loose are n entry =

@@ -1,5 +1,5 @@
--- The program's branches and checks lead to the bundles of those that the row's lead to; and so the program has the
--- instructions of the row at their places.
+-- The program's branches and checks lead to the bundles of those that the sequence's lead to; and so the program has the
+-- instructions of the sequence at their places.
 use Rattle.std.proofs.Common.{arith, ◌≡◌, ℕ, ◌<◌, ◌⊎◌, inl, inr, refl, sym, ◌∙◌, ap, subst, List, length, Option, Some, None, IsSome, slice_get}
 use Rattle.std.proofs.lemmas.Option.{same_Some, slice_get_within}
 use Rattle.ia_insn.specs.declared.insn.Insn.{Insn}
@@ -10,12 +10,12 @@ use Rattle.ia_meaning.specs.Sequence.{first_of}
 use Rattle.ia_meaning.proofs.Inside.{first_is_place}
 use Rattle.predicate_rel.specs.declared.edge.Edge.TheVariants.{Taken}
 use Rattle.predicate_rel.specs.Edges.{HasEdge, displacement_of, target_at, edge_of, edge_end}
-use Rattle.flow_facts.specs.Graphs.{HasRowEdge, row_insn, row_end_of}
-use Rattle.row_laws.specs.Spreads.{IsFiller, IsHead, IsSpread}
+use Rattle.flow_facts.specs.Graphs.{HasSequenceEdge, sequence_insn, sequence_end_of}
+use Rattle.sequence_laws.specs.Spreads.{IsFiller, IsHead, IsSpread}
 use Rattle.loose_text.specs.LooseTexts.{Loose, IsLoose, BreaksAt}
 use Rattle.bundling.specs.Chunk.{Chunk}
 use Rattle.bundling.specs.Chunks.{AreChunks, AreChunksOf}
-use Rattle.bundling.specs.Bundled.{put_in, row_of, targeted, place_of, bundle_of, program_of}
+use Rattle.bundling.specs.Bundled.{put_in, sequence_of, targeted, place_of, bundle_of, program_of}
 use Rattle.bundling.proofs.Locating.{breaks_inside, AreLayouts, IsAt, spot, length-bundles, bundle_there, first_is_head, begins_first}
 use Rattle.bundling.proofs.Targeting.{put, length-targeted, IsItemAt, item_at, within_items, has_instructions, leads_to}
 use Rattle.bundling.proofs.Spreading.{itself, bundles_of, there, rises, fillers}
@@ -28,18 +28,18 @@ begins_head laws s cs are m begins =
     let first = begins_first cs s.items m one.bundle one.offset one.chunk laws are one.at begins in
     first_is_head cs s.items m one.bundle one.chunk laws are (subst (λ j. IsAt cs m one.bundle j one.chunk) first one.at)
 
--- an instruction of the row, and where its taken edge leads
-row_there : (s : Loose) (n : ℕ) → IsLoose s → n < length s.items → IsSome (row_insn (targeted itself s) (first_of n))
-unfolding row_insn
-row_there s n loose less = subst IsSome (sym ((item_at s n loose less).put_in itself)) refl
+-- an instruction of the sequence, and where its taken edge leads
+sequence_there : (s : Loose) (n : ℕ) → IsLoose s → n < length s.items → IsSome (sequence_insn (targeted itself s) (first_of n))
+unfolding sequence_insn
+sequence_there s n loose less = subst IsSome (sym ((item_at s n loose less).put_in itself)) refl
 
-row_leads : (s : Loose) (n : ℕ) (it : IsItemAt s n) → row_end_of (targeted itself s) (first_of n) (row_insn (targeted itself s) (first_of n)) Taken ≡ target_at n (displacement_of (action_of (put_in itself n it.item.insn.op it.target)))
-unfolding row_insn
-row_leads s n it = ap (λ (o : Option Insn). row_end_of (targeted itself s) (first_of n) o Taken) (it.put_in itself)
+sequence_leads : (s : Loose) (n : ℕ) (it : IsItemAt s n) → sequence_end_of (targeted itself s) (first_of n) (sequence_insn (targeted itself s) (first_of n)) Taken ≡ target_at n (displacement_of (action_of (put_in itself n it.item.insn.op it.target)))
+unfolding sequence_insn
+sequence_leads s n it = ap (λ (o : Option Insn). sequence_end_of (targeted itself s) (first_of n) o Taken) (it.put_in itself)
 
-row_within : (s : Loose) (n : ℕ) → IsLoose s → IsSome (row_insn (targeted itself s) (first_of n)) → n < length s.items
-unfolding row_insn
-row_within s n loose some = of (slice_get (targeted itself s) n) refl some
+sequence_within : (s : Loose) (n : ℕ) → IsLoose s → IsSome (sequence_insn (targeted itself s) (first_of n)) → n < length s.items
+unfolding sequence_insn
+sequence_within s n loose some = of (slice_get (targeted itself s) n) refl some
   where
     of : (o : Option Insn) → slice_get (targeted itself s) n ≡ o → IsSome o → n < length s.items
     of None is h = absurd (cc)
@@ -64,7 +64,7 @@ bundle_below laws s cs are n less =
 
 -- a taken edge of the one gives one of the other
 targets : AreLayouts → (s : Loose) (cs : List Chunk) → IsLoose s → AreChunks cs s.items → (bundle n : ℕ) → n < length s.items → HasEdge (program_of s cs) (place_of cs n) Taken (first_of bundle)
-    → (m : ℕ) × HasRowEdge (row_of s) (first_of n) Taken (first_of m) × (bundle_of cs m ≡ bundle) × IsHead (place_of cs) m
+    → (m : ℕ) × HasSequenceEdge (sequence_of s) (first_of n) Taken (first_of m) × (bundle_of cs m ≡ bundle) × IsHead (place_of cs) m
 targets laws s cs loose are bundle n less edge =
     let it = item_at s n loose less in
     let goes = sym (program_leads laws s cs loose are n it less) ∙ edge.leads in
@@ -72,21 +72,21 @@ targets laws s cs loose are bundle n less edge =
     let same : first_of (bundle_of cs aim.number) ≡ first_of bundle = same_Some _ _ (sym (aim.leads (bundle_of cs) (bundle_of cs n)) ∙ goes) in (
       aim.number,
       record {
-        inside = row_there s n loose less;
-        leads = row_leads s n it ∙ aim.leads itself n;
-        lands = row_there s aim.number loose (breaks_inside s.items aim.number aim.begins);
+        inside = sequence_there s n loose less;
+        leads = sequence_leads s n it ∙ aim.leads itself n;
+        lands = sequence_there s aim.number loose (breaks_inside s.items aim.number aim.begins);
       },
       ap (λ (p : Place). p.bundle) same,
       begins_head laws s cs are aim.number aim.begins,
     )
 
-row_targets : AreLayouts → (s : Loose) (cs : List Chunk) → IsLoose s → AreChunks cs s.items → (n m : ℕ) → HasRowEdge (row_of s) (first_of n) Taken (first_of m)
+sequence_targets : AreLayouts → (s : Loose) (cs : List Chunk) → IsLoose s → AreChunks cs s.items → (n m : ℕ) → HasSequenceEdge (sequence_of s) (first_of n) Taken (first_of m)
     → HasEdge (program_of s cs) (place_of cs n) Taken (first_of (bundle_of cs m)) × IsHead (place_of cs) m
-row_targets laws s cs loose are n m edge =
-    let less = row_within s n loose edge.inside in
-    let small = row_within s m loose edge.lands in
+sequence_targets laws s cs loose are n m edge =
+    let less = sequence_within s n loose edge.inside in
+    let small = sequence_within s m loose edge.lands in
     let it = item_at s n loose less in
-    let goes = sym (row_leads s n it) ∙ edge.leads in
+    let goes = sym (sequence_leads s n it) ∙ edge.leads in
     let aim = leads_to s.items it.item.insn.op it.target itself n (first_of m) it.aimed goes in
     let same : aim.number ≡ m = ap (λ (p : Place). p.bundle) (same_Some (first_of aim.number) (first_of m) (sym (aim.leads itself n) ∙ goes)) in (
       record {
@@ -97,17 +97,17 @@ row_targets laws s cs loose are n m edge =
       subst (IsHead (place_of cs)) same (begins_head laws s cs are aim.number aim.begins),
     )
 
--- The program has the instructions of the row at their places.
-pub is_spread : AreLayouts → (s : Loose) (cs : List Chunk) → IsLoose s → AreChunksOf s cs → IsSpread (row_of s) (program_of s cs) (place_of cs)
+-- The program has the instructions of the sequence at their places.
+pub is_spread : AreLayouts → (s : Loose) (cs : List Chunk) → IsLoose s → AreChunksOf s cs → IsSpread (sequence_of s) (program_of s cs) (place_of cs)
 is_spread laws s cs loose are = record {
   there = there laws s cs loose are.chunks;
   rises = λ n m less small. rises laws cs s.items are.chunks n m less (subst (λ l. m < l) count small);
   fillers = fill;
   entries = entry_from laws s cs loose are.chunks;
-  row_entries = entry_of laws s cs loose are.chunks;
+  sequence_entries = entry_of laws s cs loose are.chunks;
   known = knows_same laws s cs loose are.chunks;
   targets = λ bundle n less. targets laws s cs loose are.chunks bundle n (subst (λ l. n < l) count less);
-  row_targets = row_targets laws s cs loose are.chunks;
+  sequence_targets = sequence_targets laws s cs loose are.chunks;
 }
   where
     count : length (targeted itself s) ≡ length s.items

@@ -7,8 +7,8 @@ use Rattle.ia_insn.specs.declared.insn.Op.{Op}
 use Rattle.ia_insn.specs.declared.insn.Op.TheVariants as op
 use Rattle.ia_insn.specs.declared.choices.BranchKind.TheVariants as branch
 use Rattle.ia_meaning.specs.declared.action.Action.TheVariants as action
-use Rattle.ia_meaning.specs.declared.action.Goal.{Goal}
-use Rattle.ia_meaning.specs.declared.action.Goal.TheVariants as goal
+use Rattle.ia_meaning.specs.declared.action.CallTarget.{CallTarget}
+use Rattle.ia_meaning.specs.declared.action.CallTarget.TheVariants as callee
 use Rattle.ia_meaning.specs.Actions.{action_of, is_alloc}
 use Rattle.resource_sets.specs.Rows.{listed}
 use Rattle.resource_sets.specs.Accesses.{rows}
@@ -18,7 +18,7 @@ use Rattle.predicate_rel.specs.Pairs.{Pairs, in_range}
 use Rattle.predicate_rel.specs.Rules.{is_met, action_rule, rule_of, pairs_after}
 use Rattle.predicate_rel.specs.Edges.{leaves}
 use Rattle.group_checker.specs.Violations.{clears}
-use Rattle.row_laws.specs.Spreads.{DoesLike}
+use Rattle.sequence_laws.specs.Spreads.{DoesLike}
 use Rattle.asm_build.specs.declared.address.Address.{Address}
 use Rattle.asm_build.specs.declared.address.Address.TheVariants.{Bundle, Byte}
 use Rattle.asm_build.specs.Addresses.{addressed}
@@ -60,7 +60,7 @@ jump_rule : (a b : ℤ) (e : Edge) (g p q : ℕ) → action_rule (action.Jump a)
 jump_rule a b Falls g p q = refl
 jump_rule a b Taken g p q = refl
 
-call_rule : (b1 : ℕ) (a b : Goal) (e : Edge) (g p q : ℕ) → action_rule (action.Call b1 a) e g p q ≡ action_rule (action.Call b1 b) e g p q
+call_rule : (b1 : ℕ) (a b : CallTarget) (e : Edge) (g p q : ℕ) → action_rule (action.Call b1 a) e g p q ≡ action_rule (action.Call b1 b) e g p q
 call_rule b1 a b Falls g p q = refl
 call_rule b1 a b Taken g p q = refl
 
@@ -70,7 +70,7 @@ like_addressed qp (op.ChkS unit r2 disp) (Bundle m) n = alike qp _ _ refl refl (
 like_addressed qp (op.ChkA clear r1 disp) (Bundle m) n = alike qp _ _ refl refl (λ e g p q. refl) refl refl
 like_addressed qp (op.Br branch.Cond wh many clr disp) (Bundle m) n = alike qp _ _ refl refl (jump_rule disp (pos m -ℤ pos n)) refl refl
 like_addressed qp (op.Br kind wh many clr disp) (Bundle m) n = alike qp _ _ refl refl (λ e g p q. refl) refl refl
-like_addressed qp (op.BrCall b1 wh many clr disp) (Bundle m) n = alike qp _ _ refl refl (call_rule b1 (goal.Direct disp) (goal.Direct (pos m -ℤ pos n))) refl refl
+like_addressed qp (op.BrCall b1 wh many clr disp) (Bundle m) n = alike qp _ _ refl refl (call_rule b1 (callee.Direct disp) (callee.Direct (pos m -ℤ pos n))) refl refl
 like_addressed qp (op.Movl r1 imm) (Bundle m) n = alike qp _ _ refl refl (λ e g p q. refl) refl refl
 like_addressed qp (op.Movl r1 imm) (Byte at) n = alike qp _ _ refl refl (λ e g p q. refl) refl refl
 like_addressed qp x a n = like_itself (under qp x)

@@ -16,7 +16,7 @@ use Rattle.slot_layouts.specs.Filled.{filled}
 use Rattle.slot_layouts.specs.Laws.{LaidOutIsLayout, LaidOutHoldsInOrder}
 use Rattle.loose_items.specs.declared.item.Item.{Item}
 use Rattle.loose_text.specs.LooseTexts.{BreaksAt}
-use Rattle.row_laws.specs.Spreads.{IsHead}
+use Rattle.sequence_laws.specs.Spreads.{IsHead}
 use Rattle.bundling.specs.Chunk.{Chunk}
 use Rattle.bundling.specs.Chunks.{Holds, KeepTogether, IsChunk, AreChunks, gaps_in, gaps_of}
 use Rattle.bundling.specs.Bundled.{layout_of, places_from, places_of, place_of, bundle_of, bundles_from}

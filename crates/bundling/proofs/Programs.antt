@@ -13,10 +13,10 @@ use Rattle.ia_program.specs.Programs.{IsProgram, AreInRange, floor, IsEntryAt, A
 use Rattle.loose_items.specs.declared.item.Item.{Item}
 use Rattle.loose_text.specs.LooseTexts.{Loose, IsLoose, BreaksAt, IsItemEntry}
 use Rattle.asm_build.specs.Relations.{IsFit}
-use Rattle.flow_facts.specs.Graphs.{IsRowEntry}
-use Rattle.row_laws.specs.Spreads.{IsHead}
+use Rattle.flow_facts.specs.Graphs.{IsSequenceEntry}
+use Rattle.sequence_laws.specs.Spreads.{IsHead}
 use Rattle.bundling.specs.Chunk.{Chunk}
-use Rattle.bundling.specs.Bundled.{row_of, targeted, place_of, bundle_of, relation_moved, program_of}
+use Rattle.bundling.specs.Bundled.{sequence_of, targeted, place_of, bundle_of, relation_moved, program_of}
 use Rattle.bundling.proofs.Locating.{breaks_inside, IsAt, spot, length-bundles, bundle_there, first_is_head, begins_first, first_of_all}
 use Rattle.bundling.proofs.Targeting.{length-targeted, item_at, call_put}
 use Rattle.bundling.proofs.Spreading.{itself}
@@ -62,8 +62,8 @@ call_put_in s n loose less call =
     let calls : IsCall one.item.insn.op = subst (λ (o : Option Item). IsSomeAnd o (λ i. IsCall i.insn.op)) one.there call in
     subst (λ (o : Option Insn). IsSomeAnd o (λ i. IsCall i.op)) (sym (one.put_in itself)) ((call_put itself n one.item.insn.op one.target).0 calls)
 
-row_entry : (s : Loose) (n : ℕ) → IsLoose s → IsItemEntry s.items s.entries n → IsRowEntry (row_of s) n
-row_entry s n loose entry = record {
+sequence_entry : (s : Loose) (n : ℕ) → IsLoose s → IsItemEntry s.items s.entries n → IsSequenceEntry (sequence_of s) n
+sequence_entry s n loose entry = record {
   inside = subst (λ m. n < m) (sym (length-targeted itself 0 s.items s.targets loose.targets)) entry.inside;
   kind = of entry.kind;
 }
@@ -75,7 +75,7 @@ row_entry s n loose entry = record {
     of (inr (inr (some, call))) = let less = entry.inside in inr (inr (some, call_put_in s (n - 1) loose (omega arith) call))
 
 entry_moved : (s : Loose) (cs : List Chunk) (n : ℕ) → IsBundling s cs → IsItemEntry s.items s.entries n → IsEntryOf (program_of s cs).bundles (program_of s cs).entries (bundle_of cs n)
-entry_moved s cs n h entry = (entry_of h.laws s cs h.loose h.are.chunks n (row_entry s n h.loose entry)).0
+entry_moved s cs n h entry = (entry_of h.laws s cs h.loose h.are.chunks n (sequence_entry s n h.loose entry)).0
 
 -- Relations rise.
 relation_rises : (s : Loose) (cs : List Chunk) (before relation : Relation) → IsBundling s cs → IsRelationBefore before relation → BreaksAt s.items relation.bundle

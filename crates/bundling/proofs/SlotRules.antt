@@ -12,7 +12,7 @@ use Rattle.ia_program.proofs.InOrder.{next_slot, next_bundle, no_next}
 use Rattle.ia_meaning.specs.Actions.{insn_action, action_of, is_alloc, allocates}
 use Rattle.ia_meaning.specs.Sequence.{first_of, next_of, is_stopped}
 use Rattle.ia_meaning.proofs.Sequences.{next_same}
-use Rattle.flow_facts.specs.Graphs.{over_row, row_insn}
+use Rattle.flow_facts.specs.Graphs.{over_sequence, sequence_insn}
 use Rattle.group_checker.specs.Violations.{clears, clears_in, allocates_at, clears_at}
 use Rattle.slot_layouts.specs.declared.classes.SlotClass.{SlotClass}
 use Rattle.slot_layouts.specs.declared.classes.SlotClass.TheVariants.{M, B}
@@ -20,11 +20,11 @@ use Rattle.slot_layouts.specs.declared.layout.Wanted.{Wanted}
 use Rattle.slot_layouts.specs.Classes.{class_of}
 use Rattle.slot_layouts.specs.Layouts.{laid_out}
 use Rattle.slot_layouts.specs.Laws.{HasStopWhere, has_stop, FirstStandsInSlot0, StopIsRightBeforeM, LastBStandsLast, NextStandsRightBehindB}
-use Rattle.row_laws.specs.Spreads.{IsHead, IsBetween, KeepsSlotRules}
+use Rattle.sequence_laws.specs.Spreads.{IsHead, IsBetween, KeepsSlotRules}
 use Rattle.loose_text.specs.LooseTexts.{Loose, IsLoose}
 use Rattle.bundling.specs.Chunk.{Chunk}
 use Rattle.bundling.specs.Chunks.{AreChunks, AreChunksOf}
-use Rattle.bundling.specs.Bundled.{row_of, targeted, layout_of, place_of, bundle_of, program_of}
+use Rattle.bundling.specs.Bundled.{sequence_of, targeted, layout_of, place_of, bundle_of, program_of}
 use Rattle.bundling.proofs.Lists.{element}
 use Rattle.bundling.proofs.Locating.{part_of, IsAt, put_at, spot, length-bundles, bundle_at, in_bundle, placed, class_there, last_of_all, head_is_first}
 use Rattle.bundling.proofs.Targeting.{length-targeted, IsItemAt, item_at, within_items}
@@ -53,7 +53,7 @@ clear_is_b (op.Br branch.Cond wh many clr disp) h = absurd (cc)
 clear_is_b (op.Br kind wh many clr disp) h = absurd (cc)
 clear_is_b x h = absurd (cc)
 
--- An instruction of the row that is one of them is of its class.
+-- An instruction of the sequence that is one of them is of its class.
 pub record IsOfClass (s : Loose) (n : ℕ) (class : SlotClass) : Type 0 where
   pub inside : n < length s.items
   pub item : IsItemAt s n
@@ -71,13 +71,13 @@ of_class s n class test loose none some here = of (slice_get (targeted itself s)
         let it = item_at s n loose less in
         record { inside = less; item = it; is = some it i is h }
 
-allocates_here : (s : Loose) (n : ℕ) → IsLoose s → allocates_at (over_row (row_of s)) (first_of n) ≡ true → IsOfClass s n M
-unfolding allocates_at row_insn
+allocates_here : (s : Loose) (n : ℕ) → IsLoose s → allocates_at (over_sequence (sequence_of s)) (first_of n) ≡ true → IsOfClass s n M
+unfolding allocates_at sequence_insn
 allocates_here s n loose here = of_class s n M allocates loose refl (λ it i is h. alloc_is_m it.item.insn.op
     (sym (allocates_put itself n it.item.insn it.target) ∙ ap (λ (i : Insn). is_alloc (insn_action i)) (same_Some _ i (sym (it.put_in itself) ∙ is)) ∙ h)) here
 
-clears_here : (s : Loose) (n : ℕ) → IsLoose s → clears_at (over_row (row_of s)) (first_of n) ≡ true → IsOfClass s n B
-unfolding clears_at row_insn
+clears_here : (s : Loose) (n : ℕ) → IsLoose s → clears_at (over_sequence (sequence_of s)) (first_of n) ≡ true → IsOfClass s n B
+unfolding clears_at sequence_insn
 clears_here s n loose here = of_class s n B clears_in loose refl (λ it i is h. clear_is_b it.item.insn.op
     (sym (clears_put itself n it.item.insn it.target) ∙ ap (λ (i : Insn). clears (insn_action i)) (same_Some _ i (sym (it.put_in itself) ∙ is)) ∙ h)) here
 
@@ -278,7 +278,7 @@ clear_last laws s cs are n end of =
         (no_next (bundles_of s cs) (in_bundle last.bundle last.slot) (filled_at cs insns last.bundle last.chunk) (bundle_at cs insns last.bundle last.chunk last.at.there) (omega arith) (omega (arith, length-bundles cs insns))))
 
 -- The rules on slots.
-pub keeps_slot_rules : ArePlaceLaws → (s : Loose) (cs : List Chunk) → IsLoose s → AreChunksOf s cs → KeepsSlotRules (row_of s) (program_of s cs) (place_of cs) (is_stopped (bundles_of s cs))
+pub keeps_slot_rules : ArePlaceLaws → (s : Loose) (cs : List Chunk) → IsLoose s → AreChunksOf s cs → KeepsSlotRules (sequence_of s) (program_of s cs) (place_of cs) (is_stopped (bundles_of s cs))
 keeps_slot_rules laws s cs loose are = record {
   alloc_head = λ n here head. alloc_head laws s cs are.chunks n (allocates_here s n loose here) head;
   alloc_stop = λ n more here x between stopped.

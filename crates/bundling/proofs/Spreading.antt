@@ -1,4 +1,4 @@
--- The program has the instructions of the row at their places and in their order, with nops beside them.
+-- The program has the instructions of the sequence at their places and in their order, with nops beside them.
 use Rattle.std.proofs.Common.{arith, ◌≡◌, ◌≢◌, ℕ, zero, suc, ◌+◌, ◌<◌, ◌⊎◌, inl, inr, refl, sym, ◌∙◌, ap, subst, add-one, Bool, true, false, eqb, List, [], ◌∷◌, length, Option, Some, None, IsSome, slice_get}
 use Rattle.std.specs.Prelude.{option_map}
 use Rattle.std.proofs.lemmas.Bool.{eqb-true}
@@ -13,7 +13,7 @@ use Rattle.ia_program.specs.Bundles.{Bundle, slot_insn}
 use Rattle.ia_program.specs.Places.{insn_at, IsBefore}
 use Rattle.ia_program.proofs.InOrder.{lies_in}
 use Rattle.slot_layouts.specs.Filled.{nop_of, filled}
-use Rattle.row_laws.specs.Spreads.{DoesLike, IsFiller}
+use Rattle.sequence_laws.specs.Spreads.{DoesLike, IsFiller}
 use Rattle.loose_items.specs.declared.item.Item.{Item}
 use Rattle.loose_text.specs.LooseTexts.{Loose, IsLoose}
 use Rattle.bundling.specs.Chunk.{Chunk}

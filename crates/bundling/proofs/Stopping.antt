@@ -13,13 +13,13 @@ use Rattle.ia_meaning.specs.Sequence.{first_of, is_stopped}
 use Rattle.slot_layouts.specs.declared.layout.Wanted.{Wanted}
 use Rattle.slot_layouts.specs.Laws.{HasStopWhere}
 use Rattle.group_checker.proofs.Falling.{none_before_first}
-use Rattle.row_laws.specs.Spreads.{IsBetween, AreStops}
+use Rattle.sequence_laws.specs.Spreads.{IsBetween, AreStops}
 use Rattle.loose_items.specs.declared.item.Item.{Item}
 use Rattle.loose_text.specs.LooseTexts.{Loose, IsLoose}
 use Rattle.bundling.specs.Chunk.{Chunk}
 use Rattle.bundling.specs.Chunks.{AreChunks, AreChunksOf, gaps_of}
-use Rattle.bundling.specs.Bundled.{row_of, targeted, layout_of, places_of, place_of, bundle_of, bundles_from, program_of}
-use Rattle.bundling.specs.Laws.{row_stop, HasStopsApart, HasLastStop}
+use Rattle.bundling.specs.Bundled.{sequence_of, targeted, layout_of, places_of, place_of, bundle_of, bundles_from, program_of}
+use Rattle.bundling.specs.Laws.{sequence_stop, HasStopsApart, HasLastStop}
 use Rattle.bundling.proofs.Lists.{element}
 use Rattle.bundling.proofs.Locating.{AreLayouts, spot, length-places, length-bundles, bundle_at, in_bundle, placed, last_of_all, first_of_all, gap_inside, gap_last, gap_there}
 use Rattle.bundling.proofs.Targeting.{length-targeted}
@@ -182,7 +182,7 @@ stops_behind laws s cs are n end =
             ]
 
 -- The laws of stops.
-pub has_stops : AreStopLaws → (s : Loose) (cs : List Chunk) → IsLoose s → AreChunksOf s cs → AreStops (row_of s) (program_of s cs) (place_of cs) (row_stop cs) (is_stopped (bundles_of s cs))
+pub has_stops : AreStopLaws → (s : Loose) (cs : List Chunk) → IsLoose s → AreChunksOf s cs → AreStops (sequence_of s) (program_of s cs) (place_of cs) (sequence_stop cs) (is_stopped (bundles_of s cs))
 has_stops laws s cs loose are = record { stopped = stopped; unstopped = unstopped }
   where
     count : length (targeted itself s) ≡ length s.items

@@ -1,4 +1,4 @@
--- The instructions of a loose text with their targets put in, as the row and as the program have them.
+-- The instructions of a loose text with their targets put in, as the sequence and as the program have them.
 use Rattle.std.proofs.Common.{arith, ◌≡◌, ℕ, zero, suc, ◌+◌, ◌<◌, refl, sym, ◌∙◌, ap, subst, ℤ, pos, ◌+ℤ◌, ◌-ℤ◌, List, [], ◌∷◌, length, Option, Some, None, slice_get, nat_abs}
 use Rattle.std.specs.Prelude.{unwrap_or, ◌↔◌, ◌≢◌, is_some, true, IfSome}
 use Rattle.std.proofs.Math.IntN.{+ℤ_comm, -ℤ-+ℤ_cancel}

@@ -1,4 +1,4 @@
--- The row of a loose text's instructions, and the program that has them in bundles.
+-- The sequence of a loose text's instructions, and the program that has them in bundles.
 use Rattle.std.specs.Prelude.{ℕ, ◌+◌, List, [], ◌∷◌, ◌++◌, map, take, drop, length, slice_index_or, Option, None, Some, unwrap_or}
 use Rattle.ia_insn.specs.declared.insn.Insn.{Insn}
 use Rattle.ia_insn.specs.declared.insn.Op.{Op}
@@ -7,7 +7,7 @@ use Rattle.ia_program.specs.declared.relations.Relation.{Relation}
 use Rattle.ia_program.specs.Bundles.{Bundle}
 use Rattle.ia_program.specs.Programs.{Program}
 use Rattle.ia_meaning.specs.Sequence.{first_of}
-use Rattle.flow_facts.specs.Graphs.{InsnRow}
+use Rattle.flow_facts.specs.Graphs.{InsnSequence}
 use Rattle.slot_layouts.specs.Layouts.{laid_out}
 use Rattle.slot_layouts.specs.Filled.{filled}
 use Rattle.asm_build.specs.declared.address.Address.{Address}
@@ -37,9 +37,9 @@ targeted_from f n (item ∷ items) (target ∷ targets) =
 abbrev pub targeted : (ℕ → ℕ) → Loose → List Insn
 targeted f s = targeted_from f 0 s.items s.targets
 
--- The row: each instruction is a place of its own, and targets, entries and relations count instructions.
-abbrev pub row_of : Loose → InsnRow
-row_of s = record { insns = targeted (λ n. n) s; entries = s.entries; relations = s.relations }
+-- The sequence: each instruction is a place of its own, and targets, entries and relations count instructions.
+abbrev pub sequence_of : Loose → InsnSequence
+sequence_of s = record { insns = targeted (λ n. n) s; entries = s.entries; relations = s.relations }
 
 -- the slots of a bundle's layout, and the code of its template
 abbrev pub layout_of : Chunk → ℕ × List ℕ

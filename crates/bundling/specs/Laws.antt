@@ -5,11 +5,11 @@ use Rattle.ia_program.specs.Places.{insn_at, IsPlaceOf, IsBefore, EachPlace}
 use Rattle.ia_program.specs.Programs.{Program, IsProgram}
 use Rattle.ia_program.specs.Runs.{IsWithinRun}
 use Rattle.ia_meaning.specs.Sequence.{is_stopped}
-use Rattle.row_laws.specs.Spreads.{IsSpread, IsBetween, AreStops, KeepsSlotRules}
+use Rattle.sequence_laws.specs.Spreads.{IsSpread, IsBetween, AreStops, KeepsSlotRules}
 use Rattle.loose_text.specs.LooseTexts.{Loose, IsLoose}
 use Rattle.bundling.specs.Chunk.{Chunk}
 use Rattle.bundling.specs.Chunks.{AreChunksOf, gaps_of, HasNoLongQuiet}
-use Rattle.bundling.specs.Bundled.{row_of, targeted, place_of, bundle_of, program_of}
+use Rattle.bundling.specs.Bundled.{sequence_of, targeted, place_of, bundle_of, program_of}
 
 -- They are a program, where runs of slots are as short as a program's have to be.
 abbrev pub BundledIsProgram : Type 0
@@ -23,9 +23,9 @@ QuietIsShort =
     (s : Loose) (cs : List Chunk) → IsLoose s → AreChunksOf s cs → HasNoLongQuiet cs
     → EachPlace (program_of s cs).bundles (IsWithinRun (program_of s cs).bundles)
 
--- The program has the instructions of the row at their places.
+-- The program has the instructions of the sequence at their places.
 abbrev pub BundledIsSpread : Type 0
-BundledIsSpread = (s : Loose) (cs : List Chunk) → IsLoose s → AreChunksOf s cs → IsSpread (row_of s) (program_of s cs) (place_of cs)
+BundledIsSpread = (s : Loose) (cs : List Chunk) → IsLoose s → AreChunksOf s cs → IsSpread (sequence_of s) (program_of s cs) (place_of cs)
 
 -- each is there with its target put in
 abbrev pub BundledHasInstructions : Type 0
@@ -33,15 +33,15 @@ BundledHasInstructions =
     (s : Loose) (cs : List Chunk) (n : ℕ) → IsLoose s → AreChunksOf s cs → n < length s.items
     → insn_at (program_of s cs).bundles (place_of cs n) ≡ slice_get (targeted (bundle_of cs) s) n
 
--- whether a stop is wanted behind the instruction at a place of the row
-abbrev pub row_stop : List Chunk → Place → Bool
-row_stop cs place = slice_index_or (gaps_of cs) place.bundle false
+-- whether a stop is wanted behind the instruction at a place of the sequence
+abbrev pub sequence_stop : List Chunk → Place → Bool
+sequence_stop cs place = slice_index_or (gaps_of cs) place.bundle false
 
 -- Its stops between neighbours are those that are wanted.
 abbrev pub BundledHasStops : Type 0
 BundledHasStops =
     (s : Loose) (cs : List Chunk) → IsLoose s → AreChunksOf s cs
-    → AreStops (row_of s) (program_of s cs) (place_of cs) (row_stop cs) (is_stopped (program_of s cs).bundles)
+    → AreStops (sequence_of s) (program_of s cs) (place_of cs) (sequence_stop cs) (is_stopped (program_of s cs).bundles)
 
 -- There is one stop at most behind each instruction, and none before the first.
 pub record HasStopsApart (p : Program) (at : ℕ → Place) : Type 0 where
@@ -66,4 +66,4 @@ BundledHasLastStop =
 abbrev pub BundledKeepsSlotRules : Type 0
 BundledKeepsSlotRules =
     (s : Loose) (cs : List Chunk) → IsLoose s → AreChunksOf s cs
-    → KeepsSlotRules (row_of s) (program_of s cs) (place_of cs) (is_stopped (program_of s cs).bundles)
+    → KeepsSlotRules (sequence_of s) (program_of s cs) (place_of cs) (is_stopped (program_of s cs).bundles)

@@ -26,7 +26,7 @@ pub fn quiet_is_short()
     stop_test();
 }
 
-/// The program has the instructions of the text's row at their places, each with its target put in.
+/// The program has the instructions of the text's sequence at their places, each with its target put in.
 pub fn bundled_is_spread()
     ensures spread { BundledIsSpread }
     ensures instructions { BundledHasInstructions }

@@ -4,7 +4,7 @@
 //!
 //! What each bundle is to hold is given, as [`Chunk`]s. [`bundled`] lays each out (`slot_layouts`), puts the targets of
 //! the instructions in as the bundles that have them, and counts entries and relations by bundles. The laws say that this
-//! is a program, that it has the instructions of the text's row ([`row_insns`]) at their places and the stops that are
+//! is a program, that it has the instructions of the text's sequence ([`sequence_insns`]) at their places and the stops that are
 //! wanted, and that its runs of slots are short enough.
 #![tactic(auto)]
 
@@ -17,4 +17,4 @@ pub use laws::{
     bundled_has_stops, bundled_is_program, bundled_is_spread, bundled_keeps_slot_rules,
     quiet_is_short,
 };
-pub use program::{BundledText, bundled, row_insns};
+pub use program::{BundledText, bundled, sequence_insns};

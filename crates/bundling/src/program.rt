@@ -14,7 +14,7 @@ ghost use Rattle.slot_layouts.specs.Layouts.{laid_out};
 ghost use Rattle.slot_layouts.specs.Filled.{slot_content, contents, filled};
 ghost use Rattle.asm_build.specs.Addresses.{IsReachable, reach};
 ghost use Rattle.bundling.specs.Chunks.{AreChunksOf};
-ghost use Rattle.bundling.specs.Bundled.{relocated, put_in, targeted, row_of, layout_of, places_of, bundle_in, bundles_from, relation_moved, program_of};
+ghost use Rattle.bundling.specs.Bundled.{relocated, put_in, targeted, sequence_of, layout_of, places_of, bundle_in, bundles_from, relation_moved, program_of};
 
 use crate::chunk::Chunk;
 use crate::laws::bundled_is_program;
@@ -109,9 +109,9 @@ fn put_in(insn: &Insn, target: Option<Address>, own: u32) -> Insn
     Insn { qp: insn.qp, op }
 }
 
-/// The instructions of the text's row: each target is put in as the number of an instruction.
-pub fn row_insns(alloc: Global, text: &LooseText) -> Result<Vec<Insn>, AllocError>
-    ensures { IfOk result (λ insns. insns.items ≡ (row_of text.now).insns) }
+/// The instructions of the text's sequence: each target is put in as the number of an instruction.
+pub fn sequence_insns(alloc: Global, text: &LooseText) -> Result<Vec<Insn>, AllocError>
+    ensures { IfOk result (λ insns. insns.items ≡ (sequence_of text.now).insns) }
 {
     text.is_loose();
     let items = text.items();

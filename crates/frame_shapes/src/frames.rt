@@ -1,7 +1,7 @@
 //! Frames (volume 1, chapter 4, register stack frames).
 
 ghost use Rattle.std.specs.Prelude.{◌≡◌, ℕ, ◌+◌, ◌*◌, ◌<◌, ◌≤◌, ◌⊎◌, ◌==◌, ◌&&◌, not, false, Some, None, MatchOption};
-ghost use Rattle.ia_meaning.specs.declared.state.AlatKey.TheVariants.{Stacked};
+ghost use Rattle.ia_meaning.specs.declared.state.Spot.TheVariants.{Stacked};
 ghost use Rattle.ia_meaning.specs.declared.limits.TheConstants.{STACK_LIMIT};
 ghost use Rattle.ia_meaning.specs.State.{zero_bases, zero_frame, IsFrame};
 ghost use Rattle.ia_meaning.specs.Names.{spot};
@@ -25,8 +25,8 @@ pub fn cell_of(frame: &FrameShape, r: Gr) -> Option<u32>
 {
     let k = r.number() - 32;
     if k < frame.sof {
-        rotation::places_within();
-        let place = rotation::gr_place(k, frame.sor, frame.rrbs.gr);
+        rotation::indexes_within();
+        let place = rotation::general_index(k, frame.sor, frame.rrbs.gr);
         Some(frame.base + u32::from(place))
     } else {
         None

@@ -13,7 +13,7 @@ use Rattle.ia_meaning.specs.State.{Registers, IsFrame}
 use Rattle.ia_meaning.specs.declared.write.Write.{Write as RegisterWrite}
 use Rattle.ia_meaning.specs.declared.write.Write.TheVariants.{SetStatic, SetCell, SetPredicate, SetUnat}
 use Rattle.ia_meaning.specs.Writes.{put, apply}
-use Rattle.ia_meaning.specs.Names.{is_rotating, holds, predicate_place}
+use Rattle.ia_meaning.specs.Names.{is_rotating, holds, predicate_index}
 use Rattle.ia_meaning.specs.Outcomes.{Outcome}
 use Rattle.ia_meaning.specs.Steps.{with_bit, spilled, registers_after}
 use Rattle.resource_sets.specs.declared.access.Resource.TheVariants.{Pr, Unat, Cfm}
@@ -25,7 +25,7 @@ use Rattle.resource_sets.specs.Clashes.{may_write_guard}
 use Rattle.resource_sets.specs.AccessLaws.{Location, StaticAt, CellAt, PredicateAt, BranchAt, TheUnat, ThePfs, TheLc, TheEc, TheFrame, location, location_of, naming_frame, writes_registers, MayPut, HasAccess, IsCovered}
 use Rattle.ia_meaning.specs.Actions.{is_alloc, insn_action}
 use Rattle.resource_sets.specs.Regularity.{IsInRange, IsExcepted}
-use Rattle.ia_meaning.proofs.PredicatePlaces.{holds_zero}
+use Rattle.ia_meaning.proofs.PredicateIndexes.{holds_zero}
 use Rattle.resource_sets.proofs.Dependence.{place_same}
 use Rattle.resource_sets.proofs.Regularity.{guards, named_accesses, accesses_listed, in_range, guards_written, guarded, alloc_writes, guards_in_range}
 use Rattle.resource_sets.proofs.Coverage.{cells_inside}
@@ -39,7 +39,7 @@ use Rattle.group_checker.proofs.Untouched.{SameAt, Mem, each_mem, each_map, each
 use Rattle.resource_sets.proofs.Locations.{resource_once}
 use Rattle.group_checker.proofs.Gathering.{joined, access_to, IsStillOne, MayBeWrittenSince, EarlierAccess, IsPlain, change_of, EarlierWrite, Spilled, IsGathering, ClashesWithNone, no_clash, no_touch, frame_same, fill_same}
 
-holds_at : (t : Registers) (g : ℕ) → 1 ≤ g → holds t g ≡ get_or t.predicates (predicate_place t.frame g) false
+holds_at : (t : Registers) (g : ℕ) → 1 ≤ g → holds t g ≡ get_or t.predicates (predicate_index t.frame g) false
 unfolding holds
 holds_at t zero h = absurd (omega arith)
 holds_at t (suc g) h = refl
@@ -226,21 +226,21 @@ module _ (p : Program) (past : List Place) (base : Registers) (ws : List Registe
       go (inl x) = absurd (bad x.0 (cover_of x.0 x.1) x.2)
       go (inr x) = ap (λ (t : Registers). t.frame) (sym after_joined) ∙ x ∙ calm o.spills
 
-  place_keeps : (g : ℕ) → IsInRange (Pr g) → may_write_guard g (accesses j) ≡ false → get_or S'.predicates (predicate_place base.frame g) false ≡ get_or S.predicates (predicate_place base.frame g) false
-  place_keeps g i n = go (same_apply (PredicateAt (predicate_place base.frame g)) o.writes (spilled o.spills S))
+  place_keeps : (g : ℕ) → IsInRange (Pr g) → may_write_guard g (accesses j) ≡ false → get_or S'.predicates (predicate_index base.frame g) false ≡ get_or S.predicates (predicate_index base.frame g) false
+  place_keeps g i n = go (same_apply (PredicateAt (predicate_index base.frame g)) o.writes (spilled o.spills S))
     where
-      bad : (w : RegisterWrite) → Covered w → location w ≡ PredicateAt (predicate_place base.frame g) → ⊥
+      bad : (w : RegisterWrite) → Covered w → location w ≡ PredicateAt (predicate_index base.frame g) → ⊥
       bad w c e =
-          let q : c.access.resource ≡ Pr g = resource_once base.frame c.access.resource (Pr g) (PredicateAt (predicate_place base.frame g)) way.frame (range_of w c) i (names_of w c ∙ ap Some e) refl in
+          let q : c.access.resource ≡ Pr g = resource_once base.frame c.access.resource (Pr g) (PredicateAt (predicate_index base.frame g)) way.frame (range_of w c) i (names_of w c ∙ ap Some e) refl in
           true≢false (sym (may_write g w c (inl q)) ∙ n)
 
-      calm : (q : Option (ℕ × Bool)) → get_or (spilled q S).predicates (predicate_place base.frame g) false ≡ get_or S.predicates (predicate_place base.frame g) false
+      calm : (q : Option (ℕ × Bool)) → get_or (spilled q S).predicates (predicate_index base.frame g) false ≡ get_or S.predicates (predicate_index base.frame g) false
       calm None = refl
       calm (Some x) = refl
 
-      go : TouchedBy (PredicateAt (predicate_place base.frame g)) o.writes ⊎ SameAt (PredicateAt (predicate_place base.frame g)) (registers_after o S) (spilled o.spills S) → get_or S'.predicates (predicate_place base.frame g) false ≡ get_or S.predicates (predicate_place base.frame g) false
+      go : TouchedBy (PredicateAt (predicate_index base.frame g)) o.writes ⊎ SameAt (PredicateAt (predicate_index base.frame g)) (registers_after o S) (spilled o.spills S) → get_or S'.predicates (predicate_index base.frame g) false ≡ get_or S.predicates (predicate_index base.frame g) false
       go (inl x) = absurd (bad x.0 (cover_of x.0 x.1) x.2)
-      go (inr x) = ap (λ (t : Registers). get_or t.predicates (predicate_place base.frame g) false) (sym after_joined) ∙ x ∙ calm o.spills
+      go (inr x) = ap (λ (t : Registers). get_or t.predicates (predicate_index base.frame g) false) (sym after_joined) ∙ x ∙ calm o.spills
 
   keeps : (g : ℕ) → IsStillOne base S g → may_write_guard g (accesses j) ≡ false → IsStillOne base S' g
   keeps g a n = record { on = on a.range; named = λ r. frame_keeps g n r ∙ a.named r; range = a.range }

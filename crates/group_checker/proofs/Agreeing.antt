@@ -18,7 +18,7 @@ use Rattle.resource_sets.specs.AccessLaws.{TheUnat, location}
 use Rattle.ia_meaning.specs.Actions.{is_alloc, insn_action, allocates}
 use Rattle.resource_sets.proofs.Members.{in_head, in_tail}
 use Rattle.flow_facts.specs.Walks.{Walk, earlier_in_group}
-use Rattle.group_checker.specs.Violations.{IsFree}
+use Rattle.group_checker.specs.Violations.{HasNoViolation}
 use Rattle.group_checker.specs.Traces.{walk_after, IsKnown}
 use Rattle.ia_meaning.proofs.StepHere.{insn_here}
 use Rattle.ia_meaning.specs.ParallelGroups.{Gathered, gathered_from, slot_outcome, gathers}
@@ -85,7 +85,7 @@ abbrev From : Program → ℕ → Bool → Gathered → Option Insn → Option G
 From p n begins g x = if_some (on_by p (begins && allocates x) g (slot_outcome p g x) (slot_outcome p g x).next) (slots_on n p false)
 
 -- the next slot of a group is no `alloc`
-module _ (p : Program) (program : IsProgram p) (free : IsFree p) where
+module _ (p : Program) (program : IsProgram p) (free : HasNoViolation p) where
   same_here : (g : Gathered) (past : List Place) (w : Walk) → IsGroupOnWalk p g past w → (i : Place) → Contains (earlier_in_group p w) i → (j : Insn) → insn_at p.bundles g.place ≡ Some j → slot_outcome p g (Some j) ≡ outcome_of p (state_of g) j
   same_here g past w on i c j at =
       plain_same p program free g past w on j at (false_from_ne_true (is_alloc (insn_action j)) (no_alloc p free (state_of g) w on.known j at i c))

@@ -1,4 +1,4 @@
--- Control falls to the next place of a program or a row, which comes later, and to each place from one at most.
+-- Control falls to the next place of a program or a sequence, which comes later, and to each place from one at most.
 use Rattle.std.proofs.Common.{◌≡◌, ℕ, ◌+◌, ◌<◌, ◌≤◌, ◌⊎◌, Bool, true, false, cond, List, [], ◌∷◌, length, nat_lt, ◌==◌, Option, None, Some, refl, sym, ap, ◌∙◌, subst, arith, inl, inr}
 use Rattle.std.specs.Prelude.{Contains, IsSome, slice_get}
 use Rattle.std.proofs.lemmas.Bool.{cases_lt, cases_eq}
@@ -18,7 +18,7 @@ use Rattle.predicate_rel.specs.declared.edge.Edge.{Edge}
 use Rattle.predicate_rel.specs.declared.edge.Edge.TheVariants.{Falls, Taken}
 use Rattle.predicate_rel.specs.Pairs.{Pairs}
 use Rattle.predicate_rel.specs.Edges.{HasEdge, edge_of, edge_end, may_fall, pairs_past, pairs_past_insn}
-use Rattle.flow_facts.specs.Graphs.{Graph, over_program, over_row, InsnRow, HasRowEdge, row_insn, row_next, row_end_of, row_past, insn_in, next_in, IsPlaceIn, IsEdgeIn, pairs_past_in}
+use Rattle.flow_facts.specs.Graphs.{Graph, over_program, over_sequence, InsnSequence, HasSequenceEdge, sequence_insn, sequence_next, sequence_end_of, sequence_past, insn_in, next_in, IsPlaceIn, IsEdgeIn, pairs_past_in}
 use Rattle.flow_facts.specs.Walks.{Walk, begins, goes_on, IsWalkIn, end_of, facts_in, group_since}
 
 -- the order of places goes on
@@ -56,14 +56,14 @@ number_rises a b small (inr h) = omega (arith, h.0, h.1)
 
 -- what is known past a place is what is known past the instruction there
 pub past_is : (g : Graph) (place : Place) (e : Edge) (f : Pairs) → pairs_past_in g place e f ≡ pairs_past_insn (insn_in g place) e f
-unfolding pairs_past row_past
+unfolding pairs_past sequence_past
 past_is (over_program p) place e f = refl
-past_is (over_row row) place e f = refl
+past_is (over_sequence sequence) place e f = refl
 
 -- an edge begins at a place
 pub edge_inside : (g : Graph) (i : Place) (e : Edge) (j : Place) → IsEdgeIn g i e j → IsPlaceIn g i
 edge_inside (over_program p) i e j edge = edge.inside
-edge_inside (over_row row) i e j edge = edge.inside
+edge_inside (over_sequence sequence) i e j edge = edge.inside
 
 -- the place holds an instruction past which control may fall, and there is a next place
 pub record IsFall (g : Graph) (i j : Place) : Type 0 where
@@ -84,30 +84,30 @@ program_fall p i j e = of (insn_at p.bundles i) refl e.leads
     of None here h = absurd cc
     of (Some insn) here h = let c = chosen (may_fall insn) (next_of p.bundles i) j h in record { insn = insn; here = here; may = c.0; next = c.1 }
 
-row_fall : (row : InsnRow) (i j : Place) → HasRowEdge row i Falls j → IsFall (over_row row) i j
-row_fall row i j e = of (row_insn row.insns i) refl e.leads
+row_fall : (sequence : InsnSequence) (i j : Place) → HasSequenceEdge sequence i Falls j → IsFall (over_sequence sequence) i j
+row_fall sequence i j e = of (sequence_insn sequence.insns i) refl e.leads
   where
-    of : (o : Option Insn) → row_insn row.insns i ≡ o → row_end_of row.insns i o Falls ≡ Some j → IsFall (over_row row) i j
+    of : (o : Option Insn) → sequence_insn sequence.insns i ≡ o → sequence_end_of sequence.insns i o Falls ≡ Some j → IsFall (over_sequence sequence) i j
     of None here h = absurd cc
-    of (Some insn) here h = let c = chosen (may_fall insn) (row_next row.insns i) j h in record { insn = insn; here = here; may = c.0; next = c.1 }
+    of (Some insn) here h = let c = chosen (may_fall insn) (sequence_next sequence.insns i) j h in record { insn = insn; here = here; may = c.0; next = c.1 }
 
 -- what a fall says of where it begins
 pub fall_is : (g : Graph) (i j : Place) → IsEdgeIn g i Falls j → IsFall g i j
 fall_is (over_program p) i j e = program_fall p i j e
-fall_is (over_row row) i j e = row_fall row i j e
+fall_is (over_sequence sequence) i j e = row_fall sequence i j e
 
--- the place of the next instruction of a row
-row_next_is : (insns : List Insn) (i j : Place) → row_next insns i ≡ Some j → (i.bundle + 1 < length insns) × (first_of (i.bundle + 1) ≡ j)
-unfolding row_next
-row_next_is insns i j e = of (nat_lt (i.bundle + 1) (length insns)) refl e
+-- the place of the next instruction of a sequence
+sequence_next_is : (insns : List Insn) (i j : Place) → sequence_next insns i ≡ Some j → (i.bundle + 1 < length insns) × (first_of (i.bundle + 1) ≡ j)
+unfolding sequence_next
+sequence_next_is insns i j e = of (nat_lt (i.bundle + 1) (length insns)) refl e
   where
     of : (b : Bool) → nat_lt (i.bundle + 1) (length insns) ≡ b → cond b (Some (first_of (i.bundle + 1))) None ≡ Some j → (i.bundle + 1 < length insns) × (first_of (i.bundle + 1) ≡ j)
     of true t h = (grind (arith, nat_tests), same_Some _ _ h)
     of false t h = absurd cc
 
--- an instruction of a row stands at slot 0
-row_slot : (insns : List Insn) (i : Place) → IsSome (row_insn insns i) → i.slot ≡ 0
-unfolding row_insn
+-- an instruction of a sequence stands at slot 0
+row_slot : (insns : List Insn) (i : Place) → IsSome (sequence_insn insns i) → i.slot ≡ 0
+unfolding sequence_insn
 row_slot insns i is = of (i.slot == 0) refl is
   where
     of : (b : Bool) → (i.slot == 0) ≡ b → IsSome (cond b (slice_get insns i.bundle) None) → i.slot ≡ 0
@@ -115,9 +115,9 @@ row_slot insns i is = of (i.slot == 0) refl is
     of false t h = absurd cc
 
 -- and each below its length stands there
-pub row_place : (insns : List Insn) (n : ℕ) → n < length insns → IsSome (row_insn insns (first_of n))
-unfolding row_insn
-row_place insns n l = elim (slice_get_cases insns n).1 [
+pub sequence_place : (insns : List Insn) (n : ℕ) → n < length insns → IsSome (sequence_insn insns (first_of n))
+unfolding sequence_insn
+sequence_place insns n l = elim (slice_get_cases insns n).1 [
   | inl (x, short, is, at) ↦ subst IsSome (sym is) refl
   | inr (beyond, is) ↦ absurd (omega arith)
 ]
@@ -125,19 +125,19 @@ row_place insns n l = elim (slice_get_cases insns n).1 [
 -- the next place is a place
 pub next_place : (g : Graph) (i j : Place) → next_in g i ≡ Some j → IsPlaceIn g j
 next_place (over_program p) i j e = let n = next_is p.bundles i j e in n.is
-next_place (over_row row) i j e =
-    let n = row_next_is row.insns i j e in
-    subst (λ (k : Place). IsSome (row_insn row.insns k)) n.1 (row_place row.insns (i.bundle + 1) n.0)
+next_place (over_sequence sequence) i j e =
+    let n = sequence_next_is sequence.insns i j e in
+    subst (λ (k : Place). IsSome (sequence_insn sequence.insns k)) n.1 (sequence_place sequence.insns (i.bundle + 1) n.0)
 
 -- and comes later
 pub next_after : (g : Graph) (i j : Place) → next_in g i ≡ Some j → IsBefore i j
 next_after (over_program p) i j e = let n = next_is p.bundles i j e in n.after
-next_after (over_row row) i j e = let n = row_next_is row.insns i j e in subst (IsBefore i) n.1 (inl (omega arith))
+next_after (over_sequence sequence) i j e = let n = sequence_next_is sequence.insns i j e in subst (IsBefore i) n.1 (inl (omega arith))
 
 -- the slot of a place is 0 to 2
 pub slot_below : (g : Graph) (i : Place) → IsPlaceIn g i → i.slot < 3
 slot_below (over_program p) i is = slot_small p.bundles i is
-slot_below (over_row row) i is = let zero = row_slot row.insns i is in omega (arith, zero)
+slot_below (over_sequence sequence) i is = let zero = row_slot sequence.insns i is in omega (arith, zero)
 
 program_before : (bundles : List Bundle) (a b next : Place) → IsPlaceOf bundles a → IsPlaceOf bundles b → next_of bundles a ≡ Some next → next_of bundles b ≡ Some next → a ≡ b
 program_before bundles a b next is_a is_b e f = of (place_cases a b)
@@ -156,11 +156,11 @@ program_before bundles a b next is_a is_b e f = of (place_cases a b)
 -- two places that have one next place are one
 pub same_before : (g : Graph) (a b next : Place) → IsPlaceIn g a → IsPlaceIn g b → next_in g a ≡ Some next → next_in g b ≡ Some next → a ≡ b
 same_before (over_program p) a b next is_a is_b e f = program_before p.bundles a b next is_a is_b e f
-same_before (over_row row) a b next is_a is_b e f =
-    let m = row_next_is row.insns a next e in
-    let n = row_next_is row.insns b next f in
+same_before (over_sequence sequence) a b next is_a is_b e f =
+    let m = sequence_next_is sequence.insns a next e in
+    let n = sequence_next_is sequence.insns b next f in
     let bundle : a.bundle + 1 ≡ b.bundle + 1 = ap (λ (k : Place). k.bundle) (m.1 ∙ sym n.1) in
-    same_place a b (omega (arith, bundle)) (row_slot row.insns a is_a ∙ sym (row_slot row.insns b is_b))
+    same_place a b (omega (arith, bundle)) (row_slot sequence.insns a is_a ∙ sym (row_slot sequence.insns b is_b))
 
 -- control falls from a place where it may to the next one
 pub fall_edge : (g : Graph) (i j : Place) (insn : Insn) → insn_in g i ≡ Some insn → may_fall insn ≡ true → next_in g i ≡ Some j → IsEdgeIn g i Falls j
@@ -170,10 +170,10 @@ fall_edge (over_program p) i j insn here may next = record {
   leads = ap (λ (o : Option Insn). edge_of p.bundles i o Falls) here ∙ ap (λ (b : Bool). cond b (next_of p.bundles i) None) may ∙ next;
   lands = next_place (over_program p) i j next;
 }
-fall_edge (over_row row) i j insn here may next = record {
+fall_edge (over_sequence sequence) i j insn here may next = record {
   inside = subst IsSome (sym here) refl;
-  leads = ap (λ (o : Option Insn). row_end_of row.insns i o Falls) here ∙ ap (λ (b : Bool). cond b (row_next row.insns i) None) may ∙ next;
-  lands = next_place (over_row row) i j next;
+  leads = ap (λ (o : Option Insn). sequence_end_of sequence.insns i o Falls) here ∙ ap (λ (b : Bool). cond b (sequence_next sequence.insns i) None) may ∙ next;
+  lands = next_place (over_sequence sequence) i j next;
 }
 
 -- a fall leads to the next place

@@ -14,7 +14,7 @@ use Rattle.ia_meaning.specs.declared.action.Action.TheVariants.{Exchange}
 use Rattle.ia_meaning.specs.declared.next.Next.TheVariants.{Faults}
 use Rattle.ia_meaning.specs.declared.state.Cell.{Cell}
 use Rattle.ia_meaning.specs.declared.state.FrameShape.{FrameShape}
-use Rattle.ia_meaning.specs.declared.state.AlatKey.{AlatKey as Spot}
+use Rattle.ia_meaning.specs.declared.state.Spot.{Spot}
 use Rattle.ia_meaning.specs.State.{Registers, Memory}
 use Rattle.ia_meaning.specs.Names.{spot, look, holds, set_spot}
 use Rattle.ia_meaning.specs.Actions.{allocates, insn_action, is_alloc, is_branch}
@@ -28,7 +28,7 @@ use Rattle.ia_meaning.specs.ParallelGroups.{Gathered, gathered_from, now_of, out
 use Rattle.ia_meaning.proofs.BytesKept.{bytes_kept}
 use Rattle.ia_meaning.proofs.DataAccesses.{stored_is_loaded}
 use Rattle.ia_meaning.proofs.Inversions.{ActCases, guarded_cases}
-use Rattle.ia_meaning.proofs.PredicatePlaces.{holds_zero}
+use Rattle.ia_meaning.proofs.PredicateIndexes.{holds_zero}
 use Rattle.ia_meaning.proofs.Views.{view_plain}
 use Rattle.group_checker.specs.GroupSlots.{GatheredSlot, slot_here, done_by}
 use Rattle.group_checker.specs.FetchAdds.{IsFetchAdd, IsNoAccess, AreFetchAdds, sum_of, Finds, FetchAddsFindSums, FetchAddsAreSummed, FetchAddTargetsStand, TwoFetchAdds}

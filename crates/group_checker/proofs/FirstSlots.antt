@@ -10,8 +10,8 @@ use Rattle.ia_meaning.specs.declared.next.Next.{Next as NextWay}
 use Rattle.ia_meaning.specs.declared.next.Next.TheVariants as next
 use Rattle.ia_meaning.specs.declared.state.Cell.{Cell}
 use Rattle.ia_meaning.specs.declared.state.FrameShape.{FrameShape}
-use Rattle.ia_meaning.specs.declared.state.AlatKey.{AlatKey as Spot}
-use Rattle.ia_meaning.specs.declared.state.AlatKey.TheVariants.{Static, Stacked}
+use Rattle.ia_meaning.specs.declared.state.Spot.{Spot}
+use Rattle.ia_meaning.specs.declared.state.Spot.TheVariants.{Static, Stacked}
 use Rattle.ia_meaning.specs.declared.action.Action.{Action}
 use Rattle.ia_meaning.specs.declared.action.Action.TheVariants as action
 use Rattle.ia_meaning.specs.State.{Registers, Memory, State, IsFrame}
@@ -19,7 +19,7 @@ use Rattle.ia_meaning.specs.declared.write.Write.{Write as RegisterWrite}
 use Rattle.ia_meaning.specs.declared.write.Write.TheVariants.{SetStatic, SetCell, SetFrame}
 use Rattle.ia_meaning.specs.declared.write.FrameCause.TheVariants.{Resized}
 use Rattle.ia_meaning.specs.Writes.{put, apply, frame_changes}
-use Rattle.ia_meaning.specs.Names.{set_spot, holds, predicate_place}
+use Rattle.ia_meaning.specs.Names.{set_spot, holds, predicate_index}
 use Rattle.ia_meaning.specs.Actions.{is_branch, is_alloc, insn_action}
 use Rattle.ia_meaning.specs.Outcomes.{Outcome}
 use Rattle.ia_meaning.specs.Effects.{site, effect}
@@ -36,7 +36,7 @@ use Rattle.resource_sets.proofs.Regularity.{in_range, guarded, alloc_writes, gua
 use Rattle.state_laws.proofs.StateKept.{keeps_state}
 use Rattle.ia_program.proofs.ListedSlots.{listed_at}
 use Rattle.flow_facts.specs.Walks.{Walk}
-use Rattle.group_checker.specs.Violations.{IsFree}
+use Rattle.group_checker.specs.Violations.{HasNoViolation}
 use Rattle.group_checker.specs.Traces.{IsKnown}
 use Rattle.ia_meaning.proofs.Resizing.{length-resized}
 use Rattle.ia_meaning.proofs.StepHere.{step_here, insn_here}
@@ -85,7 +85,7 @@ set_spot_predicates (Static (suc n)) c r = refl
 set_spot_predicates (Stacked n) c r = refl
 
 holds_by : (r s : Registers) (g : ℕ) → s.predicates ≡ r.predicates → s.frame.rrbs.pr ≡ r.frame.rrbs.pr → holds s g ≡ holds r g
-unfolding holds predicate_place
+unfolding holds predicate_index
 holds_by r s zero e f = refl
 holds_by r s (suc g) e f = rw (e, f) refl
 
@@ -265,7 +265,7 @@ module _ (p : Program) (program : IsProgram p) (s : State) (w : Walk) (known : I
       (view_plain j R R (no_branch (insn_action j) al))
 
 -- A whole group from its start.
-pub whole : (p : Program) → IsProgram p → IsFree p → (code : List ℕ) (most : ℕ) (s : State) (w : Walk) → IsKnown p s w → ordered code (gathered_within (suc most) p true (gathered_from s)) ≡ group_within (suc most) p s
+pub whole : (p : Program) → IsProgram p → HasNoViolation p → (code : List ℕ) (most : ℕ) (s : State) (w : Walk) → IsKnown p s w → ordered code (gathered_within (suc most) p true (gathered_from s)) ≡ group_within (suc most) p s
 whole p program free code most s w known = go (insn_here p s known.state.place)
   where
     go : (j : Insn) × (insn_at p.bundles s.place ≡ Some j) → ordered code (gathered_within (suc most) p true (gathered_from s)) ≡ group_within (suc most) p s

@@ -7,12 +7,12 @@ use Rattle.ia_program.specs.declared.place.Place.{Place}
 use Rattle.ia_program.specs.Places.{IsBefore}
 use Rattle.ia_program.specs.Programs.{Program}
 use Rattle.ia_meaning.specs.declared.state.FrameShape.{FrameShape}
-use Rattle.ia_meaning.specs.declared.state.AlatKey.{AlatKey as Spot}
-use Rattle.ia_meaning.specs.declared.state.AlatKey.TheVariants.{Static, Stacked}
+use Rattle.ia_meaning.specs.declared.state.Spot.{Spot}
+use Rattle.ia_meaning.specs.declared.state.Spot.TheVariants.{Static, Stacked}
 use Rattle.ia_meaning.specs.State.{Registers, IsFrame}
 use Rattle.ia_meaning.specs.declared.write.Write.{Write as RegisterWrite}
 use Rattle.ia_meaning.specs.Writes.{apply}
-use Rattle.ia_meaning.specs.Names.{is_stacked, is_rotating, frame_place, spot, cell_at, look, holds, predicate_place}
+use Rattle.ia_meaning.specs.Names.{is_stacked, is_rotating, frame_index, spot, cell_at, look, holds, predicate_index}
 use Rattle.resource_sets.specs.declared.access.Resource.{Resource}
 use Rattle.resource_sets.specs.declared.access.Resource.TheVariants.{Gr, Pr, Br, Unat, Pfs, Lc, Ec, Cfm}
 use Rattle.resource_sets.specs.declared.access.Kind.{Kind}
@@ -22,7 +22,7 @@ use Rattle.resource_sets.specs.Accesses.{is_framed}
 use Rattle.resource_sets.specs.Clashes.{may_write_guard}
 use Rattle.resource_sets.specs.AccessLaws.{Location, StaticAt, CellAt, PredicateAt, BranchAt, TheUnat, ThePfs, TheLc, TheEc, TheFrame, location, spot_location, location_of, SameIn, MayPut, HasAccess}
 use Rattle.resource_sets.specs.Regularity.{IsInRange, IsChange, IsExcepted, frame_read}
-use Rattle.ia_meaning.proofs.PredicatePlaces.{holds_zero}
+use Rattle.ia_meaning.proofs.PredicateIndexes.{holds_zero}
 use Rattle.resource_sets.proofs.Dependence.{spot_same, place_same}
 use Rattle.flow_facts.specs.Graphs.{over_program}
 use Rattle.group_checker.specs.Excuses.{accesses_at}
@@ -155,7 +155,7 @@ stacked_of : (f : FrameShape) (r n : ℕ) → spot f r ≡ Some (Stacked n) → 
 unfolding spot
 stacked_of f r n e = go (is_stacked r) e
   where
-    go : (b : Bool) → (if b then (if nat_lt (r - 32) f.sof then Some (Stacked (f.base + frame_place f (r - 32))) else None) else Some (Static r)) ≡ Some (Stacked n) → b ≡ true
+    go : (b : Bool) → (if b then (if nat_lt (r - 32) f.sof then Some (Stacked (f.base + frame_index f (r - 32))) else None) else Some (Static r)) ≡ Some (Stacked n) → b ≡ true
     go true e = refl
     go false e = absurd (cc)
 
@@ -203,7 +203,7 @@ module _ (p : Program) (past : List Place) (base : Registers) (ws : List Registe
   unfolding holds
   pr_same zero g h i e f = refl
   pr_same (suc n) g h i e f =
-      sym (same_plain (access_to (Pr (suc n)) Read g) h tt i e (PredicateAt (predicate_place base.frame (suc n))) refl (λ w x. x))
+      sym (same_plain (access_to (Pr (suc n)) Read g) h tt i e (PredicateAt (predicate_index base.frame (suc n))) refl (λ w x. x))
       ∙ ap (λ t. get_or S.predicates t false) (place_same base.frame S.frame (suc n) (λ q. sym (frame_same Read 0 (f q) tt (holds_zero S))))
 
   -- no earlier slot spilled where UNAT is read

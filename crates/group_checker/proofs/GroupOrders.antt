@@ -29,7 +29,7 @@ use Rattle.resource_sets.proofs.Apart.{apart}
 use Rattle.resource_sets.proofs.Regularity.{named_as_found}
 use Rattle.flow_facts.specs.Graphs.{over_program}
 use Rattle.flow_facts.specs.Walks.{Walk, earlier_in_group}
-use Rattle.group_checker.specs.Violations.{IsFree}
+use Rattle.group_checker.specs.Violations.{HasNoViolation}
 use Rattle.group_checker.specs.Traces.{walk_after, IsKnown, group_after}
 use Rattle.ia_meaning.proofs.StepHere.{step_here, insn_here}
 use Rattle.group_checker.proofs.Walked.{steps_known, walks_group}
@@ -197,7 +197,7 @@ law_settled j base s v None m next.Falls o h = record { frame = h.frame; covered
 law_settled j base s v n m way o h = h
 
 -- a slot that is no `alloc` of a group under way
-module _ (p : Program) (program : IsProgram p) (free : IsFree p) (g : Gathered) (past : List Place) (w : Walk) (on : IsGroupOnWalk p g past w) (j : Insn) (at : insn_at p.bundles g.place ≡ Some j) (na : is_alloc (insn_action j) ≡ false) where
+module _ (p : Program) (program : IsProgram p) (free : HasNoViolation p) (g : Gathered) (past : List Place) (w : Walk) (on : IsGroupOnWalk p g past w) (j : Insn) (at : insn_at p.bundles g.place ≡ Some j) (na : is_alloc (insn_action j) ≡ false) where
   abbrev G : State
   G = state_of g
 
@@ -249,7 +249,7 @@ From p code most begins g x =
     ordered code (gathered_by p (begins && allocates x) g (slot_outcome p g x) (slot_outcome p g x).next
     (gathered_within most p false (gathers (begins && allocates x) g (slot_outcome p g x) (place_after g.place (next_of p.bundles g.place)))))
 
-pub rest_is : (p : Program) → IsProgram p → IsFree p → (code : List ℕ) (most : ℕ) → RestIs p code most
+pub rest_is : (p : Program) → IsProgram p → HasNoViolation p → (code : List ℕ) (most : ℕ) → RestIs p code most
 rest_is p program free code zero g past w on i c =
     ordered_is p past code (gathered_within 0 p false g) on.way
     ∙ ap (λ f. record { state = state_of g; last = g.place; slots = 0; how = None; end = None; frames = f }) (sym (append-nil (frames_of g)))

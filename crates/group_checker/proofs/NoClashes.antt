@@ -23,13 +23,13 @@ use Rattle.flow_facts.specs.Graphs.{over_program}
 use Rattle.flow_facts.specs.Walks.{Walk, end_of, earlier_in_group}
 use Rattle.group_checker.specs.Excuses.{accesses_at, IsLatest, IsExcused}
 use Rattle.group_checker.specs.Violations.{ClashesUnexcused, allocates_at, Breaks}
-use Rattle.group_checker.specs.Violations.{IsFree}
+use Rattle.group_checker.specs.Violations.{HasNoViolation}
 use Rattle.group_checker.specs.Traces.{IsKnown}
 use Rattle.group_checker.proofs.Untouched.{Mem}
 use Rattle.group_checker.proofs.Gathering.{MayBeWrittenSince, ClashesWithNone}
 use Rattle.group_checker.proofs.Advancing.{has_here}
 
-module _ (p : Program) (free : IsFree p) (s : State) (w : Walk) (known : IsKnown p s w) (j : Insn) (at : insn_at p.bundles s.place ≡ Some j) where
+module _ (p : Program) (free : HasNoViolation p) (s : State) (w : Walk) (known : IsKnown p s w) (j : Insn) (at : insn_at p.bundles s.place ≡ Some j) where
   breaks_of : (i : Place) (rule : Rule) (q : Resource) → (rule ≡ Raw) ⊎ (rule ≡ Waw) → ClashesUnexcused (over_program p) (is_stopped p.bundles) w i rule q → Breaks (over_program p) (is_stopped p.bundles) w i rule q
   breaks_of i rule q (inl e) c = subst (λ r. Breaks (over_program p) (is_stopped p.bundles) w i r q) (sym e) (subst (λ r. ClashesUnexcused (over_program p) (is_stopped p.bundles) w i r q) e c)
   breaks_of i rule q (inr e) c = subst (λ r. Breaks (over_program p) (is_stopped p.bundles) w i r q) (sym e) (subst (λ r. ClashesUnexcused (over_program p) (is_stopped p.bundles) w i r q) e c)

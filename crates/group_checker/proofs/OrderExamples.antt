@@ -4,7 +4,7 @@ use Rattle.ia_program.specs.Places.{insn_at}
 use Rattle.ia_meaning.specs.declared.state.Cell.{Cell}
 use Rattle.ia_meaning.specs.State.{IsStart, zero_registers}
 use Rattle.ia_meaning.specs.declared.write.Write.TheVariants.{SetPredicate}
-use Rattle.ia_meaning.specs.Names.{look, spot, holds, frame_place, predicate_place, predicate_spot}
+use Rattle.ia_meaning.specs.Names.{look, spot, holds, frame_index, predicate_index, predicate_spot}
 use Rattle.ia_meaning.specs.Sequence.{next_of, is_stopped}
 use Rattle.ia_meaning.specs.Landings.{is_entry, landing}
 use Rattle.ia_meaning.specs.Loads.{access_fault, loaded, stored, untouched}
@@ -25,27 +25,27 @@ unfolding look spot holds next_of insn_at is_stopped has_reserved_zeros
 two_moves_ordered = (refl, refl, refl, refl, refl, refl, refl, refl, refl, refl)
 
 pub first_alloc : FirstAlloc
-unfolding look spot holds frame_place next_of insn_at is_stopped has_zero_bases
+unfolding look spot holds frame_index next_of insn_at is_stopped has_zero_bases
 first_alloc = (refl, refl, refl, refl, refl, refl)
 
 pub late_alloc : LateAlloc
-unfolding look spot holds frame_place next_of insn_at is_stopped has_zero_bases seq_step
+unfolding look spot holds frame_index next_of insn_at is_stopped has_zero_bases seq_step
 late_alloc = (refl, refl, refl)
 
 pub branch_predicate : BranchPredicate
-unfolding look spot holds predicate_place predicate_spot next_of insn_at is_stopped is_entry landing seq_step
+unfolding look spot holds predicate_index predicate_spot next_of insn_at is_stopped is_entry landing seq_step
 branch_predicate = (refl, refl, refl, refl, refl, refl)
 
 pub branch_register : BranchRegister
-unfolding look spot holds predicate_place next_of insn_at is_stopped is_entry landing
+unfolding look spot holds predicate_index next_of insn_at is_stopped is_entry landing
 branch_register = (refl, refl)
 
 pub return_state : ReturnState
-unfolding look spot holds predicate_place next_of insn_at is_stopped is_entry landing has_reserved_zeros marked_frame is_frame return_fault
+unfolding look spot holds predicate_index next_of insn_at is_stopped is_entry landing has_reserved_zeros marked_frame is_frame return_fault
 return_state = (refl, refl, refl)
 
 pub parallel_compares : ParallelCompares
-unfolding look spot holds predicate_place predicate_spot next_of insn_at is_stopped
+unfolding look spot holds predicate_index predicate_spot next_of insn_at is_stopped
 parallel_compares = (refl, refl, refl, refl)
 
 pub memory_order : MemoryOrder
@@ -70,7 +70,7 @@ with_p6_is_start = record {
 }
 
 pub later_writes_differ : LaterWrites
-unfolding look spot holds predicate_place predicate_spot next_of insn_at is_stopped seq_step
+unfolding look spot holds predicate_index predicate_spot next_of insn_at is_stopped seq_step
 later_writes_differ = (λ robust. of (ap (λ (r : Run). static_of 14 r.state.registers) (robust 2 ([] ∷ (1 ∷ []) ∷ []) (with_p6 later_writes) with_p6_is_start)), refl, refl, refl, refl, refl)
   where
     of : cell 1 ≡ cell 2 → ⊥

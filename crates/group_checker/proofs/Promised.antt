@@ -8,7 +8,7 @@ use Rattle.ia_program.specs.Programs.{Program, IsProgram, relation_at, relations
 use Rattle.ia_meaning.specs.State.{Registers}
 use Rattle.ia_meaning.specs.Names.{holds}
 use Rattle.ia_meaning.specs.Landings.{are_both_one, breaks_relation}
-use Rattle.ia_meaning.proofs.PredicatePlaces.{holds_zero, holds_at_place, low_place}
+use Rattle.ia_meaning.proofs.PredicateIndexes.{holds_zero, holds_at_place, low_place}
 use Rattle.predicate_rel.specs.Pairs.{Pairs, no_pairs, other_of, is_same_pair, with_pair}
 use Rattle.predicate_rel.specs.Truth.{AreNeverBothOne}
 use Rattle.flow_facts.specs.Graphs.{with_relations, known_at_entry}

@@ -26,7 +26,7 @@ use Rattle.group_checker.specs.declared.report.TheConstants.{SHOWN_LIMIT}
 use Rattle.group_checker.specs.declared.report.Verdict.TheVariants.{Accepted, Violations}
 use Rattle.group_checker.specs.Order.{Precedes, IsListOf}
 use Rattle.group_checker.specs.Shown.{Report}
-use Rattle.group_checker.specs.Violations.{ViolatesIn, Violates, IsFree}
+use Rattle.group_checker.specs.Violations.{ViolatesIn, Violates, HasNoViolation}
 use Rattle.group_checker.specs.Reports.{Shows, IsVerdict}
 use Rattle.group_checker.specs.Windows.{IsWindow, IsAt}
 use Rattle.group_checker.specs.Findings.{IsPair, IsNthPair, AreBroken}
@@ -289,10 +289,10 @@ all_reported p r j bound end u = record {
     ]
 
 -- a report of none is one on a program without violations
-pub free_of_none : (p : Program) (r : Report) → ReportsAll p r → r.total ≡ 0 → IsFree p
+pub free_of_none : (p : Program) (r : Report) → ReportsAll p r → r.total ≡ 0 → HasNoViolation p
 free_of_none p r a none = of a.all refl
   where
-    of : (all : List Violation) → a.all ≡ all → IsFree p
+    of : (all : List Violation) → a.all ≡ all → HasNoViolation p
     of [] e = λ v x. not_in_none v (subst (λ (l : List Violation). Contains l v) e (a.list.has v x))
     of (v ∷ vs) e = absurd (omega (arith, a.shows.total, ap length e))
 

@@ -10,7 +10,7 @@ use Rattle.ia_meaning.proofs.WholeRuns.{step_goes_on}
 use Rattle.flow_facts.specs.Walks.{Walk, begins}
 use Rattle.group_checker.specs.declared.report.Verdict.{Verdict}
 use Rattle.group_checker.specs.declared.report.Verdict.TheVariants.{Accepted}
-use Rattle.group_checker.specs.Violations.{IsFree}
+use Rattle.group_checker.specs.Violations.{HasNoViolation}
 use Rattle.group_checker.specs.Reports.{IsVerdict}
 use Rattle.group_checker.specs.Traces.{walk_after, IsKnown}
 use Rattle.group_checker.proofs.Walked.{steps_known, known_on_runs, runs_are_known}
@@ -50,7 +50,7 @@ Par p codes number s = par_group p (code_of codes number) s
 abbrev Seq : Program → ℕ → State → Group
 Seq p number s = seq_group p s
 
-runs_ordered : (n number : ℕ) (p : Program) (codes : List (List ℕ)) (s : State) (w : Walk) → IsProgram p → IsFree p → IsKnown p s w → run_from (Par p codes) number n s ≡ run_from (Seq p) number n s
+runs_ordered : (n number : ℕ) (p : Program) (codes : List (List ℕ)) (s : State) (w : Walk) → IsProgram p → HasNoViolation p → IsKnown p s w → run_from (Par p codes) number n s ≡ run_from (Seq p) number n s
 runs_ordered zero number p codes s w program free known = refl
 runs_ordered (suc n) number p codes s w program free known =
     ap (λ (x : Group). run_by x (event_of number s.place x) x.end (run_from (Par p codes) (suc number) n x.state)) (group_ordered p (code_of codes number) s w program free known)

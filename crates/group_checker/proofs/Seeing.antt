@@ -10,12 +10,12 @@ use Rattle.ia_program.specs.Listed.{IsListed}
 use Rattle.ia_program.specs.Programs.{Program}
 use Rattle.ia_meaning.specs.declared.action.Action.{Action}
 use Rattle.ia_meaning.specs.declared.action.Action.TheVariants as action
-use Rattle.ia_meaning.specs.declared.action.Goal.TheVariants.{Direct, Indirect}
+use Rattle.ia_meaning.specs.declared.action.CallTarget.TheVariants.{Direct, Indirect}
 use Rattle.ia_meaning.specs.State.{Registers, Memory}
 use Rattle.ia_meaning.specs.declared.write.Write.{Write as RegisterWrite}
 use Rattle.ia_meaning.specs.declared.write.Write.TheVariants.{SetStatic, SetUnat}
 use Rattle.ia_meaning.specs.Writes.{put, apply}
-use Rattle.ia_meaning.specs.Names.{is_rotating, holds, predicate_place}
+use Rattle.ia_meaning.specs.Names.{is_rotating, holds, predicate_index}
 use Rattle.ia_meaning.specs.Effects.{Site, effect}
 use Rattle.resource_sets.specs.declared.access.Resource.{Resource}
 use Rattle.resource_sets.specs.declared.access.Resource.TheVariants.{Pr, Unat, Lc, Ec, Cfm}
@@ -25,7 +25,7 @@ use Rattle.resource_sets.specs.declared.access.Access.{Access}
 use Rattle.resource_sets.specs.AccessLaws.{PredicateAt, location, location_of, SameIn, AgreesOn, Agree, HasAccess}
 use Rattle.ia_meaning.specs.Actions.{is_branch, is_indirect, is_alloc, insn_action}
 use Rattle.resource_sets.specs.Regularity.{HasNamedAccess, IsPredicate, IsCountOrFrame, GoesBy, IsRegular, IsInRange}
-use Rattle.ia_meaning.proofs.PredicatePlaces.{holds_zero, place_some}
+use Rattle.ia_meaning.proofs.PredicateIndexes.{holds_zero, place_some}
 use Rattle.ia_meaning.proofs.Views.{seen_at, length_seen, view_plain}
 use Rattle.resource_sets.proofs.Dependence.{place_same, depends}
 use Rattle.resource_sets.proofs.Regularity.{regular, guards, named_accesses, in_range, agree_by}
@@ -83,7 +83,7 @@ all_see_the_start insn now base = record {
   cells = refl;
   frame = refl;
   predicates = λ n e k. seen_other (sees_predicate insn base.frame) 0 n base.predicates now.predicates false
-      (from_start (sees_predicate insn base.frame) n (other_place (is_branch (insn_action insn)) (sees_static (insn_action insn) n) n (predicate_place base.frame insn.qp) e k));
+      (from_start (sees_predicate insn base.frame) n (other_place (is_branch (insn_action insn)) (sees_static (insn_action insn) n) n (predicate_index base.frame insn.qp) e k));
   branches = λ n e. seen_other (sees_branch (insn_action insn)) 0 n base.branches now.branches 0 (from_start (sees_branch (insn_action insn)) n e);
   unat = refl;
   pfs = λ e. ap (λ b. if b then now.pfs else base.pfs) e;
@@ -97,8 +97,8 @@ branch_holds : (insn : Insn) (now base s : Registers) → is_branch (insn_action
 unfolding holds
 branch_holds insn now base s b l m f zero is = refl
 branch_holds insn now base s b l m f (suc n) is =
-    let place = predicate_place base.frame (suc n) in
-    let guard : sees_guard insn base.frame place ≡ true = ap (λ t. t && (place == predicate_place base.frame insn.qp)) b ∙ ap (λ q. place == predicate_place base.frame q) is ∙ sees_itself place in
+    let place = predicate_index base.frame (suc n) in
+    let guard : sees_guard insn base.frame place ≡ true = ap (λ t. t && (place == predicate_index base.frame insn.qp)) b ∙ ap (λ q. place == predicate_index base.frame q) is ∙ sees_itself place in
     let sees : sees_predicate insn base.frame place ≡ true = or_left (sees_guard insn base.frame place) (sees_static (insn_action insn) place) guard in
     seen_here (sees_predicate insn base.frame) place base.predicates now.predicates false l sees
     ∙ ap (λ (t : List Bool). get_or t place false) m
@@ -273,7 +273,7 @@ module _ (p : Program) (past : List Place) (base : Registers) (ws : List Registe
           let q = predicate_at base.frame o.access.resource 0 (o.names ∙ ap Some t) in
           let r : IsInRange (Pr q.0) = subst IsInRange q.1 o.range in
           let at : location_of base.frame (Pr q.0) ≡ Some (PredicateAt 0) = ap (location_of base.frame) (sym q.1) ∙ o.names ∙ ap Some t in
-          let there : predicate_place base.frame q.0 ≡ 0 = cc in
+          let there : predicate_index base.frame q.0 ≡ 0 = cc in
           place_some base.frame q.0 (λ e. absurd (omega (arith, r.0))) there
 
       go : TouchedBy (PredicateAt 0) ws ⊎ SameAt (PredicateAt 0) S (record base { unat = u }) → SameAt (PredicateAt 0) S (record base { unat = u })

@@ -11,7 +11,7 @@ use Rattle.ia_program.specs.Places.{insn_at}
 use Rattle.ia_program.specs.Programs.{Program, IsProgram}
 use Rattle.ia_meaning.specs.declared.action.Action.{Action}
 use Rattle.ia_meaning.specs.declared.action.Action.TheVariants.{JumpIndirect, Call, Return}
-use Rattle.ia_meaning.specs.declared.action.Goal.TheVariants.{Indirect}
+use Rattle.ia_meaning.specs.declared.action.CallTarget.TheVariants.{Indirect}
 use Rattle.ia_meaning.specs.declared.next.Next.{Next}
 use Rattle.ia_meaning.specs.declared.next.Next.TheVariants as next
 use Rattle.ia_meaning.specs.State.{Registers, State, IsState, IsStart}

@@ -19,7 +19,7 @@ use Rattle.ia_meaning.specs.Steps.{outcome_of, place_after, step_by, seq_step}
 use Rattle.ia_meaning.specs.ParallelGroups.{Gathered, gathered_from, slot_outcome, frame_ahead, gathers, GatheredGroup, gathered_by, gathered_within}
 use Rattle.ia_meaning.proofs.StepHere.{insn_here}
 use Rattle.flow_facts.specs.Walks.{Walk, earlier_in_group}
-use Rattle.group_checker.specs.Violations.{IsFree}
+use Rattle.group_checker.specs.Violations.{HasNoViolation}
 use Rattle.group_checker.specs.Traces.{walk_after, IsKnown}
 use Rattle.group_checker.specs.GroupSlots.{GatheredSlot, slot_here, slots_within, done_by}
 use Rattle.group_checker.proofs.GatheredSlots.{IsOn, with_slot, by_slots, no_more}
@@ -72,7 +72,7 @@ module _ (p : Program) (program : IsProgram p) (most : ℕ) (rest : RestIsGather
   pub slot_gathered : IsGathered p (gathered_by p first g o o.next Rest).all
   slot_gathered = by_way o.next refl
 
-rest_gathered : (p : Program) → IsProgram p → IsFree p → (most : ℕ) → RestIsGathered p most
+rest_gathered : (p : Program) → IsProgram p → HasNoViolation p → (most : ℕ) → RestIsGathered p most
 rest_gathered p program free zero g past w on i c = record { past = past; way = on.way }
 rest_gathered p program free (suc most) g past w on i c = go (rest_gathered p program free most) (insn_here p (state_of g) on.known.state.place)
   where
@@ -83,7 +83,7 @@ rest_gathered p program free (suc most) g past w on i c = go (rest_gathered p pr
         (slot_gathered p program most rest false g past w on (slot_outcome p g (Some j)) (plain_step p program free g past w on j at na) (plain_joins p program free g past w on j at na))
 
 -- The whole group is gathered of slots.
-pub group_gathered : (p : Program) → IsProgram p → IsFree p → (most : ℕ) (s : State) (w : Walk) → IsKnown p s w → IsGathered p (gathered_within (suc most) p true (gathered_from s)).all
+pub group_gathered : (p : Program) → IsProgram p → HasNoViolation p → (most : ℕ) (s : State) (w : Walk) → IsKnown p s w → IsGathered p (gathered_within (suc most) p true (gathered_from s)).all
 group_gathered p program free most s w known = go (insn_here p s known.state.place)
   where
     g : Gathered

@@ -14,9 +14,9 @@ use Rattle.ia_meaning.specs.Sequence.{next_of, is_stopped}
 use Rattle.ia_meaning.specs.Steps.{place_after, outcome_of, seq_step}
 use Rattle.resource_sets.specs.AccessLaws.{TheUnat, location}
 use Rattle.flow_facts.specs.Walks.{Walk}
-use Rattle.group_checker.specs.Violations.{IsFree}
+use Rattle.group_checker.specs.Violations.{HasNoViolation}
 use Rattle.group_checker.specs.Traces.{IsKnown}
-use Rattle.ia_meaning.specs.Names.{predicate_place}
+use Rattle.ia_meaning.specs.Names.{predicate_index}
 use Rattle.ia_meaning.specs.Actions.{insn_action, is_branch, allocates}
 use Rattle.ia_meaning.specs.Views.{sees_static, sees_branch, sees_pfs, view}
 use Rattle.ia_meaning.specs.ParallelGroups.{Gathered, gathered_from, slot_outcome, gathers}
@@ -31,7 +31,7 @@ pub record SeesTheStart (insn : Insn) (seen base : Registers) : Type 0 where
   pub statics : seen.statics ≡ base.statics
   pub cells : seen.cells ≡ base.cells
   pub frame : seen.frame ≡ base.frame
-  pub predicates : (n : ℕ) → n ≢ predicate_place base.frame insn.qp → sees_static (insn_action insn) n ≡ false
+  pub predicates : (n : ℕ) → n ≢ predicate_index base.frame insn.qp → sees_static (insn_action insn) n ≡ false
       → get_or seen.predicates n false ≡ get_or base.predicates n false
   pub branches : (n : ℕ) → sees_branch (insn_action insn) n ≡ false → get_or seen.branches n 0 ≡ get_or base.branches n 0
   pub unat : seen.unat ≡ base.unat
@@ -79,5 +79,5 @@ pub record Agrees (p : Program) (g : Gathered) (s : State) : Type 0 where
 -- So it is in each group of a program without violations.
 abbrev pub ViewsAgree : Type 0
 ViewsAgree =
-    (n : ℕ) (p : Program) (s : State) (w : Walk) (g : Gathered) → IsProgram p → IsFree p → IsKnown p s w
+    (n : ℕ) (p : Program) (s : State) (w : Walk) (g : Gathered) → IsProgram p → HasNoViolation p → IsKnown p s w
     → slots_on n p true (gathered_from s) ≡ Some g → Agrees p g (steps_on n p s)

@@ -5,7 +5,7 @@ use Rattle.ia_insn.specs.declared.insn.Op.TheVariants as op
 use Rattle.ia_insn.specs.NewValues.{exchanged}
 use Rattle.ia_program.specs.Programs.{Program, IsProgram}
 use Rattle.ia_meaning.specs.declared.action.Action.TheVariants.{Exchange}
-use Rattle.ia_meaning.specs.declared.state.AlatKey.{AlatKey as Spot}
+use Rattle.ia_meaning.specs.declared.state.Spot.{Spot}
 use Rattle.ia_meaning.specs.declared.state.Cell.{Cell}
 use Rattle.ia_meaning.specs.State.{State}
 use Rattle.ia_meaning.specs.Names.{spot, look, holds, set_spot}
@@ -14,7 +14,7 @@ use Rattle.ia_meaning.specs.Loads.{loaded}
 use Rattle.ia_meaning.specs.Views.{view}
 use Rattle.ia_meaning.specs.ParallelGroups.{now_of, par_group}
 use Rattle.flow_facts.specs.Walks.{Walk}
-use Rattle.group_checker.specs.Violations.{IsFree}
+use Rattle.group_checker.specs.Violations.{HasNoViolation}
 use Rattle.group_checker.specs.Traces.{IsKnown}
 use Rattle.group_checker.specs.GroupSlots.{GatheredSlot, slots_of, done_by}
 use Rattle.group_checker.specs.Targets.{Stands}
@@ -70,7 +70,7 @@ FetchAddsAreSummed =
 abbrev pub FetchAddTargetsStand : Type 0
 FetchAddTargetsStand =
     (p : Program) (code : List ℕ) (s : State) (w : Walk) (size address : ℕ) (inc : ℤ) (xs ys : List GatheredSlot) (x : GatheredSlot)
-    → IsProgram p → IsFree p → IsKnown p s w → slots_of p s ≡ xs ++ x ∷ ys → IsFetchAdd size address inc x
+    → IsProgram p → HasNoViolation p → IsKnown p s w → slots_of p s ≡ xs ++ x ∷ ys → IsFetchAdd size address inc x
     → Each (Stands (par_group p code s).state.registers) (done_by p x).writes
 
 -- Two to one address in one group.

@@ -13,7 +13,7 @@ use Rattle.ia_meaning.specs.ParallelGroups.{par_group}
 use Rattle.ia_meaning.specs.OrderIndependence.{IsRobust}
 use Rattle.resource_sets.specs.AccessLaws.{TheFrame, location}
 use Rattle.flow_facts.specs.Walks.{Walk}
-use Rattle.group_checker.specs.Violations.{IsFree}
+use Rattle.group_checker.specs.Violations.{HasNoViolation}
 use Rattle.group_checker.specs.Traces.{IsKnown}
 
 -- Two writes go to two locations, or are one write twice, and not of the frame.
@@ -48,14 +48,14 @@ OrdersChangeFramesTheSame = (code : List ℕ) (ws : List Write) → FitTogether 
 -- state to which a walk leads whose facts are true there.
 abbrev pub GroupIsOrdered : Type 0
 GroupIsOrdered =
-    (p : Program) (code : List ℕ) (s : State) (w : Walk) → IsProgram p → IsFree p → IsKnown p s w → par_group p code s ≡ seq_group p s
+    (p : Program) (code : List ℕ) (s : State) (w : Walk) → IsProgram p → HasNoViolation p → IsKnown p s w → par_group p code s ≡ seq_group p s
 
 -- So does the next group of each run from a start state.
 abbrev pub NextGroupIsOrdered : Type 0
 NextGroupIsOrdered =
-    (n : ℕ) (p : Program) (code : List ℕ) (s : State) → IsProgram p → IsFree p → IsStart p s
+    (n : ℕ) (p : Program) (code : List ℕ) (s : State) → IsProgram p → HasNoViolation p → IsStart p s
     → par_group p code (seq_run p n s).state ≡ seq_group p (seq_run p n s).state
 
 -- A program without a violation is order independent.
 abbrev pub FreeIsRobust : Type 0
-FreeIsRobust = (p : Program) → IsProgram p → IsFree p → IsRobust p
+FreeIsRobust = (p : Program) → IsProgram p → HasNoViolation p → IsRobust p

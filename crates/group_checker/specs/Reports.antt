@@ -6,7 +6,7 @@ use Rattle.group_checker.specs.declared.report.TheConstants.{SHOWN_LIMIT}
 use Rattle.group_checker.specs.declared.report.Verdict.{Verdict}
 use Rattle.group_checker.specs.declared.report.Verdict.TheVariants.{Accepted, Violations}
 use Rattle.group_checker.specs.Order.{IsListOf}
-use Rattle.group_checker.specs.Violations.{Violates, IsFree}
+use Rattle.group_checker.specs.Violations.{Violates, HasNoViolation}
 use Rattle.group_checker.specs.Shown.{Report}
 
 -- The report counts the whole list and shows the first violations, as many as the limit lets.
@@ -23,7 +23,7 @@ pub record IsReport (p : Program) (r : Report) : Type 0 where
 
 -- A program is accepted, as itself, exactly where it has no violation.
 abbrev pub IsVerdict : Program → Verdict → Type 0
-IsVerdict p (Accepted q) = (q ≡ p) × IsFree p
+IsVerdict p (Accepted q) = (q ≡ p) × HasNoViolation p
 IsVerdict p (Violations r) = IsReport p r
 
 -- A program has one verdict.

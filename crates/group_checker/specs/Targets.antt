@@ -10,7 +10,7 @@ use Rattle.ia_meaning.specs.Actions.{insn_action, is_alloc}
 use Rattle.ia_meaning.specs.Steps.{seq_run}
 use Rattle.ia_meaning.specs.ParallelGroups.{par_group}
 use Rattle.flow_facts.specs.Walks.{Walk}
-use Rattle.group_checker.specs.Violations.{IsFree}
+use Rattle.group_checker.specs.Violations.{HasNoViolation}
 use Rattle.group_checker.specs.Traces.{IsKnown}
 use Rattle.group_checker.specs.GroupSlots.{GatheredSlot, slots_of, done_by}
 
@@ -25,12 +25,12 @@ Stands r w = Unit {0}
 abbrev pub TargetsStand : Type 0
 TargetsStand =
     (p : Program) (code : List ℕ) (s : State) (w : Walk) (xs ys : List GatheredSlot) (x : GatheredSlot)
-    → IsProgram p → IsFree p → IsKnown p s w → slots_of p s ≡ xs ++ x ∷ ys → is_alloc (insn_action x.insn) ≡ false
+    → IsProgram p → HasNoViolation p → IsKnown p s w → slots_of p s ≡ xs ++ x ∷ ys → is_alloc (insn_action x.insn) ≡ false
     → Each (Stands (par_group p code s).state.registers) (done_by p x).writes
 
 -- So it is in the next group of each run from a start state.
 abbrev pub NextTargetsStand : Type 0
 NextTargetsStand =
     (n : ℕ) (p : Program) (code : List ℕ) (s : State) (xs ys : List GatheredSlot) (x : GatheredSlot)
-    → IsProgram p → IsFree p → IsStart p s → slots_of p (seq_run p n s).state ≡ xs ++ x ∷ ys → is_alloc (insn_action x.insn) ≡ false
+    → IsProgram p → HasNoViolation p → IsStart p s → slots_of p (seq_run p n s).state ≡ xs ++ x ∷ ys → is_alloc (insn_action x.insn) ≡ false
     → Each (Stands (par_group p code (seq_run p n s).state).state.registers) (done_by p x).writes

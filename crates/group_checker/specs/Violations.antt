@@ -74,5 +74,5 @@ abbrev pub Violates : Program → Violation → Type 0
 Violates p v = ViolatesIn (over_program p) (is_stopped p.bundles) v
 
 -- On no walk do two slots of a group break a rule.
-abbrev pub IsFree : Program → Type 0
-IsFree p = (v : Violation) → ¬ Violates p v
+abbrev pub HasNoViolation : Program → Type 0
+HasNoViolation p = (v : Violation) → ¬ Violates p v

@@ -3,7 +3,7 @@
 ghost use Rattle.std.specs.Prelude.{◌≡◌};
 ghost use Rattle.ia_program.specs.Programs.{IsProgram};
 ghost use Rattle.ia_meaning.specs.OrderIndependence.{IsRobust};
-ghost use Rattle.group_checker.specs.Violations.{IsFree};
+ghost use Rattle.group_checker.specs.Violations.{HasNoViolation};
 
 use slot_table::SlotTable;
 use std::marker::Model;
@@ -17,19 +17,19 @@ pub struct Accepted<'p> {
 
 impl<'p> Model for Accepted<'p> {
     ghost use Rattle.ia_program.specs.Programs.{Program};
-    ghost use Rattle.group_checker.specs.Violations.{IsFree};
+    ghost use Rattle.group_checker.specs.Violations.{HasNoViolation};
 
     ghost Value = { Program };
 
     ghost view = { λ a. a.slots };
 
-    ghost invariant = { λ a. IsFree a.slots };
+    ghost invariant = { λ a. HasNoViolation a.slots };
 }
 
 impl<'p> Accepted<'p> {
     /// That of these slots.
     pub(crate) fn of(slots: SlotTable<'p>) -> Accepted<'p>
-        requires { IsFree slots }
+        requires { HasNoViolation slots }
         ensures { result ≡ slots.entry }
     {
         Accepted { slots }
@@ -46,7 +46,7 @@ impl<'p> Accepted<'p> {
     /// groups and every order of the writes in each group, groups at once leave what slots one by one leave. It does nothing.
     pub fn is_robust(&self)
         ensures program { IsProgram self.now }
-        ensures free { IsFree self.now }
+        ensures free { HasNoViolation self.now }
         ensures robust { IsRobust self.now }
     {
         self.slots.is_program();

@@ -2,7 +2,7 @@
 
 ghost use Rattle.std.specs.Prelude.{◌≡◌, ◌≤◌, ◌+◌, ◌<◌, ◌^◌, ◌++◌, ◌∷◌, [], length, take, map, OnOk, if◌then◌else◌, ◌==◌};
 ghost use Rattle.group_checker.specs.Broken.{violations_by, violations_of};
-ghost use Rattle.group_checker.specs.Violations.{IsFree};
+ghost use Rattle.group_checker.specs.Violations.{HasNoViolation};
 ghost use Rattle.group_checker.specs.Progress.{pair_bound};
 
 use crate::accepted::Accepted;
@@ -122,7 +122,7 @@ impl Report {
 
     /// The verdict on a program that has this report.
     pub(crate) fn verdict<'p>(self, analysis: Analysis<'p>) -> Verdict<'p>
-        requires { self.total ≡ 0 → IsFree analysis }
+        requires { self.total ≡ 0 → HasNoViolation analysis }
         ensures { result ≡ (if self.total == 0 then Verdict.Accepted analysis.entry else Verdict.Violations self) }
     {
         if self.total == 0 {

@@ -34,7 +34,7 @@ pub(crate) struct EarlierSlot {
 }
 
 /// The slots that are earlier in the group of the slot under way on some walk, in order, with what is known of them
-/// there (volume 1, chapter 3, instruction dependencies). The slots are those of a program or of a row of
+/// there (volume 1, chapter 3, instruction dependencies). The slots are those of a program or of a sequence of
 /// instructions, with the stops that the caller has in mind: the window knows neither. Contracts see the list of the
 /// slots.
 #[derive(Drop)]
@@ -62,7 +62,7 @@ impl Window {
         }
     }
 
-    /// Forgets the slots: none is earlier.
+    /// Invalidates the slots: none is earlier.
     pub fn clear(&mut self)
         ensures { self.new ≡ [] }
     {
@@ -104,7 +104,7 @@ impl Window {
 
     /// Takes the window from the slot under way, at `place`, to the next place: it has all slots that are then earlier
     /// in the group on some walk. `here` is what is known before the slot on all walks that end there, and None where
-    /// none does; `masks` has the slot's accesses. Nothing else of the program or row is asked.
+    /// none does; `masks` has the slot's accesses. Nothing else of the program or sequence is asked.
     ///
     /// # Errors
     ///

@@ -6,13 +6,13 @@ use Rattle.ia_meaning.specs.declared.state.Cell.{Cell}
 use Rattle.ia_meaning.specs.declared.state.FrameShape.{FrameShape}
 use Rattle.ia_meaning.specs.State.{Registers, Memory}
 use Rattle.ia_meaning.specs.declared.write.Write.TheVariants.{SetStatic, SetPredicate}
-use Rattle.ia_meaning.specs.Names.{spot, look, predicate_place, predicate_spot, set_predicate}
+use Rattle.ia_meaning.specs.Names.{spot, look, predicate_index, predicate_spot, set_predicate}
 use Rattle.ia_meaning.specs.Arithmetic.{bit}
 use Rattle.ia_meaning.specs.Moves.{is_masked, masked_writes}
 use Rattle.slot_effects.specs.declared.change.Change.{Change}
-use Rattle.slot_effects.specs.declared.change.Change.TheVariants.{Nothing, General, Predicates, PredicateWord, Branch, Application, Loaded, Entered, Hit, Stored, Exchanged, Forgotten, AllForgotten, Allocated, Turned, Called, Returned, Cleared}
+use Rattle.slot_effects.specs.declared.change.Change.TheVariants.{Nothing, General, Predicates, PredicateWord, Branch, Application, Loaded, Entered, Hit, Stored, Exchanged, Invalidated, AllInvalidated, Allocated, Turned, Called, Returned, Cleared}
 use Rattle.slot_effects.specs.Changes.{set_at, writes_of, memory_after, spills_of}
-use Rattle.group_engine.specs.declared.steering.Steering.{Steering}
+use Rattle.group_engine.specs.declared.branch_inputs.BranchInputs.{BranchInputs}
 use Rattle.group_engine.specs.Kept.{Kept, keeping}
 use Rattle.group_engine.specs.Views.{seen_by}
 use Rattle.ia_meaning.proofs.Spots.{spot_static}
@@ -28,12 +28,12 @@ pub r0_unwritten : (f : FrameShape) (n : ℕ) (cell : Cell) → n ≡ 0 → set_
 r0_unwritten f n cell e = rw (e, spot_static f 0 (omega arith)) refl
 
 -- no predicate but p0 stands at place 0
-pub place_some : (f : FrameShape) (p : ℕ) → p ≢ 0 → 1 ≤ predicate_place f p
-unfolding predicate_place
+pub place_some : (f : FrameShape) (p : ℕ) → p ≢ 0 → 1 ≤ predicate_index f p
+unfolding predicate_index
 place_some f p h = grind (arith, nat_tests)
 
 -- a predicate is written at its place, but p0 is not
-pub predicate_written : (f : FrameShape) (p : ℕ) (b : Bool) → p ≢ 0 → set_predicate (predicate_spot f p) b [] ≡ SetPredicate (predicate_place f p) b ∷ []
+pub predicate_written : (f : FrameShape) (p : ℕ) (b : Bool) → p ≢ 0 → set_predicate (predicate_spot f p) b [] ≡ SetPredicate (predicate_index f p) b ∷ []
 unfolding predicate_spot
 predicate_written f zero b h = absurd (h refl)
 predicate_written f (suc p) b h = refl
@@ -55,7 +55,7 @@ pub place_left : (n mask x : ℕ) (k : Kept) → n < 64 → is_masked mask n ≡
 place_left n mask x k h e = rw (left_from n h, e) (grind arith)
 
 -- what a slot sees of general registers is what stands there,
-pub seen_look : (r : Registers) (s : Steering) (n : ℕ) → look (seen_by r s) n ≡ look r n
+pub seen_look : (r : Registers) (s : BranchInputs) (n : ℕ) → look (seen_by r s) n ≡ look r n
 seen_look r s n = sym (look_seen r s n)
 
 -- whatever previous function state it sees
@@ -63,20 +63,20 @@ pub look_with_pfs : (r : Registers) (pfs n : ℕ) → look (record r { pfs = pfs
 look_with_pfs r pfs n = seen_look r (record { predicates = r.predicates; branches = r.branches; pfs = pfs }) n
 
 -- A slot writes by what it sees of the general registers, of the frame and the counts, and of the previous function state.
-pub writes_seen : (r : Registers) (s : Steering) (c : Change) → writes_of (seen_by r s) c ≡ writes_of (record r { pfs = s.pfs }) c
+pub writes_seen : (r : Registers) (s : BranchInputs) (c : Change) → writes_of (seen_by r s) c ≡ writes_of (record r { pfs = s.pfs }) c
 writes_seen r s Nothing = refl
 writes_seen r s (General r1 cell) = refl
 writes_seen r s (Predicates p1 first p2 second) = refl
 writes_seen r s (PredicateWord mask word) = refl
 writes_seen r s (Branch b1 value) = refl
 writes_seen r s (Application ar value) = refl
-writes_seen r s (Loaded r1 r3 forgets update cell) = simp (seen_look, look_with_pfs)
+writes_seen r s (Loaded r1 r3 invalidates update cell) = simp (seen_look, look_with_pfs)
 writes_seen r s (Entered r1 r3 size update cell) = simp (seen_look, look_with_pfs)
-writes_seen r s (Hit r1 r3 forgets update) = simp (seen_look, look_with_pfs)
+writes_seen r s (Hit r1 r3 invalidates update) = simp (seen_look, look_with_pfs)
 writes_seen r s (Stored r3 size spills update cell) = simp (seen_look, look_with_pfs)
 writes_seen r s (Exchanged r1 r3 size old value) = refl
-writes_seen r s (Forgotten r1) = refl
-writes_seen r s AllForgotten = refl
+writes_seen r s (Invalidated r1) = refl
+writes_seen r s AllInvalidated = refl
 writes_seen r s (Allocated r1 sof sol sor) = refl
 writes_seen r s (Turned kind qp) = refl
 writes_seen r s (Called b1 address) = refl
@@ -84,20 +84,20 @@ writes_seen r s Returned = refl
 writes_seen r s (Cleared pred_only) = refl
 
 -- What it does to memory is a matter of the general registers and the frame alone,
-pub memory_seen : (r : Registers) (s : Steering) (c : Change) (m : Memory) → memory_after (seen_by r s) c m ≡ memory_after r c m
+pub memory_seen : (r : Registers) (s : BranchInputs) (c : Change) (m : Memory) → memory_after (seen_by r s) c m ≡ memory_after r c m
 memory_seen r s Nothing m = refl
 memory_seen r s (General r1 cell) m = refl
 memory_seen r s (Predicates p1 first p2 second) m = refl
 memory_seen r s (PredicateWord mask word) m = refl
 memory_seen r s (Branch b1 value) m = refl
 memory_seen r s (Application ar value) m = refl
-memory_seen r s (Loaded r1 r3 forgets update cell) m = refl
+memory_seen r s (Loaded r1 r3 invalidates update cell) m = refl
 memory_seen r s (Entered r1 r3 size update cell) m = simp seen_look
-memory_seen r s (Hit r1 r3 forgets update) m = refl
+memory_seen r s (Hit r1 r3 invalidates update) m = refl
 memory_seen r s (Stored r3 size spills update cell) m = simp seen_look
 memory_seen r s (Exchanged r1 r3 size old value) m = simp seen_look
-memory_seen r s (Forgotten r1) m = refl
-memory_seen r s AllForgotten m = refl
+memory_seen r s (Invalidated r1) m = refl
+memory_seen r s AllInvalidated m = refl
 memory_seen r s (Allocated r1 sof sol sor) m = refl
 memory_seen r s (Turned kind qp) m = refl
 memory_seen r s (Called b1 address) m = refl
@@ -105,6 +105,6 @@ memory_seen r s Returned m = refl
 memory_seen r s (Cleared pred_only) m = refl
 
 -- and so is what it spills.
-pub spills_seen : (r : Registers) (s : Steering) (c : Change) → spills_of (seen_by r s) c ≡ spills_of r c
+pub spills_seen : (r : Registers) (s : BranchInputs) (c : Change) → spills_of (seen_by r s) c ≡ spills_of r c
 spills_seen r s (Stored r3 size spills update cell) = simp seen_look
 spills_seen r s c = refl

@@ -5,13 +5,13 @@ use Rattle.ia_meaning.specs.declared.write.Write.{Write}
 use Rattle.ia_meaning.specs.declared.write.Write.TheVariants.{SetStatic, SetCell, SetPredicate, SetBranch, SetUnat, SetPfs, SetLc, SetEc, SetFrame}
 use Rattle.ia_meaning.specs.State.{Registers}
 use Rattle.ia_meaning.specs.Writes.{put, apply}
-use Rattle.group_engine.specs.declared.steering.Steering.{Steering}
-use Rattle.group_engine.specs.Kept.{steering_of, steering_with, steering_after, Kept, keeping}
+use Rattle.group_engine.specs.declared.branch_inputs.BranchInputs.{BranchInputs}
+use Rattle.group_engine.specs.Kept.{branch_inputs_of, branch_inputs_with, branch_inputs_after, Kept, keeping}
 
 -- what some writes leave and then more of them
-steered_on : (vs ws : List Write) (s : Steering) → steering_after ws (steering_after vs s) ≡ steering_after (vs ++ ws) s
+steered_on : (vs ws : List Write) (s : BranchInputs) → branch_inputs_after ws (branch_inputs_after vs s) ≡ branch_inputs_after (vs ++ ws) s
 steered_on [] ws s = refl
-steered_on (v ∷ vs) ws s = steered_on vs ws (steering_with v s)
+steered_on (v ∷ vs) ws s = steered_on vs ws (branch_inputs_with v s)
 
 -- keeping some writes and then more of them keeps them all
 pub kept_on : (vs ws : List Write) (k : Kept) → keeping ws (keeping vs k) ≡ keeping (vs ++ ws) k
@@ -22,7 +22,7 @@ pub kept_none : (k : Kept) → keeping [] k ≡ k
 kept_none k = rw append-nil refl
 
 -- one write
-steered_by : (w : Write) (r : Registers) → steering_with w (steering_of r) ≡ steering_of (put w r)
+steered_by : (w : Write) (r : Registers) → branch_inputs_with w (branch_inputs_of r) ≡ branch_inputs_of (put w r)
 steered_by (SetStatic n c) r = refl
 steered_by (SetCell n c) r = refl
 steered_by (SetPredicate n b) r = refl
@@ -33,10 +33,10 @@ steered_by (SetLc v) r = refl
 steered_by (SetEc v) r = refl
 steered_by (SetFrame cause f) r = refl
 
-steered : (ws : List Write) (r : Registers) → steering_after ws (steering_of r) ≡ steering_of (apply ws r)
+steered : (ws : List Write) (r : Registers) → branch_inputs_after ws (branch_inputs_of r) ≡ branch_inputs_of (apply ws r)
 steered [] r = refl
 steered (w ∷ ws) r = rw (steered_by w r) (steered ws (put w r))
 
 -- What the writes leave of the registers that steer branches is what they leave of all registers.
-pub latest_kept : (ws : List Write) (k : Kept) (r : Registers) → k.latest ≡ steering_of r → (keeping ws k).latest ≡ steering_of (apply ws r)
+pub latest_kept : (ws : List Write) (k : Kept) (r : Registers) → k.latest ≡ branch_inputs_of r → (keeping ws k).latest ≡ branch_inputs_of (apply ws r)
 latest_kept ws k r e = rw e (steered ws r)

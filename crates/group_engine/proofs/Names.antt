@@ -3,7 +3,7 @@ use Rattle.std.proofs.Common.{◌≡◌, ◌<◌, ◌≤◌, ℕ, zero, suc, len
 use Rattle.std.proofs.lemmas.List.{get_or_read}
 use Rattle.std.specs.Prelude.{Some, None}
 use Rattle.ia_meaning.specs.declared.state.Cell.{Cell}
-use Rattle.ia_meaning.specs.declared.state.AlatKey.TheVariants.{Stacked}
+use Rattle.ia_meaning.specs.declared.state.Spot.TheVariants.{Stacked}
 use Rattle.ia_meaning.specs.State.{zero_cell, Registers}
 use Rattle.ia_meaning.specs.Names.{spot, look, cell_at}
 use Rattle.ia_meaning.proofs.Spots.{spot_static}

@@ -4,13 +4,13 @@ use Rattle.std.specs.Prelude.{Some, None, ◌==◌, nat_le, nat_lt}
 use Rattle.ia_insn.specs.declared.insn.Insn.{Insn}
 use Rattle.ia_meaning.specs.declared.action.Action.{Action}
 use Rattle.ia_meaning.specs.declared.action.Action.TheVariants.{JumpIndirect, Call, Return}
-use Rattle.ia_meaning.specs.declared.action.Goal.TheVariants.{Indirect}
+use Rattle.ia_meaning.specs.declared.action.CallTarget.TheVariants.{Indirect}
 use Rattle.ia_meaning.specs.State.{Registers}
-use Rattle.ia_meaning.specs.Names.{predicate_place}
+use Rattle.ia_meaning.specs.Names.{predicate_index}
 use Rattle.ia_meaning.specs.Actions.{insn_action, is_branch}
 use Rattle.ia_meaning.specs.Views.{sees_static, sees_branch, sees_pfs, seen_in, view}
-use Rattle.group_engine.specs.declared.steering.Steering.{Steering}
-use Rattle.group_engine.specs.Kept.{steering_of}
+use Rattle.group_engine.specs.declared.branch_inputs.BranchInputs.{BranchInputs}
+use Rattle.group_engine.specs.Kept.{branch_inputs_of}
 use Rattle.group_engine.specs.Views.{target_register}
 use Rattle.ia_meaning.proofs.Views.{seen_none, view_plain}
 use Rattle.group_engine.proofs.Seen.{seen_or}
@@ -50,7 +50,7 @@ branch_unseen f base now e = sym (seen_none (sees_branch f) (λ n. sees_no_branc
 pub ruleset target_sights = (static_seen, static_unseen, branch_seen, branch_unseen)
 
 -- what a branch of an action sees of the registers that steer it, where its qualifying predicate stands at this place
-abbrev pub sighted : Action → ℕ → Steering → Steering → Steering
+abbrev pub sighted : Action → ℕ → BranchInputs → BranchInputs → BranchInputs
 sighted f place latest start = record {
   predicates = seen_in (λ n. n == place) 0 (seen_in (sees_static f) 0 start.predicates latest.predicates) latest.predicates;
   branches = seen_in (sees_branch f) 0 start.branches latest.branches;
@@ -62,12 +62,12 @@ guard_seen : (f : Action) (place : ℕ) (base now : List Bool) → is_branch f �
 guard_seen f place base now e = rw e refl
 
 -- It is what the view has of them.
-pub sight_is : (insn : Insn) (now base : Registers) (f : Action) (qp : ℕ) (latest : Steering) → is_branch f ≡ true → insn_action insn ≡ f → insn.qp ≡ qp → steering_of now ≡ latest
-    → sighted f (predicate_place base.frame qp) latest (steering_of base) ≡ steering_of (view insn now base)
+pub sight_is : (insn : Insn) (now base : Registers) (f : Action) (qp : ℕ) (latest : BranchInputs) → is_branch f ≡ true → insn_action insn ≡ f → insn.qp ≡ qp → branch_inputs_of now ≡ latest
+    → sighted f (predicate_index base.frame qp) latest (branch_inputs_of base) ≡ branch_inputs_of (view insn now base)
 sight_is insn now base f qp latest branch action_is qp_is latest_is =
-    let place = predicate_place base.frame insn.qp in
+    let place = predicate_index base.frame insn.qp in
     rw (← action_is, ← qp_is, ← latest_is, guard_seen (insn_action insn) place (seen_in (sees_static (insn_action insn)) 0 base.predicates now.predicates) now.predicates (ap is_branch action_is ∙ branch), seen_or (λ n. is_branch (insn_action insn) && (n == place)) (sees_static (insn_action insn)) 0 base.predicates now.predicates) refl
 
 -- What is no branch sees them as they stood at the group's start.
-pub plain_sight : (insn : Insn) (now base : Registers) → is_branch (insn_action insn) ≡ false → steering_of (view insn now base) ≡ steering_of base
-plain_sight insn now base e = ap steering_of (view_plain insn now base e)
+pub plain_sight : (insn : Insn) (now base : Registers) → is_branch (insn_action insn) ≡ false → branch_inputs_of (view insn now base) ≡ branch_inputs_of base
+plain_sight insn now base e = ap branch_inputs_of (view_plain insn now base e)

@@ -20,8 +20,8 @@ use Rattle.slot_effects.specs.declared.change.Change.TheVariants.{Stored, Exchan
 use Rattle.slot_effects.specs.declared.slot_effect.SlotEffect.{SlotEffect}
 use Rattle.slot_effects.specs.Changes.{writes_of, memory_after, spills_of, outcome_making, MayMake}
 use Rattle.slot_effects.specs.Outcomes.{outcome_of_effect}
-use Rattle.group_engine.specs.declared.steering.Steering.{Steering}
-use Rattle.group_engine.specs.Kept.{steering_of, Kept, keeping}
+use Rattle.group_engine.specs.declared.branch_inputs.BranchInputs.{BranchInputs}
+use Rattle.group_engine.specs.Kept.{branch_inputs_of, Kept, keeping}
 use Rattle.group_engine.specs.Views.{seen_by}
 use Rattle.group_engine.specs.Groups.{with_frame_ahead, IsEffectOf}
 use Rattle.group_engine.proofs.Collecting.{seen_look, look_with_pfs, writes_seen, memory_seen, spills_seen}
@@ -47,41 +47,41 @@ pub taken_in : (g : Gathered) (pfs : ℕ) (c : Change) (place : Place)
 taken_in g pfs c place = rw (memory_pfs g.base pfs c g.memory, spills_pfs g.base pfs c) refl
 
 -- What is kept leaves what all slots so far leave.
-pub latest_on : (ws vs : List Write) (base : Registers) (k : Kept) → k.latest ≡ steering_of (apply ws base) → (keeping vs k).latest ≡ steering_of (apply (ws ++ vs) base)
-latest_on ws vs base k e = latest_kept vs k (apply ws base) e ∙ ap steering_of (sym (apply_append ws vs base))
+pub latest_on : (ws vs : List Write) (base : Registers) (k : Kept) → k.latest ≡ branch_inputs_of (apply ws base) → (keeping vs k).latest ≡ branch_inputs_of (apply (ws ++ vs) base)
+latest_on ws vs base k e = latest_kept vs k (apply ws base) e ∙ ap branch_inputs_of (sym (apply_append ws vs base))
 
 -- The frame of the group's first slot comes before all other writes.
 pub frame_taken : (g : Gathered) (o : Outcome) (place : Place) → g.writes ≡ [] → with_frame_ahead (gathers false g o place) ≡ gathers true g o place
 frame_taken g o place none = rw none refl
 
 -- What a slot does by a view that is that of its instruction.
-pub effect_is : (p : Program) (g : Gathered) (insn : Insn) (e : SlotEffect) (s : Steering) → s ≡ steering_of (view insn (now_of g) g.base)
+pub effect_is : (p : Program) (g : Gathered) (insn : Insn) (e : SlotEffect) (s : BranchInputs) → s ≡ branch_inputs_of (view insn (now_of g) g.base)
     → outcome_of_effect (seen_by g.base s) g.memory e ≡ guarded (site p g.place.bundle) insn.qp (insn_action insn) (seen_by g.base s) g.memory g.unat → MayMake (seen_by g.base s) g.memory e.change → IsEffectOf p g insn e s.pfs
 effect_is p g insn e s is value may =
     let same : seen_by g.base s ≡ view insn (now_of g) g.base = ap (seen_by g.base) is in
     record {
       value = subst (λ r. outcome_of_effect r g.memory e ≡ guarded (site p g.place.bundle) insn.qp (insn_action insn) r g.memory g.unat) same value;
       may = subst (λ r. MayMake r g.memory e.change) same may;
-      seen = ap (λ (s : Steering). s.pfs) is;
+      seen = ap (λ (s : BranchInputs). s.pfs) is;
     }
 
 -- A group takes in the same by what a slot sees and by the registers of its start with the previous function state that it
 -- sees.
-gathers_seen : (first : Bool) (g : Gathered) (s : Steering) (c : Change) (next : Next) (place : Place) → gathers first g (outcome_making (seen_by g.base s) g.memory c next) place ≡ gathers first g (outcome_making (record g.base { pfs = s.pfs }) g.memory c Falls) place
+gathers_seen : (first : Bool) (g : Gathered) (s : BranchInputs) (c : Change) (next : Next) (place : Place) → gathers first g (outcome_making (seen_by g.base s) g.memory c next) place ≡ gathers first g (outcome_making (record g.base { pfs = s.pfs }) g.memory c Falls) place
 gathers_seen true g s c next place = rw (writes_seen g.base s c, memory_seen g.base s c g.memory, spills_seen g.base s c, memory_pfs g.base s.pfs c g.memory, spills_pfs g.base s.pfs c) refl
 gathers_seen false g s c next place = rw (writes_seen g.base s c, memory_seen g.base s c g.memory, spills_seen g.base s c, memory_pfs g.base s.pfs c g.memory, spills_pfs g.base s.pfs c) refl
 
 pub gathers_with : (p : Program) (g : Gathered) (insn : Insn) (e : SlotEffect) (pfs : ℕ) → IsEffectOf p g insn e pfs → (first : Bool) (place : Place)
     → gathers first g (outcome_of_effect (view insn (now_of g) g.base) g.memory e) place ≡ gathers first g (outcome_making (record g.base { pfs = pfs }) g.memory e.change Falls) place
 gathers_with p g insn e pfs h first place =
-    gathers_seen first g (steering_of (view insn (now_of g) g.base)) e.change e.next place
+    gathers_seen first g (branch_inputs_of (view insn (now_of g) g.base)) e.change e.next place
     ∙ ap (λ n. gathers first g (outcome_making (record g.base { pfs = n }) g.memory e.change Falls) place) (sym h.seen)
 
 -- So may be made.
-may_seen : (r : Registers) (s : Steering) (m : Memory) (c : Change) → MayMake (seen_by r s) m c → MayMake (record r { pfs = s.pfs }) m c
+may_seen : (r : Registers) (s : BranchInputs) (m : Memory) (c : Change) → MayMake (seen_by r s) m c → MayMake (record r { pfs = s.pfs }) m c
 may_seen r s m (Stored r3 size spills update cell) h = rw (look_with_pfs r s.pfs r3, ← seen_look r s r3) h
 may_seen r s m (Exchanged r1 r3 size old value) h = rw (look_with_pfs r s.pfs r3, ← seen_look r s r3) h
 may_seen r s m c h = h
 
 pub may_with : (p : Program) (g : Gathered) (insn : Insn) (e : SlotEffect) (pfs : ℕ) → IsEffectOf p g insn e pfs → MayMake (record g.base { pfs = pfs }) g.memory e.change
-may_with p g insn e pfs h = rw h.seen (may_seen g.base (steering_of (view insn (now_of g) g.base)) g.memory e.change h.may)
+may_with p g insn e pfs h = rw h.seen (may_seen g.base (branch_inputs_of (view insn (now_of g) g.base)) g.memory e.change h.may)

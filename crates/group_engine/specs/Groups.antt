@@ -12,7 +12,7 @@ use Rattle.ia_meaning.specs.Views.{view}
 use Rattle.slot_effects.specs.declared.slot_effect.SlotEffect.{SlotEffect}
 use Rattle.slot_effects.specs.Changes.{MayMake}
 use Rattle.slot_effects.specs.Outcomes.{outcome_of_effect}
-use Rattle.group_engine.specs.declared.thread.Thread.{Thread}
+use Rattle.group_engine.specs.declared.in_order.InOrder.{InOrder}
 use Rattle.group_engine.specs.declared.gathering.Gathering.{Gathering}
 
 -- the change of the frame of an `alloc` in first place, where this is one
@@ -21,7 +21,7 @@ changes_of false f = []
 changes_of true f = (f.base, f.base + f.sof) ∷ []
 
 -- the memory, as the meaning has it
-abbrev pub memory_of : Thread → Memory
+abbrev pub memory_of : InOrder → Memory
 memory_of t = record { bytes = t.data; alat = t.alat }
 
 -- the group so far
@@ -30,14 +30,14 @@ gathered_of g = record {
   base = g.registers;
   frames = changes_of g.frame_ahead g.registers.frame;
   writes = g.kept.writes;
-  memory = memory_of g.thread;
-  unat = g.thread.unat;
+  memory = memory_of g.in_order;
+  unat = g.in_order.unat;
   place = g.place;
 }
 
 -- the state between two groups
 abbrev pub state_of : Gathering → State
-state_of g = record { registers = g.registers; memory = memory_of g.thread; place = g.place }
+state_of g = record { registers = g.registers; memory = memory_of g.in_order; place = g.place }
 
 -- with the write of a frame that comes first made before all other writes
 abbrev pub with_frame_ahead : Gathered → Gathered

@@ -5,7 +5,7 @@ ghost use Rattle.ia_meaning.specs.declared.limits.TheConstants.{STACK_LIMIT};
 ghost use Rattle.ia_meaning.specs.declared.write.Write.TheVariants.{SetPredicate, SetBranch, SetPfs, SetLc, SetEc, SetFrame};
 ghost use Rattle.ia_meaning.specs.declared.write.FrameCause.TheVariants.{Resized, Renamed};
 ghost use Rattle.ia_meaning.specs.State.{Memory, IsFrame};
-ghost use Rattle.ia_meaning.specs.Names.{spot, predicate_place, predicate_spot, set_predicate};
+ghost use Rattle.ia_meaning.specs.Names.{spot, predicate_index, predicate_spot, set_predicate};
 ghost use Rattle.ia_meaning.specs.Moves.{is_masked, masked_writes, predicate_writes};
 ghost use Rattle.ia_meaning.specs.Frames.{with_sizes, rotated, cleared, epilog_of, call_state, call_frame, marked_frame, return_fault, returned_frame};
 ghost use Rattle.ia_meaning.specs.Loops.{written, turn_writes};
@@ -112,7 +112,7 @@ impl KeptWrites {
         ensures few { length self.new.writes ≤ length self.old.writes + 1 }
     {
         if !p.is_zero() {
-            self.keep(Write::SetPredicate(registers.predicate_place(p) as u8, value));
+            self.keep(Write::SetPredicate(registers.predicate_index(p) as u8, value));
         }
     }
 
@@ -203,7 +203,7 @@ impl KeptWrites {
     #[tactic(auto, unfolding(ia_meaning::specs::Names::predicate_spot))]
     fn keep_p63(&mut self, registers: &GroupRegisters, p63: Option<bool>)
         requires room { length self.old.writes < WRITE_LIMIT }
-        ensures value { self.new ≡ keeping (written (SetPredicate (predicate_place registers.now.frame 63)) p63 []) self.old }
+        ensures value { self.new ≡ keeping (written (SetPredicate (predicate_index registers.now.frame 63)) p63 []) self.old }
         ensures few { length self.new.writes ≤ length self.old.writes + 1 }
     {
         if let Some(value) = p63 {
@@ -265,7 +265,7 @@ impl KeptWrites {
         ensures few { length self.new.writes ≤ length self.old.writes + SLOT_WRITE_LIMIT }
     {
         match *change {
-            Change::Nothing | Change::Forgotten { .. } | Change::AllForgotten => {}
+            Change::Nothing | Change::Invalidated { .. } | Change::AllInvalidated => {}
             Change::General { r1, cell } => self.keep_general(&registers.frame, r1, cell),
             Change::Predicates {
                 p1,

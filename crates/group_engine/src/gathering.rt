@@ -17,13 +17,13 @@ ghost use Rattle.ia_meaning.specs.ResidentRange.{range_of};
 ghost use Rattle.ia_meaning.specs.ParallelGroups.{gathered_from, now_of, gathers};
 ghost use Rattle.ia_meaning.specs.NumberedRuns.{order};
 ghost use Rattle.group_engine.specs.declared.limits.TheConstants.{SLOT_WRITE_LIMIT, WRITE_LIMIT};
-ghost use Rattle.group_engine.specs.Kept.{steering_of};
+ghost use Rattle.group_engine.specs.Kept.{branch_inputs_of};
 ghost use Rattle.group_engine.specs.Groups.{changes_of, memory_of, gathered_of, state_of, with_frame_ahead, rest_of, IsEffectOf, HasGathered, HasRestOf};
 
+use crate::in_order::InOrder;
 use crate::kept::KeptWrites;
 use crate::making::{make, range_ahead};
 use crate::registers::GroupRegisters;
-use crate::thread::Thread;
 use crate::view::{View, is_branch, sight};
 use ia_meaning::{Action, FrameCause, FrameShape, Next, Rse, Write, groups_end};
 use ia_program::limits::RUN_LIMIT;
@@ -42,7 +42,7 @@ pub(crate) struct Gathering {
     /// All other writes.
     pub kept: KeptWrites,
     /// What goes from slot to slot.
-    pub thread: Thread,
+    pub in_order: InOrder,
     /// The next place.
     pub place: Place,
 }
@@ -67,13 +67,13 @@ impl Gathering {
         ensures { IfOk result (λ g. state_of g ≡ record { registers = zero_registers; memory = record { bytes = bytes.now; alat = [] }; place = first_of 0 }) }
     {
         let registers = GroupRegisters::open(alloc)?;
-        let kept = KeptWrites::open(alloc, registers.steering())?;
-        let thread = Thread::open(alloc, bytes)?;
+        let kept = KeptWrites::open(alloc, registers.branch_inputs())?;
+        let in_order = InOrder::open(alloc, bytes)?;
         Ok(Gathering {
             registers,
             frame_ahead: false,
             kept,
-            thread,
+            in_order,
             place: Place::FIRST,
         })
     }
@@ -82,11 +82,11 @@ impl Gathering {
     fn begin(&mut self)
         ensures value { gathered_of self.new ≡ gathered_from (state_of self.old) }
         ensures ahead { self.new.frame_ahead ≡ false }
-        ensures latest { self.new.kept.latest ≡ steering_of (now_of (gathered_of self.new)) }
+        ensures latest { self.new.kept.latest ≡ branch_inputs_of (now_of (gathered_of self.new)) }
     {
         self.frame_ahead = false;
-        self.kept.begin(self.registers.steering());
-        self.thread.unat = self.registers.unat;
+        self.kept.begin(self.registers.branch_inputs());
+        self.in_order.unat = self.registers.unat;
     }
 
     /// The slot at the place of a group.
@@ -108,32 +108,32 @@ impl Gathering {
     fn effect_of(&self, table: &SlotTable, slot: &Slot) -> (SlotEffect, u64)
         requires program { IsProgram table.now }
         requires place { IsPlaceOf table.now.bundles self.now.place }
-        requires latest { self.now.kept.latest ≡ steering_of (now_of (gathered_of self.now)) }
+        requires latest { self.now.kept.latest ≡ branch_inputs_of (now_of (gathered_of self.now)) }
         requires slot { slot_at table.now.bundles self.now.place ≡ Some slot.now }
         ensures { (insn : Insn) → insn_at table.now.bundles self.now.place ≡ Some insn → IsEffectOf table.now (gathered_of self.now) insn result.0 result.1 }
     {
-        let (registers, thread, bundle) = (&self.registers, &self.thread, self.place.bundle);
+        let (registers, in_order, bundle) = (&self.registers, &self.in_order, self.place.bundle);
         if is_branch(&slot.action) {
             let sight = sight(registers, self.kept.latest(), slot.qp, &slot.action);
             let view = View {
                 registers,
-                steering: &sight,
-                thread,
+                branch_inputs: &sight,
+                in_order,
             };
             (
                 effect(&view, table.program(), bundle, slot.qp, &slot.action),
                 sight.pfs,
             )
         } else {
-            let steering = registers.steering();
+            let branch_inputs = registers.branch_inputs();
             let view = View {
                 registers,
-                steering,
-                thread,
+                branch_inputs,
+                in_order,
             };
             (
                 effect(&view, table.program(), bundle, slot.qp, &slot.action),
-                steering.pfs,
+                branch_inputs.pfs,
             )
         }
     }
@@ -142,9 +142,9 @@ impl Gathering {
     #[tactic(auto, using(crate::proofs::TakingIn::frame_apart))]
     fn take_frame(&mut self)
         requires first { self.old.frame_ahead ≡ false }
-        requires latest { self.old.kept.latest ≡ steering_of (now_of (gathered_of self.old)) }
+        requires latest { self.old.kept.latest ≡ branch_inputs_of (now_of (gathered_of self.old)) }
         ensures value { gathered_of self.new ≡ with_frame_ahead (gathered_of self.old) }
-        ensures latest { self.new.kept.latest ≡ steering_of (now_of (gathered_of self.new)) }
+        ensures latest { self.new.kept.latest ≡ branch_inputs_of (now_of (gathered_of self.new)) }
         ensures place { self.new.place ≡ self.old.place }
         ensures few { length self.new.kept.writes ≤ length self.old.kept.writes }
     {
@@ -158,17 +158,17 @@ impl Gathering {
     #[inline(always)]
     #[tactic(auto, using(crate::proofs::TakingIn::taken_in, crate::proofs::TakingIn::latest_on))]
     fn take_in(&mut self, change: &Change, pfs: u64, place: Place)
-        requires may { MayMake (record self.old.registers { pfs = pfs }) (memory_of self.old.thread) change.now }
-        requires latest { self.old.kept.latest ≡ steering_of (now_of (gathered_of self.old)) }
+        requires may { MayMake (record self.old.registers { pfs = pfs }) (memory_of self.old.in_order) change.now }
+        requires latest { self.old.kept.latest ≡ branch_inputs_of (now_of (gathered_of self.old)) }
         requires room { length self.old.kept.writes + SLOT_WRITE_LIMIT ≤ WRITE_LIMIT }
-        ensures value { gathered_of self.new ≡ gathers false (gathered_of self.old) (outcome_making (record self.old.registers { pfs = pfs }) (memory_of self.old.thread) change.now Falls) place }
-        ensures latest { self.new.kept.latest ≡ steering_of (now_of (gathered_of self.new)) }
+        ensures value { gathered_of self.new ≡ gathers false (gathered_of self.old) (outcome_making (record self.old.registers { pfs = pfs }) (memory_of self.old.in_order) change.now Falls) place }
+        ensures latest { self.new.kept.latest ≡ branch_inputs_of (now_of (gathered_of self.new)) }
         ensures ahead { self.new.frame_ahead ≡ self.old.frame_ahead }
         ensures place { self.new.place ≡ place }
         ensures few { length self.new.kept.writes ≤ length self.old.kept.writes + SLOT_WRITE_LIMIT }
     {
         self.kept.collect(&self.registers, pfs, change);
-        self.thread.make(&self.registers, change);
+        self.in_order.make(&self.registers, change);
         self.place = place;
     }
 
@@ -176,12 +176,12 @@ impl Gathering {
     #[inline(always)]
     #[tactic(auto, using(crate::proofs::TakingIn::frame_taken))]
     fn take_in_first(&mut self, change: &Change, pfs: u64, first: bool, place: Place)
-        requires may { MayMake (record self.old.registers { pfs = pfs }) (memory_of self.old.thread) change.now }
+        requires may { MayMake (record self.old.registers { pfs = pfs }) (memory_of self.old.in_order) change.now }
         requires first { first ≡ true → (self.old.kept.writes ≡ []) × (self.old.frame_ahead ≡ false) }
-        requires latest { self.old.kept.latest ≡ steering_of (now_of (gathered_of self.old)) }
+        requires latest { self.old.kept.latest ≡ branch_inputs_of (now_of (gathered_of self.old)) }
         requires room { length self.old.kept.writes + SLOT_WRITE_LIMIT ≤ WRITE_LIMIT }
-        ensures value { gathered_of self.new ≡ gathers first (gathered_of self.old) (outcome_making (record self.old.registers { pfs = pfs }) (memory_of self.old.thread) change.now Falls) place }
-        ensures latest { self.new.kept.latest ≡ steering_of (now_of (gathered_of self.new)) }
+        ensures value { gathered_of self.new ≡ gathers first (gathered_of self.old) (outcome_making (record self.old.registers { pfs = pfs }) (memory_of self.old.in_order) change.now Falls) place }
+        ensures latest { self.new.kept.latest ≡ branch_inputs_of (now_of (gathered_of self.new)) }
         ensures place { self.new.place ≡ place }
         ensures few { length self.new.kept.writes ≤ length self.old.kept.writes + SLOT_WRITE_LIMIT }
     {
@@ -197,12 +197,12 @@ impl Gathering {
     fn gather_slot(&mut self, table: &SlotTable, begins: bool) -> Option<Option<End>>
         requires program { IsProgram table.now }
         requires place { IsPlaceOf table.now.bundles self.old.place }
-        requires latest { self.old.kept.latest ≡ steering_of (now_of (gathered_of self.old)) }
+        requires latest { self.old.kept.latest ≡ branch_inputs_of (now_of (gathered_of self.old)) }
         requires begins { begins ≡ true → (self.old.kept.writes ≡ []) × (self.old.frame_ahead ≡ false) }
         requires room { length self.old.kept.writes + SLOT_WRITE_LIMIT ≤ WRITE_LIMIT }
         ensures value { MatchOption result ((most : ℕ) → HasRestOf (rest_of (suc most) table.now begins (gathered_of self.old)) (rest_of most table.now false (gathered_of self.new))) (λ end. (most : ℕ) → HasGathered (rest_of (suc most) table.now begins (gathered_of self.old)) (gathered_of self.new) end) }
         ensures place { IsPlaceOf table.now.bundles self.new.place }
-        ensures latest { IfNone result (self.new.kept.latest ≡ steering_of (now_of (gathered_of self.new))) }
+        ensures latest { IfNone result (self.new.kept.latest ≡ branch_inputs_of (now_of (gathered_of self.new))) }
         ensures few { length self.new.kept.writes ≤ length self.old.kept.writes + SLOT_WRITE_LIMIT }
     {
         let slot = self.slot(table);
@@ -249,12 +249,12 @@ impl Gathering {
     /// Makes the writes of a group, whose slots are all gathered, in the order with this number: UNAT is set
     /// first. Gives the resident range after them.
     pub fn finish(&mut self, number: u64, range: Rse) -> Rse
-        ensures registers { self.new.registers ≡ apply (arranged (order number (length self.old.kept.writes)) self.old.kept.writes) (record self.old.registers { unat = self.old.thread.unat }) }
+        ensures registers { self.new.registers ≡ apply (arranged (order number (length self.old.kept.writes)) self.old.kept.writes) (record self.old.registers { unat = self.old.in_order.unat }) }
         ensures range { result ≡ range_of range (changes_of self.old.frame_ahead self.old.registers.frame ++ frame_changes (arranged (order number (length self.old.kept.writes)) self.old.kept.writes)) }
-        ensures thread { self.new.thread ≡ self.old.thread }
+        ensures in_order { self.new.in_order ≡ self.old.in_order }
         ensures place { self.new.place ≡ self.old.place }
     {
-        self.registers.unat = self.thread.unat;
+        self.registers.unat = self.in_order.unat;
         self.kept.arrange(number);
         let range = range_ahead(range, self.frame_ahead, &self.registers.frame);
         make(&mut self.registers, self.kept.writes(), range)

@@ -9,8 +9,8 @@ ghost use Rattle.ia_meaning.specs.ParallelGroups.{frame_ahead, after_frame};
 ghost use Rattle.group_engine.specs.Kept.{IsMakeable, frame_writes, keeping};
 
 use crate::arrange::arrange;
+use crate::branch_inputs::BranchInputs;
 use crate::limits::WRITE_LIMIT;
-use crate::steering::Steering;
 use ia_meaning::{FrameCause, FrameShape, Write};
 use std::alloc::{AllocError, Global};
 use std::marker::Model;
@@ -21,7 +21,7 @@ pub(crate) struct KeptWrites {
     /// The writes.
     writes: Vec<Write>,
     /// What they leave.
-    latest: Steering,
+    latest: BranchInputs,
 }
 
 impl Model for KeptWrites {
@@ -42,21 +42,21 @@ impl KeptWrites {
     /// # Errors
     ///
     /// Want of memory.
-    pub fn open(alloc: Global, steering: &Steering) -> Result<KeptWrites, AllocError>
-        ensures { IfOk result (λ kept. kept ≡ record { writes = []; latest = steering.now }) }
+    pub fn open(alloc: Global, branch_inputs: &BranchInputs) -> Result<KeptWrites, AllocError>
+        ensures { IfOk result (λ kept. kept ≡ record { writes = []; latest = branch_inputs.now }) }
     {
         Ok(KeptWrites {
             writes: Vec::with_capacity(alloc, WRITE_LIMIT)?,
-            latest: *steering,
+            latest: *branch_inputs,
         })
     }
 
     /// Begins a group: there are none so far, from these registers.
-    pub fn begin(&mut self, steering: &Steering)
-        ensures { self.new ≡ record { writes = []; latest = steering.now } }
+    pub fn begin(&mut self, branch_inputs: &BranchInputs)
+        ensures { self.new ≡ record { writes = []; latest = branch_inputs.now } }
     {
         self.writes.clear();
-        self.latest = *steering;
+        self.latest = *branch_inputs;
     }
 
     /// Keeps one write more.
@@ -93,7 +93,7 @@ impl KeptWrites {
 
     /// What the writes leave of the registers that steer branches.
     #[inline(always)]
-    pub fn latest(&self) -> &Steering
+    pub fn latest(&self) -> &BranchInputs
         ensures { result.now ≡ self.now.latest }
     {
         &self.latest

@@ -11,17 +11,17 @@
 #![tactic(auto)]
 
 mod arrange;
+mod branch_inputs;
 mod cells;
 mod collect;
 mod gathering;
+mod in_order;
 mod kept;
 mod limits;
 mod machine;
 mod making;
 mod registers;
-mod steering;
 mod text;
-mod thread;
 mod view;
 
 pub use machine::GroupMachine;

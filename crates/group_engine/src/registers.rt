@@ -2,17 +2,17 @@
 
 ghost use Rattle.std.specs.Prelude.{◌≡◌, ◌<◌, IfOk};
 ghost use Rattle.ia_meaning.specs.State.{zero_registers};
-ghost use Rattle.ia_meaning.specs.Names.{spot, look, predicate_place};
+ghost use Rattle.ia_meaning.specs.Names.{spot, look, predicate_index};
 ghost use Rattle.ia_meaning.specs.Writes.{put};
 ghost use Rattle.slot_effects.specs.Changes.{held};
-ghost use Rattle.group_engine.specs.Kept.{IsMakeable, steering_of};
+ghost use Rattle.group_engine.specs.Kept.{IsMakeable, branch_inputs_of};
 
+use crate::branch_inputs::BranchInputs;
 use crate::cells::resize;
-use crate::steering::Steering;
 use frame_shapes::{cell_of, zero_frame};
 use ia_insn::{Gr, Pr};
 use ia_meaning::limits::STACK_LIMIT;
-use ia_meaning::{AlatKey, Cell, FrameShape, Write};
+use ia_meaning::{Cell, FrameShape, Spot, Write};
 use std::alloc::{AllocError, Global};
 use std::marker::Model;
 
@@ -32,7 +32,7 @@ pub(crate) struct GroupRegisters {
     /// The frame.
     pub frame: FrameShape,
     /// The predicates, the branch registers and the previous function state.
-    steering: Steering,
+    branch_inputs: BranchInputs,
     /// The NaT bits of spills.
     pub unat: u64,
     /// The loop count.
@@ -69,7 +69,7 @@ impl GroupRegisters {
             statics: [ZERO_CELL; 32],
             cells,
             frame: zero_frame(),
-            steering: Steering {
+            branch_inputs: BranchInputs {
                 predicates,
                 branches: [0; 8],
                 pfs: 0,
@@ -82,23 +82,23 @@ impl GroupRegisters {
 
     /// The registers that steer branches.
     #[inline(always)]
-    pub fn steering(&self) -> &Steering
-        ensures { result.now ≡ steering_of self.now }
+    pub fn branch_inputs(&self) -> &BranchInputs
+        ensures { result.now ≡ branch_inputs_of self.now }
     {
-        &self.steering
+        &self.branch_inputs
     }
 
     /// The place of a general register; None outside the frame.
     #[inline(always)]
     #[tactic(auto, using(ia_meaning::proofs::Spots::spot_static))]
-    pub fn spot(&self, r: Gr) -> Option<AlatKey>
+    pub fn spot(&self, r: Gr) -> Option<Spot>
         ensures { result ≡ spot self.now.frame r }
     {
         let n = r.number();
         if n < 32 {
-            return Some(AlatKey::Static(n));
+            return Some(Spot::Static(n));
         }
-        cell_of(&self.frame, r).map(AlatKey::Stacked)
+        cell_of(&self.frame, r).map(Spot::Stacked)
     }
 
     /// What a general register holds; None outside the frame.
@@ -124,11 +124,11 @@ impl GroupRegisters {
 
     /// The place of a predicate.
     #[inline(always)]
-    pub fn predicate_place(&self, p: Pr) -> usize
-        ensures value { result ≡ predicate_place self.now.frame p }
+    pub fn predicate_index(&self, p: Pr) -> usize
+        ensures value { result ≡ predicate_index self.now.frame p }
         ensures within { result < 64 }
     {
-        usize::from(rotation::pr_place(p.number(), self.frame.rrbs.pr))
+        usize::from(rotation::predicate_index_of(p.number(), self.frame.rrbs.pr))
     }
 
     /// Makes a write.
@@ -144,10 +144,10 @@ impl GroupRegisters {
                     self.cells[n as usize] = cell;
                 }
             }
-            Write::SetPredicate(n, bit) => self.steering.predicates[n as usize] = bit,
-            Write::SetBranch(n, word) => self.steering.branches[n as usize] = word,
+            Write::SetPredicate(n, bit) => self.branch_inputs.predicates[n as usize] = bit,
+            Write::SetBranch(n, word) => self.branch_inputs.branches[n as usize] = word,
             Write::SetUnat(word) => self.unat = word,
-            Write::SetPfs(word) => self.steering.pfs = word,
+            Write::SetPfs(word) => self.branch_inputs.pfs = word,
             Write::SetLc(word) => self.lc = word,
             Write::SetEc(word) => self.ec = word,
             Write::SetFrame(_, frame) => {

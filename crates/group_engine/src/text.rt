@@ -24,7 +24,7 @@ pub fn group_text(
     ensures { IfOk result (λ text. text.items ≡ state_text end.now machine.now.groups machine.now.range machine.now.state) }
 {
     let state = machine.gathering();
-    let view = View::between_groups(&state.registers, &state.thread);
+    let view = View::between_groups(&state.registers, &state.in_order);
     state_lines::state_text(
         alloc,
         end,

@@ -6,17 +6,17 @@ ghost use Rattle.ia_meaning.specs.State.{Registers};
 ghost use Rattle.ia_meaning.specs.Actions.{insn_action, is_branch};
 ghost use Rattle.ia_meaning.specs.Views.{sees_static, sees_branch, sees_pfs, seen_in, view};
 ghost use Rattle.group_engine.specs.Groups.{memory_of};
-ghost use Rattle.group_engine.specs.Kept.{steering_of};
+ghost use Rattle.group_engine.specs.Kept.{branch_inputs_of};
 ghost use Rattle.group_engine.specs.Views.{seen_by, target_register};
 
+use crate::branch_inputs::BranchInputs;
+use crate::in_order::InOrder;
 use crate::registers::GroupRegisters;
-use crate::steering::Steering;
-use crate::thread::Thread;
 use ia_insn::{Ar, Br, Gr, Pr};
-use ia_meaning::{Action, AlatKey, Cell, Goal};
+use ia_meaning::{Action, CallTarget, Cell, Spot};
 use ia_program::FaultKind;
 use nat_alat::{Alat, DataMem};
-use slot_effects::{Sees, predicate_word};
+use slot_effects::{StateView, predicate_word};
 
 /// The registers of the group's start, but for those that steer branches, which are as the slot may see them,
 /// and what goes from slot to slot.
@@ -25,35 +25,35 @@ pub(crate) struct View<'a> {
     /// The registers of the group's start.
     pub registers: &'a GroupRegisters,
     /// Those that steer branches, as the slot sees them.
-    pub steering: &'a Steering,
+    pub branch_inputs: &'a BranchInputs,
     /// What goes from slot to slot.
-    pub thread: &'a Thread,
+    pub in_order: &'a InOrder,
 }
 
 impl<'a> View<'a> {
     /// What is seen between two groups.
-    pub fn between_groups(registers: &'a GroupRegisters, thread: &'a Thread) -> View<'a>
-        ensures registers { seen_by result.registers.now result.steering.now ≡ registers.now }
+    pub fn between_groups(registers: &'a GroupRegisters, in_order: &'a InOrder) -> View<'a>
+        ensures registers { seen_by result.registers.now result.branch_inputs.now ≡ registers.now }
         ensures frame { result.registers.now ≡ registers.now }
-        ensures thread { result.thread.now ≡ thread.now }
+        ensures in_order { result.in_order.now ≡ in_order.now }
     {
         View {
             registers,
-            steering: registers.steering(),
-            thread,
+            branch_inputs: registers.branch_inputs(),
+            in_order,
         }
     }
 }
 
-impl<'a> Sees for View<'a> {
-    ghost registers = { λ v. seen_by v.registers.now v.steering.now };
+impl<'a> StateView for View<'a> {
+    ghost registers = { λ v. seen_by v.registers.now v.branch_inputs.now };
 
-    ghost memory = { λ v. memory_of v.thread.now };
+    ghost memory = { λ v. memory_of v.in_order.now };
 
-    ghost unat = { λ v. v.thread.now.unat };
+    ghost unat = { λ v. v.in_order.now.unat };
 
     #[inline(always)]
-    fn spot(&self, r: Gr) -> Option<AlatKey> {
+    fn spot(&self, r: Gr) -> Option<Spot> {
         self.registers.spot(r)
     }
 
@@ -66,23 +66,23 @@ impl<'a> Sees for View<'a> {
     #[inline(always)]
     #[tactic(auto, using(crate::proofs::Views::holds_zero_seen, crate::proofs::Views::holds_seen))]
     fn holds(&self, p: Pr) -> bool {
-        p.is_zero() || self.steering.predicates[self.registers.predicate_place(p)]
+        p.is_zero() || self.branch_inputs.predicates[self.registers.predicate_index(p)]
     }
 
     #[inline(always)]
     fn predicate_word(&self) -> u64 {
-        predicate_word(&self.steering.predicates)
+        predicate_word(&self.branch_inputs.predicates)
     }
 
     #[inline(always)]
     fn static_predicates(&self) -> &[bool] {
-        &self.steering.predicates[..16]
+        &self.branch_inputs.predicates[..16]
     }
 
     #[inline(always)]
     fn branch(&self, b: Br) -> u64 {
         b.has_three_bits();
-        self.steering.branches[b.number() as usize]
+        self.branch_inputs.branches[b.number() as usize]
     }
 
     #[inline(always)]
@@ -90,7 +90,7 @@ impl<'a> Sees for View<'a> {
         let registers = self.registers;
         match ar {
             Ar::Unat => registers.unat,
-            Ar::Pfs => self.steering.pfs,
+            Ar::Pfs => self.branch_inputs.pfs,
             Ar::Lc => registers.lc,
             Ar::Ec => registers.ec,
         }
@@ -98,7 +98,7 @@ impl<'a> Sees for View<'a> {
 
     #[inline(always)]
     fn fill_unat(&self) -> u64 {
-        self.thread.unat
+        self.in_order.unat
     }
 
     fn alloc_fault(&self, sof: u8, sol: u8, sor: u8) -> Option<FaultKind> {
@@ -108,17 +108,17 @@ impl<'a> Sees for View<'a> {
 
     fn return_fault(&self) -> Option<FaultKind> {
         let registers = self.registers;
-        frame_shapes::return_fault(registers.frame.base, self.steering.pfs)
+        frame_shapes::return_fault(registers.frame.base, self.branch_inputs.pfs)
     }
 
     #[inline(always)]
     fn data(&self) -> &DataMem {
-        &self.thread.data
+        &self.in_order.data
     }
 
     #[inline(always)]
     fn alat(&self) -> &Alat {
-        &self.thread.alat
+        &self.in_order.alat
     }
 }
 
@@ -144,7 +144,7 @@ fn target(action: &Action) -> Option<Br>
     match *action {
         Action::JumpIndirect { b2 }
         | Action::Call {
-            goal: Goal::Indirect(b2),
+            callee: CallTarget::Indirect(b2),
             ..
         }
         | Action::Return { b2 } => Some(b2),
@@ -171,7 +171,7 @@ fn see_static(seen: &mut [bool; 64], latest: &[bool; 64])
 /// Has p1 to p15, and the branch register that holds the target, of an indirect branch seen as `latest` has
 /// them.
 #[tactic(auto, using(crate::proofs::Sights::target_sights))]
-fn see_target(seen: &mut Steering, latest: &Steering, action: &Action)
+fn see_target(seen: &mut BranchInputs, latest: &BranchInputs, action: &Action)
     ensures { seen.new ≡ record seen.old { predicates = seen_in (sees_static action.now) 0 seen.old.predicates latest.now.predicates; branches = seen_in (sees_branch action.now) 0 seen.old.branches latest.now.branches } }
 {
     if let Some(b) = target(action) {
@@ -182,7 +182,7 @@ fn see_target(seen: &mut Steering, latest: &Steering, action: &Action)
 }
 
 /// Has the previous function state of a return seen as `latest` has it.
-fn see_pfs(seen: &mut Steering, latest: &Steering, action: &Action)
+fn see_pfs(seen: &mut BranchInputs, latest: &BranchInputs, action: &Action)
     ensures { seen.new ≡ record seen.old { pfs = if sees_pfs action.now then latest.now.pfs else seen.old.pfs } }
 {
     if let Action::Return { .. } = action {
@@ -196,16 +196,16 @@ fn see_pfs(seen: &mut Steering, latest: &Steering, action: &Action)
 /// as at the start.
 pub(crate) fn sight(
     registers: &GroupRegisters,
-    latest: &Steering,
+    latest: &BranchInputs,
     qp: Pr,
     action: &Action,
-) -> Steering
+) -> BranchInputs
     requires { is_branch action.now ≡ true }
-    ensures { (insn : Insn) (now : Registers) → insn_action insn ≡ action.now → insn.qp ≡ qp → steering_of now ≡ latest.now → result ≡ steering_of (view insn now registers.now) }
+    ensures { (insn : Insn) (now : Registers) → insn_action insn ≡ action.now → insn.qp ≡ qp → branch_inputs_of now ≡ latest.now → result ≡ branch_inputs_of (view insn now registers.now) }
 {
-    let mut seen = *registers.steering();
+    let mut seen = *registers.branch_inputs();
     see_target(&mut seen, latest, action);
-    let place = registers.predicate_place(qp);
+    let place = registers.predicate_index(qp);
     see(&mut seen.predicates, &latest.predicates, place);
     see_pfs(&mut seen, latest, action);
     seen

@@ -19,7 +19,7 @@ use Rattle.watch_seam.specs.Watching.{staying}
 use Rattle.ia_program.specs.Programs.{Program}
 use Rattle.image_form.specs.Images.{Spells, BeginsAsImage}
 use Rattle.image_form.specs.Laws.{ImageSize}
-use Rattle.group_checker.specs.Violations.{IsFree}
+use Rattle.group_checker.specs.Violations.{HasNoViolation}
 use Rattle.ia64_top.specs.Runs.{Printing, run_of, end_status, watch_text}
 use Rattle.ia64_top.specs.Readings.{as_either}
 use Rattle.ia64_top.specs.Output.{is_too_long, IsSilent, IsRunAs, IsCommandOutput, IsOutput, GivesOutput, GivesPart}
@@ -89,26 +89,26 @@ of_whole P l input whole h within p g = h p (subst (λ i. as_either.Gives i p) (
 
 -- What is accepted.
 abbrev AcceptsFree : List (List ℕ) → Status → List ℕ → Type 0
-AcceptsFree words status input = command_of words ≡ Some Check → OfProgram (λ p. (status ≡ Done) ↔ IsFree p) input
+AcceptsFree words status input = command_of words ≡ Some Check → OfProgram (λ p. (status ≡ Done) ↔ HasNoViolation p) input
 
 pub accepted_beyond : ImageSize → (words : List (List ℕ)) (left : Option (List ℕ)) → IfSome left (λ l. INPUT_LIMIT < length l) → IfSome left (AcceptsFree words TooLong)
 accepted_beyond size words None h = tt
-accepted_beyond size words (Some input) h = λ e. none_beyond size (λ p. (TooLong ≡ Done) ↔ IsFree p) input h
+accepted_beyond size words (Some input) h = λ e. none_beyond size (λ p. (TooLong ≡ Done) ↔ HasNoViolation p) input h
 
 pub accepted_within : (words : List (List ℕ)) (command : Command) (left : Option (List ℕ)) (input : List ℕ) (status : Status) → command_of words ≡ Some command → IfSome left (IsReadOf command input)
-    → (command ≡ Check → (p : Program) → as_either.Gives input p → ((status ≡ Done) ↔ IsFree p)) → IfSome left (AcceptsFree words status)
+    → (command ≡ Check → (p : Program) → as_either.Gives input p → ((status ≡ Done) ↔ HasNoViolation p)) → IfSome left (AcceptsFree words status)
 accepted_within words command None input status e whole h = tt
 accepted_within words command (Some l) input status e whole h =
-    λ f. let is = same_command words command Check e f in of_whole (λ p. (status ≡ Done) ↔ IsFree p) l input (subst (λ k. IsReadOf k input l) is whole) (h is)
+    λ f. let is = same_command words command Check e f in of_whole (λ p. (status ≡ Done) ↔ HasNoViolation p) l input (subst (λ k. IsReadOf k input l) is whole) (h is)
 
 -- What has violations.
 abbrev JudgesProgram : List (List ℕ) → Status → List ℕ → Type 0
 JudgesProgram words status input =
-    (command : Command) → command_of words ≡ Some command → Judges command → OfProgram (λ p. (status ≡ Violated) ↔ (¬ IsFree p)) input
+    (command : Command) → command_of words ≡ Some command → Judges command → OfProgram (λ p. (status ≡ Violated) ↔ (¬ HasNoViolation p)) input
 
 pub judged_beyond : ImageSize → (words : List (List ℕ)) (left : Option (List ℕ)) → IfSome left (λ l. INPUT_LIMIT < length l) → IfSome left (JudgesProgram words TooLong)
 judged_beyond size words None h = tt
-judged_beyond size words (Some input) h = λ command e judges. none_beyond size (λ p. (TooLong ≡ Violated) ↔ (¬ IsFree p)) input h
+judged_beyond size words (Some input) h = λ command e judges. none_beyond size (λ p. (TooLong ≡ Violated) ↔ (¬ HasNoViolation p)) input h
 
 -- what is judged is read whole
 judged_whole : (command : Command) (input l : List ℕ) → Judges command → IsReadOf command input l → input ≡ l
@@ -119,21 +119,21 @@ judged_whole (Trace first count) input l judges is = is
 judged_whole command input l judges is = absurd judges
 
 pub judged_within : (words : List (List ℕ)) (command : Command) (left : Option (List ℕ)) (input : List ℕ) (status : Status) → command_of words ≡ Some command → IfSome left (IsReadOf command input)
-    → (Judges command → (p : Program) → as_either.Gives input p → ((status ≡ Violated) ↔ (¬ IsFree p))) → IfSome left (JudgesProgram words status)
+    → (Judges command → (p : Program) → as_either.Gives input p → ((status ≡ Violated) ↔ (¬ HasNoViolation p))) → IfSome left (JudgesProgram words status)
 judged_within words command None input status e whole h = tt
 judged_within words command (Some l) input status e whole h =
     λ other f judges.
     let mine : Judges command = subst Judges (same_command words other command f e) judges in
-    of_whole (λ p. (status ≡ Violated) ↔ (¬ IsFree p)) l input (judged_whole command input l mine whole) (h mine)
+    of_whole (λ p. (status ≡ Violated) ↔ (¬ HasNoViolation p)) l input (judged_whole command input l mine whole) (h mine)
 
 -- What is run: the end of the run tells the status.
 abbrev TellsEnd : List (List ℕ) → Status → List ℕ → Type 0
 TellsEnd words status input =
-    (command : Command) (groups : ℕ) → command_of words ≡ Some command → groups_of command ≡ Some groups → OfProgram (λ p. IsFree p → status ≡ end_status (run_of p groups).end) input
+    (command : Command) (groups : ℕ) → command_of words ≡ Some command → groups_of command ≡ Some groups → OfProgram (λ p. HasNoViolation p → status ≡ end_status (run_of p groups).end) input
 
 pub ended_beyond : ImageSize → (words : List (List ℕ)) (left : Option (List ℕ)) → IfSome left (λ l. INPUT_LIMIT < length l) → IfSome left (TellsEnd words TooLong)
 ended_beyond size words None h = tt
-ended_beyond size words (Some input) h = λ command groups e runs. none_beyond size (λ p. IsFree p → TooLong ≡ end_status (run_of p groups).end) input h
+ended_beyond size words (Some input) h = λ command groups e runs. none_beyond size (λ p. HasNoViolation p → TooLong ≡ end_status (run_of p groups).end) input h
 
 -- what is run is read whole
 pub run_whole : (command : Command) (groups : ℕ) (input l : List ℕ) → groups_of command ≡ Some groups → IsReadOf command input l → input ≡ l
@@ -143,21 +143,21 @@ run_whole (Trace first count) groups input l runs read = read
 run_whole command groups input l runs read = cc
 
 pub ended_within : (words : List (List ℕ)) (command : Command) (left : Option (List ℕ)) (input : List ℕ) (status : Status) → command_of words ≡ Some command → IfSome left (IsReadOf command input)
-    → ((groups : ℕ) → groups_of command ≡ Some groups → (p : Program) → as_either.Gives input p → IsFree p → status ≡ end_status (run_of p groups).end) → IfSome left (TellsEnd words status)
+    → ((groups : ℕ) → groups_of command ≡ Some groups → (p : Program) → as_either.Gives input p → HasNoViolation p → status ≡ end_status (run_of p groups).end) → IfSome left (TellsEnd words status)
 ended_within words command None input status e whole h = tt
 ended_within words command (Some l) input status e whole h =
     λ other groups f runs.
     let mine : groups_of command ≡ Some groups = subst (λ k. groups_of k ≡ Some groups) (same_command words other command f e) runs in
-    of_whole (λ p. IsFree p → status ≡ end_status (run_of p groups).end) l input (run_whole command groups input l mine whole) (h groups mine)
+    of_whole (λ p. HasNoViolation p → status ≡ end_status (run_of p groups).end) l input (run_whole command groups input l mine whole) (h groups mine)
 
 -- What the watchers of `watch` have seen.
 abbrev WatchesProgram : List (List ℕ) → (old now : List WatchState) → List ℕ → Type 0
 WatchesProgram words old now input =
-    (groups : ℕ) → command_of words ≡ Some (Watch groups) → OfProgram (λ p. IsFree p → now ≡ staying (run_of p groups).events old) input
+    (groups : ℕ) → command_of words ≡ Some (Watch groups) → OfProgram (λ p. HasNoViolation p → now ≡ staying (run_of p groups).events old) input
 
 pub watched_beyond : ImageSize → (words : List (List ℕ)) (left : Option (List ℕ)) (old now : List WatchState) → IfSome left (λ l. INPUT_LIMIT < length l) → IfSome left (WatchesProgram words old now)
 watched_beyond size words None old now h = tt
-watched_beyond size words (Some input) old now h = λ groups e. none_beyond size (λ p. IsFree p → now ≡ staying (run_of p groups).events old) input h
+watched_beyond size words (Some input) old now h = λ groups e. none_beyond size (λ p. HasNoViolation p → now ≡ staying (run_of p groups).events old) input h
 
 pub watched_within : (words : List (List ℕ)) (command : Command) (left : Option (List ℕ)) (old now : List WatchState) (input : List ℕ) → command_of words ≡ Some command → IfSome left (IsReadOf command input)
     → ((groups : ℕ) → command ≡ Watch groups → HaveWatched groups input old now) → IfSome left (WatchesProgram words old now)
@@ -165,7 +165,7 @@ watched_within words command None old now input e whole h = tt
 watched_within words command (Some l) old now input e whole h =
     λ groups f.
     let is = same_command words command (Watch groups) e f in
-    of_whole (λ p. IsFree p → now ≡ staying (run_of p groups).events old) l input (subst (λ k. IsReadOf k input l) is whole) (h groups is)
+    of_whole (λ p. HasNoViolation p → now ≡ staying (run_of p groups).events old) l input (subst (λ k. IsReadOf k input l) is whole) (h groups is)
 
 pub cut_within : (words : List (List ℕ)) (command : Command) (left : Option (List ℕ)) (old now : List WatchState) (input : List ℕ) → command_of words ≡ Some command → IfSome left (IsReadOf command input)
     → ((groups : ℕ) → command ≡ Watch groups → HaveWatchedPart groups input old now) → IfSome left (λ l. (groups : ℕ) → command_of words ≡ Some (Watch groups) → HaveWatchedPart groups l old now)

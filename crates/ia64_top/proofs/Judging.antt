@@ -5,7 +5,7 @@ use Rattle.ia_program.specs.Programs.{Program, IsProgram}
 use Rattle.group_checker.specs.declared.violation.Violation.{Violation}
 use Rattle.group_checker.specs.declared.report.Verdict.{Verdict}
 use Rattle.group_checker.specs.declared.report.Verdict.TheVariants.{Accepted, Violations}
-use Rattle.group_checker.specs.Violations.{IsFree}
+use Rattle.group_checker.specs.Violations.{HasNoViolation}
 use Rattle.group_checker.specs.Reports.{IsReport, IsVerdict}
 use Rattle.group_checker.specs.Shown.{Report}
 use Rattle.ia64_top.specs.declared.status.Status.{Status}
@@ -21,15 +21,15 @@ some_of [] l = absurd (omega arith)
 some_of (v ∷ vs) l = (v, (0, omega arith, refl))
 
 -- a program with a report isn't free
-not_free : (p : Program) (report : Report) → IsReport p report → ¬ IsFree p
+not_free : (p : Program) (report : Report) → IsReport p report → ¬ HasNoViolation p
 not_free p report r free = let m = some_of r.all r.some in free m.0 (r.list.only m.0 m.1)
 
 -- the verdict tells whether the program is free
-done_of_verdict : (p : Program) (v : Verdict) → IsVerdict p v → ((verdict_status v ≡ Done) ↔ IsFree p)
+done_of_verdict : (p : Program) (v : Verdict) → IsVerdict p v → ((verdict_status v ≡ Done) ↔ HasNoViolation p)
 done_of_verdict p (Accepted q) exact = (λ e. exact.1, λ f. refl)
 done_of_verdict p (Violations r) exact = (λ e. cc, λ f. absurd (not_free p r exact f))
 
-violated_of_verdict : (p : Program) (v : Verdict) → IsVerdict p v → ((verdict_status v ≡ Violated) ↔ (¬ IsFree p))
+violated_of_verdict : (p : Program) (v : Verdict) → IsVerdict p v → ((verdict_status v ≡ Violated) ↔ (¬ HasNoViolation p))
 violated_of_verdict p (Accepted q) exact = (λ e. cc, λ n. absurd (n exact.1))
 violated_of_verdict p (Violations r) exact = (λ e. not_free p r exact, λ n. refl)
 
@@ -37,11 +37,11 @@ violated_of_verdict p (Violations r) exact = (λ e. not_free p r exact, λ n. re
 pub judgement_of : (p : Program) (v : Verdict) (bytes : List ℕ) (status : Status) → IsProgram p → IsVerdict p v → (bytes ≡ verdict_text v) × (status ≡ verdict_status v) → IsJudgement p bytes status
 judgement_of p v bytes status program exact told = record { program = program; verdict = v; exact = exact; printed = told.0; tells = told.1 }
 
-pub done_of_judgement : (p : Program) (bytes : List ℕ) (status : Status) → IsJudgement p bytes status → ((status ≡ Done) ↔ IsFree p)
-done_of_judgement p bytes status j = subst (λ s. (s ≡ Done) ↔ IsFree p) (sym j.tells) (done_of_verdict p j.verdict j.exact)
+pub done_of_judgement : (p : Program) (bytes : List ℕ) (status : Status) → IsJudgement p bytes status → ((status ≡ Done) ↔ HasNoViolation p)
+done_of_judgement p bytes status j = subst (λ s. (s ≡ Done) ↔ HasNoViolation p) (sym j.tells) (done_of_verdict p j.verdict j.exact)
 
-pub violated_of_judgement : (p : Program) (bytes : List ℕ) (status : Status) → IsJudgement p bytes status → ((status ≡ Violated) ↔ (¬ IsFree p))
-violated_of_judgement p bytes status j = subst (λ s. (s ≡ Violated) ↔ (¬ IsFree p)) (sym j.tells) (violated_of_verdict p j.verdict j.exact)
+pub violated_of_judgement : (p : Program) (bytes : List ℕ) (status : Status) → IsJudgement p bytes status → ((status ≡ Violated) ↔ (¬ HasNoViolation p))
+violated_of_judgement p bytes status j = subst (λ s. (s ≡ Violated) ↔ (¬ HasNoViolation p)) (sym j.tells) (violated_of_verdict p j.verdict j.exact)
 
 -- each row tells the judgement of the program, or the refusal
 pub told_of_check : (r : InputReading) (input bytes : List ℕ) (status : Status) → IsCheckedAs r input bytes status → IsTold r IsJudgement input bytes status
@@ -52,11 +52,11 @@ told_of_check r input bytes status o = absurd o
 
 -- `Done` is the answer exactly where the program is free, and `Violated` where it isn't
 pub done_where_free : (r : InputReading) → GivesOne r → RefusesNone r → (input bytes : List ℕ) (status : Status) → IsCheckedAs r input bytes status
-    → (p : Program) → r.Gives input p → ((status ≡ Done) ↔ IsFree p)
+    → (p : Program) → r.Gives input p → ((status ≡ Done) ↔ HasNoViolation p)
 done_where_free r one none input bytes status o =
-    holds_where_told r IsJudgement (λ p s. (s ≡ Done) ↔ IsFree p) done_of_judgement one none input bytes status (told_of_check r input bytes status o)
+    holds_where_told r IsJudgement (λ p s. (s ≡ Done) ↔ HasNoViolation p) done_of_judgement one none input bytes status (told_of_check r input bytes status o)
 
 pub violated_where_not_free : (r : InputReading) → GivesOne r → RefusesNone r → (input bytes : List ℕ) (status : Status) → IsCheckedAs r input bytes status
-    → (p : Program) → r.Gives input p → ((status ≡ Violated) ↔ (¬ IsFree p))
+    → (p : Program) → r.Gives input p → ((status ≡ Violated) ↔ (¬ HasNoViolation p))
 violated_where_not_free r one none input bytes status o =
-    holds_where_told r IsJudgement (λ p s. (s ≡ Violated) ↔ (¬ IsFree p)) violated_of_judgement one none input bytes status (told_of_check r input bytes status o)
+    holds_where_told r IsJudgement (λ p s. (s ≡ Violated) ↔ (¬ HasNoViolation p)) violated_of_judgement one none input bytes status (told_of_check r input bytes status o)

@@ -11,7 +11,7 @@ use Rattle.ia_meaning.specs.StateText.{state_text}
 use Rattle.ia_meaning.specs.Runs.{run_text}
 use Rattle.ia_meaning.specs.NumberedRuns.{numbered_run, numbered_codes, NumberedRunIsParallel}
 use Rattle.image_form.specs.Laws.{ImageSize}
-use Rattle.group_checker.specs.Violations.{IsFree}
+use Rattle.group_checker.specs.Violations.{HasNoViolation}
 use Rattle.group_checker.specs.OrderLaws.{FreeIsRobust}
 use Rattle.group_engine.specs.Engine.{Engine, begun, after_run}
 use Rattle.watch_seam.specs.Watchers.{WatchState}
@@ -79,12 +79,12 @@ ended_at_once_within one none words c ws left input bytes status e whole o =
     (λ groups number is p g. (numbered_run_given one none c ws input bytes status o groups number is p g).ends)
 
 -- A program without violations leaves in the order with a number what it leaves slot by slot.
-same_run : FreeIsRobust → ZeroIsStart → NumberedRunIsParallel → (groups number : ℕ) (p : Program) → IsProgram p → IsFree p → numbered_run_of p groups number ≡ run_of p groups
+same_run : FreeIsRobust → ZeroIsStart → NumberedRunIsParallel → (groups number : ℕ) (p : Program) → IsProgram p → HasNoViolation p → numbered_run_of p groups number ≡ run_of p groups
 same_run law zero parallel groups number p program free =
     parallel p groups number (zero_state p)
     ∙ law p program free groups (numbered_codes groups number p (zero_state p)) (zero_state p) (zero p program)
 
-run_given : FreeIsRobust → ZeroIsStart → NumberedRunIsParallel → (groups number : ℕ) (p : Program) (bytes : List ℕ) (status : Status) → IsNumberedRunOf p groups number bytes status → IsFree p → IsRunOf state_after p groups bytes status
+run_given : FreeIsRobust → ZeroIsStart → NumberedRunIsParallel → (groups number : ℕ) (p : Program) (bytes : List ℕ) (status : Status) → IsNumberedRunOf p groups number bytes status → HasNoViolation p → IsRunOf state_after p groups bytes status
 run_given law zero parallel groups number p bytes status o free =
     let same = same_run law zero parallel groups number p o.program free in
     record {
@@ -102,16 +102,16 @@ run_command groups some few = rw (number_of_numeral 1 GROUP_LIMIT (decimal group
 -- So it is what `run` gives.
 abbrev pub IsSameAsRun : List (List ℕ) → List WatchState → Option (List ℕ) → Option (List ℕ) → Status → List ℕ → Type 0
 IsSameAsRun words ws old new status input =
-    TellsOfGroups words (λ groups number p. IsFree p → GivesOutput (run_words groups) ws input old new status) input
+    TellsOfGroups words (λ groups number p. HasNoViolation p → GivesOutput (run_words groups) ws input old new status) input
 
 pub same_as_run_beyond : ImageSize → (words : List (List ℕ)) (ws : List WatchState) (left old new : Option (List ℕ)) → IfSome left (λ l. INPUT_LIMIT < length l) → IfSome left (IsSameAsRun words ws old new TooLong)
 same_as_run_beyond size words ws left old new h =
-    groups_beyond size words (λ l groups number p. IsFree p → GivesOutput (run_words groups) ws l old new TooLong) left h
+    groups_beyond size words (λ l groups number p. HasNoViolation p → GivesOutput (run_words groups) ws l old new TooLong) left h
 
 pub same_as_run_within : FreeIsRobust → ZeroIsStart → NumberedRunIsParallel → GivesOne as_either → RefusesNone as_either → (words : List (List ℕ)) (c : Command) (ws : List WatchState) (left old new : Option (List ℕ)) (input bytes : List ℕ) (status : Status) → command_of words ≡ Some c → IfSome left (IsReadOf c input)
     → length input ≤ INPUT_LIMIT → IsCommandOutput c ws input bytes status → Appends old new bytes → IfSome left (IsSameAsRun words ws old new status)
 same_as_run_within law zero parallel one none words c ws left old new input bytes status e whole within o appended =
-    groups_within words c (λ l groups number p. IsFree p → GivesOutput (run_words groups) ws l old new status) left input e whole
+    groups_within words c (λ l groups number p. HasNoViolation p → GivesOutput (run_words groups) ws l old new status) left input e whole
     (λ groups number is p g free.
     let range = in_range words (Groups groups number) (e ∙ ap Some is) in
     let run = run_given law zero parallel groups number p bytes status (numbered_run_given one none c ws input bytes status o groups number is p g) free in

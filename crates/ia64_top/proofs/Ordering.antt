@@ -6,7 +6,7 @@ use Rattle.ia_program.specs.Programs.{Program, IsProgram}
 use Rattle.ia_meaning.specs.State.{zero_state, ZeroIsStart}
 use Rattle.ia_meaning.specs.Steps.{Run as WholeRun}
 use Rattle.ia_meaning.specs.OrderIndependence.{IsRobust}
-use Rattle.group_checker.specs.Violations.{IsFree}
+use Rattle.group_checker.specs.Violations.{HasNoViolation}
 use Rattle.group_checker.specs.OrderLaws.{FreeIsRobust}
 use Rattle.stop_placer.specs.Laws.{OnePlaced}
 use Rattle.ia64_top.specs.declared.words.Command.{Command}
@@ -28,7 +28,7 @@ use Rattle.ia64_top.proofs.Judging.{done_of_judgement}
 record Accepts (input : List ℕ) (p : Program) : Type 0 where
   gives : as_either.Gives input p
   program : IsProgram p
-  free : IsFree p
+  free : HasNoViolation p
 
 -- what a run answers of an accepted program
 record RunsAccepted (text : Printing) (groups : ℕ) (input bytes : List ℕ) (status : Status) (p : Program) : Type 0 where
@@ -59,7 +59,7 @@ ran Faulted c t = tt
 ran status c t = absurd t
 
 -- a program that is free is order independent, and what is read is one program
-robust_given : FreeIsRobust → GivesOne as_either → (input : List ℕ) (q : Program) → as_either.Gives input q → IsProgram q → IsFree q → (p : Program) → as_either.Gives input p → IsRobust p
+robust_given : FreeIsRobust → GivesOne as_either → (input : List ℕ) (q : Program) → as_either.Gives input q → IsProgram q → HasNoViolation q → (p : Program) → as_either.Gives input p → IsRobust p
 robust_given law one input q gives program free p g = subst IsRobust (one input q p gives g) (law q program free)
 
 robust_run : FreeIsRobust → GivesOne as_either → (text : Printing) (groups : ℕ) (input bytes : List ℕ) (status : Status) → Ran status → IsRunAs text groups as_either input bytes status → (p : Program) → as_either.Gives input p → IsRobust p

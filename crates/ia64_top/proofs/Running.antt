@@ -12,7 +12,7 @@ use Rattle.ia_meaning.specs.Progress.{Progress, begun, groups_further, end_of}
 use Rattle.ia_meaning.specs.Runs.{HasRun, ProgressIsRun, run_text}
 use Rattle.ia_meaning.specs.StateText.{state_text}
 use Rattle.ia_meaning.proofs.GroupEnds.{zero_is_place}
-use Rattle.group_checker.specs.Violations.{IsFree}
+use Rattle.group_checker.specs.Violations.{HasNoViolation}
 use Rattle.ia_meaning.specs.OrderIndependence.{IsRobust}
 use Rattle.ia64_top.specs.declared.status.Status.{Status}
 use Rattle.ia64_top.specs.declared.status.Status.TheVariants.{Done, Violated, Limit, Faulted, Refused}
@@ -60,25 +60,25 @@ not_violated (end.Break imm place) is = cc
 not_violated (end.Limit place) is = cc
 not_violated (end.Fault kind place) is = cc
 
-violated_of_answer : (text : Printing) (groups : ℕ) (p : Program) (bytes : List ℕ) (status : Status) → IsRunAnswer text groups p bytes status → ((status ≡ Violated) ↔ (¬ IsFree p))
+violated_of_answer : (text : Printing) (groups : ℕ) (p : Program) (bytes : List ℕ) (status : Status) → IsRunAnswer text groups p bytes status → ((status ≡ Violated) ↔ (¬ HasNoViolation p))
 violated_of_answer text groups p bytes status (inl o) = (λ e. absurd (not_violated (run_of p groups).end (sym o.ends ∙ e)), λ n. absurd (n o.free))
 violated_of_answer text groups p bytes status (inr o) = violated_of_judgement p bytes status o.0
 
 -- The end of the run tells the status of a program that is free.
-end_of_answer : (text : Printing) (groups : ℕ) (p : Program) (bytes : List ℕ) (status : Status) → IsRunAnswer text groups p bytes status → IsFree p → status ≡ end_status (run_of p groups).end
+end_of_answer : (text : Printing) (groups : ℕ) (p : Program) (bytes : List ℕ) (status : Status) → IsRunAnswer text groups p bytes status → HasNoViolation p → status ≡ end_status (run_of p groups).end
 end_of_answer text groups p bytes status (inl o) free = o.ends
 end_of_answer text groups p bytes status (inr o) free = absurd ((violated_of_judgement p bytes status o.0).0 o.1 free)
 
 status_of_run : (text : Printing) (groups : ℕ) (r : InputReading) → GivesOne r → RefusesNone r → (input bytes : List ℕ) (status : Status) → IsRunAs text groups r input bytes status
-    → (p : Program) → r.Gives input p → IsFree p → status ≡ end_status (run_of p groups).end
+    → (p : Program) → r.Gives input p → HasNoViolation p → status ≡ end_status (run_of p groups).end
 status_of_run text groups r one none input bytes status o =
-    holds_where_told r (IsRunAnswer text groups) (λ p s. IsFree p → s ≡ end_status (run_of p groups).end) (end_of_answer text groups) one none input bytes status (told_of_run text groups r input bytes status o)
+    holds_where_told r (IsRunAnswer text groups) (λ p s. HasNoViolation p → s ≡ end_status (run_of p groups).end) (end_of_answer text groups) one none input bytes status (told_of_run text groups r input bytes status o)
 
 -- `Violated` is the answer exactly where the program isn't free
 run_violated_where_not_free : (text : Printing) (groups : ℕ) (r : InputReading) → GivesOne r → RefusesNone r → (input bytes : List ℕ) (status : Status) → IsRunAs text groups r input bytes status
-    → (p : Program) → r.Gives input p → ((status ≡ Violated) ↔ (¬ IsFree p))
+    → (p : Program) → r.Gives input p → ((status ≡ Violated) ↔ (¬ HasNoViolation p))
 run_violated_where_not_free text groups r one none input bytes status o =
-    holds_where_told r (IsRunAnswer text groups) (λ p s. (s ≡ Violated) ↔ (¬ IsFree p)) (violated_of_answer text groups) one none input bytes status (told_of_run text groups r input bytes status o)
+    holds_where_told r (IsRunAnswer text groups) (λ p s. (s ≡ Violated) ↔ (¬ HasNoViolation p)) (violated_of_answer text groups) one none input bytes status (told_of_run text groups r input bytes status o)
 
 pub run_is : (text : Printing) (groups : ℕ) (r : InputReading) (input : List ℕ) (p : Program) (bytes : List ℕ) (status : Status) → r.Gives input p → IsRunOf text p groups bytes status → IsRunAs text groups r input bytes status
 run_is text groups r input p bytes status gives o = run_of_program text groups r input p bytes status gives (inl o)
@@ -95,7 +95,7 @@ pub text_of_progress : ProgressIsRun → (groups : ℕ) (p : Program) (m : Progr
 text_of_progress run groups p m e program came ends =
     let has = has_run run groups p m program came in same_text _ _ _ _ _ _ _ _ (ends ∙ has.end) has.groups has.range has.state
 
-pub run_of_progress : ProgressIsRun → (text : Printing) (groups : ℕ) (p : Program) (m : Progress) (e : End) (bytes : List ℕ) (status : Status) → IsProgram p → IsFree p → IsRobust p → m ≡ groups_further groups p (begun (zero_state p)) → e ≡ end_of m
+pub run_of_progress : ProgressIsRun → (text : Printing) (groups : ℕ) (p : Program) (m : Progress) (e : End) (bytes : List ℕ) (status : Status) → IsProgram p → HasNoViolation p → IsRobust p → m ≡ groups_further groups p (begun (zero_state p)) → e ≡ end_of m
     → bytes ≡ text (run_of p) groups → status ≡ end_status e → IsRunOf text p groups bytes status
 run_of_progress run text groups p m e bytes status program free robust came ends printed answered =
     let has = has_run run groups p m program came in
@@ -111,15 +111,15 @@ refused_not_run none input bytes status refused p gives free = none input p byte
 
 pub violated_not_run : GivesOne as_either → (input : List ℕ) (q : Program) (bytes : List ℕ) (status : Status) → as_either.Gives input q → IsJudgedViolated q bytes status → IsNotRun input
 violated_not_run one input q bytes status gives judged p given free =
-    (violated_of_judgement q bytes status judged.0).0 judged.1 (subst IsFree (one input p q given gives) free)
+    (violated_of_judgement q bytes status judged.0).0 judged.1 (subst HasNoViolation (one input p q given gives) free)
 
 -- What is told of the program that a command reads.
 pub accepted_of : GivesOne as_either → RefusesNone as_either → (c : Command) (ws : List WatchState) (input bytes : List ℕ) (status : Status) → IsCommandOutput c ws input bytes status
-    → c ≡ command.Check → (p : Program) → as_either.Gives input p → ((status ≡ Done) ↔ IsFree p)
+    → c ≡ command.Check → (p : Program) → as_either.Gives input p → ((status ≡ Done) ↔ HasNoViolation p)
 accepted_of one none c ws input bytes status o is = done_where_free as_either one none input bytes status (subst (λ k. IsCommandOutput k ws input bytes status) is o)
 
 pub judged_of : GivesOne as_either → RefusesNone as_either → (c : Command) (ws : List WatchState) (input bytes : List ℕ) (status : Status) → IsCommandOutput c ws input bytes status
-    → Judges c → (p : Program) → as_either.Gives input p → ((status ≡ Violated) ↔ (¬ IsFree p))
+    → Judges c → (p : Program) → as_either.Gives input p → ((status ≡ Violated) ↔ (¬ HasNoViolation p))
 judged_of one none command.Check ws input bytes status o judges = violated_where_not_free as_either one none input bytes status o
 judged_of one none (command.Run groups) ws input bytes status o judges = run_violated_where_not_free state_after groups as_either one none input bytes status o
 judged_of one none (command.Watch groups) ws input bytes status o judges = run_violated_where_not_free (watch_text ws) groups as_either one none input bytes status o
@@ -127,7 +127,7 @@ judged_of one none (command.Trace first count) ws input bytes status o judges = 
 judged_of one none c ws input bytes status o judges = absurd judges
 
 pub ended_of : GivesOne as_either → RefusesNone as_either → (c : Command) (ws : List WatchState) (input bytes : List ℕ) (status : Status) → IsCommandOutput c ws input bytes status
-    → (groups : ℕ) → groups_of c ≡ Some groups → (p : Program) → as_either.Gives input p → IsFree p → status ≡ end_status (run_of p groups).end
+    → (groups : ℕ) → groups_of c ≡ Some groups → (p : Program) → as_either.Gives input p → HasNoViolation p → status ≡ end_status (run_of p groups).end
 ended_of one none (command.Run n) ws input bytes status o groups runs p gives free =
     status_of_run state_after n as_either one none input bytes status o p gives free ∙ ap (λ k. end_status (run_of p k).end) (same_Some n groups runs)
 ended_of one none (command.Watch n) ws input bytes status o groups runs p gives free =

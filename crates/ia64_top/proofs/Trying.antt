@@ -8,7 +8,7 @@ use Rattle.ia_meaning.specs.State.{State, zero_state}
 use Rattle.ia_meaning.specs.Progress.{Progress, begun, groups_further, end_of}
 use Rattle.ia_meaning.specs.Runs.{HasRun, ProgressIsRun}
 use Rattle.ia_meaning.proofs.GroupEnds.{zero_is_place}
-use Rattle.group_checker.specs.Violations.{IsFree}
+use Rattle.group_checker.specs.Violations.{HasNoViolation}
 use Rattle.ia_meaning.specs.OrderIndependence.{IsRobust}
 use Rattle.trial_maker.specs.Trials.{trial_program}
 use Rattle.watch_seam.specs.Watchers.{WatchState}
@@ -26,12 +26,12 @@ use Rattle.ia64_top.proofs.Judging.{violated_of_judgement}
 use Rattle.ia64_top.proofs.Answering.{same_command}
 
 -- `Done` is the answer exactly where the program is free, and `Violated` where it isn't
-done_of_trial : (seed bundles : ℕ) (bytes : List ℕ) (status : Status) → IsTrialOutput seed bundles bytes status → ((status ≡ Done) ↔ IsFree (trial_program seed bundles))
+done_of_trial : (seed bundles : ℕ) (bytes : List ℕ) (status : Status) → IsTrialOutput seed bundles bytes status → ((status ≡ Done) ↔ HasNoViolation (trial_program seed bundles))
 done_of_trial seed bundles bytes Done o = (λ e. o.free, λ f. refl)
 done_of_trial seed bundles bytes Violated o = (λ e. cc, λ f. absurd ((violated_of_judgement (trial_program seed bundles) bytes Violated o).0 refl f))
 done_of_trial seed bundles bytes status o = absurd o
 
-violated_of_trial : (seed bundles : ℕ) (bytes : List ℕ) (status : Status) → IsTrialOutput seed bundles bytes status → ((status ≡ Violated) ↔ (¬ IsFree (trial_program seed bundles)))
+violated_of_trial : (seed bundles : ℕ) (bytes : List ℕ) (status : Status) → IsTrialOutput seed bundles bytes status → ((status ≡ Violated) ↔ (¬ HasNoViolation (trial_program seed bundles)))
 violated_of_trial seed bundles bytes Done o = (λ e. cc, λ n. absurd (n o.free))
 violated_of_trial seed bundles bytes Violated o = violated_of_judgement (trial_program seed bundles) bytes Violated o
 violated_of_trial seed bundles bytes status o = absurd o
@@ -54,21 +54,21 @@ tried_trial seed bundles bytes status o = subst (IsTrialOutput seed bundles byte
 same_text : (seed bundles : ℕ) (e f : End) (g h : ℕ) (s t : State) → e ≡ f → g ≡ h → s ≡ t → trial_text seed bundles e g s.registers ≡ trial_text seed bundles f h t.registers
 same_text seed bundles e f g h s t ef gh st = rw (ef, gh, st) refl
 
-pub trial_of_progress : ProgressIsRun → (seed bundles : ℕ) (p : Program) (m : Progress) (e : End) (bytes : List ℕ) → p ≡ trial_program seed bundles → IsProgram p → IsFree p → IsRobust p
+pub trial_of_progress : ProgressIsRun → (seed bundles : ℕ) (p : Program) (m : Progress) (e : End) (bytes : List ℕ) → p ≡ trial_program seed bundles → IsProgram p → HasNoViolation p → IsRobust p
     → m ≡ groups_further bundles p (begun (zero_state p)) → e ≡ end_of m → bytes ≡ trial_text seed bundles e m.groups m.state.registers → IsTrialOf seed bundles bytes
 trial_of_progress run seed bundles p m e bytes made program free robust came ends printed =
     let has : HasRun m (run_of p bundles) = subst (λ x. HasRun x (run_of p bundles)) (sym came) (run bundles p (zero_state p) program (zero_is_place p program)) in
     let text = printed ∙ same_text seed bundles _ _ _ _ _ _ (ends ∙ has.end) has.groups has.state in
     record {
       program = subst IsProgram made program;
-      free = subst IsFree made free;
+      free = subst HasNoViolation made free;
       robust = subst IsRobust made robust;
       printed = subst (λ q. bytes ≡ trial_text seed bundles (run_of q bundles).end (length (run_of q bundles).events) (run_of q bundles).state.registers) made text;
     }
 
 -- what is told of the words and the answer
 pub tried : (words : List (List ℕ)) (command : Command) (ws : List WatchState) (input bytes : List ℕ) (status : Status) → command_of words ≡ Some command → IsCommandOutput command ws input bytes status
-    → (seed bundles : ℕ) → command_of words ≡ Some (Trial seed bundles) → ((status ≡ Done) ↔ IsFree (trial_program seed bundles)) × ((status ≡ Violated) ↔ (¬ IsFree (trial_program seed bundles)))
+    → (seed bundles : ℕ) → command_of words ≡ Some (Trial seed bundles) → ((status ≡ Done) ↔ HasNoViolation (trial_program seed bundles)) × ((status ≡ Violated) ↔ (¬ HasNoViolation (trial_program seed bundles)))
 tried words command ws input bytes status e o seed bundles f =
     let its : IsTrialOutput seed bundles bytes status = subst (λ c. IsCommandOutput c ws input bytes status) (same_command words command (Trial seed bundles) e f) o in
     (done_of_trial seed bundles bytes status its, violated_of_trial seed bundles bytes status its)

@@ -6,7 +6,7 @@ use Rattle.ia_meaning.specs.declared.limits.TheConstants.{STACK_LIMIT, ALAT_LIMI
 use Rattle.group_checker.specs.declared.report.TheConstants.{SHOWN_LIMIT}
 use Rattle.watch_seam.specs.declared.limits.TheConstants.{FILL_LIMIT}
 use Rattle.bundling.specs.declared.chunk.TheConstants.{QUIET_LIMIT}
-use Rattle.asm_words.specs.declared.limits.TheConstants.{LINE_LIMIT, NAME_LIMIT, NUMBER_LIMIT, NUMBER_TOKEN_LIMIT}
+use Rattle.asm_lexemes.specs.declared.limits.TheConstants.{LINE_LIMIT, NAME_LIMIT, NUMBER_LIMIT, NUMBER_TOKEN_LIMIT}
 use Rattle.ia64_top.specs.declared.limits.TheConstants.{INPUT_LIMIT, GROUP_LIMIT, TRACE_LIMIT, TRIAL_LIMIT}
 
 -- of programs, their images and their packing, of states, of what is shown, of lines of text, and of calls

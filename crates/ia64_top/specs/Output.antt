@@ -17,7 +17,7 @@ use Rattle.trial_maker.specs.Trials.{trial_program}
 use Rattle.watch_seam.specs.Watchers.{WatchState}
 use Rattle.ia64_top.specs.Runs.{Printing, state_after, watch_text, trace_text, IsRunOf, IsNumberedRunOf, IsRunOfEveryOrder}
 use Rattle.ia64_top.specs.Trials.{IsTrialOutput}
-use Rattle.group_checker.specs.Violations.{IsFree}
+use Rattle.group_checker.specs.Violations.{HasNoViolation}
 use Rattle.stop_placer.specs.Packed.{Packed}
 use Rattle.stop_placer.specs.Laws.{KeepsText}
 use Rattle.stop_placer.specs.Placing.{IsPlaced}
@@ -48,7 +48,7 @@ pub record IsPackedText (input : List ℕ) (program : Program) (text : List ℕ)
   pub placed : IsPlaced input packed
   pub is : packed.program ≡ program
   pub valid : IsProgram program
-  pub free : IsFree program
+  pub free : HasNoViolation program
   pub keeps : KeepsText input packed
   pub printed : text ≡ packed_text packed
 

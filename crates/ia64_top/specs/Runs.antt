@@ -10,7 +10,7 @@ use Rattle.ia_meaning.specs.ParallelGroups.{par_run}
 use Rattle.ia_meaning.specs.NumberedRuns.{numbered_run}
 use Rattle.ia_meaning.specs.OrderIndependence.{IsRobust}
 use Rattle.ia_meaning.specs.Runs.{run_text}
-use Rattle.group_checker.specs.Violations.{IsFree}
+use Rattle.group_checker.specs.Violations.{HasNoViolation}
 use Rattle.watch_seam.specs.Watchers.{WatchState, line, event_text}
 use Rattle.watch_seam.specs.Watching.{numbered, reports}
 use Rattle.ia64_top.specs.declared.status.Status.{Status}
@@ -63,7 +63,7 @@ trace_text first count runs groups = run_text (runs first) ++ traced_groups runs
 -- run, and so one that is order independent.
 pub record IsRunOf (text : Printing) (p : Program) (groups : ℕ) (bytes : List ℕ) (status : Status) : Type 0 where
   pub program : IsProgram p
-  pub free : IsFree p
+  pub free : HasNoViolation p
   pub robust : IsRobust p
   pub printed : bytes ≡ text (run_of p) groups
   pub ends : status ≡ end_status (run_of p groups).end

@@ -8,7 +8,7 @@ use Rattle.ia_meaning.specs.State.{Registers}
 use Rattle.ia_meaning.specs.Names.{look}
 use Rattle.ia_meaning.specs.StateText.{line, end_text, word_text}
 use Rattle.ia_meaning.specs.OrderIndependence.{IsRobust}
-use Rattle.group_checker.specs.Violations.{IsFree}
+use Rattle.group_checker.specs.Violations.{HasNoViolation}
 use Rattle.trial_maker.specs.Trials.{trial_program}
 use Rattle.ia64_top.specs.declared.status.Status.{Status}
 use Rattle.ia64_top.specs.declared.status.Status.TheVariants.{Done, Violated}
@@ -34,7 +34,7 @@ trial_text seed bundles end groups r =
 -- groups as it has bundles.
 pub record IsTrialOf (seed bundles : ℕ) (bytes : List ℕ) : Type 0 where
   pub program : IsProgram (trial_program seed bundles)
-  pub free : IsFree (trial_program seed bundles)
+  pub free : HasNoViolation (trial_program seed bundles)
   pub robust : IsRobust (trial_program seed bundles)
   pub printed : let run = run_of (trial_program seed bundles) bundles in bytes ≡ trial_text seed bundles run.end (length run.events) run.state.registers
 

@@ -39,7 +39,7 @@ use image_form::{
 use slot_table::SlotTable;
 use state_text::state_text;
 use std::alloc::{AllocError, Global};
-use stop_placer::{place_stops, placed_is_free};
+use stop_placer::{place_stops, placed_has_no_violation};
 use trial_maker::make;
 use watch_seam::Watch;
 
@@ -95,7 +95,7 @@ fn stops_input(alloc: Global, input: &[u8]) -> Result<Answer, AllocError>
     requires { length input.now ≤ INPUT_LIMIT }
     ensures { IfOk result (λ answer. IsMadeOutput as_loose (IsPackedText input.now) input.now answer.bytes.items answer.status) }
 {
-    placed_is_free();
+    placed_has_no_violation();
     match place_stops(alloc, input) {
         Ok(packed) => Ok(Answer {
             bytes: packed_text(alloc, &packed)?,

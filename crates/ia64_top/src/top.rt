@@ -12,7 +12,7 @@ ghost use Rattle.ia64_top.specs.Statuses.{IsAnswer, TellsOfProgram, TellsAccepte
 ghost use Rattle.ia64_top.specs.Inputs.{IsReadOf};
 ghost use Rattle.ia_program.specs.Programs.{Program};
 ghost use Rattle.ia_meaning.specs.OrderIndependence.{IsRobust};
-ghost use Rattle.group_checker.specs.Violations.{IsFree};
+ghost use Rattle.group_checker.specs.Violations.{HasNoViolation};
 ghost use Rattle.ia64_top.specs.Runs.{run_of, numbered_run_of, end_status};
 ghost use Rattle.ia64_top.specs.Readings.{as_either};
 ghost use Rattle.trial_maker.specs.Trials.{trial_program};
@@ -96,7 +96,7 @@ pub fn ia64<S: Source, K: Sink>(
     // `accepted` is printed exactly where on no walk two slots of a group break a rule.
     ensures accepted { IsAnswer result → IfSome (S.left source.old) (λ input.
         command_of words.now ≡ Some Command.Check → IsWithinLimit input → (program : Program) → as_either.Gives input program →
-        ((result ≡ Status.Done) ↔ IsFree program)) }
+        ((result ≡ Status.Done) ↔ HasNoViolation program)) }
 
     // What `accepted` promises. Where `check`, `stops` or `trial` is done, or `run`, `watch` or `trace` prints a state, the program is order independent: from every
     // state at an entry, for every number of groups and every order of the writes in each group, groups at once leave
@@ -113,13 +113,13 @@ pub fn ia64<S: Source, K: Sink>(
     // Of a program without violations `groups` gives what `run` gives for as many groups, the bytes and the status, whatever
     // the number of the order.
     ensures same_as_run { IsAnswer result → IfSome (S.left source.old) (λ input. (groups number : ℕ) →
-        command_of words.now ≡ Some (Command.Groups groups number) → IsWithinLimit input → (program : Program) → as_either.Gives input program → IsFree program →
+        command_of words.now ≡ Some (Command.Groups groups number) → IsWithinLimit input → (program : Program) → as_either.Gives input program → HasNoViolation program →
         GivesOutput (run_words groups) (map (λ b. state b) watchers.old.items) input (K.given sink.old) (K.given sink.new) result) }
 
     // `check`, `run`, `watch` and `trace` answer with violations exactly where on some walk two slots of a group break a rule.
     ensures judged { IsAnswer result → IfSome (S.left source.old) (λ input. (command : Command) →
         command_of words.now ≡ Some command → Judges command → IsWithinLimit input → (program : Program) → as_either.Gives input program →
-        ((result ≡ Status.Violated) ↔ (¬ IsFree program))) }
+        ((result ≡ Status.Violated) ↔ (¬ HasNoViolation program))) }
 
     // Then the bytes are the number of violations and a line for each of the first ones. Each violation is two slots of a
     // group that on some walk break a rule.
@@ -130,7 +130,7 @@ pub fn ia64<S: Source, K: Sink>(
     // Of any other program the end of the run tells the status: `Done` comes exactly where it is a `break`,
     // `Limit` where it is the limit of groups, and `Faulted` where it is a fault.
     ensures ended { IsAnswer result → IfSome (S.left source.old) (λ input. (command : Command) (groups : ℕ) →
-        command_of words.now ≡ Some command → groups_of command ≡ Some groups → IsWithinLimit input → (program : Program) → as_either.Gives input program → IsFree program →
+        command_of words.now ≡ Some command → groups_of command ≡ Some groups → IsWithinLimit input → (program : Program) → as_either.Gives input program → HasNoViolation program →
         result ≡ end_status (run_of program groups).end) }
 
     // `groups` runs every program, whether it has violations or not, and the end of its run tells the status.
@@ -140,7 +140,7 @@ pub fn ia64<S: Source, K: Sink>(
 
     // `trial` is done exactly where its program has no violations, and answers with them exactly where it has some.
     ensures tried { IsAnswer result → (seed bundles : ℕ) → command_of words.now ≡ Some (Command.Trial seed bundles) →
-        ((result ≡ Status.Done) ↔ IsFree (trial_program seed bundles)) × ((result ≡ Status.Violated) ↔ (¬ IsFree (trial_program seed bundles))) }
+        ((result ≡ Status.Done) ↔ HasNoViolation (trial_program seed bundles)) × ((result ≡ Status.Violated) ↔ (¬ HasNoViolation (trial_program seed bundles))) }
 
     // What it writes and answers is stated of its two numbers alone, whether the source tells its bytes or not.
     ensures trial_output { IsAnswer result → (seed bundles : ℕ) → command_of words.now ≡ Some (Command.Trial seed bundles) →

@@ -79,7 +79,7 @@ pub enum Op {
     /// A compare of `r2` and `r3` into `p1` and `p2` (A6).
     Cmp {
         /// Whether the low four bytes are compared.
-        four: bool,
+        four_bytes: bool,
         /// The relation (crel).
         rel: Rel,
         /// What is done with the result (ctype).
@@ -96,7 +96,7 @@ pub enum Op {
     /// A compare of r0 and `r3` into `p1` and `p2` (A7).
     CmpZero {
         /// Whether the low four bytes are compared.
-        four: bool,
+        four_bytes: bool,
         /// The relation (crel): Gt, Le, Ge or Lt.
         rel: Rel,
         /// What is done with the result (ctype): And, Or or OrAndcm.
@@ -111,7 +111,7 @@ pub enum Op {
     /// A compare of `imm` and `r3` into `p1` and `p2` (A8).
     CmpImm {
         /// Whether the low four bytes are compared.
-        four: bool,
+        four_bytes: bool,
         /// The relation (crel).
         rel: Rel,
         /// What is done with the result (ctype).

@@ -7,8 +7,8 @@ use Rattle.ia_program.specs.declared.place.Place.{Place}
 use Rattle.ia_meaning.specs.declared.next.Next.{Next}
 use Rattle.ia_meaning.specs.declared.next.Next.TheVariants.{Falls}
 use Rattle.ia_meaning.specs.declared.action.Action.{Action}
-use Rattle.ia_meaning.specs.declared.action.Action.TheVariants.{Compute, Fetch, Test, ToPredicates, ToBranch, ToApplication, FromMemory, ToMemory, Exchange, CheckNat, CheckAlat, ForgetAll, Forget, Allocate, Jump, JumpIndirect, Loop, Call, Return, ClearBases, Stop, Idle}
-use Rattle.ia_meaning.specs.declared.action.Goal.TheVariants.{Direct, Indirect}
+use Rattle.ia_meaning.specs.declared.action.Action.TheVariants.{Compute, Fetch, Test, ToPredicates, ToBranch, ToApplication, FromMemory, ToMemory, Exchange, CheckNat, CheckAlat, InvalidateAll, Invalidate, Allocate, Jump, JumpIndirect, Loop, Call, Return, ClearBases, Stop, Idle}
+use Rattle.ia_meaning.specs.declared.action.CallTarget.TheVariants.{Direct, Indirect}
 use Rattle.ia_meaning.specs.State.{Registers, Memory}
 use Rattle.ia_meaning.specs.Names.{holds}
 use Rattle.ia_meaning.specs.Actions.{accesses_memory, insn_action}
@@ -36,8 +36,8 @@ act_keeps s (ToMemory size kind r3 r2 u) r m unat h = absurd (cc)
 act_keeps s (Exchange size r1 r3 r2 inc) r m unat h = absurd (cc)
 act_keeps s (CheckNat r2 disp) r m unat h = (λ k. refl, λ a _ _. refl, λ a _ _. refl)
 act_keeps s (CheckAlat clear r1 disp) r m unat h = (λ k. refl, λ d _ _. refl, λ d _ _ es _. refl)
-act_keeps s ForgetAll r m unat h = refl
-act_keeps s (Forget r1) r m unat h = (λ k. refl, λ d _. refl)
+act_keeps s InvalidateAll r m unat h = refl
+act_keeps s (Invalidate r1) r m unat h = (λ k. refl, λ d _. refl)
 act_keeps s (Allocate r1 sof sol sor) r m unat h = (λ k. refl, λ d _ _ _. refl)
 act_keeps s (Jump disp) r m unat h = refl
 act_keeps s (JumpIndirect b2) r m unat h = (λ k. refl, λ to _. refl)

@@ -28,8 +28,8 @@ use Rattle.ia_program.specs.declared.ending.End.TheVariants.{Fault}
 use Rattle.ia_program.specs.declared.ending.FaultKind.TheVariants.{OutOfFrame, NatConsumed, ReservedField, BadFrame, Underflow, StackLimit, BadLanding, BadRelation, Unaligned, BadAddress, FellOff}
 use Rattle.ia_meaning.specs.declared.state.Cell.{Cell}
 use Rattle.ia_meaning.specs.declared.state.FrameShape.{FrameShape}
-use Rattle.ia_meaning.specs.declared.state.AlatKey.{AlatKey}
-use Rattle.ia_meaning.specs.declared.state.AlatKey.TheVariants.{Static, Stacked}
+use Rattle.ia_meaning.specs.declared.state.Spot.{Spot}
+use Rattle.ia_meaning.specs.declared.state.Spot.TheVariants.{Static, Stacked}
 use Rattle.ia_meaning.specs.declared.state.AlatEntry.{AlatEntry}
 use Rattle.ia_meaning.specs.declared.next.Next.TheVariants.{Falls, Goes}
 use Rattle.ia_meaning.specs.State.{State, Registers, Memory, zero_cell, zero_bases, zero_frame, zero_registers}
@@ -37,9 +37,9 @@ use Rattle.ia_meaning.specs.declared.write.Write.{Write}
 use Rattle.ia_meaning.specs.declared.write.Write.TheVariants.{SetStatic, SetCell, SetPredicate, SetBranch, SetPfs, SetLc, SetEc, SetFrame}
 use Rattle.ia_meaning.specs.declared.write.FrameCause.TheVariants.{Resized, Renamed}
 use Rattle.ia_meaning.specs.Writes.{frame_changes}
-use Rattle.ia_meaning.specs.Names.{frame_place, spot, look, predicate_place, holds, predicate_spot}
+use Rattle.ia_meaning.specs.Names.{frame_index, spot, look, predicate_index, holds, predicate_spot}
 use Rattle.ia_meaning.specs.Moves.{predicate_word, predicate_writes, has_reserved_zeros}
-use Rattle.ia_meaning.specs.Loads.{access_fault, loaded, stored, forgotten, entered, untouched, has_hit, has_entry}
+use Rattle.ia_meaning.specs.Loads.{access_fault, loaded, stored, invalidated, entered, untouched, has_hit, has_entry}
 use Rattle.ia_meaning.specs.Frames.{has_zero_bases, rotated, frame_marker, marked_frame, call_state, is_frame, return_fault}
 use Rattle.ia_meaning.specs.Outcomes.{Outcome, falls, goes, breaks, faults}
 use Rattle.ia_meaning.specs.Effects.{Site, effect}
@@ -89,42 +89,42 @@ normal :
     (compare Normal 1 ≡ both true false)
     × (compare Normal 2 ≡ both false true)
     × (compare Normal 3 ≡ both false false)
-unfolding look spot holds predicate_spot predicate_place
+unfolding look spot holds predicate_spot predicate_index
 normal = (refl, refl, refl)
 
 unconditional :
     (compare Unc 1 ≡ both true false)
     × (compare Unc 2 ≡ both false true)
     × (compare Unc 3 ≡ both false false)
-unfolding look spot holds predicate_spot predicate_place
+unfolding look spot holds predicate_spot predicate_index
 unconditional = (refl, refl, refl)
 
 and :
     (compare And 1 ≡ nothing)
     × (compare And 2 ≡ both false false)
     × (compare And 3 ≡ both false false)
-unfolding look spot holds predicate_spot predicate_place
+unfolding look spot holds predicate_spot predicate_index
 and = (refl, refl, refl)
 
 or :
     (compare Or 1 ≡ both true true)
     × (compare Or 2 ≡ nothing)
     × (compare Or 3 ≡ nothing)
-unfolding look spot holds predicate_spot predicate_place
+unfolding look spot holds predicate_spot predicate_index
 or = (refl, refl, refl)
 
 or_and_complement :
     (compare OrAndcm 1 ≡ both true false)
     × (compare OrAndcm 2 ≡ nothing)
     × (compare OrAndcm 3 ≡ nothing)
-unfolding look spot holds predicate_spot predicate_place
+unfolding look spot holds predicate_spot predicate_index
 or_and_complement = (refl, refl, refl)
 
 -- NaT of the first operand alone
 nat_first :
     (run 0 (op.Cmp false Eq Normal 6 7 3 1) registers ≡ both false false)
     × (run 0 (op.Cmp false Eq Or 6 7 3 1) registers ≡ nothing)
-unfolding look spot holds predicate_spot predicate_place
+unfolding look spot holds predicate_spot predicate_index
 nat_first = (refl, refl)
 
 -- Under a false predicate `unc` clears both targets, and no register outside the frame is a fault. Others do nothing.
@@ -134,20 +134,20 @@ unc_skipped :
     × (run 2 (op.Tnat true 6 7 32) registers ≡ both false false)
     × (run 2 (op.Tbit true 6 7 32 0) registers ≡ both false false)
     × (run 2 (op.Tbit false 6 7 32 0) registers ≡ nothing)
-unfolding look spot holds predicate_spot predicate_place
+unfolding look spot holds predicate_spot predicate_index
 unc_skipped = (refl, refl, refl, refl, refl)
 
 unc_executed :
     (run 1 (op.Cmp false Eq Unc 6 7 1 33) registers ≡ faults OutOfFrame memory)
     × (run 1 (op.Cmp false Eq Unc 6 7 32 1) registers ≡ faults OutOfFrame memory)
-unfolding look spot holds predicate_spot predicate_place
+unfolding look spot holds predicate_spot predicate_index
 unc_executed = (refl, refl)
 
 -- The result of tnat.z is 1 where NaT is clear.
 test_nat :
     (run 0 (op.Tnat false 6 7 1) registers ≡ both true false)
     × (run 0 (op.Tnat false 6 7 3) registers ≡ both false true)
-unfolding look spot holds predicate_spot predicate_place
+unfolding look spot holds predicate_spot predicate_index
 test_nat = (refl, refl)
 
 -- That of tbit.z is 1 where the bit is 0, here bits 2 and 1 of 3, and none of a NaT.
@@ -155,19 +155,19 @@ test_bit :
     (run 0 (op.Tbit false 6 7 1 2) registers ≡ both true false)
     × (run 0 (op.Tbit false 6 7 1 1) registers ≡ both false true)
     × (run 0 (op.Tbit false 6 7 3 1) registers ≡ both false false)
-unfolding look spot holds predicate_spot predicate_place
+unfolding look spot holds predicate_spot predicate_index
 test_bit = (refl, refl, refl)
 
 -- p0 is not written.
 predicate_zero :
     (run 0 (op.Cmp false Eq Normal 0 7 1 1) registers ≡ falls (SetPredicate 7 false ∷ []) memory)
     × (run 0 (op.Cmp false Eq Normal 6 0 1 1) registers ≡ falls (SetPredicate 6 true ∷ []) memory)
-unfolding look spot holds predicate_spot predicate_place
+unfolding look spot holds predicate_spot predicate_index
 predicate_zero = (refl, refl)
 
 -- p16 and p63 stand elsewhere under a rename base of 1.
 predicate_renamed : run 0 (op.Cmp false Eq Normal 16 63 1 1) (record registers { frame = record zero_frame { rrbs = record zero_bases { pr = 1 } } }) ≡ falls (SetPredicate 17 true ∷ SetPredicate 16 false ∷ []) memory
-unfolding look spot holds predicate_spot predicate_place
+unfolding look spot holds predicate_spot predicate_index
 predicate_renamed = refl
 
 -- Computations.
@@ -192,7 +192,7 @@ outside_frame :
     × (run 0 (op.Alu alu_fn.Add 4 32 2) registers ≡ faults OutOfFrame memory)
     × (run 0 (op.Alu alu_fn.Add 4 1 32) registers ≡ faults OutOfFrame memory)
     × (run 2 (op.Alu alu_fn.Add 32 1 2) registers ≡ nothing)
-unfolding look spot holds predicate_place
+unfolding look spot holds predicate_index
 outside_frame = (refl, refl, refl, refl)
 
 -- 3 - 5, and 3 - 5 - 1
@@ -265,7 +265,7 @@ relations :
     × (run_at 0 (op.CmpImm false Ltu Normal 6 7 (negsuc 0) 1) ≡ both false true)
     × (run_at 0 (op.CmpImm false Lt Normal 6 7 (negsuc 0) 1) ≡ both true false)
     × (run_at 0 (op.CmpZero false Gt Or 6 7 1) ≡ nothing)
-unfolding look spot holds predicate_spot predicate_place
+unfolding look spot holds predicate_spot predicate_index
 relations = (refl, refl, refl, refl, refl, refl)
 
 -- Nothing is carried from lane to lane. Lanes are compared as signed numbers, and the result of a NaT is one.
@@ -358,14 +358,14 @@ stays ws = falls ws memory
 conditional :
     (loop Cond 1 5 5 ≡ takes [])
     × (loop Cond 2 5 5 ≡ stays [])
-unfolding look spot holds predicate_place rotated
+unfolding look spot holds predicate_index rotated
 conditional = (refl, refl)
 
 -- by LC 1 and LC 0
 simple :
     (loop Cloop 0 1 5 ≡ takes (SetLc 0 ∷ []))
     × (loop Cloop 0 0 5 ≡ stays [])
-unfolding look spot holds predicate_place rotated
+unfolding look spot holds predicate_index rotated
 simple = (refl, refl)
 
 -- by LC 1, and by EC 2, 1 and 0 with LC 0
@@ -374,7 +374,7 @@ counted_top :
     × (loop Ctop 0 0 2 ≡ takes (SetEc 1 ∷ SetPredicate 16 false ∷ rotates ∷ []))
     × (loop Ctop 0 0 1 ≡ stays (SetEc 0 ∷ SetPredicate 16 false ∷ rotates ∷ []))
     × (loop Ctop 0 0 0 ≡ stays (SetPredicate 16 false ∷ []))
-unfolding look spot holds predicate_place rotated
+unfolding look spot holds predicate_index rotated
 counted_top = (refl, refl, refl, refl)
 
 counted_exit :
@@ -382,7 +382,7 @@ counted_exit :
     × (loop Cexit 0 0 2 ≡ stays (SetEc 1 ∷ SetPredicate 16 false ∷ rotates ∷ []))
     × (loop Cexit 0 0 1 ≡ takes (SetEc 0 ∷ SetPredicate 16 false ∷ rotates ∷ []))
     × (loop Cexit 0 0 0 ≡ takes (SetPredicate 16 false ∷ []))
-unfolding look spot holds predicate_place rotated
+unfolding look spot holds predicate_index rotated
 counted_exit = (refl, refl, refl, refl)
 
 -- by a qualifying predicate that is 1, and by EC 2, 1 and 0 with one that is 0, whatever LC is
@@ -391,7 +391,7 @@ while_top :
     × (loop Wtop 2 5 2 ≡ takes (SetEc 1 ∷ SetPredicate 16 false ∷ rotates ∷ []))
     × (loop Wtop 2 5 1 ≡ stays (SetEc 0 ∷ SetPredicate 16 false ∷ rotates ∷ []))
     × (loop Wtop 2 5 0 ≡ stays (SetPredicate 16 false ∷ []))
-unfolding look spot holds predicate_place rotated
+unfolding look spot holds predicate_index rotated
 while_top = (refl, refl, refl, refl)
 
 while_exit :
@@ -399,7 +399,7 @@ while_exit :
     × (loop Wexit 2 5 2 ≡ stays (SetEc 1 ∷ SetPredicate 16 false ∷ rotates ∷ []))
     × (loop Wexit 2 5 1 ≡ takes (SetEc 0 ∷ SetPredicate 16 false ∷ rotates ∷ []))
     × (loop Wexit 2 5 0 ≡ takes (SetPredicate 16 false ∷ []))
-unfolding look spot holds predicate_place rotated
+unfolding look spot holds predicate_index rotated
 while_exit = (refl, refl, refl, refl)
 
 -- Without a rotating part the base of general registers stays 0.
@@ -417,7 +417,7 @@ allocated_name :
     (alloc 32 8 4 1 zero_frame ≡ falls (SetFrame Resized (record zero_frame { sof = 8; sol = 4; sor = 1 }) ∷ SetCell 0 (cell 77) ∷ []) memory)
     × (alloc 39 4 4 0 (record zero_frame { sof = 8 }) ≡ faults OutOfFrame memory)
     × (alloc 32 8 4 1 (record zero_frame { base = 5; sof = 8; sor = 1; rrbs = record zero_bases { gr = 3 } }) ≡ falls (SetFrame Resized (record { base = 5; sof = 8; sol = 4; sor = 1; rrbs = record zero_bases { gr = 3 } }) ∷ SetCell 8 (cell 77) ∷ []) memory)
-unfolding look spot holds frame_place has_zero_bases
+unfolding look spot holds frame_index has_zero_bases
 allocated_name = (refl, refl, refl)
 
 -- The rotating part stays the same where a base is not 0, and there are at most STACK_LIMIT cells.
@@ -425,7 +425,7 @@ allocated_faults :
     (alloc 32 16 4 2 (record zero_frame { sof = 8; sor = 1; rrbs = record zero_bases { pr = 1 } }) ≡ faults ReservedField memory)
     × (alloc 32 8 4 0 (record zero_frame { base = 65529 }) ≡ faults StackLimit memory)
     × (alloc 32 7 4 0 (record zero_frame { base = 65529 }) ≡ falls (SetFrame Resized (record zero_frame { base = 65529; sof = 7; sol = 4 }) ∷ SetCell 65529 (cell 77) ∷ []) memory)
-unfolding look spot holds frame_place has_zero_bases
+unfolding look spot holds frame_index has_zero_bases
 allocated_faults = (refl, refl, refl)
 
 -- sof 8, sol 5, sor 1, and the bases 3, 2 and 1
@@ -467,7 +467,7 @@ cleared_bases = (refl, refl)
 
 -- The ALAT. Its oldest entry comes first.
 
-abbrev entry : AlatKey → ℕ → ℕ → AlatEntry
+abbrev entry : Spot → ℕ → ℕ → AlatEntry
 entry key address size = record { key = key; address = address; size = size }
 
 -- so many entries, of the cells from the n-th on
@@ -484,7 +484,7 @@ entries_kept :
     (enter_each (many 32 0) [] ≡ many 32 0)
     × (enter_each (many 33 0) [] ≡ many 32 1)
     × (entered (many 32 0) (entry (Stacked 0) 0x100008 4) ≡ many 31 1 ++ entry (Stacked 0) 0x100008 4 ∷ [])
-unfolding entered forgotten
+unfolding entered invalidated
 entries_kept = (refl, refl, refl)
 
 -- a memory with an entry of r4, of eight bytes at this address
@@ -515,7 +515,7 @@ loads_entering :
     (load_at load.A (cell 0x100000) memory 0 ≡ falls (SetStatic 2 (cell 0x0807_0605_0403_0201) ∷ []) (record memory { alat = entry (Static 2) 0x100000 8 ∷ [] }))
     × (load_at load.Sa (cell 0x100000) memory 0 ≡ falls (SetStatic 2 (cell 0x0807_0605_0403_0201) ∷ []) (record memory { alat = entry (Static 2) 0x100000 8 ∷ [] }))
     × (load_at load.Plain (cell 0x100000) memory 0 ≡ falls (SetStatic 2 (cell 0x0807_0605_0403_0201) ∷ []) memory)
-unfolding look spot holds access_fault loaded forgotten entered has_hit
+unfolding look spot holds access_fault loaded invalidated entered has_hit
 loads_entering = (refl, refl, refl)
 
 -- an entry of r2 at this address
@@ -527,22 +527,22 @@ check_hits :
     (load_at load.CNc (cell 3) (with_target 3) 0 ≡ falls [] (with_target 3))
     × (load_at load.CClr (cell 3) (with_target 3) 0 ≡ falls [] memory)
     × (load_at load.CClrAcq (cell 3) (with_target 3) 0 ≡ falls [] memory)
-unfolding look spot holds access_fault loaded forgotten entered has_hit
+unfolding look spot holds access_fault loaded invalidated entered has_hit
 check_hits = (refl, refl, refl)
 
 check_misses :
     (load_at load.CNc (cell 0x100008) (with_target 0x100000) 0 ≡ falls (SetStatic 2 (cell 0x100f_0e0d_0c0b_0a09) ∷ []) (with_target 0x100008))
     × (load_at load.CClr (cell 0x100008) (with_target 0x100000) 0 ≡ falls (SetStatic 2 (cell 0x100f_0e0d_0c0b_0a09) ∷ []) memory)
     × (load_at load.CClrAcq (cell 3) (with_target 0x100000) 0 ≡ faults Unaligned (with_target 0x100000))
-unfolding look spot holds access_fault loaded forgotten entered has_hit
+unfolding look spot holds access_fault loaded invalidated entered has_hit
 check_misses = (refl, refl, refl)
 
--- chk.a branches where there is no entry, and on a hit its `clr` forgets it.
+-- chk.a branches where there is no entry, and on a hit its `clr` invalidates it.
 checks :
     (run_with (op.ChkA false 4 (pos 2)) zero_cell memory 0 ≡ takes [])
     × (run_with (op.ChkA false 4 (pos 2)) zero_cell (with_entry 0x100000) 0 ≡ falls [] (with_entry 0x100000))
     × (run_with (op.ChkA true 4 (pos 2)) zero_cell (with_entry 0x100000) 0 ≡ falls [] memory)
-unfolding look spot holds access_fault loaded forgotten entered has_hit has_entry
+unfolding look spot holds access_fault loaded invalidated entered has_hit has_entry
 checks = (refl, refl, refl)
 
 -- Spills, fills and deferred loads.
@@ -566,14 +566,14 @@ spilled_bit = (refl, refl, refl)
 filled :
     (load_at load.Fill (cell 0x100008) memory 2 ≡ falls (SetStatic 2 (nat_cell 0x100f_0e0d_0c0b_0a09) ∷ []) memory)
     × (load_at load.Fill (cell 0x100008) memory 0xffff_ffff_ffff_fffd ≡ falls (SetStatic 2 (cell 0x100f_0e0d_0c0b_0a09) ∷ []) memory)
-unfolding look spot holds access_fault loaded forgotten entered has_hit
+unfolding look spot holds access_fault loaded invalidated entered has_hit
 filled = (refl, refl)
 
 -- r2 becomes 0 with NaT
 abbrev defers : List Write → Memory → Outcome
 defers ws m = falls (SetStatic 2 (nat_cell 0) ∷ ws) m
 
--- A NaT address, an address that is not a multiple of 8, and bytes that are not data. A deferred `sa` forgets its target, and `s` does not.
+-- A NaT address, an address that is not a multiple of 8, and bytes that are not data. A deferred `sa` invalidates its target, and `s` does not.
 deferred_loads :
     (load_at load.S (nat_cell 0x100000) memory 0 ≡ defers [] memory)
     × (load_at load.S (cell 0x100001) memory 0 ≡ defers [] memory)
@@ -581,7 +581,7 @@ deferred_loads :
     × (load_at load.Sa (nat_cell 0x100000) (with_target 0x100000) 0 ≡ defers [] memory)
     × (load_at load.Sa (cell 0x100001) (with_target 0x100000) 0 ≡ defers [] memory)
     × (load_at load.S (cell 0x100001) (with_target 0x100000) 0 ≡ defers [] (with_target 0x100000))
-unfolding look spot holds access_fault loaded forgotten entered has_hit
+unfolding look spot holds access_fault loaded invalidated entered has_hit
 deferred_loads = (refl, refl, refl, refl, refl, refl)
 
 load_faults :
@@ -589,7 +589,7 @@ load_faults :
     × (load_at load.Plain (cell 0xffff9) memory 0 ≡ faults Unaligned memory)
     × (load_at load.Plain (cell 0xffff8) memory 0 ≡ faults BadAddress memory)
     × (load_at load.CNc (nat_cell 3) (with_target 3) 0 ≡ faults NatConsumed (with_target 3))
-unfolding look spot holds access_fault loaded forgotten entered has_hit
+unfolding look spot holds access_fault loaded invalidated entered has_hit
 load_faults = (refl, refl, refl, refl)
 
 -- The base is updated where the load is deferred too, and with a register the NaT bits meet.
@@ -597,7 +597,7 @@ deferred_update :
     (run_with (op.Load 8 load.S 0 2 4 (update.Imm (negsuc 0))) (cell 0x100001) memory 0 ≡ defers (SetStatic 4 (cell 0x100000) ∷ []) memory)
     × (run_with (op.Load 8 load.S 0 2 4 (update.Reg 1)) (nat_cell 0x100000) memory 0 ≡ defers (SetStatic 4 (nat_cell 0x100003) ∷ []) memory)
     × (run_with (op.Load 8 load.Plain 0 2 4 (update.Reg 3)) (cell 0x100000) memory 0 ≡ falls (SetStatic 2 (cell 0x0807_0605_0403_0201) ∷ SetStatic 4 (nat_cell 0x100007) ∷ []) memory)
-unfolding look spot holds access_fault loaded forgotten entered has_hit
+unfolding look spot holds access_fault loaded invalidated entered has_hit
 deferred_update = (refl, refl, refl)
 
 -- Exchanges. Of a register or a sum the low bytes are stored, and the target, which may be the base, gets what was there.
@@ -739,7 +739,7 @@ emptied :
     (run_with op.Invala zero_cell (with_entry 0x100000) 0 ≡ falls [] memory)
     × (run_with (op.InvalaE 4) zero_cell (with_entry 0x100000) 0 ≡ falls [] memory)
     × (run_with (op.InvalaE 2) zero_cell (with_entry 0x100000) 0 ≡ falls [] (with_entry 0x100000))
-unfolding look spot holds forgotten
+unfolding look spot holds invalidated
 emptied = (refl, refl, refl)
 
 does_nothing :
@@ -778,7 +778,7 @@ loops_skipped :
     (run 2 (op.Br Cloop 0 false false (pos 1)) (record registers { lc = 1 }) ≡ nothing)
     × (run 2 (op.Br Ctop 0 false false (pos 1)) (record registers { lc = 1 }) ≡ nothing)
     × (run 2 (op.Br Wtop 0 false false (pos 1)) (record registers { lc = 1 }) ≡ falls (SetPredicate 63 false ∷ []) memory)
-unfolding holds predicate_place
+unfolding holds predicate_index
 loops_skipped = (refl, refl, refl)
 
 -- The resident range. A call past 96 cells spills, and a return below the first resident cell fills.

@@ -16,9 +16,9 @@ use Rattle.ia_program.specs.declared.ending.FaultKind.{FaultKind}
 use Rattle.ia_program.specs.declared.ending.FaultKind.TheVariants.{OutOfFrame, NatConsumed, ReservedField, StackLimit}
 use Rattle.ia_meaning.specs.declared.state.Cell.{Cell}
 use Rattle.ia_meaning.specs.declared.state.FrameShape.{FrameShape}
-use Rattle.ia_meaning.specs.declared.state.AlatKey.{AlatKey as Spot}
+use Rattle.ia_meaning.specs.declared.state.Spot.{Spot}
 use Rattle.ia_meaning.specs.declared.state.AlatEntry.{AlatEntry}
-use Rattle.ia_meaning.specs.declared.action.Goal.TheVariants.{Direct, Indirect}
+use Rattle.ia_meaning.specs.declared.action.CallTarget.TheVariants.{Direct, Indirect}
 use Rattle.ia_meaning.specs.State.{zero_cell, Registers, Memory}
 use Rattle.ia_meaning.specs.declared.write.Write.{Write}
 use Rattle.ia_meaning.specs.declared.write.Write.TheVariants.{SetBranch, SetUnat, SetPfs, SetLc, SetEc, SetFrame}
@@ -26,10 +26,10 @@ use Rattle.ia_meaning.specs.declared.write.FrameCause.TheVariants.{Resized, Rena
 use Rattle.ia_meaning.specs.Names.{spot, look, holds, predicate_spot, set_spot, set_predicate}
 use Rattle.ia_meaning.specs.Outcomes.{Outcome, falls, goes, breaks, faults, faults_or}
 use Rattle.ia_meaning.specs.declared.action.Action.{Action}
-use Rattle.ia_meaning.specs.declared.action.Action.TheVariants.{Compute, Fetch, Test, ToPredicates, ToBranch, ToApplication, FromMemory, ToMemory, Exchange, CheckNat, CheckAlat, ForgetAll, Forget, Allocate, Jump, JumpIndirect, Loop, Call, Return, ClearBases, Stop, Idle}
+use Rattle.ia_meaning.specs.declared.action.Action.TheVariants.{Compute, Fetch, Test, ToPredicates, ToBranch, ToApplication, FromMemory, ToMemory, Exchange, CheckNat, CheckAlat, InvalidateAll, Invalidate, Allocate, Jump, JumpIndirect, Loop, Call, Return, ClearBases, Stop, Idle}
 use Rattle.ia_meaning.specs.Actions.{value_of, result_of, moved}
 use Rattle.ia_meaning.specs.Moves.{computed, fetched, source_value, test_writes, test_made, test_skipped, predicate_writes, to_predicates, to_branch, has_reserved_zeros, application_written, to_application}
-use Rattle.ia_meaning.specs.Loads.{access_fault, loaded, forgotten, has_hit, has_entry, update_register, base_writes, is_speculative, is_check, load_alat, load_nat, deferred, load_hit, load_failed, load_tried, load_checked, from_memory, takes_nat, store_made, to_memory, exchange_made, exchange, check_nat, check_alat, forget}
+use Rattle.ia_meaning.specs.Loads.{access_fault, loaded, invalidated, has_hit, has_entry, update_register, base_writes, is_speculative, is_check, load_alat, load_nat, deferred, load_hit, load_failed, load_tried, load_checked, from_memory, takes_nat, store_made, to_memory, exchange_made, exchange, check_nat, check_alat, invalidate}
 use Rattle.ia_meaning.specs.Frames.{with_sizes, has_zero_bases, allocated, cleared, epilog_of, call_writes, lands, marked_frame, return_fault, returned_frame}
 use Rattle.ia_meaning.specs.Loops.{turn_of, turn_writes, turned}
 use Rattle.ia_meaning.specs.declared.turn.Turn.{Turn}
@@ -41,14 +41,14 @@ abbrev pub Fails : (Outcome → Type 0) → Memory → Type 0
 Fails Q m = (kind : FaultKind) → Q (faults kind m)
 
 -- the entries as they were, or without those of a register
-abbrev pub MayForget : List AlatEntry → Spot → List AlatEntry → Type 0
-MayForget es d left = (left ≡ es) ⊎ (left ≡ forgotten es d)
+abbrev pub MayInvalidate : List AlatEntry → Spot → List AlatEntry → Type 0
+MayInvalidate es d left = (left ≡ es) ⊎ (left ≡ invalidated es d)
 
 -- Of a load whose registers are found.
 pub record LoadCases (Q : Outcome → Type 0) (kind : LoadKind) (base : Cell) (e : AlatEntry) (m : Memory) (unat : ℕ) (ws : List Write) : Type 0 where
   pub loads : base.nat ≡ false → access_fault m.bytes e.address e.size ≡ None → Q (falls (set_spot e.key (record { value = loaded m.bytes e.address e.size; nat = load_nat kind e.address unat }) ws) (record m { alat = load_alat kind e m.alat }))
-  pub defers : is_speculative kind ≡ true → (es : List AlatEntry) → MayForget m.alat e.key es → Q (falls (set_spot e.key (record { value = 0; nat = true }) ws) (record m { alat = es }))
-  pub hits : base.nat ≡ false → is_check kind ≡ true → has_hit m.alat e ≡ true → (es : List AlatEntry) → MayForget m.alat e.key es → Q (falls ws (record m { alat = es }))
+  pub defers : is_speculative kind ≡ true → (es : List AlatEntry) → MayInvalidate m.alat e.key es → Q (falls (set_spot e.key (record { value = 0; nat = true }) ws) (record m { alat = es }))
+  pub hits : base.nat ≡ false → is_check kind ≡ true → has_hit m.alat e ≡ true → (es : List AlatEntry) → MayInvalidate m.alat e.key es → Q (falls ws (record m { alat = es }))
 
 -- Of a move of x to an application register.
 abbrev pub ApplicationCases : (Outcome → Type 0) → Ar → ℕ → Memory → Type 0
@@ -106,11 +106,11 @@ ActCases Q s (CheckNat r2 disp) r m unat =
 ActCases Q s (CheckAlat clear r1 disp) r m unat =
     Fails Q m
     × ((d : Spot) → spot r.frame r1 ≡ Some d → has_entry m.alat d ≡ false → Q (goes [] m (target_of s.bundle disp)))
-    × ((d : Spot) → spot r.frame r1 ≡ Some d → has_entry m.alat d ≡ true → (es : List AlatEntry) → MayForget m.alat d es → Q (falls [] (record m { alat = es })))
-ActCases Q s ForgetAll r m unat = Q (falls [] (record m { alat = [] }))
-ActCases Q s (Forget r1) r m unat =
+    × ((d : Spot) → spot r.frame r1 ≡ Some d → has_entry m.alat d ≡ true → (es : List AlatEntry) → MayInvalidate m.alat d es → Q (falls [] (record m { alat = es })))
+ActCases Q s InvalidateAll r m unat = Q (falls [] (record m { alat = [] }))
+ActCases Q s (Invalidate r1) r m unat =
     Fails Q m
-    × ((d : Spot) → spot r.frame r1 ≡ Some d → Q (falls [] (record m { alat = forgotten m.alat d })))
+    × ((d : Spot) → spot r.frame r1 ≡ Some d → Q (falls [] (record m { alat = invalidated m.alat d })))
 ActCases Q s (Allocate r1 sof sol sor) r m unat =
     Fails Q m
     × ((d : Spot) → spot (with_sizes r.frame sof sol sor) r1 ≡ Some d
@@ -184,8 +184,8 @@ case_application Q ar f (Some a) m h k = either Q a.nat _ _ (λ _. h NatConsumed
 case_application Q ar f None m h k = h OutOfFrame
 
 case_deferred : (Q : Outcome → Type 0) (kind : LoadKind) (d : Spot) (m : Memory) (ws : List Write)
-    → ((es : List AlatEntry) → MayForget m.alat d es → Q (falls (set_spot d (record { value = 0; nat = true }) ws) (record m { alat = es }))) → Q (deferred kind d m ws)
-case_deferred Q load.Sa d m ws h = h (forgotten m.alat d) (inr refl)
+    → ((es : List AlatEntry) → MayInvalidate m.alat d es → Q (falls (set_spot d (record { value = 0; nat = true }) ws) (record m { alat = es }))) → Q (deferred kind d m ws)
+case_deferred Q load.Sa d m ws h = h (invalidated m.alat d) (inr refl)
 case_deferred Q _ d m ws h = h m.alat (inl refl)
 
 case_failed : (Q : Outcome → Type 0) (cause : FaultKind) (kind : LoadKind) (base : Cell) (e : AlatEntry) (m : Memory) (unat : ℕ) (ws : List Write)
@@ -193,9 +193,9 @@ case_failed : (Q : Outcome → Type 0) (cause : FaultKind) (kind : LoadKind) (ba
 case_failed Q cause kind base e m unat ws h k = either Q (is_speculative kind) _ _ (λ s. case_deferred Q kind e.key m ws (k.defers s)) (λ _. h cause)
 
 case_hit : (Q : Outcome → Type 0) (kind : LoadKind) (d : Spot) (m : Memory) (ws : List Write)
-    → ((es : List AlatEntry) → MayForget m.alat d es → Q (falls ws (record m { alat = es }))) → Q (load_hit kind d m ws)
+    → ((es : List AlatEntry) → MayInvalidate m.alat d es → Q (falls ws (record m { alat = es }))) → Q (load_hit kind d m ws)
 case_hit Q load.CNc d m ws h = h m.alat (inl refl)
-case_hit Q _ d m ws h = h (forgotten m.alat d) (inr refl)
+case_hit Q _ d m ws h = h (invalidated m.alat d) (inr refl)
 
 case_tried : (Q : Outcome → Type 0) (o : Option FaultKind) (kind : LoadKind) (base : Cell) (e : AlatEntry) (m : Memory) (unat : ℕ) (ws : List Write)
     → access_fault m.bytes e.address e.size ≡ o → base.nat ≡ false → Fails Q m → LoadCases Q kind base e m unat ws → Q (load_tried o kind e m unat ws)
@@ -253,21 +253,21 @@ case_check_nat : (Q : Outcome → Type 0) (bundle : ℕ) (x : Option Cell) (m : 
 case_check_nat Q bundle (Some a) m h k l = either Q a.nat _ _ (k a refl) (l a refl)
 case_check_nat Q bundle None m h k l = h OutOfFrame
 
-case_clear : (Q : Outcome → Type 0) (clear : Bool) (d : Spot) (m : Memory) → ((es : List AlatEntry) → MayForget m.alat d es → Q (falls [] (record m { alat = es })))
-    → Q (falls [] (if clear then record m { alat = forgotten m.alat d } else m))
-case_clear Q true d m h = h (forgotten m.alat d) (inr refl)
+case_clear : (Q : Outcome → Type 0) (clear : Bool) (d : Spot) (m : Memory) → ((es : List AlatEntry) → MayInvalidate m.alat d es → Q (falls [] (record m { alat = es })))
+    → Q (falls [] (if clear then record m { alat = invalidated m.alat d } else m))
+case_clear Q true d m h = h (invalidated m.alat d) (inr refl)
 case_clear Q false d m h = h m.alat (inl refl)
 
 case_check_alat : (Q : Outcome → Type 0) (clear : Bool) (bundle : ℕ) (o : Option Spot) (m : Memory) → Fails Q m
     → ((d : Spot) → o ≡ Some d → has_entry m.alat d ≡ false → Q (goes [] m bundle))
-    → ((d : Spot) → o ≡ Some d → has_entry m.alat d ≡ true → (es : List AlatEntry) → MayForget m.alat d es → Q (falls [] (record m { alat = es })))
+    → ((d : Spot) → o ≡ Some d → has_entry m.alat d ≡ true → (es : List AlatEntry) → MayInvalidate m.alat d es → Q (falls [] (record m { alat = es })))
     → Q (check_alat clear bundle o m)
 case_check_alat Q clear bundle (Some d) m h k l = either Q (has_entry m.alat d) _ _ (λ t. case_clear Q clear d m (l d refl t)) (k d refl)
 case_check_alat Q clear bundle None m h k l = h OutOfFrame
 
-case_forget : (Q : Outcome → Type 0) (o : Option Spot) (m : Memory) → Fails Q m → ((d : Spot) → o ≡ Some d → Q (falls [] (record m { alat = forgotten m.alat d }))) → Q (forget o m)
-case_forget Q (Some d) m h k = k d refl
-case_forget Q None m h k = h OutOfFrame
+case_invalidate : (Q : Outcome → Type 0) (o : Option Spot) (m : Memory) → Fails Q m → ((d : Spot) → o ≡ Some d → Q (falls [] (record m { alat = invalidated m.alat d }))) → Q (invalidate o m)
+case_invalidate Q (Some d) m h k = k d refl
+case_invalidate Q None m h k = h OutOfFrame
 
 same_or_zero : (a b : ℕ) (t : Bool) → (not (a == b) && not t) ≡ false → (a ≡ b) ⊎ (t ≡ true)
 same_or_zero a b true h = inr refl
@@ -309,8 +309,8 @@ act_cases Q s (ToMemory size kind r3 r2 u) r m unat h = case_store Q size kind u
 act_cases Q s (Exchange size r1 r3 r2 inc) r m unat h = case_exchange Q size inc (spot r.frame r1) (look r r3) (look r r2) m h.0 h.1
 act_cases Q s (CheckNat r2 disp) r m unat h = case_check_nat Q (target_of s.bundle disp) (look r r2) m h.0 h.1 h.2
 act_cases Q s (CheckAlat clear r1 disp) r m unat h = case_check_alat Q clear (target_of s.bundle disp) (spot r.frame r1) m h.0 h.1 h.2
-act_cases Q s ForgetAll r m unat h = h
-act_cases Q s (Forget r1) r m unat h = case_forget Q (spot r.frame r1) m h.0 h.1
+act_cases Q s InvalidateAll r m unat h = h
+act_cases Q s (Invalidate r1) r m unat h = case_invalidate Q (spot r.frame r1) m h.0 h.1
 act_cases Q s (Allocate r1 sof sol sor) r m unat h =
     case_allocated Q r.frame (with_sizes r.frame sof sol sor) (spot (with_sizes r.frame sof sol sor) r1) r.pfs m h.0 h.1
 act_cases Q s (Jump disp) r m unat h = h

@@ -25,6 +25,6 @@ pub mod DataAccesses
 pub mod WriteLists
 pub mod Views
 pub mod Spots
-pub mod PredicatePlaces
+pub mod PredicateIndexes
 pub mod StepHere
 pub mod ListedNames

@@ -3,7 +3,7 @@ use Rattle.std.proofs.Common.{◌≡◌, ◌<◌, ℕ, arith}
 use Rattle.std.proofs.lemmas.Bool.Decides.{nat_tests}
 use Rattle.std.specs.Prelude.{Some}
 use Rattle.ia_meaning.specs.declared.state.FrameShape.{FrameShape}
-use Rattle.ia_meaning.specs.declared.state.AlatKey.TheVariants.{Static}
+use Rattle.ia_meaning.specs.declared.state.Spot.TheVariants.{Static}
 use Rattle.ia_meaning.specs.Names.{spot}
 
 -- a static register stands at its own number

@@ -6,7 +6,7 @@ use Rattle.ia_meaning.specs.declared.state.FrameShape.{FrameShape}
 use Rattle.ia_meaning.specs.declared.action.Action.{Action}
 use Rattle.ia_meaning.specs.declared.action.Action.TheVariants as action
 use Rattle.ia_meaning.specs.State.{Registers}
-use Rattle.ia_meaning.specs.Names.{predicate_place}
+use Rattle.ia_meaning.specs.Names.{predicate_index}
 use Rattle.ia_meaning.specs.Actions.{is_branch, insn_action}
 use Rattle.ia_meaning.specs.Views.{sees_static, sees_predicate, sees_branch, sees_pfs, seen_in, view}
 
@@ -39,7 +39,7 @@ length_seen sees n (x ∷ base) (y ∷ now) = ap suc (length_seen sees (suc n) b
 -- what is no branch sees nothing of earlier slots
 sees_no_branch : (f : Action) (b : ℕ) → is_branch f ≡ false → sees_branch f b ≡ false
 sees_no_branch (action.JumpIndirect b2) b e = absurd (true≢false e)
-sees_no_branch (action.Call b1 goal) b e = absurd (true≢false e)
+sees_no_branch (action.Call b1 callee) b e = absurd (true≢false e)
 sees_no_branch (action.Return b2) b e = absurd (true≢false e)
 sees_no_branch f b e = refl
 
@@ -49,12 +49,12 @@ sees_no_pfs f e = refl
 
 sees_no_static : (f : Action) (n : ℕ) → is_branch f ≡ false → sees_static f n ≡ false
 sees_no_static (action.JumpIndirect b2) n e = absurd (true≢false e)
-sees_no_static (action.Call b1 goal) n e = absurd (true≢false e)
+sees_no_static (action.Call b1 callee) n e = absurd (true≢false e)
 sees_no_static (action.Return b2) n e = absurd (true≢false e)
 sees_no_static f n e = refl
 
 sees_no_predicate : (insn : Insn) (f : FrameShape) (n : ℕ) → is_branch (insn_action insn) ≡ false → sees_predicate insn f n ≡ false
-sees_no_predicate insn f n e = ap (λ b. (b && (n == predicate_place f insn.qp)) || sees_static (insn_action insn) n) e ∙ sees_no_static (insn_action insn) n e
+sees_no_predicate insn f n e = ap (λ b. (b && (n == predicate_index f insn.qp)) || sees_static (insn_action insn) n) e ∙ sees_no_static (insn_action insn) n e
 
 -- so it sees the registers of the start
 pub view_plain : (insn : Insn) (now base : Registers) → is_branch (insn_action insn) ≡ false → view insn now base ≡ base

@@ -13,7 +13,7 @@ use Rattle.ia_insn.specs.declared.insn.Op.{Op}
 use Rattle.ia_insn.specs.declared.insn.Op.TheVariants as op
 use Rattle.ia_meaning.specs.declared.state.Cell.{Cell}
 use Rattle.ia_meaning.specs.declared.action.FetchSource.TheVariants as source
-use Rattle.ia_meaning.specs.declared.action.Goal.TheVariants as goal
+use Rattle.ia_meaning.specs.declared.action.CallTarget.TheVariants as callee
 use Rattle.ia_meaning.specs.declared.action.Function.{Function}
 use Rattle.ia_meaning.specs.declared.action.Function.TheVariants as function
 use Rattle.ia_meaning.specs.declared.action.Condition.{Condition}
@@ -21,7 +21,7 @@ use Rattle.ia_meaning.specs.declared.action.Condition.TheVariants as condition
 use Rattle.ia_meaning.specs.declared.action.MovedWord.{MovedWord}
 use Rattle.ia_meaning.specs.declared.action.MovedWord.TheVariants as word
 use Rattle.ia_meaning.specs.declared.action.Action.{Action}
-use Rattle.ia_meaning.specs.declared.action.Action.TheVariants.{Compute, Fetch, Test, ToPredicates, ToBranch, ToApplication, FromMemory, ToMemory, Exchange, CheckNat, CheckAlat, ForgetAll, Forget, Allocate, Jump, JumpIndirect, Loop, Call, Return, ClearBases, Stop, Idle}
+use Rattle.ia_meaning.specs.declared.action.Action.TheVariants.{Compute, Fetch, Test, ToPredicates, ToBranch, ToApplication, FromMemory, ToMemory, Exchange, CheckNat, CheckAlat, InvalidateAll, Invalidate, Allocate, Jump, JumpIndirect, Loop, Call, Return, ClearBases, Stop, Idle}
 use Rattle.ia_meaning.specs.Arithmetic.{immediate, alu, shift_add, shift, shift_pair, extract, deposit, extend, compared, bit, tested}
 use Rattle.ia_meaning.specs.Lanes.{lanes}
 
@@ -48,9 +48,9 @@ action_of (op.ShlAdd p4 r1 r2 count r3) = Compute r1 r2 r3 (function.ShiftAdd p4
 action_of (op.AluImm8 f r1 imm r3) = Compute r1 0 r3 (function.AluImmediate f imm)
 action_of (op.AddImm14 p4 r1 imm r3) = Compute r1 0 r3 (function.AluImmediate (addition p4) imm)
 action_of (op.AddImm22 r1 imm r3) = Compute r1 0 r3 (function.AluImmediate Add imm)
-action_of (op.Cmp four rel kind p1 p2 r2 r3) = Test kind p1 p2 r2 r3 (condition.Compare four rel)
-action_of (op.CmpZero four rel kind p1 p2 r3) = Test kind p1 p2 0 r3 (condition.Compare four rel)
-action_of (op.CmpImm four rel kind p1 p2 imm r3) = Test kind p1 p2 0 r3 (condition.CompareImmediate four rel imm)
+action_of (op.Cmp four_bytes rel kind p1 p2 r2 r3) = Test kind p1 p2 r2 r3 (condition.Compare four_bytes rel)
+action_of (op.CmpZero four_bytes rel kind p1 p2 r3) = Test kind p1 p2 0 r3 (condition.Compare four_bytes rel)
+action_of (op.CmpImm four_bytes rel kind p1 p2 imm r3) = Test kind p1 p2 0 r3 (condition.CompareImmediate four_bytes rel imm)
 action_of (op.Lane f size r1 r2 r3) = Compute r1 r2 r3 (function.Lanes f size)
 -- I
 action_of (op.ShiftVar f r1 value count) = Compute r1 value count (function.Shift f)
@@ -80,16 +80,16 @@ action_of (op.Store size kind hint r3 r2 update) = ToMemory size kind r3 r2 upda
 action_of (op.Xchg size hint r1 r3 r2) = Exchange size r1 r3 r2 None
 action_of (op.FetchAdd size release hint r1 r3 inc) = Exchange size r1 r3 0 (Some inc)
 action_of (op.ChkA clear r1 disp) = CheckAlat clear r1 disp
-action_of op.Invala = ForgetAll
+action_of op.Invala = InvalidateAll
 action_of op.Mf = Idle M
-action_of (op.InvalaE r1) = Forget r1
+action_of (op.InvalaE r1) = Invalidate r1
 action_of (op.Alloc r1 sof sol sor) = Allocate r1 sof sol sor
 -- B
 action_of (op.Br kind wh many clr disp) = branch_action kind disp
-action_of (op.BrCall b1 wh many clr disp) = Call b1 (goal.Direct disp)
+action_of (op.BrCall b1 wh many clr disp) = Call b1 (callee.Direct disp)
 action_of (op.BrInd b2 wh many clr) = JumpIndirect b2
 action_of (op.BrRet b2 wh many clr) = Return b2
-action_of (op.BrCallInd b1 b2 wh many clr) = Call b1 (goal.Indirect b2)
+action_of (op.BrCallInd b1 b2 wh many clr) = Call b1 (callee.Indirect b2)
 action_of (op.Clrrrb pred_only) = ClearBases pred_only
 -- X and the common ones
 action_of (op.Movl r1 imm) = Compute r1 0 0 (function.Immediate imm)
@@ -114,8 +114,8 @@ value_of (function.Immediate imm) a b = imm
 
 -- the result of a test of r2 and r3, which may be none
 abbrev pub result_of : Condition → Cell → Cell → Option Bool
-result_of (condition.Compare four rel) a b = tested (compared four rel) a b
-result_of (condition.CompareImmediate four rel imm) a b = tested (λ _ y. compared four rel (immediate imm) y) a b
+result_of (condition.Compare four_bytes rel) a b = tested (compared four_bytes rel) a b
+result_of (condition.CompareImmediate four_bytes rel imm) a b = tested (λ _ y. compared four_bytes rel (immediate imm) y) a b
 result_of (condition.BitIsZero pos) a b = tested (λ _ y. not (bit y pos)) a b
 result_of condition.NatIsZero a b = Some (not b.nat)
 
@@ -140,14 +140,14 @@ abbrev pub is_branch : Action → Bool
 is_branch (Jump disp) = true
 is_branch (JumpIndirect b2) = true
 is_branch (Loop kind disp) = true
-is_branch (Call b1 goal) = true
+is_branch (Call b1 callee) = true
 is_branch (Return b2) = true
 is_branch f = false
 
 -- an indirect branch, a call or a return: it goes where a branch register says
 abbrev pub is_indirect : Action → Bool
 is_indirect (JumpIndirect b2) = true
-is_indirect (Call b1 (goal.Indirect b2)) = true
+is_indirect (Call b1 (callee.Indirect b2)) = true
 is_indirect (Return b2) = true
 is_indirect f = false
 

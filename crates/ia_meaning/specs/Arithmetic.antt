@@ -101,7 +101,7 @@ related width Le a b = int_le (signed_of width a) (signed_of width b)
 
 -- `cmp`, and `cmp4`, which looks at the low 32 bits
 abbrev pub compared : Bool → Rel → ℕ → ℕ → Bool
-compared four rel a b = if four then related 32 rel (a % 2 ^ 32) (b % 2 ^ 32) else related 64 rel a b
+compared four_bytes rel a b = if four_bytes then related 32 rel (a % 2 ^ 32) (b % 2 ^ 32) else related 64 rel a b
 
 -- bit n of a number
 abbrev pub bit : ℕ → ℕ → Bool

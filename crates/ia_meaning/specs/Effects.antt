@@ -3,10 +3,10 @@ use Rattle.std.specs.Prelude.{ℕ, Bool, true, false, if◌then◌else◌, List,
 use Rattle.ia_insn.specs.declared.insn.Insn.{Insn}
 use Rattle.ia_program.specs.declared.ending.FaultKind.{FaultKind}
 use Rattle.ia_program.specs.Programs.{Program}
-use Rattle.ia_meaning.specs.declared.action.Goal.{Goal}
-use Rattle.ia_meaning.specs.declared.action.Goal.TheVariants.{Direct, Indirect}
+use Rattle.ia_meaning.specs.declared.action.CallTarget.{CallTarget}
+use Rattle.ia_meaning.specs.declared.action.CallTarget.TheVariants.{Direct, Indirect}
 use Rattle.ia_meaning.specs.declared.action.Action.{Action}
-use Rattle.ia_meaning.specs.declared.action.Action.TheVariants.{Compute, Fetch, Test, ToPredicates, ToBranch, ToApplication, FromMemory, ToMemory, Exchange, CheckNat, CheckAlat, ForgetAll, Forget, Allocate, Jump, JumpIndirect, Loop, Call, Return, ClearBases, Stop, Idle}
+use Rattle.ia_meaning.specs.declared.action.Action.TheVariants.{Compute, Fetch, Test, ToPredicates, ToBranch, ToApplication, FromMemory, ToMemory, Exchange, CheckNat, CheckAlat, InvalidateAll, Invalidate, Allocate, Jump, JumpIndirect, Loop, Call, Return, ClearBases, Stop, Idle}
 use Rattle.ia_meaning.specs.State.{Registers, Memory}
 use Rattle.ia_meaning.specs.declared.write.Write.{Write}
 use Rattle.ia_meaning.specs.declared.write.Write.TheVariants.{SetFrame}
@@ -15,7 +15,7 @@ use Rattle.ia_meaning.specs.Names.{spot, look, holds, predicate_spot}
 use Rattle.ia_meaning.specs.Actions.{insn_action, value_of, result_of, moved}
 use Rattle.ia_meaning.specs.Outcomes.{Outcome, falls, goes, breaks}
 use Rattle.ia_meaning.specs.Moves.{computed, fetched, source_value, test_made, test_skipped, to_predicates, to_branch, to_application}
-use Rattle.ia_meaning.specs.Loads.{update_register, from_memory, to_memory, exchange, check_nat, check_alat, forget}
+use Rattle.ia_meaning.specs.Loads.{update_register, from_memory, to_memory, exchange, check_nat, check_alat, invalidate}
 use Rattle.ia_meaning.specs.Frames.{with_sizes, allocated, cleared, call_writes, lands, returned}
 use Rattle.ia_meaning.specs.Loops.{turn_of, turned}
 use Rattle.ia_meaning.specs.Landings.{target_of, arrival}
@@ -33,7 +33,7 @@ abbrev pub arrives : Site → Registers → ℕ → Result ℕ FaultKind
 arrives s r b = s.arrival (take 16 r.predicates) (get_or r.branches b 0)
 
 -- a call's writes, and where it goes
-abbrev pub called : Goal → Site → List Write → Registers → Memory → Outcome
+abbrev pub called : CallTarget → Site → List Write → Registers → Memory → Outcome
 called (Direct disp) s ws r m = goes ws m (target_of s.bundle disp)
 called (Indirect b2) s ws r m = lands ws m (arrives s r b2)
 
@@ -53,14 +53,14 @@ act s (ToMemory size kind r3 r2 u) r m unat = to_memory size kind u (spot r.fram
 act s (Exchange size r1 r3 r2 inc) r m unat = exchange size inc (spot r.frame r1) (look r r3) (look r r2) m
 act s (CheckNat r2 disp) r m unat = check_nat (target_of s.bundle disp) (look r r2) m
 act s (CheckAlat clear r1 disp) r m unat = check_alat clear (target_of s.bundle disp) (spot r.frame r1) m
-act s ForgetAll r m unat = falls [] (record m { alat = [] })
-act s (Forget r1) r m unat = forget (spot r.frame r1) m
+act s InvalidateAll r m unat = falls [] (record m { alat = [] })
+act s (Invalidate r1) r m unat = invalidate (spot r.frame r1) m
 act s (Allocate r1 sof sol sor) r m unat =
     allocated r.frame (with_sizes r.frame sof sol sor) (spot (with_sizes r.frame sof sol sor) r1) r.pfs m
 act s (Jump disp) r m unat = goes [] m (target_of s.bundle disp)
 act s (JumpIndirect b2) r m unat = lands [] m (arrives s r b2)
 act s (Loop kind disp) r m unat = turned (turn_of kind true r.lc r.ec) r.frame (target_of s.bundle disp) m
-act s (Call b1 goal) r m unat = called goal s (call_writes s.bundle b1 r.frame r.ec) r m
+act s (Call b1 callee) r m unat = called callee s (call_writes s.bundle b1 r.frame r.ec) r m
 act s (Return b2) r m unat = returned r.frame.base r.pfs (arrives s r b2) m
 act s (ClearBases pred_only) r m unat = falls (SetFrame Renamed (cleared pred_only r.frame) ∷ []) m
 act s (Stop unit imm) r m unat = breaks imm m

@@ -6,7 +6,7 @@ use Rattle.ia_program.specs.declared.ending.FaultKind.{FaultKind}
 use Rattle.ia_program.specs.declared.ending.FaultKind.TheVariants.{OutOfFrame, BadFrame, ReservedField, Underflow, StackLimit}
 use Rattle.ia_program.specs.Addresses.{bundle_address}
 use Rattle.ia_meaning.specs.declared.state.FrameShape.{FrameShape}
-use Rattle.ia_meaning.specs.declared.state.AlatKey.{AlatKey as Spot}
+use Rattle.ia_meaning.specs.declared.state.Spot.{Spot}
 use Rattle.ia_meaning.specs.State.{zero_bases, Memory, IsFrame}
 use Rattle.ia_meaning.specs.declared.write.Write.{Write}
 use Rattle.ia_meaning.specs.declared.write.Write.TheVariants.{SetBranch, SetPfs, SetEc, SetFrame}

@@ -13,8 +13,8 @@ use Rattle.ia_program.specs.declared.ending.FaultKind.TheVariants.{OutOfFrame, N
 use Rattle.ia_program.specs.Addresses.{data_base, data_address}
 use Rattle.ia_meaning.specs.declared.limits.TheConstants.{ALAT_LIMIT}
 use Rattle.ia_meaning.specs.declared.state.Cell.{Cell}
-use Rattle.ia_meaning.specs.declared.state.AlatKey.{AlatKey as Spot}
-use Rattle.ia_meaning.specs.declared.state.AlatKey.TheVariants.{Static, Stacked}
+use Rattle.ia_meaning.specs.declared.state.Spot.{Spot}
+use Rattle.ia_meaning.specs.declared.state.Spot.TheVariants.{Static, Stacked}
 use Rattle.ia_meaning.specs.declared.state.AlatEntry.{AlatEntry}
 use Rattle.ia_meaning.specs.declared.next.Next.TheVariants.{Falls}
 use Rattle.ia_meaning.specs.State.{zero_cell, Memory}
@@ -58,13 +58,13 @@ is_spot (Stacked n) (Stacked k) = n == k
 is_spot d e = false
 
 -- the entries without those of the register
-unfoldable pub forgotten : List AlatEntry → Spot → List AlatEntry
-forgotten [] d = []
-forgotten (e ∷ es) d = if is_spot e.key d then forgotten es d else e ∷ forgotten es d
+unfoldable pub invalidated : List AlatEntry → Spot → List AlatEntry
+invalidated [] d = []
+invalidated (e ∷ es) d = if is_spot e.key d then invalidated es d else e ∷ invalidated es d
 
 -- the newest entry comes last; an entry of the same register goes, and where ALAT_LIMIT are left the oldest goes
 unfoldable pub entered : List AlatEntry → AlatEntry → List AlatEntry
-entered es e = drop (length (forgotten es e.key) - (ALAT_LIMIT - 1)) (forgotten es e.key) ++ e ∷ []
+entered es e = drop (length (invalidated es e.key) - (ALAT_LIMIT - 1)) (invalidated es e.key) ++ e ∷ []
 
 -- an entry's bytes and those of an access don't meet
 abbrev pub is_apart : AlatEntry → ℕ → ℕ → Bool
@@ -116,13 +116,13 @@ is_check load.CNc = true
 is_check load.CClrAcq = true
 is_check kind = false
 
--- what a load leaves in the ALAT: `a`, `sa` and `c.nc` enter the target, and the other checks forget it
+-- what a load leaves in the ALAT: `a`, `sa` and `c.nc` enter the target, and the other checks invalidate it
 abbrev pub load_alat : LoadKind → AlatEntry → List AlatEntry → List AlatEntry
 load_alat load.A e es = entered es e
 load_alat load.Sa e es = entered es e
 load_alat load.CNc e es = entered es e
-load_alat load.CClr e es = forgotten es e.key
-load_alat load.CClrAcq e es = forgotten es e.key
+load_alat load.CClr e es = invalidated es e.key
+load_alat load.CClrAcq e es = invalidated es e.key
 load_alat kind e es = es
 
 -- a fill takes the NaT bit from UNAT
@@ -136,15 +136,15 @@ load_made kind e m unat ws =
     falls (set_spot e.key (record { value = loaded m.bytes e.address e.size; nat = load_nat kind e.address unat }) ws)
     (record m { alat = load_alat kind e m.alat })
 
--- A deferred load writes 0 with NaT; `sa` forgets its target.
+-- A deferred load writes 0 with NaT; `sa` invalidates its target.
 abbrev pub deferred : LoadKind → Spot → Memory → List Write → Outcome
-deferred load.Sa d m ws = falls (set_spot d (record { value = 0; nat = true }) ws) (record m { alat = forgotten m.alat d })
+deferred load.Sa d m ws = falls (set_spot d (record { value = 0; nat = true }) ws) (record m { alat = invalidated m.alat d })
 deferred kind d m ws = falls (set_spot d (record { value = 0; nat = true }) ws) m
 
 -- On a hit the target isn't written; `c.nc` keeps the entry.
 abbrev pub load_hit : LoadKind → Spot → Memory → List Write → Outcome
 load_hit load.CNc d m ws = falls ws m
-load_hit kind d m ws = falls ws (record m { alat = forgotten m.alat d })
+load_hit kind d m ws = falls ws (record m { alat = invalidated m.alat d })
 
 -- a fault is deferred or comes
 abbrev pub load_failed : FaultKind → LoadKind → Spot → Memory → List Write → Outcome
@@ -218,10 +218,10 @@ check_nat bundle None m = faults OutOfFrame m
 -- `chk.a`
 abbrev pub check_alat : Bool → ℕ → Option Spot → Memory → Outcome
 check_alat clear bundle (Some d) m =
-    if has_entry m.alat d then falls [] (if clear then record m { alat = forgotten m.alat d } else m) else goes [] m bundle
+    if has_entry m.alat d then falls [] (if clear then record m { alat = invalidated m.alat d } else m) else goes [] m bundle
 check_alat clear bundle None m = faults OutOfFrame m
 
 -- `invala.e`
-abbrev pub forget : Option Spot → Memory → Outcome
-forget (Some d) m = falls [] (record m { alat = forgotten m.alat d })
-forget None m = faults OutOfFrame m
+abbrev pub invalidate : Option Spot → Memory → Outcome
+invalidate (Some d) m = falls [] (record m { alat = invalidated m.alat d })
+invalidate None m = faults OutOfFrame m

@@ -8,7 +8,7 @@ use Rattle.ia_meaning.specs.State.{Memory}
 use Rattle.ia_meaning.specs.declared.write.Write.{Write}
 use Rattle.ia_meaning.specs.declared.write.Write.TheVariants.{SetPredicate, SetLc, SetEc, SetFrame}
 use Rattle.ia_meaning.specs.declared.write.FrameCause.TheVariants.{Renamed}
-use Rattle.ia_meaning.specs.Names.{predicate_place}
+use Rattle.ia_meaning.specs.Names.{predicate_index}
 use Rattle.ia_meaning.specs.Frames.{rotated}
 use Rattle.ia_meaning.specs.Outcomes.{Outcome, falls, goes}
 
@@ -50,7 +50,7 @@ written f (Some x) ws = f x ∷ ws
 -- p63 is written under the old rename base
 abbrev pub turn_writes : Turn → FrameShape → List Write
 turn_writes t f =
-    written SetLc t.lc (written SetEc t.ec (written (SetPredicate (predicate_place f 63)) t.p63
+    written SetLc t.lc (written SetEc t.ec (written (SetPredicate (predicate_index f 63)) t.p63
     (if t.rotates then SetFrame Renamed (rotated f) ∷ [] else [])))
 
 abbrev pub turned : Turn → FrameShape → ℕ → Memory → Outcome

@@ -7,7 +7,7 @@ use Rattle.ia_insn.specs.declared.registers.Ar.TheVariants.{Unat, Pfs, Lc, Ec}
 use Rattle.ia_program.specs.declared.ending.FaultKind.TheVariants.{OutOfFrame, NatConsumed, ReservedField}
 use Rattle.ia_program.specs.Addresses.{bundle_address}
 use Rattle.ia_meaning.specs.declared.state.Cell.{Cell}
-use Rattle.ia_meaning.specs.declared.state.AlatKey.{AlatKey as Spot}
+use Rattle.ia_meaning.specs.declared.state.Spot.{Spot}
 use Rattle.ia_meaning.specs.declared.action.FetchSource.{FetchSource}
 use Rattle.ia_meaning.specs.declared.action.FetchSource.TheVariants as source
 use Rattle.ia_meaning.specs.State.{Registers, Memory}

@@ -10,8 +10,8 @@ use Rattle.ia_program.specs.Addresses.{data_base}
 use Rattle.ia_meaning.specs.declared.state.Cell.{Cell}
 use Rattle.ia_meaning.specs.declared.state.Rrbs.{Rrbs}
 use Rattle.ia_meaning.specs.declared.state.FrameShape.{FrameShape}
-use Rattle.ia_meaning.specs.declared.state.AlatKey.{AlatKey}
-use Rattle.ia_meaning.specs.declared.state.AlatKey.TheVariants.{Static, Stacked}
+use Rattle.ia_meaning.specs.declared.state.Spot.{Spot}
+use Rattle.ia_meaning.specs.declared.state.Spot.TheVariants.{Static, Stacked}
 use Rattle.ia_meaning.specs.declared.state.AlatEntry.{AlatEntry}
 
 -- 0 without NaT
@@ -101,7 +101,7 @@ pub record AreRegisters (r : Registers) : Type 0 where
   pub lc : IsWord r.lc
   pub ec : r.ec < 64
 
-abbrev pub IsKey : AlatKey → Type 0
+abbrev pub IsKey : Spot → Type 0
 IsKey (Static n) = (1 ≤ n) × (n ≤ 31)
 IsKey (Stacked n) = n < STACK_LIMIT
 

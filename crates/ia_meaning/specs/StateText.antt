@@ -9,8 +9,8 @@ use Rattle.ia_program.specs.Addresses.{data_base}
 use Rattle.ia_meaning.specs.declared.state.Cell.{Cell}
 use Rattle.ia_meaning.specs.declared.state.FrameShape.{FrameShape}
 use Rattle.ia_meaning.specs.declared.state.Rse.{Rse}
-use Rattle.ia_meaning.specs.declared.state.AlatKey.{AlatKey}
-use Rattle.ia_meaning.specs.declared.state.AlatKey.TheVariants.{Static, Stacked}
+use Rattle.ia_meaning.specs.declared.state.Spot.{Spot}
+use Rattle.ia_meaning.specs.declared.state.Spot.TheVariants.{Static, Stacked}
 use Rattle.ia_meaning.specs.declared.state.AlatEntry.{AlatEntry}
 use Rattle.ia_meaning.specs.State.{Registers, Memory, State}
 use Rattle.ia_meaning.specs.Names.{look}
@@ -80,7 +80,7 @@ abbrev pub data_lines : List ℕ → List ℕ
 data_lines bytes = flat_map (data_line bytes) (count_up 0 (length bytes / 8))
 
 -- a register's place: `rN` of a static one, and `sN` of the cell N
-abbrev pub key_text : AlatKey → List ℕ
+abbrev pub key_text : Spot → List ℕ
 key_text (Static n) = gr_text n
 key_text (Stacked n) = codes "s" ++ decimal n
 

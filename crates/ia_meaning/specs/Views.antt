@@ -6,15 +6,15 @@ use Rattle.ia_insn.specs.declared.insn.Insn.{Insn}
 use Rattle.ia_meaning.specs.declared.state.FrameShape.{FrameShape}
 use Rattle.ia_meaning.specs.declared.action.Action.{Action}
 use Rattle.ia_meaning.specs.declared.action.Action.TheVariants.{JumpIndirect, Call, Return}
-use Rattle.ia_meaning.specs.declared.action.Goal.TheVariants.{Direct, Indirect}
+use Rattle.ia_meaning.specs.declared.action.CallTarget.TheVariants.{Direct, Indirect}
 use Rattle.ia_meaning.specs.State.{Registers}
-use Rattle.ia_meaning.specs.Names.{predicate_place}
+use Rattle.ia_meaning.specs.Names.{predicate_index}
 use Rattle.ia_meaning.specs.Actions.{insn_action, is_branch, is_indirect}
 
 -- A branch sees its qualifying predicate as earlier slots of its group wrote it, so that a compare and the branch that it
 -- guards may share a group. The place is that of the predicate's name in the frame that the slot sees.
 abbrev pub sees_guard : Insn → FrameShape → ℕ → Bool
-sees_guard insn frame place = is_branch (insn_action insn) && (place == predicate_place frame insn.qp)
+sees_guard insn frame place = is_branch (insn_action insn) && (place == predicate_index frame insn.qp)
 
 -- An indirect branch sees p1 to p15 as earlier slots wrote them, since an entry declares which of them are not both 1.
 abbrev pub sees_static : Action → ℕ → Bool

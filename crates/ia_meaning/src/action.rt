@@ -27,7 +27,7 @@ pub enum FetchSource {
 
 /// Where an [`Action::Call`] goes.
 #[derive(Clone, Copy)]
-pub enum Goal {
+pub enum CallTarget {
     /// So many bundles from its own.
     Direct(i32),
     /// The address in a branch register.
@@ -67,12 +67,21 @@ pub enum Function {
 /// What an [`Action::Test`] tests of its first and second operand.
 #[derive(Clone, Copy)]
 pub enum Condition {
-    /// The relation of both or, where `four` is set, of their low four bytes.
-    Compare { four: bool, rel: Rel },
+    /// The relation of both or, where `four_bytes` is set, of their low four bytes.
+    Compare {
+        four_bytes: bool,
+        rel: Rel,
+    },
     /// The same of an immediate and the second.
-    CompareImmediate { four: bool, rel: Rel, imm: i64 },
+    CompareImmediate {
+        four_bytes: bool,
+        rel: Rel,
+        imm: i64,
+    },
     /// Whether bit `pos`, 0 to 63, of the second is 0.
-    BitIsZero { pos: u8 },
+    BitIsZero {
+        pos: u8,
+    },
     /// Whether the NaT bit of the second is 0.
     NatIsZero,
 }
@@ -167,9 +176,9 @@ pub enum Action {
         disp: i32,
     },
     /// All entries leave the ALAT.
-    ForgetAll,
+    InvalidateAll,
     /// The entry of `r1` leaves the ALAT.
-    Forget {
+    Invalidate {
         r1: Gr,
     },
     /// A new frame of `sof` registers, `sol` of them locals and 8 * `sor` rotating, and the previous function
@@ -196,7 +205,7 @@ pub enum Action {
     /// A call, which leaves the address after it in `b1`.
     Call {
         b1: Br,
-        goal: Goal,
+        callee: CallTarget,
     },
     /// A return to the address in `b2`.
     Return {
@@ -311,24 +320,24 @@ pub fn action_of(op: &Op) -> Action
             compute(r1, r0, r3, Function::AluImmediate { f, imm })
         }
         Op::Cmp {
-            four,
+            four_bytes,
             rel,
             kind,
             p1,
             p2,
             r2,
             r3,
-        } => test(kind, p1, p2, r2, r3, Condition::Compare { four, rel }),
+        } => test(kind, p1, p2, r2, r3, Condition::Compare { four_bytes, rel }),
         Op::CmpZero {
-            four,
+            four_bytes,
             rel,
             kind,
             p1,
             p2,
             r3,
-        } => test(kind, p1, p2, r0, r3, Condition::Compare { four, rel }),
+        } => test(kind, p1, p2, r0, r3, Condition::Compare { four_bytes, rel }),
         Op::CmpImm {
-            four,
+            four_bytes,
             rel,
             kind,
             p1,
@@ -341,7 +350,11 @@ pub fn action_of(op: &Op) -> Action
             p2,
             r0,
             r3,
-            Condition::CompareImmediate { four, rel, imm },
+            Condition::CompareImmediate {
+                four_bytes,
+                rel,
+                imm,
+            },
         ),
         Op::Lane {
             f,
@@ -496,20 +509,20 @@ pub fn action_of(op: &Op) -> Action
             inc: Some(inc),
         },
         Op::ChkA { clear, r1, disp } => Action::CheckAlat { clear, r1, disp },
-        Op::Invala => Action::ForgetAll,
+        Op::Invala => Action::InvalidateAll,
         Op::Mf => Action::Idle { unit: Unit::M },
-        Op::InvalaE { r1 } => Action::Forget { r1 },
+        Op::InvalaE { r1 } => Action::Invalidate { r1 },
         Op::Alloc { r1, sof, sol, sor } => Action::Allocate { r1, sof, sol, sor },
         Op::Br { kind, disp, .. } => branch_action(kind, disp),
         Op::BrCall { b1, disp, .. } => Action::Call {
             b1,
-            goal: Goal::Direct(disp),
+            callee: CallTarget::Direct(disp),
         },
         Op::BrInd { b2, .. } => Action::JumpIndirect { b2 },
         Op::BrRet { b2, .. } => Action::Return { b2 },
         Op::BrCallInd { b1, b2, .. } => Action::Call {
             b1,
-            goal: Goal::Indirect(b2),
+            callee: CallTarget::Indirect(b2),
         },
         Op::Clrrrb { pred_only } => Action::ClearBases { pred_only },
         Op::Movl { r1, imm } => compute(r1, r0, r0, Function::Immediate(imm)),

@@ -20,7 +20,7 @@ mod turn;
 mod write;
 
 pub use action::{
-    Action, Condition, FetchSource, Function, Goal, MovedWord, action_of, update_register,
+    Action, CallTarget, Condition, FetchSource, Function, MovedWord, action_of, update_register,
 };
 pub use ending::end_or;
 pub use landings::target_of;
@@ -30,6 +30,6 @@ pub use laws::{
 };
 pub use next::Next;
 pub use runs::{groups_end, progress_is_run, progress_text_is_run_text};
-pub use state::{AlatEntry, AlatKey, Cell, FrameShape, Rrbs, Rse};
+pub use state::{AlatEntry, Cell, FrameShape, Rrbs, Rse, Spot};
 pub use turn::Turn;
 pub use write::{FrameCause, Write};

@@ -50,22 +50,22 @@ pub struct Rse {
 
 /// The place of a general register, which is the key of its entry in the ALAT.
 #[derive(Clone, Copy, Debug, PartialEq, Eq)]
-pub enum AlatKey {
+pub enum Spot {
     /// A static register, by its number, 0 to 31.
     Static(u8),
     /// A stacked register, by the number of its cell, below [`STACK_LIMIT`](crate::limits::STACK_LIMIT).
     Stacked(u32),
 }
 
-impl Default for AlatKey {
+impl Default for Spot {
     ghost use Rattle.std.specs.Prelude.{◌≡◌};
-    ghost use Rattle.ia_meaning.specs.declared.state.AlatKey.TheVariants.{Static};
+    ghost use Rattle.ia_meaning.specs.declared.state.Spot.TheVariants.{Static};
 
     ghost is_default = { λ key. key ≡ Static 0 };
 
     /// r0, which no load enters.
     fn default() -> Self {
-        AlatKey::Static(0)
+        Spot::Static(0)
     }
 }
 
@@ -73,7 +73,7 @@ impl Default for AlatKey {
 #[derive(Clone, Copy, Debug, Default, PartialEq, Eq)]
 pub struct AlatEntry {
     /// The target of the load.
-    pub key: AlatKey,
+    pub key: Spot,
     /// The address that it loaded from.
     pub address: u64,
     /// How many bytes it loaded: 1, 2, 4 or 8.

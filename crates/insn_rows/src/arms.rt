@@ -121,9 +121,9 @@ pub fn values_of(insn: &Insn) -> Values
         AluImm8 { r1 imm r3 } => Gr(r1), Signed(imm), Gr(r3);
         AddImm14 { p4 r1 imm r3 } => Flag(p4), Gr(r1), Signed(imm), Gr(r3);
         AddImm22 { r1 imm r3 } => Gr(r1), Signed(imm), Gr(r3);
-        Cmp { four p1 p2 r2 r3 } => Flag(four), Pr(p1), Pr(p2), Gr(r2), Gr(r3);
-        CmpZero { four p1 p2 r3 } => Flag(four), Pr(p1), Pr(p2), Gr(r3);
-        CmpImm { four p1 p2 imm r3 } => Flag(four), Pr(p1), Pr(p2), Signed(imm), Gr(r3);
+        Cmp { four_bytes p1 p2 r2 r3 } => Flag(four_bytes), Pr(p1), Pr(p2), Gr(r2), Gr(r3);
+        CmpZero { four_bytes p1 p2 r3 } => Flag(four_bytes), Pr(p1), Pr(p2), Gr(r3);
+        CmpImm { four_bytes p1 p2 imm r3 } => Flag(four_bytes), Pr(p1), Pr(p2), Signed(imm), Gr(r3);
         Lane { size r1 r2 r3 } => Small(size), Gr(r1), Gr(r2), Gr(r3);
         ShiftVar { r1 value count } => Gr(r1), Gr(value), Gr(count);
         Popcnt { r1 r3 } => Gr(r1), Gr(r3);
@@ -305,9 +305,9 @@ pub fn insn_of(opcode: Opcode, values: &Values) -> Insn
         AluImm8(f) => r1 = gr 1, imm = signed 2, r3 = gr 3 | f: f;
         AddImm14 => p4 = flag 1, r1 = gr 2, imm = signed 3, r3 = gr 4;
         AddImm22 => r1 = gr 1, imm = signed 2, r3 = gr 3;
-        Cmp(rel, kind) => four = flag 1, p1 = pr 2, p2 = pr 3, r2 = gr 4, r3 = gr 5 | rel: rel, kind: kind;
-        CmpZero(rel, kind) => four = flag 1, p1 = pr 2, p2 = pr 3, r3 = gr 4 | rel: rel, kind: kind;
-        CmpImm(rel, kind) => four = flag 1, p1 = pr 2, p2 = pr 3, imm = signed 4, r3 = gr 5 | rel: rel, kind: kind;
+        Cmp(rel, kind) => four_bytes = flag 1, p1 = pr 2, p2 = pr 3, r2 = gr 4, r3 = gr 5 | rel: rel, kind: kind;
+        CmpZero(rel, kind) => four_bytes = flag 1, p1 = pr 2, p2 = pr 3, r3 = gr 4 | rel: rel, kind: kind;
+        CmpImm(rel, kind) => four_bytes = flag 1, p1 = pr 2, p2 = pr 3, imm = signed 4, r3 = gr 5 | rel: rel, kind: kind;
         Lane(f) => size = small 1, r1 = gr 2, r2 = gr 3, r3 = gr 4 | f: f;
         ShiftVar(f) => r1 = gr 1, value = gr 2, count = gr 3 | f: f;
         Popcnt => r1 = gr 1, r3 = gr 2;

@@ -20,12 +20,12 @@ fn related(rel: Rel, a: u64, b: u64) -> bool
     }
 }
 
-/// The relation of two words or, where `four` is set, that of their low 32 bits: it is the same where
+/// The relation of two words or, where `four_bytes` is set, that of their low 32 bits: it is the same where
 /// those are moved to the top of a word.
-pub(crate) fn compared(four: bool, rel: Rel, a: u64, b: u64) -> bool
-    ensures { result ≡ compared four rel a b }
+pub(crate) fn compared(four_bytes: bool, rel: Rel, a: u64, b: u64) -> bool
+    ensures { result ≡ compared four_bytes rel a b }
 {
-    if four {
+    if four_bytes {
         related(rel, a << 32, b << 32)
     } else {
         related(rel, a, b)

@@ -71,10 +71,16 @@ pub fn result_of(condition: &Condition, a: Cell, b: Cell) -> Option<bool>
     ensures { result ≡ result_of condition.now a b }
 {
     match *condition {
-        Condition::Compare { four, rel } => unless_nat(a, b, compared(four, rel, a.value, b.value)),
-        Condition::CompareImmediate { four, rel, imm } => {
-            unless_nat(a, b, compared(four, rel, immediate(imm), b.value))
-        }
+        Condition::Compare { four_bytes, rel } => unless_nat(
+            a,
+            b,
+            compared(four_bytes, rel, a.value, b.value),
+        ),
+        Condition::CompareImmediate {
+            four_bytes,
+            rel,
+            imm,
+        } => { unless_nat(a, b, compared(four_bytes, rel, immediate(imm), b.value)) }
         Condition::BitIsZero { pos } => unless_nat(a, b, !bit(b.value, pos)),
         Condition::NatIsZero => Some(!b.nat),
     }

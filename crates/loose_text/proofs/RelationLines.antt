@@ -3,15 +3,15 @@ use Rattle.std.proofs.Common.{◌≡◌, ◌≤◌, refl, subst, ℕ, ◌+◌, �
 use Rattle.std.specs.Prelude.{if◌then◌else◌, is_some, slice_get, take, drop}
 use Rattle.std.specs.List.{All}
 use Rattle.std.proofs.lemmas.Bool.Decides.{nat_tests}
-use Rattle.asm_words.specs.declared.fault.LineFault.{LineFault}
-use Rattle.asm_words.specs.declared.fault.LineFault.TheVariants as fault
-use Rattle.asm_words.specs.declared.tokens.Token.{Token}
-use Rattle.asm_words.specs.declared.tokens.Token.TheVariants as t
-use Rattle.asm_words.specs.declared.word.WordKind.TheVariants as kind
-use Rattle.asm_words.specs.Bytes.{has_only_plain}
-use Rattle.asm_words.specs.Registers.{numbered_register}
-use Rattle.asm_words.specs.Tokens.{token_of}
-use Rattle.asm_words.specs.Words.{words_from}
+use Rattle.asm_lexemes.specs.declared.fault.LineFault.{LineFault}
+use Rattle.asm_lexemes.specs.declared.fault.LineFault.TheVariants as fault
+use Rattle.asm_lexemes.specs.declared.tokens.Token.{Token}
+use Rattle.asm_lexemes.specs.declared.tokens.Token.TheVariants as t
+use Rattle.asm_lexemes.specs.declared.lexeme.LexemeKind.TheVariants as kind
+use Rattle.asm_lexemes.specs.Bytes.{has_only_plain}
+use Rattle.asm_lexemes.specs.Registers.{numbered_register}
+use Rattle.asm_lexemes.specs.Tokens.{token_of}
+use Rattle.asm_lexemes.specs.Lexemes.{lexemes_from}
 use Rattle.asm_forms.specs.declared.choices.AccessSize.{AccessSize}
 use Rattle.asm_forms.specs.declared.choices.AccessSize.TheVariants as size
 use Rattle.asm_forms.specs.declared.form.Form.{Form}
@@ -29,7 +29,7 @@ use Rattle.asm_reading.specs.declared.line.Line.TheVariants as line
 use Rattle.asm_reading.specs.declared.line.TemplateName.{TemplateName}
 use Rattle.ia_insn.specs.declared.insn.Op.{Op}
 use Rattle.asm_forms.specs.Items.{taken}
-use Rattle.asm_reading.specs.Lines.{KindAndText, ◌>>=◌, or_fault, tokens, texts, name_of, label_name, lead_at, ends_in_stop, without_stop, predicate_of, draft_of, completers_or_none, slot_under, slot_of, data_field, agreed_data, numbers_of, data_fault, data_of, named, directive_value, directive_of, alone, formed, among, marked, template_name_of, opened_as, opened, mark_led, led_by, led_at, led, is_name_word, is_colon, label_of, value_of, reading_of, relation_of}
+use Rattle.asm_reading.specs.Lines.{KindAndText, ◌>>=◌, or_fault, tokens, texts, name_of, label_name, lead_at, ends_in_stop, without_stop, predicate_of, draft_of, completers_or_none, slot_under, slot_of, data_field, agreed_data, numbers_of, data_fault, data_of, named, directive_value, directive_of, alone, formed, among, marked, template_name_of, opened_as, opened, mark_led, led_by, led_at, led, is_name_lexeme, is_colon, label_of, value_of, reading_of, relation_of}
 
 -- the predicates of a relation line
 abbrev pub NamesRelated : Line → Type 0
@@ -157,7 +157,7 @@ label_relates text (w ∷ ws) = tt
 value_relates : (ws : List KindAndText) → Relates (value_of ws)
 value_relates [] = tt
 value_relates (w ∷ []) = led_at_relates (w ∷ []) (lead_at (tokens (w ∷ [])))
-value_relates (w ∷ x ∷ ws) = by_test (is_name_word w && is_colon (token_of x.0 x.1)) (label_of w.1 ws) (led (w ∷ x ∷ ws)) (λ e. label_relates w.1 ws) (led_at_relates (w ∷ x ∷ ws) (lead_at (tokens (w ∷ x ∷ ws))))
+value_relates (w ∷ x ∷ ws) = by_test (is_name_lexeme w && is_colon (token_of x.0 x.1)) (label_of w.1 ws) (led (w ∷ x ∷ ws)) (λ e. label_relates w.1 ws) (led_at_relates (w ∷ x ∷ ws) (lead_at (tokens (w ∷ x ∷ ws))))
 
 pub line_relates : (bytes : List ℕ) (value : Line) → reading_of bytes ≡ Ok value → NamesRelated value
-line_relates bytes value is = subst Relates is (by_test (has_only_plain bytes) (value_of (texts bytes (words_from 0 0 bytes))) (Err fault.Char) (λ e. value_relates (texts bytes (words_from 0 0 bytes))) tt)
+line_relates bytes value is = subst Relates is (by_test (has_only_plain bytes) (value_of (texts bytes (lexemes_from 0 0 bytes))) (Err fault.Char) (λ e. value_relates (texts bytes (lexemes_from 0 0 bytes))) tt)

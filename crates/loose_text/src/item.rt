@@ -4,8 +4,8 @@ ghost use Rattle.std.specs.Prelude.{◌≡◌};
 ghost use Rattle.loose_text.specs.LooseParts.{insn_of};
 
 use asm_build::lettered;
+use asm_lexemes::Name;
 use asm_text::Draft;
-use asm_words::Name;
 use ia_insn::Insn;
 use loose_items::{Item, bare_unit};
 

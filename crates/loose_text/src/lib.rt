@@ -11,7 +11,7 @@
 //!
 //! | Fault | Where it comes |
 //! |---|---|
-//! | `Limit` | a line has over [`LINE_LIMIT`](asm_words::limits::LINE_LIMIT) bytes |
+//! | `Limit` | a line has over [`LINE_LIMIT`](asm_lexemes::limits::LINE_LIMIT) bytes |
 //! | `Char`, `Name`, `Register`, `Number`, `Range`, `Form` | the line by itself, as in a text with bundles |
 //! | `Range` | a `nop` or a `break` without its unit letter has a number of 2^21 or more |
 //! | `Misplaced` | `{` or `}`; a slot, `;;` or a relation in data; `;;` before any slot; data in text |

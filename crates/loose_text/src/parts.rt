@@ -10,8 +10,8 @@ ghost use Rattle.loose_items.specs.PlainPackings.{ArePacked};
 
 use crate::item::{ItemLine, insn_of};
 use asm_build::{Address, Reason, RelationLine, Section, TextError, TextParts, fault};
+use asm_lexemes::Name;
 use asm_text::{Draft, Line, Predicates};
-use asm_words::Name;
 use ia_insn::Op;
 use loose_items::{Item, PlainPacking, packed_with};
 use std::alloc::Global;

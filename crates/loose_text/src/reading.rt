@@ -18,8 +18,8 @@ use crate::parts::LooseParts;
 use crate::relations::all_related;
 use crate::targets::{items_of, named};
 use asm_build::{Reason, TextError, fault, reason_of, rising};
+use asm_lexemes::limits::LINE_LIMIT;
 use asm_text::{LineBuffers, read_line_with};
-use asm_words::limits::LINE_LIMIT;
 use bstr::ByteSlice;
 use std::alloc::Global;
 

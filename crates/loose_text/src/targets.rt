@@ -12,7 +12,7 @@ ghost use Rattle.loose_text.specs.LooseReading.{unnamed_item, name_fault, target
 use crate::item::ItemLine;
 use crate::parts::LooseParts;
 use asm_build::{Address, Reason, TextError, TextParts, earlier, fault};
-use asm_words::Name;
+use asm_lexemes::Name;
 use loose_items::Item;
 use std::alloc::{AllocError, Global};
 use std::collections::BTreeSet;

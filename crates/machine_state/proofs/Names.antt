@@ -8,9 +8,9 @@ use Rattle.ia_meaning.specs.declared.state.Cell.{Cell}
 use Rattle.ia_meaning.specs.declared.state.FrameShape.{FrameShape}
 use Rattle.ia_meaning.specs.State.{zero_cell, Registers}
 use Rattle.ia_meaning.specs.Writes.{apply}
-use Rattle.ia_meaning.specs.Names.{spot, look, cell_at, holds, predicate_place, predicate_spot, set_predicate}
+use Rattle.ia_meaning.specs.Names.{spot, look, cell_at, holds, predicate_index, predicate_spot, set_predicate}
 use Rattle.ia_meaning.proofs.Spots.{spot_static}
-use Rattle.ia_meaning.proofs.PredicatePlaces.{place_some}
+use Rattle.ia_meaning.proofs.PredicateIndexes.{place_some}
 use Rattle.reg_stack.specs.Stacks.{cell_or_fault, with_cell}
 use Rattle.slot_effects.specs.Changes.{set_at}
 
@@ -43,16 +43,16 @@ pub holds_zero : (r : Registers) (p : ℕ) → p ≡ 0 → holds r p ≡ true
 unfolding holds
 holds_zero r p e = rw e refl
 
-pub holds_is : (r : Registers) (p : ℕ) → get_or r.predicates 0 false ≡ true → get_or r.predicates (predicate_place r.frame p) false ≡ holds r p
-unfolding holds predicate_place
+pub holds_is : (r : Registers) (p : ℕ) → get_or r.predicates 0 false ≡ true → get_or r.predicates (predicate_index r.frame p) false ≡ holds r p
+unfolding holds predicate_index
 holds_is r zero e = e
 holds_is r (suc p) e = refl
 
 -- p0 stays 1 where another predicate is written
-pub one_kept : (f : FrameShape) (predicates : List Bool) (p : ℕ) (b : Bool) → (p ≢ 0) → get_or predicates 0 false ≡ true → get_or (set predicates (predicate_place f p) b) 0 false ≡ true
-one_kept f predicates p b h e = get_or-set_other predicates (predicate_place f p) 0 b false (λ same. place_some f p h (sym same)) ∙ e
+pub one_kept : (f : FrameShape) (predicates : List Bool) (p : ℕ) (b : Bool) → (p ≢ 0) → get_or predicates 0 false ≡ true → get_or (set predicates (predicate_index f p) b) 0 false ≡ true
+one_kept f predicates p b h e = get_or-set_other predicates (predicate_index f p) 0 b false (λ same. place_some f p h (sym same)) ∙ e
 
-pub set_predicate_some : (r : Registers) (p : ℕ) (b : Bool) → (p ≢ 0) → apply (set_predicate (predicate_spot r.frame p) b []) r ≡ record r { predicates = set r.predicates (predicate_place r.frame p) b }
+pub set_predicate_some : (r : Registers) (p : ℕ) (b : Bool) → (p ≢ 0) → apply (set_predicate (predicate_spot r.frame p) b []) r ≡ record r { predicates = set r.predicates (predicate_index r.frame p) b }
 unfolding predicate_spot
 set_predicate_some r zero b h = absurd (h refl)
 set_predicate_some r (suc p) b h = refl

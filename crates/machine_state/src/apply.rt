@@ -5,7 +5,7 @@ ghost use Rattle.ia_meaning.specs.declared.next.Next.TheVariants.{Falls};
 ghost use Rattle.ia_meaning.specs.declared.write.Write.TheVariants.{SetPredicate, SetBranch, SetLc, SetEc, SetFrame};
 ghost use Rattle.ia_meaning.specs.declared.write.FrameCause.TheVariants.{Renamed};
 ghost use Rattle.ia_meaning.specs.Writes.{apply, put};
-ghost use Rattle.ia_meaning.specs.Names.{spot, predicate_place, predicate_spot, set_predicate};
+ghost use Rattle.ia_meaning.specs.Names.{spot, predicate_index, predicate_spot, set_predicate};
 ghost use Rattle.ia_meaning.specs.Moves.{is_masked, masked_writes, predicate_writes};
 ghost use Rattle.ia_meaning.specs.Frames.{rotated, cleared, call_state, marked_frame, return_fault};
 ghost use Rattle.ia_meaning.specs.Loops.{written, turn_writes};
@@ -59,7 +59,7 @@ impl MachineState {
         ensures { self.new ≡ record self.old { registers = apply (set_predicate (predicate_spot self.old.registers.frame p) value []) self.old.registers } }
     {
         if !p.is_zero() {
-            let place = self.predicate_place(p);
+            let place = self.predicate_index(p);
             self.predicates[place] = value;
         }
     }
@@ -152,7 +152,7 @@ impl MachineState {
     /// Writes p63, where there is a new value for it.
     #[tactic(auto, unfolding(ia_meaning::specs::Names::predicate_spot))]
     fn set_p63(&mut self, p63: Option<bool>)
-        ensures { self.new ≡ record self.old { registers = apply (written (SetPredicate (predicate_place self.old.registers.frame 63)) p63 []) self.old.registers } }
+        ensures { self.new ≡ record self.old { registers = apply (written (SetPredicate (predicate_index self.old.registers.frame 63)) p63 []) self.old.registers } }
     {
         if let Some(value) = p63 {
             self.set_predicate(Pr::of_field(63), value);
@@ -227,11 +227,11 @@ impl MachineState {
             Change::Loaded {
                 r1,
                 r3,
-                forgets,
+                invalidates,
                 update,
                 cell,
             } => {
-                self.forget_where(forgets, r1);
+                self.invalidate_where(invalidates, r1);
                 self.load(r1, r3, &update, cell);
             }
             Change::Entered {
@@ -247,10 +247,10 @@ impl MachineState {
             Change::Hit {
                 r1,
                 r3,
-                forgets,
+                invalidates,
                 update,
             } => {
-                self.forget_where(forgets, r1);
+                self.invalidate_where(invalidates, r1);
                 self.hit(r3, &update);
             }
             Change::Stored {
@@ -267,8 +267,8 @@ impl MachineState {
                 old,
                 value,
             } => self.exchange(r1, r3, size, old, value),
-            Change::Forgotten { r1 } => self.forget(r1),
-            Change::AllForgotten => self.alat.clear(),
+            Change::Invalidated { r1 } => self.invalidate(r1),
+            Change::AllInvalidated => self.alat.clear(),
             Change::Allocated { r1, sof, sol, sor } => self.allocate(r1, sof, sol, sor),
             Change::Turned { kind, qp } => self.turn(self.turn_of(kind, qp)),
             Change::Called { b1, address } => self.call(b1, address),

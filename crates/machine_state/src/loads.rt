@@ -8,7 +8,7 @@ ghost use Rattle.ia_meaning.specs.Loads.{stored, untouched, unat_bit};
 ghost use Rattle.ia_meaning.specs.Steps.{spilled};
 ghost use Rattle.machine_state.specs.Contents.{left_by};
 ghost use Rattle.slot_effects.specs.declared.change.Change.TheVariants.{Stored, Exchanged};
-ghost use Rattle.slot_effects.specs.Changes.{set_at, held, update_at, load_update, forgotten_at, forgotten_where, entered_at, MayStore};
+ghost use Rattle.slot_effects.specs.Changes.{set_at, held, update_at, load_update, invalidated_at, invalidated_where, entered_at, MayStore};
 ghost use Rattle.machine_state.specs.Changes.{outcome_with};
 
 use crate::state::MachineState;
@@ -41,20 +41,20 @@ impl MachineState {
     }
 
     /// The entry of a register leaves the ALAT.
-    pub(crate) fn forget(&mut self, r1: Gr)
-        ensures { self.new ≡ record self.old { memory = record self.old.memory { alat = forgotten_at (spot self.old.registers.frame r1) self.old.memory.alat } } }
+    pub(crate) fn invalidate(&mut self, r1: Gr)
+        ensures { self.new ≡ record self.old { memory = record self.old.memory { alat = invalidated_at (spot self.old.registers.frame r1) self.old.memory.alat } } }
     {
         if let Some(key) = self.spot(r1) {
-            self.alat.forget(key);
+            self.alat.invalidate(key);
         }
     }
 
     /// The entry of a register leaves the ALAT, or not.
-    pub(crate) fn forget_where(&mut self, forgets: bool, r1: Gr)
-        ensures { self.new ≡ record self.old { memory = record self.old.memory { alat = forgotten_where forgets (spot self.old.registers.frame r1) self.old.memory.alat } } }
+    pub(crate) fn invalidate_where(&mut self, invalidates: bool, r1: Gr)
+        ensures { self.new ≡ record self.old { memory = record self.old.memory { alat = invalidated_where invalidates (spot self.old.registers.frame r1) self.old.memory.alat } } }
     {
-        if forgets {
-            self.forget(r1);
+        if invalidates {
+            self.invalidate(r1);
         }
     }
 

@@ -3,7 +3,7 @@
 ghost use Rattle.std.specs.Prelude.{◌≡◌, ◌<◌, ◌≤◌, ◌%◌, length, get_or, take, IfOk};
 ghost use Rattle.std.specs.Option.{option_map};
 ghost use Rattle.ia_program.specs.declared.limits.TheConstants.{DATA_LIMIT};
-ghost use Rattle.ia_meaning.specs.Names.{spot, look, predicate_place, holds};
+ghost use Rattle.ia_meaning.specs.Names.{spot, look, predicate_index, holds};
 ghost use Rattle.ia_meaning.specs.Moves.{predicate_word, application};
 ghost use Rattle.ia_meaning.specs.Frames.{marked_frame, return_fault};
 ghost use Rattle.frame_shapes.specs.Faults.{kind_of};
@@ -13,7 +13,7 @@ ghost use Rattle.machine_state.specs.Contents.{zero_contents, stack_of};
 use frame_shapes::{StackFault, marker_of};
 use ia_insn::{Ar, Br, Gr, Pr};
 use ia_meaning::limits::STACK_LIMIT;
-use ia_meaning::{AlatKey, Cell};
+use ia_meaning::{Cell, Spot};
 use nat_alat::{Alat, DataMem};
 use reg_stack::Stack;
 use slot_effects::predicate_word;
@@ -113,12 +113,12 @@ impl MachineState {
     }
 
     /// The place of a stacked register; None outside the frame.
-    fn stacked_spot(&self, r: Gr) -> Option<AlatKey>
+    fn stacked_spot(&self, r: Gr) -> Option<Spot>
         requires { 32 ≤ r }
         ensures { result ≡ spot self.now.registers.frame r }
     {
         match self.stack.cell_number(r) {
-            Some(n) => Some(AlatKey::Stacked(n)),
+            Some(n) => Some(Spot::Stacked(n)),
             None => None,
         }
     }
@@ -126,12 +126,12 @@ impl MachineState {
     /// The place of a general register; None outside the frame.
     #[inline(always)]
     #[tactic(auto, using(ia_meaning::proofs::Spots::spot_static))]
-    pub fn spot(&self, r: Gr) -> Option<AlatKey>
+    pub fn spot(&self, r: Gr) -> Option<Spot>
         ensures { result ≡ spot self.now.registers.frame r }
     {
         let n = r.number();
         if n < 32 {
-            return Some(AlatKey::Static(n));
+            return Some(Spot::Static(n));
         }
         self.stacked_spot(r)
     }
@@ -171,11 +171,11 @@ impl MachineState {
     }
 
     /// The place of a predicate.
-    pub(crate) fn predicate_place(&self, p: Pr) -> usize
-        ensures value { result ≡ predicate_place self.now.registers.frame p }
+    pub(crate) fn predicate_index(&self, p: Pr) -> usize
+        ensures value { result ≡ predicate_index self.now.registers.frame p }
         ensures within { result < 64 }
     {
-        usize::from(rotation::pr_place(p.number(), self.stack.shape().rrbs.pr))
+        usize::from(rotation::predicate_index_of(p.number(), self.stack.shape().rrbs.pr))
     }
 
     /// Whether a predicate is 1.
@@ -187,7 +187,7 @@ impl MachineState {
         if p.is_zero() {
             return true;
         }
-        self.predicates[self.predicate_place(p)]
+        self.predicates[self.predicate_index(p)]
     }
 
     /// The predicates as a word: bit n is that of place n.

@@ -6,18 +6,18 @@ use Rattle.std.proofs.lemmas.Bool.Decides.{nat_tests}
 use Rattle.std.proofs.lemmas.List.Folds.{list_any-append}
 use Rattle.std.proofs.lemmas.Map.Views.{any-filter_same}
 use Rattle.ia_meaning.specs.declared.limits.TheConstants.{ALAT_LIMIT}
-use Rattle.ia_meaning.specs.declared.state.AlatKey.{AlatKey}
-use Rattle.ia_meaning.specs.declared.state.AlatKey.TheVariants.{Static, Stacked}
+use Rattle.ia_meaning.specs.declared.state.Spot.{Spot}
+use Rattle.ia_meaning.specs.declared.state.Spot.TheVariants.{Static, Stacked}
 use Rattle.ia_meaning.specs.declared.state.AlatEntry.{AlatEntry}
-use Rattle.ia_meaning.specs.Loads.{is_spot, is_apart, forgotten, entered, untouched, has_hit}
-use Rattle.nat_alat.specs.Laws.{EnteredIsHit, ForgottenIsGone, TouchedIsGone}
-use Rattle.ia_meaning.proofs.AlatLists.{untouched_is_filter, forgotten_is_filter}
+use Rattle.ia_meaning.specs.Loads.{is_spot, is_apart, invalidated, entered, untouched, has_hit}
+use Rattle.nat_alat.specs.Laws.{EnteredIsHit, InvalidatedIsGone, TouchedIsGone}
+use Rattle.ia_meaning.proofs.AlatLists.{untouched_is_filter, invalidated_is_filter}
 use Rattle.nat_alat.proofs.Entries.{is_entry, hit_is_any, entry_is_any}
 
 number_itself : (n : ℕ) → (n == n) ≡ true
 number_itself n = grind (arith, nat_tests)
 
-spot_itself : (key : AlatKey) → is_spot key key ≡ true
+spot_itself : (key : Spot) → is_spot key key ≡ true
 spot_itself (Static n) = number_itself n
 spot_itself (Stacked n) = number_itself n
 
@@ -25,7 +25,7 @@ number_other : (n k m : ℕ) → (n == m) ≡ true → not (n == k) ≡ not (k =
 number_other n k m h = grind (arith, nat_tests)
 
 -- A place that is the other one is this one just where this one is the other.
-spot_other : (d key other : AlatKey) → is_spot d other ≡ true → not (is_spot d key) ≡ not (is_spot key other)
+spot_other : (d key other : Spot) → is_spot d other ≡ true → not (is_spot d key) ≡ not (is_spot key other)
 spot_other (Static n) (Static k) (Static m) h = number_other n k m h
 spot_other (Stacked n) (Stacked k) (Stacked m) h = number_other n k m h
 spot_other (Static n) (Stacked k) (Static m) h = refl
@@ -53,16 +53,16 @@ found_last es e =
 pub entered_is_hit : EnteredIsHit
 unfolding entered
 entered_is_hit es e =
-    let left = forgotten es e.key in (
+    let left = invalidated es e.key in (
       found_last (drop (length left - (ALAT_LIMIT - 1)) left) e,
       omega (arith, length-append (drop (length left - (ALAT_LIMIT - 1)) left) (e ∷ []), length-drop (length left - (ALAT_LIMIT - 1)) left),
     )
 
-pub forgotten_is_gone : ForgottenIsGone
-forgotten_is_gone es key other =
+pub invalidated_is_gone : InvalidatedIsGone
+invalidated_is_gone es key other =
     let test : AlatEntry → Bool = λ e. is_spot e.key other in
-    entry_is_any (forgotten es key) other
-    ∙ ap (list_any test) (forgotten_is_filter es key)
+    entry_is_any (invalidated es key) other
+    ∙ ap (list_any test) (invalidated_is_filter es key)
     ∙ any-filter_same test (λ e. not (is_spot e.key key)) (not (is_spot key other)) (λ e h. spot_other e.key key other h) es
     ∙ ap (λ b. not (is_spot key other) && b) (sym (entry_is_any es other))
 

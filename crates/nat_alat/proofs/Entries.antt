@@ -4,9 +4,9 @@ use Rattle.std.specs.Prelude.{◌==◌, ◌&&◌}
 use Rattle.std.proofs.lemmas.Bool.Decides.{nat_tests}
 use Rattle.std.specs.List.{list_any}
 use Rattle.ia_meaning.specs.declared.limits.TheConstants.{ALAT_LIMIT}
-use Rattle.ia_meaning.specs.declared.state.AlatKey.{AlatKey}
+use Rattle.ia_meaning.specs.declared.state.Spot.{Spot}
 use Rattle.ia_meaning.specs.declared.state.AlatEntry.{AlatEntry}
-use Rattle.ia_meaning.specs.Loads.{is_spot, forgotten, entered, has_hit, has_entry}
+use Rattle.ia_meaning.specs.Loads.{is_spot, invalidated, entered, has_hit, has_entry}
 
 -- two entries are equal
 abbrev pub is_entry : AlatEntry → AlatEntry → Bool
@@ -17,19 +17,19 @@ unfolding has_hit
 hit_is_any [] e = refl
 hit_is_any (d ∷ ds) e = simp (hit_is_any ds e)
 
-pub entry_is_any : (es : List AlatEntry) (key : AlatKey) → has_entry es key ≡ list_any (λ e. is_spot e.key key) es
+pub entry_is_any : (es : List AlatEntry) (key : Spot) → has_entry es key ≡ list_any (λ e. is_spot e.key key) es
 unfolding has_entry
 entry_is_any [] key = refl
 entry_is_any (e ∷ es) key = simp (entry_is_any es key)
 
 -- With as many as its limit left the oldest goes.
-pub entered_when_full : (left es : List AlatEntry) (e : AlatEntry) → left ≡ forgotten es e.key → (length left == ALAT_LIMIT) ≡ true → drop 1 left ++ e ∷ [] ≡ entered es e
+pub entered_when_full : (left es : List AlatEntry) (e : AlatEntry) → left ≡ invalidated es e.key → (length left == ALAT_LIMIT) ≡ true → drop 1 left ++ e ∷ [] ≡ entered es e
 unfolding entered
 entered_when_full left es e is full =
     let one : length left - (ALAT_LIMIT - 1) ≡ 1 = grind (arith, nat_tests) in
     rw (← is, one) refl
 
-pub entered_with_room : (left es : List AlatEntry) (e : AlatEntry) → left ≡ forgotten es e.key → length left ≤ ALAT_LIMIT → (length left == ALAT_LIMIT) ≡ false → left ++ e ∷ [] ≡ entered es e
+pub entered_with_room : (left es : List AlatEntry) (e : AlatEntry) → left ≡ invalidated es e.key → length left ≤ ALAT_LIMIT → (length left == ALAT_LIMIT) ≡ false → left ++ e ∷ [] ≡ entered es e
 unfolding entered
 entered_with_room left es e is most room =
     let none : length left - (ALAT_LIMIT - 1) ≡ 0 = grind (arith, nat_tests) in

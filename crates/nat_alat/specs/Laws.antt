@@ -1,10 +1,10 @@
 -- Laws of loads and stores, and of the ALAT.
 use Rattle.std.specs.Prelude.{◌≡◌, ◌⊎◌, ℕ, ◌+◌, ◌*◌, ◌%◌, ◌^◌, ◌<◌, ◌≤◌, true, not, ◌&&◌, List, length, get_or, None}
 use Rattle.ia_meaning.specs.declared.limits.TheConstants.{ALAT_LIMIT}
-use Rattle.ia_meaning.specs.declared.state.AlatKey.{AlatKey}
+use Rattle.ia_meaning.specs.declared.state.Spot.{Spot}
 use Rattle.ia_meaning.specs.declared.state.AlatEntry.{AlatEntry}
 use Rattle.ia_program.specs.Addresses.{data_base}
-use Rattle.ia_meaning.specs.Loads.{access_fault, loaded, stored, is_spot, is_apart, forgotten, entered, untouched, has_hit, has_entry}
+use Rattle.ia_meaning.specs.Loads.{access_fault, loaded, stored, is_spot, is_apart, invalidated, entered, untouched, has_hit, has_entry}
 
 -- What is loaded is what was stored there, by its low bytes.
 abbrev pub StoredIsLoaded : Type 0
@@ -24,11 +24,11 @@ OthersStay =
 abbrev pub EnteredIsHit : Type 0
 EnteredIsHit = (es : List AlatEntry) (e : AlatEntry) → (has_hit (entered es e) e ≡ true) × (length (entered es e) ≤ ALAT_LIMIT)
 
--- A register that was forgotten has no entry, and each other has one if it had one.
-abbrev pub ForgottenIsGone : Type 0
-ForgottenIsGone =
-    (es : List AlatEntry) (key other : AlatKey)
-    → has_entry (forgotten es key) other ≡ (not (is_spot key other) && has_entry es other)
+-- A register that was invalidated has no entry, and each other has one if it had one.
+abbrev pub InvalidatedIsGone : Type 0
+InvalidatedIsGone =
+    (es : List AlatEntry) (key other : Spot)
+    → has_entry (invalidated es key) other ≡ (not (is_spot key other) && has_entry es other)
 
 -- After a store an entry is hit if it was hit before and the store has none of its bytes.
 abbrev pub TouchedIsGone : Type 0

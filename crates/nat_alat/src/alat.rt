@@ -2,11 +2,11 @@
 
 ghost use Rattle.std.specs.Prelude.{◌≡◌, ◌+◌, ◌≤◌, [], length, nat_le};
 ghost use Rattle.ia_meaning.specs.declared.limits.TheConstants.{ALAT_LIMIT};
-ghost use Rattle.ia_meaning.specs.Loads.{is_apart, forgotten, entered, untouched, has_hit, has_entry};
+ghost use Rattle.ia_meaning.specs.Loads.{is_apart, invalidated, entered, untouched, has_hit, has_entry};
 
 use arrayvec::ArrayVec;
 use ia_meaning::limits::ALAT_LIMIT;
-use ia_meaning::{AlatEntry, AlatKey};
+use ia_meaning::{AlatEntry, Spot};
 use std::marker::Model;
 
 /// Whether so many bytes from an address on end at another address or before it.
@@ -62,7 +62,7 @@ impl Alat {
     pub fn enter(&mut self, entry: AlatEntry)
         ensures { self.new ≡ entered self.old entry }
     {
-        self.forget(entry.key);
+        self.invalidate(entry.key);
         if self.entries.is_full() {
             self.entries.remove(0);
         }
@@ -78,15 +78,15 @@ impl Alat {
     }
 
     /// Whether an entry of the register is there (volume 3, chapter 2, `chk.a`).
-    pub fn has(&self, key: AlatKey) -> bool
+    pub fn has(&self, key: Spot) -> bool
         ensures { result ≡ has_entry self.now key }
     {
         self.entries().iter().any(|entry| entry.key == key)
     }
 
     /// Removes the entry of the register, if there is one (volume 3, chapter 2, `invala.e`).
-    pub fn forget(&mut self, key: AlatKey)
-        ensures { self.new ≡ forgotten self.old key }
+    pub fn invalidate(&mut self, key: Spot)
+        ensures { self.new ≡ invalidated self.old key }
     {
         self.entries.retain(|entry| entry.key != key);
     }

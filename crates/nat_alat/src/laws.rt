@@ -1,6 +1,6 @@
 //! Laws of loads and stores, and of the ALAT. They do nothing.
 
-ghost use Rattle.nat_alat.specs.Laws.{StoredIsLoaded, OthersStay, EnteredIsHit, ForgottenIsGone, TouchedIsGone};
+ghost use Rattle.nat_alat.specs.Laws.{StoredIsLoaded, OthersStay, EnteredIsHit, InvalidatedIsGone, TouchedIsGone};
 
 /// A load gives the low bytes of what was stored there.
 pub fn stored_is_loaded()
@@ -17,9 +17,9 @@ pub fn entered_is_hit()
     ensures { EnteredIsHit }
 {}
 
-/// A register that the ALAT forgot has no entry, and each other has one if it had one.
-pub fn forgotten_is_gone()
-    ensures { ForgottenIsGone }
+/// A register that the ALAT has invalidated has no entry, and each other has one if it had one.
+pub fn invalidated_is_gone()
+    ensures { InvalidatedIsGone }
 {}
 
 /// After a store an entry of the ALAT is hit if it was hit before and the store has none of its bytes.

@@ -16,6 +16,8 @@ mod unat;
 
 pub use alat::Alat;
 pub use fault::MemFault;
-pub use ia_meaning::{AlatEntry, AlatKey, Cell};
-pub use laws::{entered_is_hit, forgotten_is_gone, others_stay, stored_is_loaded, touched_is_gone};
+pub use ia_meaning::{AlatEntry, Cell, Spot};
+pub use laws::{
+    entered_is_hit, invalidated_is_gone, others_stay, stored_is_loaded, touched_is_gone,
+};
 pub use memory::DataMem;

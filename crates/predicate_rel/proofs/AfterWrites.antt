@@ -11,14 +11,14 @@ use Rattle.ia_meaning.specs.declared.write.Write.TheVariants.{SetPredicate, SetL
 use Rattle.ia_meaning.specs.declared.write.FrameCause.TheVariants.{Renamed}
 use Rattle.ia_meaning.specs.Writes.{put, apply}
 use Rattle.ia_meaning.specs.Arithmetic.{bit}
-use Rattle.ia_meaning.specs.Names.{predicate_place, holds, predicate_spot, set_predicate}
+use Rattle.ia_meaning.specs.Names.{predicate_index, holds, predicate_spot, set_predicate}
 use Rattle.ia_meaning.specs.Moves.{is_masked, masked_writes, predicate_writes}
 use Rattle.ia_meaning.specs.Frames.{rotated}
 use Rattle.ia_meaning.specs.Loops.{written, turn_writes}
 use Rattle.ia_meaning.specs.Steps.{spilled}
 use Rattle.ia_meaning.proofs.WriteLists.{may_write}
-use Rattle.ia_meaning.proofs.PredicatePlaces.{holds_by_place, holds_zero, holds_at_place, low_place, high_place, place_high, place_below, place_by_base}
-use Rattle.rotation.proofs.Places.{predicates_apart}
+use Rattle.ia_meaning.proofs.PredicateIndexes.{holds_by_place, holds_zero, holds_at_place, low_place, high_place, place_high, place_below, place_by_base}
+use Rattle.rotation.proofs.Indexes.{predicates_apart}
 use Rattle.predicate_rel.specs.Rules.{is_target, is_moved, name_before}
 use Rattle.predicate_rel.proofs.TestTruth.{TestWritten}
 
@@ -29,7 +29,7 @@ pub record SameNames (r now : Registers) : Type 0 where
 
 pub same_holds : (r now : Registers) → SameNames r now → (x : ℕ) → holds now x ≡ holds r x
 same_holds r now s x = holds_by_place now r x (λ n.
-    ap (λ (bs : List Bool). get_or bs (predicate_place now.frame x) false) s.predicates
+    ap (λ (bs : List Bool). get_or bs (predicate_index now.frame x) false) s.predicates
     ∙ ap (λ (k : ℕ). get_or r.predicates k false) (place_by_base now.frame r.frame x s.pr))
 
 -- a write that touches no predicate and keeps their names
@@ -91,18 +91,18 @@ one_frame f (suc p) b s = refl
 one_long : (f : FrameShape) (p : ℕ) (b : Bool) (s : Registers) → length (set_one f p b s).predicates ≡ length s.predicates
 unfolding predicate_spot
 one_long f zero b s = refl
-one_long f (suc p) b s = length-set s.predicates (predicate_place f (suc p)) b
+one_long f (suc p) b s = length-set s.predicates (predicate_index f (suc p)) b
 
 one_same : (f : FrameShape) (p : ℕ) (b : Bool) (s : Registers) → s.frame ≡ f → length s.predicates ≡ 64 → p ≢ 0 → p < 64 → holds (set_one f p b s) p ≡ b
 unfolding predicate_spot holds
 one_same f zero b s e l i k = absurd (i refl)
-one_same f (suc p) b s e l i k = rw e (get_or-set_same s.predicates (predicate_place f (suc p)) b false (rw l (place_below f (suc p) k)))
+one_same f (suc p) b s e l i k = rw e (get_or-set_same s.predicates (predicate_index f (suc p)) b false (rw l (place_below f (suc p) k)))
 
 one_other : (f : FrameShape) → IsFrame f → (p : ℕ) (b : Bool) (s : Registers) → s.frame ≡ f → p < 64 → (x : ℕ) → x < 64 → x ≢ p → holds (set_one f p b s) x ≡ holds s x
 unfolding predicate_spot holds
 one_other f h zero b s e k x i n = refl
 one_other f h (suc p) b s e k zero i n = refl
-one_other f h (suc p) b s e k (suc x) i n = rw e (get_or-set_other s.predicates (predicate_place f (suc p)) (predicate_place f (suc x)) b false (predicates_apart f h (suc x) (suc p) i k n))
+one_other f h (suc p) b s e k (suc x) i n = rw e (get_or-set_other s.predicates (predicate_index f (suc p)) (predicate_index f (suc x)) b false (predicates_apart f h (suc x) (suc p) i k n))
 
 one_then : (f : FrameShape) (p : ℕ) (b : Bool) (ws : List Write) (s : Registers) → apply (set_predicate (predicate_spot f p) b ws) s ≡ apply ws (set_one f p b s)
 unfolding predicate_spot
@@ -172,12 +172,12 @@ apply_under mask (w ∷ ws) r k off h =
     (rest.0 ∙ one.0, rest.1 ∙ one.1)
 
 -- the mask has one bit for all predicates that rotate
-masked_place : (f : FrameShape) (mask x : ℕ) → is_masked mask (predicate_place f x) ≡ is_masked mask x
+masked_place : (f : FrameShape) (mask x : ℕ) → is_masked mask (predicate_index f x) ≡ is_masked mask x
 masked_place f mask x = of (cases_lt x 16)
   where
-    of : (x < 16) ⊎ (16 ≤ x) → is_masked mask (predicate_place f x) ≡ is_masked mask x
+    of : (x < 16) ⊎ (16 ≤ x) → is_masked mask (predicate_index f x) ≡ is_masked mask x
     of (inl l) = ap (is_masked mask) (low_place f x l)
-    of (inr g) = high_masked (predicate_place f x) (place_high f x g) ∙ sym (high_masked x g)
+    of (inr g) = high_masked (predicate_index f x) (place_high f x g) ∙ sym (high_masked x g)
       where
         high_masked : (n : ℕ) → 16 ≤ n → is_masked mask n ≡ bit mask 16
         high_masked n h = let e : nat_lt n 16 ≡ false = grind (arith, nat_tests) in rw e refl
@@ -193,14 +193,14 @@ unmoved mask x h n = by_test (x == 0) (is_masked mask x) refl h
 pub moved_other : (mask v : ℕ) (r : Registers) (x : ℕ) → is_moved mask x ≡ false → holds (apply (predicate_writes mask v) r) x ≡ holds r x
 unfolding predicate_writes
 moved_other mask v r x h = holds_by_place (apply (masked_writes 63 1 mask v) r) r x (λ n.
-    let there : is_masked mask (predicate_place r.frame x) ≡ false = masked_place r.frame mask x ∙ unmoved mask x h n in
-    let same = apply_under mask (masked_writes 63 1 mask v) r (predicate_place r.frame x) there (masked_under 63 1 mask v) in
-    ap (λ (f : FrameShape). get_or (apply (masked_writes 63 1 mask v) r).predicates (predicate_place f x) false) same.0 ∙ same.1)
+    let there : is_masked mask (predicate_index r.frame x) ≡ false = masked_place r.frame mask x ∙ unmoved mask x h n in
+    let same = apply_under mask (masked_writes 63 1 mask v) r (predicate_index r.frame x) there (masked_under 63 1 mask v) in
+    ap (λ (f : FrameShape). get_or (apply (masked_writes 63 1 mask v) r).predicates (predicate_index f x) false) same.0 ∙ same.1)
 
 -- the registers after a rotation, where p63 was written under its old name
 pub record Turned (r : Registers) (b : Bool) (now : Registers) : Type 0 where
   pub frame : now.frame ≡ rotated r.frame
-  pub predicates : now.predicates ≡ set r.predicates (predicate_place r.frame 63) b
+  pub predicates : now.predicates ≡ set r.predicates (predicate_index r.frame 63) b
 
 turned_by : (lc ec : Option ℕ) (p63 : Option Bool) (rotates : Bool) (b : Bool) (f : FrameShape) (n : ℕ) (r : Registers) → p63 ≡ Some b → rotates ≡ true
     → ((apply (written SetLc lc (written SetEc ec (written (SetPredicate n) p63 (if rotates then SetFrame Renamed (rotated f) ∷ [] else [])))) r).frame ≡ rotated f)
@@ -213,7 +213,7 @@ turned_by (Some j) None (Some c) true b f n r e t = (refl, ap (set r.predicates 
 turned_by (Some j) (Some k) (Some c) true b f n r e t = (refl, ap (set r.predicates n) (let same : c ≡ b = cc in same))
 
 pub turned : (t : Turn) (b : Bool) (r : Registers) → t.rotates ≡ true → t.p63 ≡ Some b → Turned r b (apply (turn_writes t r.frame) r)
-turned t b r rotates p63 = let h = turned_by t.lc t.ec t.p63 t.rotates b r.frame (predicate_place r.frame 63) r p63 rotates in record { frame = h.0; predicates = h.1 }
+turned t b r rotates p63 = let h = turned_by t.lc t.ec t.p63 t.rotates b r.frame (predicate_index r.frame 63) r p63 rotates in record { frame = h.0; predicates = h.1 }
 
 rotated_pr : (f : FrameShape) → (rotated f).rrbs.pr ≡ (f.rrbs.pr + 47) % 48
 unfolding rotated
@@ -227,10 +227,10 @@ before_high : (p : ℕ) → 16 ≤ p → name_before p ≡ p - 1
 before_high p h = grind (arith, nat_tests)
 
 -- the place of a name after the rotation
-before_place : (f : FrameShape) → IsFrame f → (p : ℕ) → p < 64 → p ≢ 16 → predicate_place (rotated f) p ≡ predicate_place f (name_before p)
+before_place : (f : FrameShape) → IsFrame f → (p : ℕ) → p < 64 → p ≢ 16 → predicate_index (rotated f) p ≡ predicate_index f (name_before p)
 before_place f h p i n = of (cases_lt p 16)
   where
-    of : (p < 16) ⊎ (16 ≤ p) → predicate_place (rotated f) p ≡ predicate_place f (name_before p)
+    of : (p < 16) ⊎ (16 ≤ p) → predicate_index (rotated f) p ≡ predicate_index f (name_before p)
     of (inl l) = rw (before_low p l, low_place (rotated f) p l, low_place f p l) refl
     of (inr g) =
         let k : 16 ≤ p - 1 = omega arith in
@@ -238,14 +238,14 @@ before_place f h p i n = of (cases_lt p 16)
         rw (before_high p g, high_place (rotated f) p g, high_place f (p - 1) k, rotated_pr f) (omega arith)
 
 -- p16 stands where p63 stood
-last_place : (f : FrameShape) → IsFrame f → predicate_place (rotated f) 16 ≡ predicate_place f 63
+last_place : (f : FrameShape) → IsFrame f → predicate_index (rotated f) 16 ≡ predicate_index f 63
 last_place f h = let r = h.predicates in rw (high_place (rotated f) 16 (omega arith), high_place f 63 (omega arith), rotated_pr f) (omega arith)
 
 module _ (r now : Registers) (b : Bool) (frame : IsFrame r.frame) (long : length r.predicates ≡ 64) (t : Turned r b now) where
-  at_place : (x : ℕ) → x ≢ 0 → holds now x ≡ get_or (set r.predicates (predicate_place r.frame 63) b) (predicate_place (rotated r.frame) x) false
+  at_place : (x : ℕ) → x ≢ 0 → holds now x ≡ get_or (set r.predicates (predicate_index r.frame 63) b) (predicate_index (rotated r.frame) x) false
   at_place x n =
-      holds_at_place now x n ∙ ap (λ (f : FrameShape). get_or now.predicates (predicate_place f x) false) t.frame
-      ∙ ap (λ (bs : List Bool). get_or bs (predicate_place (rotated r.frame) x) false) t.predicates
+      holds_at_place now x n ∙ ap (λ (f : FrameShape). get_or now.predicates (predicate_index f x) false) t.frame
+      ∙ ap (λ (bs : List Bool). get_or bs (predicate_index (rotated r.frame) x) false) t.predicates
 
   pub turned_holds : (x : ℕ) → x < 64 → x ≢ 16 → holds now x ≡ holds r (name_before x)
   turned_holds x i n = of (cases_eq x 0)
@@ -257,12 +257,12 @@ module _ (r now : Registers) (b : Bool) (frame : IsFrame r.frame) (long : length
           let below : name_before x < 64 = grind (arith, nat_tests) in
           let differ : name_before x ≢ 63 = λ w. grind (arith, nat_tests) in
           at_place x z
-          ∙ ap (λ (k : ℕ). get_or (set r.predicates (predicate_place r.frame 63) b) k false) (before_place r.frame frame x i n)
-          ∙ get_or-set_other r.predicates (predicate_place r.frame 63) (predicate_place r.frame (name_before x)) b false (predicates_apart r.frame frame (name_before x) 63 below (omega arith) differ)
+          ∙ ap (λ (k : ℕ). get_or (set r.predicates (predicate_index r.frame 63) b) k false) (before_place r.frame frame x i n)
+          ∙ get_or-set_other r.predicates (predicate_index r.frame 63) (predicate_index r.frame (name_before x)) b false (predicates_apart r.frame frame (name_before x) 63 below (omega arith) differ)
           ∙ sym (holds_at_place r (name_before x) some)
 
   pub turned_last : holds now 16 ≡ b
   turned_last =
       at_place 16 (λ e. absurd (omega arith))
-      ∙ ap (λ (k : ℕ). get_or (set r.predicates (predicate_place r.frame 63) b) k false) (last_place r.frame frame)
-      ∙ get_or-set_same r.predicates (predicate_place r.frame 63) b false (rw long (place_below r.frame 63 (omega arith)))
+      ∙ ap (λ (k : ℕ). get_or (set r.predicates (predicate_index r.frame 63) b) k false) (last_place r.frame frame)
+      ∙ get_or-set_same r.predicates (predicate_index r.frame 63) b false (rw long (place_below r.frame 63 (omega arith)))

@@ -4,7 +4,7 @@ use Rattle.std.proofs.Common.{◌≡◌, true, None, refl}
 use Rattle.ia_insn.specs.declared.choices.CmpKind.TheVariants as cmp
 use Rattle.ia_insn.specs.declared.choices.BranchKind.TheVariants as branch
 use Rattle.ia_insn.specs.declared.choices.Unit.TheVariants.{B}
-use Rattle.ia_meaning.specs.declared.action.Goal.TheVariants as goal
+use Rattle.ia_meaning.specs.declared.action.CallTarget.TheVariants as callee
 use Rattle.ia_meaning.specs.declared.action.Condition.TheVariants.{NatIsZero}
 use Rattle.ia_meaning.specs.declared.action.MovedWord.TheVariants.{Register}
 use Rattle.ia_meaning.specs.declared.action.Action.TheVariants as action
@@ -81,7 +81,7 @@ move_others = refl
 falls_guard : action_rule (action.Jump (pos 0)) Falls 8 8 20 ≡ always
 falls_guard = refl
 
-falls_call : action_rule (action.Call 0 (goal.Direct (pos 0))) Falls 8 8 20 ≡ always
+falls_call : action_rule (action.Call 0 (callee.Direct (pos 0))) Falls 8 8 20 ≡ always
 falls_call = refl
 
 falls_indirect : action_rule (action.JumpIndirect 6) Falls 8 8 20 ≡ always
@@ -93,7 +93,7 @@ falls_return = refl
 falls_stop : action_rule (action.Stop B 0) Falls 8 8 20 ≡ always
 falls_stop = refl
 
-falls_others : action_rule (action.Call 0 (goal.Direct (pos 0))) Falls 8 9 20 ≡ one 9 20
+falls_others : action_rule (action.Call 0 (callee.Direct (pos 0))) Falls 8 9 20 ≡ one 9 20
 falls_others = refl
 
 falls_turned : action_rule (action.Stop B 0) Falls 8 20 8 ≡ always
@@ -102,10 +102,10 @@ falls_turned = refl
 taken_jump : action_rule (action.Jump (pos 0)) Taken 8 8 20 ≡ one 8 20
 taken_jump = refl
 
-taken_call : action_rule (action.Call 0 (goal.Direct (pos 0))) Taken 8 9 20 ≡ never
+taken_call : action_rule (action.Call 0 (callee.Direct (pos 0))) Taken 8 9 20 ≡ never
 taken_call = refl
 
-taken_call_below : action_rule (action.Call 0 (goal.Direct (pos 0))) Taken 8 9 10 ≡ one 9 10
+taken_call_below : action_rule (action.Call 0 (callee.Direct (pos 0))) Taken 8 9 10 ≡ one 9 10
 taken_call_below = refl
 
 clear : action_rule (action.ClearBases true) Falls 0 9 16 ≡ never

@@ -108,11 +108,11 @@ action_same (action.ToPredicates r2 mask word) edge g w x y f h agree none =
     let parts = or_parts (has_bit w x) (has_bit w g) none in
     raised_same (is_moved mask) g x y f h (λ z. agree.same x z parts.0) (λ z. agree.same g z parts.1)
 action_same (action.Jump disp) Falls g w x y f h agree none = falls_same g x y f h (λ z. agree.same x z none)
-action_same (action.Call b1 goal) Falls g w x y f h agree none = falls_same g x y f h (λ z. agree.same x z none)
+action_same (action.Call b1 callee) Falls g w x y f h agree none = falls_same g x y f h (λ z. agree.same x z none)
 action_same (action.JumpIndirect b2) Falls g w x y f h agree none = falls_same g x y f h (λ z. agree.same x z none)
 action_same (action.Return b2) Falls g w x y f h agree none = falls_same g x y f h (λ z. agree.same x z none)
 action_same (action.Stop unit imm) Falls g w x y f h agree none = falls_same g x y f h (λ z. agree.same x z none)
-action_same (action.Call b1 goal) Taken g w x y f h agree none = static_same x y f h (λ z. agree.same x z none)
+action_same (action.Call b1 callee) Taken g w x y f h agree none = static_same x y f h (λ z. agree.same x z none)
 action_same (action.ClearBases pred_only) edge g w x y f h agree none = static_same x y f h (λ z. agree.same x z none)
 action_same (action.Loop kind disp) edge g w x y f h agree none =
     let parts = or_parts (has_bit w x) (has_bit w (x - 1)) none in

@@ -4,7 +4,7 @@ use Rattle.std.proofs.lemmas.Bool.{and_parts}
 use Rattle.std.proofs.lemmas.Bool.Decides.{nat_tests}
 use Rattle.ia_meaning.specs.State.{Registers}
 use Rattle.ia_meaning.specs.Names.{holds}
-use Rattle.ia_meaning.proofs.PredicatePlaces.{holds_zero, off_some}
+use Rattle.ia_meaning.proofs.PredicateIndexes.{holds_zero, off_some}
 use Rattle.predicate_rel.specs.declared.rows.Kept.{Kept}
 use Rattle.predicate_rel.specs.declared.rows.Kept.TheVariants.{Own, Guard, Both}
 use Rattle.predicate_rel.specs.Pairs.{Pairs}

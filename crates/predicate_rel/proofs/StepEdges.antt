@@ -21,7 +21,7 @@ use Rattle.ia_meaning.specs.State.{Registers, Memory, State}
 use Rattle.ia_meaning.specs.Landings.{is_entry, landing, arrival, breaks_relation}
 use Rattle.ia_meaning.specs.Outcomes.{Outcome}
 use Rattle.ia_meaning.specs.declared.action.Action.{Action}
-use Rattle.ia_meaning.specs.declared.action.Goal.TheVariants.{Indirect}
+use Rattle.ia_meaning.specs.declared.action.CallTarget.TheVariants.{Indirect}
 use Rattle.ia_meaning.specs.declared.action.Action.TheVariants.{Test, JumpIndirect, Loop, Call, Return}
 use Rattle.ia_meaning.specs.Actions.{action_of, is_indirect}
 use Rattle.ia_meaning.specs.Effects.{Site, site, act, skip, effect}

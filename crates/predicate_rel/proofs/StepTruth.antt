@@ -21,20 +21,20 @@ use Rattle.ia_meaning.specs.declared.next.Next.{Next}
 use Rattle.ia_meaning.specs.declared.next.Next.TheVariants as next
 use Rattle.ia_meaning.specs.declared.state.Cell.{Cell}
 use Rattle.ia_meaning.specs.declared.state.FrameShape.{FrameShape}
-use Rattle.ia_meaning.specs.declared.state.AlatKey.{AlatKey as Spot}
-use Rattle.ia_meaning.specs.declared.state.AlatKey.TheVariants.{Static, Stacked}
+use Rattle.ia_meaning.specs.declared.state.Spot.{Spot}
+use Rattle.ia_meaning.specs.declared.state.Spot.TheVariants.{Static, Stacked}
 use Rattle.ia_meaning.specs.declared.turn.Turn.{Turn}
-use Rattle.ia_meaning.specs.declared.action.Goal.TheVariants.{Direct, Indirect}
+use Rattle.ia_meaning.specs.declared.action.CallTarget.TheVariants.{Direct, Indirect}
 use Rattle.ia_meaning.specs.State.{zero_cell, Registers, Memory, State, IsFrame, IsState}
 use Rattle.ia_meaning.specs.declared.write.Write.{Write}
 use Rattle.ia_meaning.specs.declared.write.Write.TheVariants.{SetPredicate, SetBranch, SetUnat, SetPfs, SetLc, SetEc, SetFrame}
 use Rattle.ia_meaning.specs.declared.write.FrameCause.TheVariants.{Resized, Renamed}
 use Rattle.ia_meaning.specs.Writes.{apply}
-use Rattle.ia_meaning.specs.Names.{predicate_place, holds, predicate_spot, set_spot, set_predicate}
+use Rattle.ia_meaning.specs.Names.{predicate_index, holds, predicate_spot, set_spot, set_predicate}
 use Rattle.ia_meaning.specs.Outcomes.{Outcome}
 use Rattle.ia_meaning.specs.declared.action.MovedWord.{MovedWord}
 use Rattle.ia_meaning.specs.declared.action.Action.{Action}
-use Rattle.ia_meaning.specs.declared.action.Action.TheVariants.{Compute, Fetch, Test, ToPredicates, ToBranch, ToApplication, FromMemory, ToMemory, Exchange, CheckNat, CheckAlat, ForgetAll, Forget, Allocate, Jump, JumpIndirect, Loop, Call, Return, ClearBases, Stop, Idle}
+use Rattle.ia_meaning.specs.declared.action.Action.TheVariants.{Compute, Fetch, Test, ToPredicates, ToBranch, ToApplication, FromMemory, ToMemory, Exchange, CheckNat, CheckAlat, InvalidateAll, Invalidate, Allocate, Jump, JumpIndirect, Loop, Call, Return, ClearBases, Stop, Idle}
 use Rattle.ia_meaning.specs.Actions.{action_of, result_of, moved}
 use Rattle.ia_meaning.specs.Moves.{test_writes}
 use Rattle.ia_meaning.specs.Loads.{base_writes}
@@ -47,7 +47,7 @@ use Rattle.ia_meaning.specs.Steps.{Step, settled, outcome_of, spilled, registers
 use Rattle.ia_meaning.proofs.StepHere.{by_insn}
 use Rattle.ia_meaning.proofs.WriteLists.{may_write, each_written}
 use Rattle.ia_meaning.proofs.ListedNames.{HasNames, has_names}
-use Rattle.ia_meaning.proofs.PredicatePlaces.{off_some, place_high}
+use Rattle.ia_meaning.proofs.PredicateIndexes.{off_some, place_high}
 use Rattle.ia_meaning.proofs.Inversions.{ApplicationCases, ActCases, SkipCases, TurnCases, guarded_cases}
 use Rattle.predicate_rel.specs.declared.edge.Edge.{Edge}
 use Rattle.predicate_rel.specs.declared.edge.Edge.TheVariants.{Falls, Taken}
@@ -89,7 +89,7 @@ turn_high : (t : Turn) (f : FrameShape) → Each IsHigh (turn_writes t f)
 turn_high t f =
     each_written IsHigh SetLc t.lc _ (λ x e. tt)
     (each_written IsHigh SetEc t.ec _ (λ x e. tt)
-    (each_written IsHigh (SetPredicate (predicate_place f 63)) t.p63 _ (λ x e. place_high f 63 (omega arith))
+    (each_written IsHigh (SetPredicate (predicate_index f 63)) t.p63 _ (λ x e. place_high f 63 (omega arith))
     (may_write IsHigh t.rotates (SetFrame Renamed (rotated f)) [] (λ e. tt) tt)))
 
 -- a turn that rotates, and what it writes into p63
@@ -223,8 +223,8 @@ module _ (f : Pairs) (g : ℕ) (r : Registers) (frame : IsFrame r.frame) (long :
   act_keeps s (Exchange size r1 r3 r2 inc) m unat n on = (λ k. tt, λ d base x _ _ _ _ _ _. plain _ (spot_plain _ d _ [] tt))
   act_keeps s (CheckNat r2 disp) m unat n on = (λ k. tt, λ b _ _ d. still, λ b _ _. still)
   act_keeps s (CheckAlat clear r1 disp) m unat n on = (λ k. tt, λ d _ _ t. still, λ d _ _ es _. still)
-  act_keeps s ForgetAll m unat n on = still
-  act_keeps s (Forget r1) m unat n on = (λ k. tt, λ d _. still)
+  act_keeps s InvalidateAll m unat n on = still
+  act_keeps s (Invalidate r1) m unat n on = (λ k. tt, λ d _. still)
   act_keeps s (Allocate r1 sof sol sor) m unat n on = (λ k. tt, λ d _ _ _. plain (SetFrame Resized (with_sizes r.frame sof sol sor) ∷ set_spot d (record { value = r.pfs; nat = false }) []) (refl, spot_plain _ d _ [] tt))
   act_keeps s (Jump disp) m unat n on = λ d. still
   act_keeps s (JumpIndirect b2) m unat n on = (λ k. tt, λ to _ d. absurd (cc))
@@ -243,7 +243,7 @@ module _ (f : Pairs) (g : ℕ) (r : Registers) (frame : IsFrame r.frame) (long :
   skip_keeps s (Jump disp) m n off = fallen off
   skip_keeps s (JumpIndirect b2) m n off = fallen off
   skip_keeps s (Loop kind disp) m n off = loop_keeps false off kind disp (target_of s.bundle disp) m n
-  skip_keeps s (Call b1 goal) m n off = fallen off
+  skip_keeps s (Call b1 callee) m n off = fallen off
   skip_keeps s (Return b2) m n off = fallen off
   skip_keeps s (ClearBases pred_only) m n off = static [] tt
   skip_keeps s (Stop unit imm) m n off = fallen off

@@ -5,7 +5,7 @@ use Rattle.ia_insn.specs.declared.choices.CmpKind.{CmpKind}
 use Rattle.ia_insn.specs.declared.choices.CmpKind.TheVariants as cmp
 use Rattle.ia_meaning.specs.State.{Registers}
 use Rattle.ia_meaning.specs.Names.{holds}
-use Rattle.ia_meaning.proofs.PredicatePlaces.{off_some}
+use Rattle.ia_meaning.proofs.PredicateIndexes.{off_some}
 use Rattle.predicate_rel.specs.declared.rows.Kept.TheVariants.{Own, Guard, Both}
 use Rattle.predicate_rel.specs.Pairs.{Pairs}
 use Rattle.predicate_rel.specs.Rules.{always, one, is_met, is_target, normal_targets, or_andcm_kept, test_rule}

@@ -163,11 +163,11 @@ action_keeps : (a : Action) (edge : Edge) (g : ℕ) (f : Pairs) → IsUnordered 
 action_keeps (action.Test kind p1 p2 r2 r3 c) edge g f un = test_keeps kind p1 p2 g f un
 action_keeps (action.ToPredicates r2 mask w) edge g f un = raised_keeps (is_moved mask) g f refl un
 action_keeps (action.Jump disp) Falls g f un = falls_keeps g f un
-action_keeps (action.Call b1 goal) Falls g f un = falls_keeps g f un
+action_keeps (action.Call b1 callee) Falls g f un = falls_keeps g f un
 action_keeps (action.JumpIndirect b2) Falls g f un = falls_keeps g f un
 action_keeps (action.Return b2) Falls g f un = falls_keeps g f un
 action_keeps (action.Stop unit imm) Falls g f un = falls_keeps g f un
-action_keeps (action.Call b1 goal) Taken g f un = static_keeps f un
+action_keeps (action.Call b1 callee) Taken g f un = static_keeps f un
 action_keeps (action.ClearBases pred_only) edge g f un = static_keeps f un
 action_keeps (action.Loop kind disp) edge g f un = loop_keeps kind edge f un
 action_keeps a edge g f un = one_keeps f un

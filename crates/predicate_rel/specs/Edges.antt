@@ -6,7 +6,7 @@ use Rattle.ia_program.specs.declared.place.Place.{Place}
 use Rattle.ia_program.specs.Bundles.{Bundle}
 use Rattle.ia_program.specs.Places.{insn_at, IsPlaceOf}
 use Rattle.ia_program.specs.Programs.{Program}
-use Rattle.ia_meaning.specs.declared.action.Goal.TheVariants.{Direct}
+use Rattle.ia_meaning.specs.declared.action.CallTarget.TheVariants.{Direct}
 use Rattle.ia_meaning.specs.declared.action.Action.{Action}
 use Rattle.ia_meaning.specs.declared.action.Action.TheVariants.{CheckNat, CheckAlat, Jump, JumpIndirect, Loop, Call, Return, Stop}
 use Rattle.ia_meaning.specs.Actions.{insn_action}
@@ -22,7 +22,7 @@ use Rattle.predicate_rel.specs.Rules.{pairs_after}
 abbrev pub leaves : Action → Bool
 leaves (Jump disp) = true
 leaves (JumpIndirect b2) = true
-leaves (Call b1 goal) = true
+leaves (Call b1 callee) = true
 leaves (Return b2) = true
 leaves (Stop unit imm) = true
 leaves action = false

@@ -128,11 +128,11 @@ abbrev pub action_rule : Action → Edge → (g x y : ℕ) → PairRule
 action_rule (action.Test kind p1 p2 r2 r3 c) edge g x y = test_rule kind p1 p2 g x y
 action_rule (action.ToPredicates r2 mask w) edge g x y = move_rule mask g x y
 action_rule (action.Jump disp) Falls g x y = falls_rule g x y
-action_rule (action.Call b1 goal) Falls g x y = falls_rule g x y
+action_rule (action.Call b1 callee) Falls g x y = falls_rule g x y
 action_rule (action.JumpIndirect b2) Falls g x y = falls_rule g x y
 action_rule (action.Return b2) Falls g x y = falls_rule g x y
 action_rule (action.Stop unit imm) Falls g x y = falls_rule g x y
-action_rule (action.Call b1 goal) Taken g x y = static_rule x y
+action_rule (action.Call b1 callee) Taken g x y = static_rule x y
 action_rule (action.ClearBases pred_only) edge g x y = static_rule x y
 action_rule (action.Loop kind disp) edge g x y = loop_rule kind edge x y
 action_rule f edge g x y = one x y

@@ -1,7 +1,7 @@
 -- Each pseudo-operation by its row.
 use Rattle.std.proofs.Common.{◌≡◌, refl, ℕ, pos, Bool, true, false, [], ◌∷◌, ◌++◌, Some, codes}
 use Rattle.std.specs.Prelude.{◌+◌, ◌-◌, ◌/◌, ◌-ℤ◌, nat_lt, if◌then◌else◌, None}
-use Rattle.asm_words.specs.declared.tokens.Token.TheVariants as t
+use Rattle.asm_lexemes.specs.declared.tokens.Token.TheVariants as t
 use Rattle.asm_forms.specs.declared.items.NumberField.TheVariants.{Imm14, Position}
 use Rattle.asm_forms.specs.Items.{has_room}
 use Rattle.asm_instructions.specs.Operands.{small, long}
@@ -13,13 +13,13 @@ use Rattle.ia_insn.specs.declared.insn.Op.TheVariants as op
 use Rattle.ia_insn.specs.Ranges.{IsHintOf}
 use Rattle.pseudo_laws.specs.Laws.{reads, unc_text, letter, HasLetter, RegisterCompares, NumberCompares, MovesToBranches, PseudoOperations}
 
-compares_of : (unc four : Bool) → RegisterCompares unc four
+compares_of : (unc four_bytes : Bool) → RegisterCompares unc four_bytes
 compares_of true true = record { eq = λ p q a b. refl; lt = λ p q a b. refl; ltu = λ p q a b. refl; not_eq = λ p q a b. refl; ge = λ p q a b. refl; geu = λ p q a b. refl; greater = λ p q a b. refl; gtu = λ p q a b. refl; less = λ p q a b. refl; leu = λ p q a b. refl }
 compares_of true false = record { eq = λ p q a b. refl; lt = λ p q a b. refl; ltu = λ p q a b. refl; not_eq = λ p q a b. refl; ge = λ p q a b. refl; geu = λ p q a b. refl; greater = λ p q a b. refl; gtu = λ p q a b. refl; less = λ p q a b. refl; leu = λ p q a b. refl }
 compares_of false true = record { eq = λ p q a b. refl; lt = λ p q a b. refl; ltu = λ p q a b. refl; not_eq = λ p q a b. refl; ge = λ p q a b. refl; geu = λ p q a b. refl; greater = λ p q a b. refl; gtu = λ p q a b. refl; less = λ p q a b. refl; leu = λ p q a b. refl }
 compares_of false false = record { eq = λ p q a b. refl; lt = λ p q a b. refl; ltu = λ p q a b. refl; not_eq = λ p q a b. refl; ge = λ p q a b. refl; geu = λ p q a b. refl; greater = λ p q a b. refl; gtu = λ p q a b. refl; less = λ p q a b. refl; leu = λ p q a b. refl }
 
-number_compares_of : (unc four : Bool) → NumberCompares unc four
+number_compares_of : (unc four_bytes : Bool) → NumberCompares unc four_bytes
 number_compares_of true true = record {
   eq = λ p q s n b h. rw h (refl {a = Some (op.CmpImm true rel.Eq cmp.Unc p q (long s n) b)});
   lt = λ p q s n b h. rw h (refl {a = Some (op.CmpImm true rel.Lt cmp.Unc p q (long s n) b)});

@@ -3,8 +3,8 @@
 use Rattle.std.specs.Prelude.{◌≡◌, ℕ, ◌+◌, ◌-◌, ◌/◌, ℤ, pos, ◌-ℤ◌, Bool, true, false, nat_lt, if◌then◌else◌, List, [], ◌∷◌, ◌++◌, Option, Some, None, codes}
 use Rattle.std.specs.List.{find}
 use Rattle.std.specs.Option.{option_and_then}
-use Rattle.asm_words.specs.declared.tokens.Token.{Token}
-use Rattle.asm_words.specs.declared.tokens.Token.TheVariants as t
+use Rattle.asm_lexemes.specs.declared.tokens.Token.{Token}
+use Rattle.asm_lexemes.specs.declared.tokens.Token.TheVariants as t
 use Rattle.asm_forms.specs.declared.items.NumberField.{NumberField}
 use Rattle.asm_forms.specs.declared.items.NumberField.TheVariants.{Imm8, Less8, Imm14, Imm21, Imm22, Imm62, Position, Frame, Rotating}
 use Rattle.asm_forms.specs.Items.{has_room, taken}
@@ -37,21 +37,21 @@ abbrev unc_kind : Bool → CmpKind
 unc_kind unc = if unc then Unc else Normal
 
 abbrev compare_text : Bool → List ℕ
-compare_text four = if four then codes "cmp4" else codes "cmp"
+compare_text four_bytes = if four_bytes then codes "cmp4" else codes "cmp"
 
 -- The line `cmp.relation p,q=a,b`, or `cmp4`, with `.unc` or without, is a compare of the machine with these targets and
 -- registers.
 abbrev Compares : Bool → Bool → List ℕ → Rel → (ℕ → ℕ → ℕ) → (ℕ → ℕ → ℕ) → Type 0
-Compares unc four relation machine first second =
-    (p q a b : ℕ) → reads (compare_text four ++ relation ++ unc_text unc) (t.Pr p ∷ t.Comma ∷ t.Pr q ∷ t.Equals ∷ t.Gr a ∷ t.Comma ∷ t.Gr b ∷ [])
-    ≡ Some (op.Cmp four machine (unc_kind unc) (first p q) (first q p) (second a b) (second b a))
+Compares unc four_bytes relation machine first second =
+    (p q a b : ℕ) → reads (compare_text four_bytes ++ relation ++ unc_text unc) (t.Pr p ∷ t.Comma ∷ t.Pr q ∷ t.Equals ∷ t.Gr a ∷ t.Comma ∷ t.Gr b ∷ [])
+    ≡ Some (op.Cmp four_bytes machine (unc_kind unc) (first p q) (first q p) (second a b) (second b a))
 
 -- And the line `cmp.relation p,q=n,b` of a number that has room in the field is one with these targets and this number.
 abbrev ComparesNumber : Bool → Bool → List ℕ → NumberField → Rel → (ℕ → ℕ → ℕ) → (ℤ → ℤ) → Type 0
-ComparesNumber unc four relation field machine first lowered =
+ComparesNumber unc four_bytes relation field machine first lowered =
     (p q : ℕ) (negative : Bool) (n b : ℕ) → has_room field negative n ≡ true
-    → reads (compare_text four ++ relation ++ unc_text unc) (t.Pr p ∷ t.Comma ∷ t.Pr q ∷ t.Equals ∷ t.Number negative n ∷ t.Comma ∷ t.Gr b ∷ [])
-    ≡ Some (op.CmpImm four machine (unc_kind unc) (first p q) (first q p) (lowered (long negative n)) b)
+    → reads (compare_text four_bytes ++ relation ++ unc_text unc) (t.Pr p ∷ t.Comma ∷ t.Pr q ∷ t.Equals ∷ t.Number negative n ∷ t.Comma ∷ t.Gr b ∷ [])
+    ≡ Some (op.CmpImm four_bytes machine (unc_kind unc) (first p q) (first q p) (lowered (long negative n)) b)
 
 -- as they are written, and exchanged
 abbrev kept : ℕ → ℕ → ℕ
@@ -68,28 +68,28 @@ abbrev one_less : ℤ → ℤ
 one_less z = z -ℤ pos 1
 
 -- the compares of two registers
-pub record RegisterCompares (unc four : Bool) : Type 0 where
-  pub eq : Compares unc four (codes ".eq") rel.Eq kept kept
-  pub lt : Compares unc four (codes ".lt") rel.Lt kept kept
-  pub ltu : Compares unc four (codes ".ltu") rel.Ltu kept kept
-  pub not_eq : Compares unc four (codes ".ne") rel.Eq exchanged kept
-  pub ge : Compares unc four (codes ".ge") rel.Lt exchanged kept
-  pub geu : Compares unc four (codes ".geu") rel.Ltu exchanged kept
-  pub greater : Compares unc four (codes ".gt") rel.Lt kept exchanged
-  pub gtu : Compares unc four (codes ".gtu") rel.Ltu kept exchanged
-  pub less : Compares unc four (codes ".le") rel.Lt exchanged exchanged
-  pub leu : Compares unc four (codes ".leu") rel.Ltu exchanged exchanged
+pub record RegisterCompares (unc four_bytes : Bool) : Type 0 where
+  pub eq : Compares unc four_bytes (codes ".eq") rel.Eq kept kept
+  pub lt : Compares unc four_bytes (codes ".lt") rel.Lt kept kept
+  pub ltu : Compares unc four_bytes (codes ".ltu") rel.Ltu kept kept
+  pub not_eq : Compares unc four_bytes (codes ".ne") rel.Eq exchanged kept
+  pub ge : Compares unc four_bytes (codes ".ge") rel.Lt exchanged kept
+  pub geu : Compares unc four_bytes (codes ".geu") rel.Ltu exchanged kept
+  pub greater : Compares unc four_bytes (codes ".gt") rel.Lt kept exchanged
+  pub gtu : Compares unc four_bytes (codes ".gtu") rel.Ltu kept exchanged
+  pub less : Compares unc four_bytes (codes ".le") rel.Lt exchanged exchanged
+  pub leu : Compares unc four_bytes (codes ".leu") rel.Ltu exchanged exchanged
 
 -- the compares of a number and a register
-pub record NumberCompares (unc four : Bool) : Type 0 where
-  pub eq : ComparesNumber unc four (codes ".eq") Imm8 rel.Eq kept same
-  pub lt : ComparesNumber unc four (codes ".lt") Imm8 rel.Lt kept same
-  pub ltu : ComparesNumber unc four (codes ".ltu") Imm8 rel.Ltu kept same
-  pub not_eq : ComparesNumber unc four (codes ".ne") Imm8 rel.Eq exchanged same
-  pub ge : ComparesNumber unc four (codes ".ge") Imm8 rel.Lt exchanged same
-  pub geu : ComparesNumber unc four (codes ".geu") Imm8 rel.Ltu exchanged same
-  pub less : ComparesNumber unc four (codes ".le") Less8 rel.Lt kept one_less
-  pub greater : ComparesNumber unc four (codes ".gt") Less8 rel.Lt exchanged one_less
+pub record NumberCompares (unc four_bytes : Bool) : Type 0 where
+  pub eq : ComparesNumber unc four_bytes (codes ".eq") Imm8 rel.Eq kept same
+  pub lt : ComparesNumber unc four_bytes (codes ".lt") Imm8 rel.Lt kept same
+  pub ltu : ComparesNumber unc four_bytes (codes ".ltu") Imm8 rel.Ltu kept same
+  pub not_eq : ComparesNumber unc four_bytes (codes ".ne") Imm8 rel.Eq exchanged same
+  pub ge : ComparesNumber unc four_bytes (codes ".ge") Imm8 rel.Lt exchanged same
+  pub geu : ComparesNumber unc four_bytes (codes ".geu") Imm8 rel.Ltu exchanged same
+  pub less : ComparesNumber unc four_bytes (codes ".le") Less8 rel.Lt kept one_less
+  pub greater : ComparesNumber unc four_bytes (codes ".gt") Less8 rel.Lt exchanged one_less
 
 -- the letter of a unit, which an L slot has not
 abbrev pub letter : ExecutionUnit → List ℕ
@@ -117,8 +117,8 @@ pub record MovesToBranches (ret imp : Bool) : Type 0 where
 
 -- the others
 pub record PseudoOperations : Type 0 where
-  pub compares : (unc four : Bool) → RegisterCompares unc four
-  pub number_compares : (unc four : Bool) → NumberCompares unc four
+  pub compares : (unc four_bytes : Bool) → RegisterCompares unc four_bytes
+  pub number_compares : (unc four_bytes : Bool) → NumberCompares unc four_bytes
   -- mov r1=r3
   pub mov : (r1 r3 : ℕ) → reads (codes "mov") (t.Gr r1 ∷ t.Equals ∷ t.Gr r3 ∷ []) ≡ Some (op.AddImm14 false r1 (pos 0) r3)
   -- mov r1=n

@@ -5,10 +5,10 @@ use Rattle.std.proofs.lemmas.List.{get_or-set_other}
 use Rattle.std.proofs.lemmas.Bool.Decides.{nat_tests}
 use Rattle.ia_meaning.specs.declared.state.Cell.{Cell}
 use Rattle.ia_meaning.specs.declared.state.FrameShape.{FrameShape}
-use Rattle.ia_meaning.specs.declared.state.AlatKey.{AlatKey as Spot}
-use Rattle.ia_meaning.specs.declared.state.AlatKey.TheVariants.{Static, Stacked}
+use Rattle.ia_meaning.specs.declared.state.Spot.{Spot}
+use Rattle.ia_meaning.specs.declared.state.Spot.TheVariants.{Static, Stacked}
 use Rattle.ia_meaning.specs.State.{zero_cell, IsFrame}
-use Rattle.ia_meaning.specs.Names.{spot, is_stacked, frame_place}
+use Rattle.ia_meaning.specs.Names.{spot, is_stacked, frame_index}
 use Rattle.ia_meaning.specs.Frames.{with_sizes, call_frame, frame_marker, marked_frame, is_frame, returned_frame}
 use Rattle.ia_meaning.proofs.Starts.{frame_decides}
 use Rattle.frame_shapes.specs.declared.fault.StackFault.{StackFault}
@@ -33,7 +33,7 @@ by_tests false inside n k r h = tt
 
 spot_from : (f : FrameShape) (n r : ℕ) → n ≤ f.base → IsPlaceFrom n (spot f r)
 unfolding spot
-spot_from f n r h = by_tests (is_stacked r) (nat_lt (r - 32) f.sof) n (f.base + frame_place f (r - 32)) r (omega arith)
+spot_from f n r h = by_tests (is_stacked r) (nat_lt (r - 32) f.sof) n (f.base + frame_index f (r - 32)) r (omega arith)
 
 kept_by_set : (place : Option Spot) (cells : List Cell) (cell : Cell) (n c : ℕ) → IsPlaceFrom n place → c < n → get_or (with_cell cells place cell) c zero_cell ≡ get_or cells c zero_cell
 kept_by_set None cells cell n c h k = refl

@@ -4,8 +4,8 @@ use Rattle.ia_meaning.specs.declared.limits.TheConstants.{STACK_LIMIT}
 use Rattle.ia_meaning.specs.declared.state.Cell.{Cell}
 use Rattle.ia_meaning.specs.declared.state.FrameShape.{FrameShape}
 use Rattle.ia_meaning.specs.declared.state.Rse.{Rse}
-use Rattle.ia_meaning.specs.declared.state.AlatKey.{AlatKey as Spot}
-use Rattle.ia_meaning.specs.declared.state.AlatKey.TheVariants.{Static, Stacked}
+use Rattle.ia_meaning.specs.declared.state.Spot.{Spot}
+use Rattle.ia_meaning.specs.declared.state.Spot.TheVariants.{Static, Stacked}
 use Rattle.ia_meaning.specs.State.{zero_cell, zero_frame, AreCells, IsFrame}
 use Rattle.ia_meaning.specs.Writes.{resized}
 use Rattle.ia_meaning.specs.ResidentRange.{zero_range, range_after}

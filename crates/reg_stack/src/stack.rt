@@ -1,7 +1,7 @@
 //! The register stack.
 
 ghost use Rattle.std.specs.Prelude.{◌≡◌, ◌+◌, ◌*◌, ◌<◌, ◌≤◌, ◌^◌, Some, None, MatchOption, IfOk, OnOk, OnErr};
-ghost use Rattle.ia_meaning.specs.declared.state.AlatKey.TheVariants.{Stacked};
+ghost use Rattle.ia_meaning.specs.declared.state.Spot.TheVariants.{Stacked};
 ghost use Rattle.std.specs.Result.{result_err};
 ghost use Rattle.ia_meaning.specs.declared.limits.TheConstants.{STACK_LIMIT};
 ghost use Rattle.ia_meaning.specs.State.{IsFrame};

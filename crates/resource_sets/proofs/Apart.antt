@@ -12,19 +12,19 @@ use Rattle.ia_insn.specs.declared.registers.Ar.TheVariants as ar
 use Rattle.ia_insn.specs.Ranges.{IsLoadUpdate}
 use Rattle.ia_meaning.specs.declared.state.Cell.{Cell}
 use Rattle.ia_meaning.specs.declared.state.FrameShape.{FrameShape}
-use Rattle.ia_meaning.specs.declared.state.AlatKey.{AlatKey as Spot}
-use Rattle.ia_meaning.specs.declared.state.AlatKey.TheVariants.{Static, Stacked}
+use Rattle.ia_meaning.specs.declared.state.Spot.{Spot}
+use Rattle.ia_meaning.specs.declared.state.Spot.TheVariants.{Static, Stacked}
 use Rattle.ia_meaning.specs.declared.turn.Turn.{Turn}
 use Rattle.ia_meaning.specs.declared.action.Action.{Action}
-use Rattle.ia_meaning.specs.declared.action.Goal.TheVariants.{Direct, Indirect}
+use Rattle.ia_meaning.specs.declared.action.CallTarget.TheVariants.{Direct, Indirect}
 use Rattle.ia_meaning.specs.State.{zero_cell, Registers, Memory, IsFrame}
 use Rattle.ia_meaning.specs.declared.write.Write.{Write}
 use Rattle.ia_meaning.specs.declared.write.Write.TheVariants.{SetPredicate, SetLc, SetEc, SetFrame}
 use Rattle.ia_meaning.specs.declared.write.FrameCause.TheVariants.{Resized, Renamed}
-use Rattle.ia_meaning.specs.Names.{spot, predicate_spot, predicate_place, set_spot, set_predicate}
+use Rattle.ia_meaning.specs.Names.{spot, predicate_spot, predicate_index, set_spot, set_predicate}
 use Rattle.ia_meaning.specs.Arithmetic.{bit}
 use Rattle.ia_meaning.specs.Outcomes.{Outcome}
-use Rattle.ia_meaning.specs.declared.action.Action.TheVariants.{Compute, Fetch, Test, ToPredicates, ToBranch, ToApplication, FromMemory, ToMemory, Exchange, CheckNat, CheckAlat, ForgetAll, Forget, Allocate, Jump, JumpIndirect, Loop, Call, Return, ClearBases, Stop, Idle}
+use Rattle.ia_meaning.specs.declared.action.Action.TheVariants.{Compute, Fetch, Test, ToPredicates, ToBranch, ToApplication, FromMemory, ToMemory, Exchange, CheckNat, CheckAlat, InvalidateAll, Invalidate, Allocate, Jump, JumpIndirect, Loop, Call, Return, ClearBases, Stop, Idle}
 use Rattle.ia_meaning.specs.Actions.{action_of, result_of, moved}
 use Rattle.ia_meaning.specs.Moves.{test_writes, is_masked, masked_writes, predicate_writes}
 use Rattle.ia_meaning.specs.Loads.{base_writes}
@@ -33,7 +33,7 @@ use Rattle.ia_meaning.specs.Loops.{turn_of, written, turn_writes}
 use Rattle.ia_meaning.specs.Effects.{Site}
 use Rattle.ia_meaning.proofs.ListedNames.{AreTargets, HasNames, has_names}
 use Rattle.ia_meaning.proofs.Inversions.{ApplicationCases, ActCases, SkipCases, guarded_cases}
-use Rattle.rotation.proofs.Places.{predicates_apart}
+use Rattle.rotation.proofs.Indexes.{predicates_apart}
 use Rattle.resource_sets.specs.AccessLaws.{location, WritesAreApart}
 use Rattle.resource_sets.proofs.Coverage.{may_write, each_masked, each_written, each_rotation, either_way}
 use Rattle.resource_sets.proofs.Renaming.{spots_apart}
@@ -123,7 +123,7 @@ written_apart g (Some x) ws h rest = (h x, rest)
 
 turn_apart : (t : Turn) (f : FrameShape) → AreApart (turn_writes t f)
 turn_apart t f =
-    let p63 : Bool → Write = SetPredicate (predicate_place f 63) in
+    let p63 : Bool → Write = SetPredicate (predicate_index f 63) in
     written_apart SetLc t.lc _
     (λ x. each_written _ SetEc t.ec _ (λ y _ same. cc)
     (each_written _ p63 t.p63 _ (λ y _ same. cc) (each_rotation _ f t.rotates (λ same. cc))))
@@ -164,8 +164,8 @@ act_apart s qp (ToMemory size kind r3 r2 u) v m x frame l = (λ _. tt, λ e y z 
 act_apart s qp (Exchange size r1 r3 r2 inc) v m x frame l = (λ _. tt, λ d y z _ _ _ _ _ _. one_spot d _)
 act_apart s qp (CheckNat r2 disp) v m x frame l = (λ _. tt, λ a _ _. tt, λ a _ _. tt)
 act_apart s qp (CheckAlat clear r1 disp) v m x frame l = (λ _. tt, λ d _ _. tt, λ d _ _ es _. tt)
-act_apart s qp ForgetAll v m x frame l = tt
-act_apart s qp (Forget r1) v m x frame l = (λ _. tt, λ d _. tt)
+act_apart s qp InvalidateAll v m x frame l = tt
+act_apart s qp (Invalidate r1) v m x frame l = (λ _. tt, λ d _. tt)
 act_apart s qp (Allocate r1 sof sol sor) v m x frame l = (λ _. tt, λ d _ _ _. frame_and_spot (with_sizes v.frame sof sol sor) d _)
 act_apart s qp (Jump disp) v m x frame l = tt
 act_apart s qp (JumpIndirect b2) v m x frame l = (λ _. tt, λ to _. tt)

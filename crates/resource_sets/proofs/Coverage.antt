@@ -16,22 +16,22 @@ use Rattle.ia_insn.specs.declared.registers.Ar.{Ar}
 use Rattle.ia_insn.specs.declared.registers.Ar.TheVariants as ar
 use Rattle.ia_meaning.specs.declared.state.Cell.{Cell}
 use Rattle.ia_meaning.specs.declared.state.FrameShape.{FrameShape}
-use Rattle.ia_meaning.specs.declared.state.AlatKey.{AlatKey as Spot}
-use Rattle.ia_meaning.specs.declared.state.AlatKey.TheVariants.{Static, Stacked}
+use Rattle.ia_meaning.specs.declared.state.Spot.{Spot}
+use Rattle.ia_meaning.specs.declared.state.Spot.TheVariants.{Static, Stacked}
 use Rattle.ia_meaning.specs.declared.turn.Turn.{Turn}
 use Rattle.ia_meaning.specs.declared.action.Condition.{Condition}
 use Rattle.ia_meaning.specs.declared.action.MovedWord.{MovedWord}
 use Rattle.ia_meaning.specs.declared.action.Action.{Action}
-use Rattle.ia_meaning.specs.declared.action.Goal.{Goal}
-use Rattle.ia_meaning.specs.declared.action.Goal.TheVariants.{Direct, Indirect}
+use Rattle.ia_meaning.specs.declared.action.CallTarget.{CallTarget}
+use Rattle.ia_meaning.specs.declared.action.CallTarget.TheVariants.{Direct, Indirect}
 use Rattle.ia_meaning.specs.State.{zero_cell, Registers, Memory}
 use Rattle.ia_meaning.specs.declared.write.Write.{Write}
 use Rattle.ia_meaning.specs.declared.write.Write.TheVariants.{SetPredicate, SetUnat, SetPfs, SetLc, SetEc, SetFrame}
 use Rattle.ia_meaning.specs.declared.write.FrameCause.TheVariants.{Renamed}
-use Rattle.ia_meaning.specs.Names.{spot, holds, predicate_spot, predicate_place, set_spot, set_predicate}
+use Rattle.ia_meaning.specs.Names.{spot, holds, predicate_spot, predicate_index, set_spot, set_predicate}
 use Rattle.ia_meaning.specs.Arithmetic.{bit}
 use Rattle.ia_meaning.specs.Outcomes.{Outcome}
-use Rattle.ia_meaning.specs.declared.action.Action.TheVariants.{Compute, Fetch, Test, ToPredicates, ToBranch, ToApplication, FromMemory, ToMemory, Exchange, CheckNat, CheckAlat, ForgetAll, Forget, Allocate, Jump, JumpIndirect, Loop, Call, Return, ClearBases, Stop, Idle}
+use Rattle.ia_meaning.specs.declared.action.Action.TheVariants.{Compute, Fetch, Test, ToPredicates, ToBranch, ToApplication, FromMemory, ToMemory, Exchange, CheckNat, CheckAlat, InvalidateAll, Invalidate, Allocate, Jump, JumpIndirect, Loop, Call, Return, ClearBases, Stop, Idle}
 use Rattle.ia_meaning.specs.Actions.{action_of, result_of, moved}
 use Rattle.ia_meaning.specs.Moves.{test_writes, is_masked, masked_writes, predicate_writes}
 use Rattle.ia_meaning.specs.Loads.{base_writes}
@@ -47,7 +47,7 @@ use Rattle.resource_sets.specs.declared.access.Access.{Access}
 use Rattle.resource_sets.specs.Rows.{is_named}
 use Rattle.resource_sets.specs.Accesses.{test_rows, is_updated, own_rows, placed_rows, qp_rows, mask_rows, rotating_rows, counting_rows, rows_by_name, rows}
 use Rattle.resource_sets.proofs.Listing.{has_left, has_right, mask_row}
-use Rattle.ia_meaning.proofs.PredicatePlaces.{holds_zero, low_place}
+use Rattle.ia_meaning.proofs.PredicateIndexes.{holds_zero, low_place}
 use Rattle.resource_sets.specs.AccessLaws.{location, spot_location, location_of, naming_frame, writes_registers, MayPut, HasRow, IsCovered, WritesAreAccesses, CellsAreInside, SpillsAreAccesses, PredicateAt, CellAt}
 use Rattle.resource_sets.proofs.Renaming.{spot_inside}
 
@@ -147,17 +147,17 @@ second_row qp kind p q n = inr (inl (n, refl))
 -- The writes of predicate p that an access of a kind allows; p0 has none.
 abbrev PredicateWrites : (Write → Type 0) → FrameShape → Kind → ℕ → Type 0
 PredicateWrites P f kind p =
-    (b : Bool) → MayPut kind (SetPredicate (predicate_place f p) b) → is_named p ≡ true → P (SetPredicate (predicate_place f p) b)
+    (b : Bool) → MayPut kind (SetPredicate (predicate_index f p) b) → is_named p ≡ true → P (SetPredicate (predicate_index f p) b)
 
 module _ (P : Write → Type 0) (f : FrameShape) where
-  each_predicate : (p : ℕ) (b : Bool) (ws : List Write) → (is_named p ≡ true → P (SetPredicate (predicate_place f p) b))
+  each_predicate : (p : ℕ) (b : Bool) (ws : List Write) → (is_named p ≡ true → P (SetPredicate (predicate_index f p) b))
       → Each P ws → Each P (set_predicate (predicate_spot f p) b ws)
   unfolding predicate_spot
   each_predicate zero b ws h rest = rest
   each_predicate (suc p) b ws h rest = (h refl, rest)
 
   each_target : (j k : Kind) (p q : ℕ) (b c : Bool) → PredicateWrites P f j p → PredicateWrites P f k q
-      → MayPut j (SetPredicate (predicate_place f p) b) → MayPut k (SetPredicate (predicate_place f q) c)
+      → MayPut j (SetPredicate (predicate_index f p) b) → MayPut k (SetPredicate (predicate_index f q) c)
       → Each P (set_predicate (predicate_spot f p) b (set_predicate (predicate_spot f q) c []))
   each_target j k p q b c h i m n = each_predicate p b _ (h b m) (each_predicate q c [] (i c n) tt)
 
@@ -181,7 +181,7 @@ module _ (qp : ℕ) (kind : CmpKind) (p1 p2 r2 r3 : ℕ) (c : Condition) (v : Re
       → PredicateWrites (IsCovered qp test_action v) v.frame k p
   target_covered p k row i b m n =
       let a : Access = under (test_guard kind qp) (Pr p) k in
-      row_covered qp test_action v a (SetPredicate (predicate_place v.frame p) b)
+      row_covered qp test_action v a (SetPredicate (predicate_index v.frame p) b)
       (in_own qp test_action a (inr (inr (row n)))) i g refl m
 
   test_covered : (x : Option Bool)
@@ -207,8 +207,8 @@ each_place : (P : Write → Type 0) (mask x : ℕ) → PlacesFrom P 63 1 mask �
 unfolding predicate_writes
 each_place P mask x h = each_masked P 63 1 mask x h
 
-high_name : (f : FrameShape) (k : ℕ) → 16 ≤ k → k < 64 → f.rrbs.pr < 48 → predicate_place f (16 + (k + 32 - f.rrbs.pr) % 48) ≡ k
-unfolding predicate_place
+high_name : (f : FrameShape) (k : ℕ) → 16 ≤ k → k < 64 → f.rrbs.pr < 48 → predicate_index f (16 + (k + 32 - f.rrbs.pr) % 48) ≡ k
+unfolding predicate_index
 high_name f k h i b = let high : 16 ≤ 16 + (k + 32 - f.rrbs.pr) % 48 = omega arith in rw (le-leb _ _ high) (omega arith)
 
 masks_high : (mask k p : ℕ) → 16 ≤ k → 16 ≤ p → is_masked mask k ≡ true → is_masked mask p ≡ true
@@ -218,7 +218,7 @@ module _ (qp r2 mask : ℕ) (w : MovedWord) (v : Registers) (base : v.frame.rrbs
   abbrev mask_action : Action
   mask_action = ToPredicates r2 mask w
 
-  named_place_covered : (p k : ℕ) (b : Bool) → predicate_place v.frame p ≡ k
+  named_place_covered : (p k : ℕ) (b : Bool) → predicate_index v.frame p ≡ k
       → HasRow qp (under qp (Pr p) Writes) (mask_rows mask Writes)
       → IsCovered qp mask_action v (SetPredicate k b)
   named_place_covered p k b is h =
@@ -273,7 +273,7 @@ module _ (qp : ℕ) (kind : BranchKind) (disp : ℤ) (v : Registers) where
   rotating_covered t row lc =
       each_written _ SetLc t.lc _ lc
       (each_written _ SetEc t.ec _ (λ x _. loop_write_covered Ec Writes _ (row _ (inr (inl (refl, refl)))) refl refl tt)
-      (each_written _ (SetPredicate (predicate_place v.frame 63)) t.p63 _
+      (each_written _ (SetPredicate (predicate_index v.frame 63)) t.p63 _
       (λ x _. loop_write_covered (Pr 63) LoopWrite _ (row _ (inr (inr (inr (inr (inl (refl, refl))))))) refl refl tt)
       (each_rotation _ v.frame t.rotates
       (loop_write_covered Cfm Writes _ (row _ (inr (inr (inr (inl (refl, refl)))))) refl refl tt))))
@@ -313,13 +313,13 @@ application_covered qp ar.Pfs r2 x w v m g = λ _. (own_covered qp _ v Pfs (SetP
 application_covered qp ar.Lc r2 x w v m g = (own_covered qp _ v Lc (SetLc x) g (inr (inl (refl, refl))) refl, tt)
 application_covered qp ar.Ec r2 x w v m g = (own_covered qp _ v Ec (SetEc (x % 64)) g (inr (inl (refl, refl))) refl, tt)
 
-call_covered : (qp bundle b1 : ℕ) (goal : Goal) (v : Registers) → holds v qp ≡ true
-    → Each (IsCovered qp (Call b1 goal) v) (call_writes bundle b1 v.frame v.ec)
-call_covered qp bundle b1 goal v g = (
-  own_covered qp (Call b1 goal) v (Br b1) _ g (inr (inr (inr (inr (inl (refl, refl)))))) refl,
+call_covered : (qp bundle b1 : ℕ) (callee : CallTarget) (v : Registers) → holds v qp ≡ true
+    → Each (IsCovered qp (Call b1 callee) v) (call_writes bundle b1 v.frame v.ec)
+call_covered qp bundle b1 callee v g = (
+  own_covered qp (Call b1 callee) v (Br b1) _ g (inr (inr (inr (inr (inl (refl, refl)))))) refl,
   (
-    own_covered qp (Call b1 goal) v Pfs _ g (inr (inr (inl (refl, refl)))) refl,
-    (own_covered qp (Call b1 goal) v Cfm _ g (inr (inl (refl, refl))) refl, tt),
+    own_covered qp (Call b1 callee) v Pfs _ g (inr (inr (inl (refl, refl)))) refl,
+    (own_covered qp (Call b1 callee) v Cfm _ g (inr (inl (refl, refl))) refl, tt),
   ),
 )
 
@@ -366,8 +366,8 @@ act_covered s qp (Exchange size r1 r3 r2 inc) v m x base g =
     (λ _. tt, λ d y z at_d _ _ _ _ _. each_spot _ v.frame r1 d _ [] at_d named tt)
 act_covered s qp (CheckNat r2 disp) v m x base g = (λ _. tt, λ a _ _. tt, λ a _ _. tt)
 act_covered s qp (CheckAlat clear r1 disp) v m x base g = (λ _. tt, λ d _ _. tt, λ d _ _ es _. tt)
-act_covered s qp ForgetAll v m x base g = tt
-act_covered s qp (Forget r1) v m x base g = (λ _. tt, λ d _. tt)
+act_covered s qp InvalidateAll v m x base g = tt
+act_covered s qp (Invalidate r1) v m x base g = (λ _. tt, λ d _. tt)
 act_covered s qp (Allocate r1 sof sol sor) v m x base g =
     let action : Action = Allocate r1 sof sol sor in (
       λ _. tt,
@@ -442,8 +442,8 @@ act_spills s qp (ToMemory size kind r3 r2 u) v m x g = (λ _. no_spill, λ e y z
 act_spills s qp (Exchange size r1 r3 r2 inc) v m x g = (λ _. no_spill, λ d y z _ _ _ _ _ _. no_spill)
 act_spills s qp (CheckNat r2 disp) v m x g = (λ _. no_spill, λ a _ _. no_spill, λ a _ _. no_spill)
 act_spills s qp (CheckAlat clear r1 disp) v m x g = (λ _. no_spill, λ d _ _. no_spill, λ d _ _ es _. no_spill)
-act_spills s qp ForgetAll v m x g = no_spill
-act_spills s qp (Forget r1) v m x g = (λ _. no_spill, λ d _. no_spill)
+act_spills s qp InvalidateAll v m x g = no_spill
+act_spills s qp (Invalidate r1) v m x g = (λ _. no_spill, λ d _. no_spill)
 act_spills s qp (Allocate r1 sof sol sor) v m x g = (λ _. no_spill, λ d _ _ _. no_spill)
 act_spills s qp (Jump disp) v m x g = no_spill
 act_spills s qp (JumpIndirect b2) v m x g = (λ _. no_spill, λ to _. no_spill)

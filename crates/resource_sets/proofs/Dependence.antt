@@ -11,22 +11,22 @@ use Rattle.ia_insn.specs.declared.choices.Update.{Update}
 use Rattle.ia_insn.specs.declared.registers.Ar.TheVariants as ar
 use Rattle.ia_program.specs.declared.ending.FaultKind.{FaultKind}
 use Rattle.ia_meaning.specs.declared.action.FetchSource.TheVariants.{Branch, Application, Predicates, Ip}
-use Rattle.ia_meaning.specs.declared.action.Goal.TheVariants.{Direct, Indirect}
+use Rattle.ia_meaning.specs.declared.action.CallTarget.TheVariants.{Direct, Indirect}
 use Rattle.ia_meaning.specs.declared.action.Action.{Action}
 use Rattle.ia_meaning.specs.declared.state.Cell.{Cell}
 use Rattle.ia_meaning.specs.declared.state.FrameShape.{FrameShape}
-use Rattle.ia_meaning.specs.declared.state.AlatKey.{AlatKey as Spot}
+use Rattle.ia_meaning.specs.declared.state.Spot.{Spot}
 use Rattle.ia_meaning.specs.declared.state.AlatEntry.{AlatEntry}
 use Rattle.ia_meaning.specs.State.{Registers, Memory}
 use Rattle.ia_meaning.specs.declared.write.Write.{Write}
-use Rattle.ia_meaning.specs.Names.{is_stacked, is_rotating, spot, look, predicate_place, holds, predicate_spot}
-use Rattle.ia_meaning.specs.declared.action.Action.TheVariants.{Compute, Fetch, Test, ToPredicates, ToBranch, ToApplication, FromMemory, ToMemory, Exchange, CheckNat, CheckAlat, ForgetAll, Forget, Allocate, Jump, JumpIndirect, Loop, Call, Return, ClearBases, Stop, Idle}
+use Rattle.ia_meaning.specs.Names.{is_stacked, is_rotating, spot, look, predicate_index, holds, predicate_spot}
+use Rattle.ia_meaning.specs.declared.action.Action.TheVariants.{Compute, Fetch, Test, ToPredicates, ToBranch, ToApplication, FromMemory, ToMemory, Exchange, CheckNat, CheckAlat, InvalidateAll, Invalidate, Allocate, Jump, JumpIndirect, Loop, Call, Return, ClearBases, Stop, Idle}
 use Rattle.ia_meaning.specs.Actions.{insn_action}
 use Rattle.ia_meaning.specs.Loads.{access_fault, load_nat, load_tried, base_writes, update_register, from_memory}
 use Rattle.ia_meaning.specs.Loops.{turn_of, turned}
 use Rattle.ia_meaning.specs.Landings.{target_of}
 use Rattle.ia_meaning.specs.Effects.{Site, act, skip, guarded}
-use Rattle.ia_meaning.proofs.PredicatePlaces.{holds_zero}
+use Rattle.ia_meaning.proofs.PredicateIndexes.{holds_zero}
 use Rattle.resource_sets.specs.declared.access.Resource.{Resource}
 use Rattle.resource_sets.specs.declared.access.Resource.TheVariants.{Gr, Pr}
 use Rattle.resource_sets.specs.declared.row.AccessRow.{AccessRow}
@@ -54,12 +54,12 @@ spot_same f g r h = go (is_stacked r) refl
     go true e = ap (λ q. spot q r) (h e)
     go false e = rw e refl
 
-pub place_same : (f g : FrameShape) (p : ℕ) → (is_rotating p ≡ true → f ≡ g) → predicate_place f p ≡ predicate_place g p
-unfolding predicate_place
+pub place_same : (f g : FrameShape) (p : ℕ) → (is_rotating p ≡ true → f ≡ g) → predicate_index f p ≡ predicate_index g p
+unfolding predicate_index
 place_same f g p h = go (is_rotating p) refl
   where
-    go : (b : Bool) → is_rotating p ≡ b → predicate_place f p ≡ predicate_place g p
-    go true e = ap (λ q. predicate_place q p) (h e)
+    go : (b : Bool) → is_rotating p ≡ b → predicate_index f p ≡ predicate_index g p
+    go true e = ap (λ q. predicate_index q p) (h e)
     go false e = rw e refl
 
 predicate_spot_same : (f g : FrameShape) (p : ℕ) → (is_rotating p ≡ true → f ≡ g) → predicate_spot f p ≡ predicate_spot g p
@@ -100,7 +100,7 @@ pub read_so : (f : Action) → (reads_plainly f ≡ true) ⊎ (reads_as_branch f
 read_so (Jump disp) = inr refl
 read_so (JumpIndirect b2) = inr refl
 read_so (Loop kind disp) = inr refl
-read_so (Call b1 goal) = inr refl
+read_so (Call b1 callee) = inr refl
 read_so (Return b2) = inr refl
 read_so f = inl refl
 
@@ -219,8 +219,8 @@ act_same s qp (Exchange size r1 r3 r2 inc) v w m x y g h =
     cc
 act_same s qp (CheckNat r2 disp) v w m x y g h = let a : look v r2 ≡ look w r2 = look_same v w r2 (λ n. h.reads.0 n g) in cc
 act_same s qp (CheckAlat clear r1 disp) v w m x y g h = cc
-act_same s qp ForgetAll v w m x y g h = refl
-act_same s qp (Forget r1) v w m x y g h = cc
+act_same s qp InvalidateAll v w m x y g h = refl
+act_same s qp (Invalidate r1) v w m x y g h = cc
 act_same s qp (Allocate r1 sof sol sor) v w m x y g h =
     let p : v.pfs ≡ w.pfs = h.reads.1.0 refl g in
     let f : v.frame ≡ w.frame = h.reads.1.1.0 refl g in

@@ -2,14 +2,14 @@
 use Rattle.std.proofs.Common.{◌≡◌, ℕ, ◌<◌, ◌⊎◌, inl, inr, Bool, true, false, Option, Some, None, refl, sym, ap, ◌∙◌, true≢false}
 use Rattle.std.proofs.lemmas.Bool.{cases_eq}
 use Rattle.ia_meaning.specs.declared.state.FrameShape.{FrameShape}
-use Rattle.ia_meaning.specs.declared.state.AlatKey.{AlatKey as Spot}
-use Rattle.ia_meaning.specs.declared.state.AlatKey.TheVariants.{Static, Stacked}
+use Rattle.ia_meaning.specs.declared.state.Spot.{Spot}
+use Rattle.ia_meaning.specs.declared.state.Spot.TheVariants.{Static, Stacked}
 use Rattle.ia_meaning.specs.State.{IsFrame}
-use Rattle.ia_meaning.specs.Names.{spot, predicate_place}
-use Rattle.rotation.proofs.Places.{predicates_apart}
+use Rattle.ia_meaning.specs.Names.{spot, predicate_index}
+use Rattle.rotation.proofs.Indexes.{predicates_apart}
 use Rattle.resource_sets.specs.declared.access.Resource.TheVariants.{Gr, Pr, Br, Unat, Pfs, Lc, Ec, Cfm}
 use Rattle.resource_sets.specs.AccessLaws.{Location, StaticAt, CellAt, PredicateAt, spot_location}
-use Rattle.resource_sets.specs.Regularity.{LocationIsOneResource, PlacesAreOfPredicates}
+use Rattle.resource_sets.specs.Regularity.{LocationIsOneResource, IndexesAreOfPredicates}
 use Rattle.resource_sets.proofs.Renaming.{spots_apart}
 
 -- One register stands at a spot, and one predicate at a place.
@@ -20,7 +20,7 @@ spot_once f frame r q d h k = by_test (cases_eq r q)
     by_test (inl e) = e
     by_test (inr differ) = absurd (spots_apart f frame r q d d differ h k refl)
 
-place_once : (f : FrameShape) → IsFrame f → (p q : ℕ) → p < 64 → q < 64 → predicate_place f p ≡ predicate_place f q → p ≡ q
+place_once : (f : FrameShape) → IsFrame f → (p q : ℕ) → p < 64 → q < 64 → predicate_index f p ≡ predicate_index f q → p ≡ q
 place_once f frame p q h k e = by_test (cases_eq p q)
   where
     by_test : (p ≡ q) ⊎ (p ≡ q → ⊥) → p ≡ q
@@ -58,7 +58,7 @@ resource_once f (Gr r) (Gr q) t frame i j h k =
 resource_once f (Gr r) _ t frame i j h k = absurd (not_general _ t refl k (general (spot f r) t h))
 resource_once f _ (Gr r) t frame i j h k = absurd (not_general _ t refl h (general (spot f r) t k))
 resource_once f (Pr p) (Pr q) t frame i j h k =
-    let same : predicate_place f p ≡ predicate_place f q = cc in ap Pr (place_once f frame p q i.1 j.1 same)
+    let same : predicate_index f p ≡ predicate_index f q = cc in ap Pr (place_once f frame p q i.1 j.1 same)
 resource_once f (Br b) (Br c) t frame i j h k = let same : b ≡ c = cc in ap Br same
 resource_once f Unat Unat t frame i j h k = refl
 resource_once f Pfs Pfs t frame i j h k = refl
@@ -68,7 +68,7 @@ resource_once f Cfm Cfm t frame i j h k = refl
 resource_once f q r t frame i j h k = absurd (cc)
 
 -- what stands at a predicate's place is a predicate
-pub predicate_at : PlacesAreOfPredicates
+pub predicate_at : IndexesAreOfPredicates
 predicate_at f (Pr p) n e = (p, refl)
 predicate_at f (Gr r) n e = absurd (true≢false (sym (general (spot f r) (PredicateAt n) e)))
 predicate_at f q n e = absurd (cc)

@@ -15,8 +15,8 @@ use Rattle.ia_insn.specs.declared.registers.Ar.{Ar}
 use Rattle.ia_insn.specs.declared.registers.Ar.TheVariants as ar
 use Rattle.ia_insn.specs.declared.insn.Insn.{Insn}
 use Rattle.ia_meaning.specs.declared.action.FetchSource.TheVariants as source
-use Rattle.ia_meaning.specs.declared.action.Goal.{Goal}
-use Rattle.ia_meaning.specs.declared.action.Goal.TheVariants as goal
+use Rattle.ia_meaning.specs.declared.action.CallTarget.{CallTarget}
+use Rattle.ia_meaning.specs.declared.action.CallTarget.TheVariants as callee
 use Rattle.ia_meaning.specs.declared.action.Condition.{Condition}
 use Rattle.ia_meaning.specs.declared.action.Action.{Action}
 use Rattle.ia_meaning.specs.declared.action.Action.TheVariants as action
@@ -137,8 +137,8 @@ loops qp f loop branch.Cloop = counts qp f
 loops qp f loop branch.Cexit = facts_append qp f counting_rows rotating_rows (counts qp f) (rotates qp f loop)
 loops qp f loop branch.Ctop = facts_append qp f counting_rows rotating_rows (counts qp f) (rotates qp f loop)
 
-calls : (qp b1 : ℕ) (goal : Goal) → RowFacts qp (action.Call b1 goal) (call_rows b1 goal)
-calls qp b1 (goal.Direct disp) = (
+calls : (qp b1 : ℕ) (callee : CallTarget) → RowFacts qp (action.Call b1 callee) (call_rows b1 callee)
+calls qp b1 (callee.Direct disp) = (
   row_of tt (λ e. tt),
   (
     row_of tt tt,
@@ -148,7 +148,7 @@ calls qp b1 (goal.Direct disp) = (
     ),
   ),
 )
-calls qp b1 (goal.Indirect b2) = (
+calls qp b1 (callee.Indirect b2) = (
   row_of tt (λ e. tt),
   (
     row_of tt tt,
@@ -179,7 +179,7 @@ own_facts qp (action.Allocate r1 sof sol sor) =
     (writes r1, (row_of tt (λ e. absurd (cc)), (row_of tt (λ e. tt), (row_of tt (refl, refl), tt))))
 own_facts qp (action.JumpIndirect b2) = (row_of tt (λ e. inr refl, λ e. absurd (cc)), tt)
 own_facts qp (action.Loop kind disp) = loops qp (action.Loop kind disp) tt kind
-own_facts qp (action.Call b1 goal) = calls qp b1 goal
+own_facts qp (action.Call b1 callee) = calls qp b1 callee
 own_facts qp (action.Return b2) = (
   row_of tt (λ e. inr (inl refl), λ e. absurd (cc)),
   (row_of tt (λ e. inr (inr refl), λ e. absurd (cc)), (row_of tt tt, (row_of tt tt, tt))),
@@ -232,7 +232,7 @@ reads_so : (f : Action) → is_branch f ≡ false → reads_plainly f ≡ true
 reads_so (action.Jump disp) b = absurd (true≢false b)
 reads_so (action.JumpIndirect b2) b = absurd (true≢false b)
 reads_so (action.Loop kind disp) b = absurd (true≢false b)
-reads_so (action.Call b1 goal) b = absurd (true≢false b)
+reads_so (action.Call b1 callee) b = absurd (true≢false b)
 reads_so (action.Return b2) b = absurd (true≢false b)
 reads_so _ b = refl
 
@@ -240,7 +240,7 @@ branches_so : (f : Action) → is_branch f ≡ true → (reads_plainly f ≡ fal
 branches_so (action.Jump disp) b = (refl, refl)
 branches_so (action.JumpIndirect b2) b = (refl, refl)
 branches_so (action.Loop kind disp) b = (refl, refl)
-branches_so (action.Call b1 goal) b = (refl, refl)
+branches_so (action.Call b1 callee) b = (refl, refl)
 branches_so (action.Return b2) b = (refl, refl)
 branches_so _ b = absurd (true≢false (sym b))
 
@@ -321,7 +321,7 @@ placed insn a (action.Fetch r1 source.Predicates) e h = masked insn a 0x1ffff Re
 placed insn a (action.Fetch r1 source) e h = absurd h
 placed insn a (action.ToPredicates r2 mask w) e h = masked insn a mask Write (write_kind _ _) h
 placed insn a (action.JumpIndirect b2) e h = masked insn a 0xfffe BranchRead (branch_kind _ (ap is_indirect e)) h
-placed insn a (action.Call b1 (goal.Indirect b2)) e h =
+placed insn a (action.Call b1 (callee.Indirect b2)) e h =
     masked insn a 0xfffe BranchRead (branch_kind _ (ap is_indirect e)) h
 placed insn a (action.Return b2) e h = masked insn a 0xfffe BranchRead (branch_kind _ (ap is_indirect e)) h
 placed insn a _ e h = absurd h
@@ -380,10 +380,10 @@ static_masked (suc p) some low =
 static_row : (qp p : ℕ) (f : Action) → is_indirect f ≡ true → 1 ≤ p → p < 16
     → HasRow qp (record { resource = Pr p; kind = BranchRead; guard = qp }) (placed_rows f)
 static_row qp p (action.JumpIndirect b2) e h k = mask_row qp p 0xfffe BranchRead h (omega arith) (static_masked p h k)
-static_row qp p (action.Call b1 (goal.Indirect b2)) e h k =
+static_row qp p (action.Call b1 (callee.Indirect b2)) e h k =
     mask_row qp p 0xfffe BranchRead h (omega arith) (static_masked p h k)
 static_row qp p (action.Return b2) e h k = mask_row qp p 0xfffe BranchRead h (omega arith) (static_masked p h k)
-static_row qp p (action.Call b1 (goal.Direct disp)) e h k = absurd (true≢false (sym e))
+static_row qp p (action.Call b1 (callee.Direct disp)) e h k = absurd (true≢false (sym e))
 static_row qp p _ e h k = absurd (true≢false (sym e))
 
 -- an indirect branch reads p1 to p15
@@ -561,7 +561,7 @@ agree_placed : (insn : Insn) (v w : Registers) (f : Action) → insn_action insn
 agree_placed insn v w (action.Fetch r1 source.Predicates) e h l = h refl (λ p. predicates_read insn r1 p e)
 agree_placed insn v w (action.Fetch r1 source) e h l = tt
 agree_placed insn v w (action.JumpIndirect b2) e h l = l refl (λ p. statics_read insn p (ap is_indirect e))
-agree_placed insn v w (action.Call b1 (goal.Indirect b2)) e h l = l refl (λ p. statics_read insn p (ap is_indirect e))
+agree_placed insn v w (action.Call b1 (callee.Indirect b2)) e h l = l refl (λ p. statics_read insn p (ap is_indirect e))
 agree_placed insn v w (action.Return b2) e h l = l refl (λ p. statics_read insn p (ap is_indirect e))
 agree_placed insn v w _ e h l = tt
 

@@ -4,7 +4,7 @@ use Rattle.std.proofs.lemmas.List.{take_more}
 use Rattle.ia_meaning.specs.declared.action.Action.{Action}
 use Rattle.ia_meaning.specs.declared.action.Action.TheVariants as action
 use Rattle.ia_meaning.specs.declared.action.FetchSource.TheVariants as source
-use Rattle.ia_meaning.specs.declared.action.Goal.TheVariants as goal
+use Rattle.ia_meaning.specs.declared.action.CallTarget.TheVariants as callee
 use Rattle.resource_sets.specs.declared.access.Kind.{Kind}
 use Rattle.resource_sets.specs.declared.access.Kind.TheVariants.{Read, BranchRead, Write}
 use Rattle.resource_sets.specs.declared.access.Access.{Access}
@@ -35,6 +35,6 @@ unfolding mask_rows
 placed_within (action.Fetch r1 source.Predicates) = place_within 63 1 0x1ffff Read (omega arith)
 placed_within (action.ToPredicates r2 mask w) = place_within 63 1 mask Write (omega arith)
 placed_within (action.JumpIndirect b2) = place_within 63 1 0xfffe BranchRead (omega arith)
-placed_within (action.Call b1 (goal.Indirect b2)) = place_within 63 1 0xfffe BranchRead (omega arith)
+placed_within (action.Call b1 (callee.Indirect b2)) = place_within 63 1 0xfffe BranchRead (omega arith)
 placed_within (action.Return b2) = place_within 63 1 0xfffe BranchRead (omega arith)
 placed_within f = tt

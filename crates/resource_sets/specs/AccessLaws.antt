@@ -7,17 +7,17 @@ use Rattle.ia_program.specs.Listed.{IsListed}
 use Rattle.ia_meaning.specs.declared.action.Action.{Action}
 use Rattle.ia_meaning.specs.declared.action.Action.TheVariants as action
 use Rattle.ia_meaning.specs.declared.action.FetchSource.TheVariants.{Predicates}
-use Rattle.ia_meaning.specs.declared.action.Goal.TheVariants.{Indirect}
+use Rattle.ia_meaning.specs.declared.action.CallTarget.TheVariants.{Indirect}
 use Rattle.ia_meaning.specs.declared.next.Next.TheVariants.{Falls}
 use Rattle.ia_meaning.specs.declared.state.Cell.{Cell}
 use Rattle.ia_meaning.specs.declared.state.FrameShape.{FrameShape}
-use Rattle.ia_meaning.specs.declared.state.AlatKey.{AlatKey as Spot}
-use Rattle.ia_meaning.specs.declared.state.AlatKey.TheVariants.{Static, Stacked}
+use Rattle.ia_meaning.specs.declared.state.Spot.{Spot}
+use Rattle.ia_meaning.specs.declared.state.Spot.TheVariants.{Static, Stacked}
 use Rattle.ia_meaning.specs.State.{Registers, Memory, IsFrame}
 use Rattle.ia_meaning.specs.declared.write.Write.{Write}
 use Rattle.ia_meaning.specs.declared.write.Write.TheVariants.{SetStatic, SetCell, SetPredicate, SetBranch, SetUnat, SetPfs, SetLc, SetEc, SetFrame}
 use Rattle.ia_meaning.specs.declared.write.FrameCause.TheVariants.{Resized}
-use Rattle.ia_meaning.specs.Names.{spot, look, holds, predicate_place, set_spot}
+use Rattle.ia_meaning.specs.Names.{spot, look, holds, predicate_index, set_spot}
 use Rattle.ia_meaning.specs.Actions.{insn_action, is_alloc}
 use Rattle.ia_meaning.specs.Outcomes.{Outcome}
 use Rattle.ia_meaning.specs.Frames.{with_sizes}
@@ -109,7 +109,7 @@ spot_location (Some (Stacked n)) = Some (CellAt n)
 -- where a resource stands by this frame
 abbrev pub location_of : FrameShape → Resource → Option Location
 location_of f (Gr r) = spot_location (spot f r)
-location_of f (Pr p) = Some (PredicateAt (predicate_place f p))
+location_of f (Pr p) = Some (PredicateAt (predicate_index f p))
 location_of f (Br b) = Some (BranchAt b)
 location_of f Unat = Some TheUnat
 location_of f Pfs = Some ThePfs

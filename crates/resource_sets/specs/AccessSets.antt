@@ -2,7 +2,7 @@
 use Rattle.std.specs.Prelude.{◌≡◌, true, List, Contains}
 use Rattle.ia_meaning.specs.declared.action.Action.{Action}
 use Rattle.ia_meaning.specs.declared.action.Action.TheVariants as action
-use Rattle.ia_meaning.specs.declared.action.Goal.TheVariants.{Indirect}
+use Rattle.ia_meaning.specs.declared.action.CallTarget.TheVariants.{Indirect}
 use Rattle.resource_sets.specs.declared.access.Kind.{Kind}
 use Rattle.resource_sets.specs.declared.access.Kind.TheVariants.{Read, BranchRead, Write}
 use Rattle.resource_sets.specs.declared.access.Access.{Access}

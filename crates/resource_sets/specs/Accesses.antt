@@ -17,8 +17,8 @@ use Rattle.ia_insn.specs.declared.registers.Ar.TheVariants as ar
 use Rattle.ia_insn.specs.declared.insn.Insn.{Insn}
 use Rattle.ia_meaning.specs.declared.action.FetchSource.{FetchSource}
 use Rattle.ia_meaning.specs.declared.action.FetchSource.TheVariants as source
-use Rattle.ia_meaning.specs.declared.action.Goal.{Goal}
-use Rattle.ia_meaning.specs.declared.action.Goal.TheVariants as goal
+use Rattle.ia_meaning.specs.declared.action.CallTarget.{CallTarget}
+use Rattle.ia_meaning.specs.declared.action.CallTarget.TheVariants as callee
 use Rattle.ia_meaning.specs.declared.action.Action.{Action}
 use Rattle.ia_meaning.specs.declared.action.Action.TheVariants as action
 use Rattle.ia_meaning.specs.Names.{is_stacked, is_rotating}
@@ -52,7 +52,7 @@ base_row u r = record { there = is_updated u && is_named r; guarded = true; reso
 -- the register that an instruction names and neither reads nor writes, or r0
 abbrev pub other_name : Action → ℕ
 other_name (action.CheckAlat clear r1 disp) = r1
-other_name (action.Forget r1) = r1
+other_name (action.Invalidate r1) = r1
 other_name action = 0
 
 abbrev pub application : Ar → Resource
@@ -85,14 +85,14 @@ abbrev pub unat_row : Bool → Kind → AccessRow
 unat_row there kind = record { there = there; guarded = true; resource = Unat; kind = kind }
 
 -- the branch register that an indirect call reads
-abbrev pub goal_row : Goal → AccessRow
-goal_row (goal.Direct disp) = record { there = false; guarded = false; resource = Cfm; kind = Read }
-goal_row (goal.Indirect b2) = always true (Br b2) BranchRead
+abbrev pub callee_row : CallTarget → AccessRow
+callee_row (callee.Direct disp) = record { there = false; guarded = false; resource = Cfm; kind = Read }
+callee_row (callee.Indirect b2) = always true (Br b2) BranchRead
 
-abbrev pub call_rows : ℕ → Goal → List AccessRow
-call_rows b1 goal =
+abbrev pub call_rows : ℕ → CallTarget → List AccessRow
+call_rows b1 callee =
     always true Cfm Read ∷ always true Cfm Write ∷ always true Pfs Write ∷ always true Ec Read
-    ∷ always true (Br b1) Write ∷ goal_row goal ∷ []
+    ∷ always true (Br b1) Write ∷ callee_row callee ∷ []
 
 -- a loop that counts by EC and rotates
 abbrev pub rotating_rows : List AccessRow
@@ -127,14 +127,14 @@ own_rows (action.ToMemory size kind r3 r2 u) =
 own_rows (action.Exchange size r1 r3 r2 inc) = gr r3 Read ∷ gr r2 Read ∷ gr r1 Write ∷ []
 own_rows (action.CheckNat r2 disp) = gr r2 Read ∷ []
 own_rows (action.CheckAlat clear r1 disp) = []
-own_rows action.ForgetAll = []
-own_rows (action.Forget r1) = []
+own_rows action.InvalidateAll = []
+own_rows (action.Invalidate r1) = []
 own_rows (action.Allocate r1 sof sol sor) =
     gr r1 Write ∷ always true Pfs Read ∷ always true Cfm Read ∷ always true Cfm AllocWrite ∷ []
 own_rows (action.Jump disp) = []
 own_rows (action.JumpIndirect b2) = always true (Br b2) BranchRead ∷ []
 own_rows (action.Loop kind disp) = loop_rows kind
-own_rows (action.Call b1 goal) = call_rows b1 goal
+own_rows (action.Call b1 callee) = call_rows b1 callee
 own_rows (action.Return b2) =
     always true (Br b2) BranchRead ∷ always true Pfs BranchRead ∷ always true Cfm Write ∷ always true Ec Write ∷ []
 own_rows (action.ClearBases pred_only) = always true Cfm Write ∷ []
@@ -147,7 +147,7 @@ abbrev pub placed_rows : Action → List AccessRow
 placed_rows (action.Fetch r1 source.Predicates) = mask_rows 0x1ffff Read
 placed_rows (action.ToPredicates r2 mask w) = mask_rows mask Write
 placed_rows (action.JumpIndirect b2) = mask_rows 0xfffe BranchRead
-placed_rows (action.Call b1 (goal.Indirect b2)) = mask_rows 0xfffe BranchRead
+placed_rows (action.Call b1 (callee.Indirect b2)) = mask_rows 0xfffe BranchRead
 placed_rows (action.Return b2) = mask_rows 0xfffe BranchRead
 placed_rows action = []
 
@@ -156,7 +156,7 @@ abbrev pub reads_plainly : Action → Bool
 reads_plainly (action.Jump disp) = false
 reads_plainly (action.JumpIndirect b2) = false
 reads_plainly (action.Loop kind disp) = false
-reads_plainly (action.Call b1 goal) = false
+reads_plainly (action.Call b1 callee) = false
 reads_plainly (action.Return b2) = false
 reads_plainly action = true
 

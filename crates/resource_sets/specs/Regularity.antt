@@ -3,7 +3,7 @@ use Rattle.std.specs.Prelude.{◌≡◌, ◌≢◌, ◌⊎◌, ◌↔◌, ℕ, �
 use Rattle.ia_insn.specs.declared.insn.Insn.{Insn}
 use Rattle.ia_program.specs.Listed.{IsListed}
 use Rattle.ia_meaning.specs.declared.action.FetchSource.TheVariants.{Predicates}
-use Rattle.ia_meaning.specs.declared.action.Goal.TheVariants.{Indirect}
+use Rattle.ia_meaning.specs.declared.action.CallTarget.TheVariants.{Indirect}
 use Rattle.ia_meaning.specs.declared.action.Action.{Action}
 use Rattle.ia_meaning.specs.declared.action.Action.TheVariants as action
 use Rattle.ia_meaning.specs.declared.state.FrameShape.{FrameShape}
@@ -177,8 +177,8 @@ LocationIsOneResource = (f : FrameShape) (q r : Resource) (t : Location) → IsF
     → location_of f q ≡ Some t → location_of f r ≡ Some t → q ≡ r
 
 -- What stands at a predicate's place is a predicate.
-abbrev pub PlacesAreOfPredicates : Type 0
-PlacesAreOfPredicates = (f : FrameShape) (q : Resource) (n : ℕ) → location_of f q ≡ Some (PredicateAt n) → (p : ℕ) × (q ≡ Pr p)
+abbrev pub IndexesAreOfPredicates : Type 0
+IndexesAreOfPredicates = (f : FrameShape) (q : Resource) (n : ℕ) → location_of f q ≡ Some (PredicateAt n) → (p : ℕ) × (q ≡ Pr p)
 
 -- An access of the second kind may share a group with an earlier one of the first, of one resource.
 abbrev pub IsExcepted : Kind → Kind → Type 0

@@ -18,7 +18,7 @@ use crate::row::AccessRow;
 use crate::sets::ResourceSet;
 use arrayvec::ArrayVec;
 use ia_insn::Pr;
-use ia_meaning::{Action, FetchSource, Goal};
+use ia_meaning::{Action, CallTarget, FetchSource};
 
 /// Accesses of an instruction, of one kind and under one guard.
 #[derive(Clone, Copy, Debug)]
@@ -115,7 +115,7 @@ fn placed_kind(action: &Action) -> Kind
         Action::ToPredicates { .. } => Kind::Write,
         Action::JumpIndirect { .. }
         | Action::Call {
-            goal: Goal::Indirect(_),
+            callee: CallTarget::Indirect(_),
             ..
         }
         | Action::Return { .. } => Kind::BranchRead,
@@ -135,7 +135,7 @@ fn is_placed(action: &Action) -> bool
         } | Action::ToPredicates { .. }
             | Action::JumpIndirect { .. }
             | Action::Call {
-                goal: Goal::Indirect(_),
+                callee: CallTarget::Indirect(_),
                 ..
             }
             | Action::Return { .. }

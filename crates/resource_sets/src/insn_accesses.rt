@@ -13,7 +13,7 @@ use crate::access::{ACCESS_LIMIT, Access, Kind, Resource};
 use crate::row::{AccessRow, always, gr, pr, push, push_all};
 use arrayvec::ArrayVec;
 use ia_insn::{Ar, Br, BranchKind, CmpKind, Gr, Insn, LoadKind, Pr, StoreKind, Unit, Update};
-use ia_meaning::{Action, FetchSource, Goal, action_of, update_register};
+use ia_meaning::{Action, CallTarget, FetchSource, action_of, update_register};
 use integer_ops::bit;
 
 /// At most eight rows.
@@ -64,7 +64,7 @@ fn other_name(action: &Action) -> Gr
     ensures { result ≡ other_name action.now }
 {
     match *action {
-        Action::CheckAlat { r1, .. } | Action::Forget { r1 } => r1,
+        Action::CheckAlat { r1, .. } | Action::Invalidate { r1 } => r1,
         _ => Gr::of_field(0),
     }
 }
@@ -143,14 +143,14 @@ fn loop_rows(kind: BranchKind) -> Rows
 }
 
 /// What a call accesses.
-fn call_rows(b1: Br, goal: Goal) -> Rows
-    ensures rows { result.items ≡ call_rows b1 goal }
+fn call_rows(b1: Br, callee: CallTarget) -> Rows
+    ensures rows { result.items ≡ call_rows b1 callee }
     ensures within { AreNumbersInRange result.items }
 {
     let own = |resource, kind| always(true, resource, kind);
-    let b2 = match goal {
-        Goal::Direct(_) => AccessRow::default(),
-        Goal::Indirect(b2) => br(b2, Kind::BranchRead),
+    let b2 = match callee {
+        CallTarget::Direct(_) => AccessRow::default(),
+        CallTarget::Indirect(b2) => br(b2, Kind::BranchRead),
     };
     list(&[
         own(Resource::Cfm, Kind::Read),
@@ -238,7 +238,7 @@ pub(crate) fn own_rows(action: &Action) -> Rows
         ]),
         Action::JumpIndirect { b2 } => list(&[br(b2, Kind::BranchRead)]),
         Action::Loop { kind, .. } => loop_rows(kind),
-        Action::Call { b1, goal } => call_rows(b1, goal),
+        Action::Call { b1, callee } => call_rows(b1, callee),
         Action::Return { b2 } => list(&[
             br(b2, Kind::BranchRead),
             own(Resource::Pfs, Kind::BranchRead),
@@ -355,7 +355,7 @@ pub(crate) fn placed_rows(action: &Action) -> PlacedRows
         Action::ToPredicates { mask, .. } => mask_rows(u64::from(mask), Kind::Write),
         Action::JumpIndirect { .. }
         | Action::Call {
-            goal: Goal::Indirect(_),
+            callee: CallTarget::Indirect(_),
             ..
         }
         | Action::Return { .. } => mask_rows(0xfffe, Kind::BranchRead),

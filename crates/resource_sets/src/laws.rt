@@ -5,7 +5,7 @@
 //! follows from their accesses.
 
 ghost use Rattle.resource_sets.specs.AccessLaws.{DependsOnAccesses, WritesAreAccesses, CellsAreInside, WritesAreApart, SpillsAreAccesses, AllocWritesItsFrameFirst, AllocatedFramesAreFrames};
-ghost use Rattle.resource_sets.specs.Regularity.{AccessesAreRegular, GuardsAreRead, NamedAccessesAreAccesses, AccessesAreNamedOrPlaced, AccessesAreGuarded, AllocWritesAreOfAlloc, PredicatesAreRead, StaticsAreRead, ListedAreRows, AccessesAreListed, AccessesAreInRange, GuardsAreInRange, LocationIsOneResource, PlacesAreOfPredicates, NamedAsFound, AgreeByAccesses, GuardsAreWritten, AccessesClash, ChangesClash};
+ghost use Rattle.resource_sets.specs.Regularity.{AccessesAreRegular, GuardsAreRead, NamedAccessesAreAccesses, AccessesAreNamedOrPlaced, AccessesAreGuarded, AllocWritesAreOfAlloc, PredicatesAreRead, StaticsAreRead, ListedAreRows, AccessesAreListed, AccessesAreInRange, GuardsAreInRange, LocationIsOneResource, IndexesAreOfPredicates, NamedAsFound, AgreeByAccesses, GuardsAreWritten, AccessesClash, ChangesClash};
 
 /// What an instruction does is the same from registers that agree on its accesses: on what those whose
 /// guard is 1 read, and on the frame where one of these accesses the frame.
@@ -23,7 +23,7 @@ pub fn law_writes()
     ensures apart { WritesAreApart }
     ensures spills { SpillsAreAccesses }
     ensures one { LocationIsOneResource }
-    ensures predicate { PlacesAreOfPredicates }
+    ensures predicate { IndexesAreOfPredicates }
     ensures first { AllocWritesItsFrameFirst }
     ensures frame { AllocatedFramesAreFrames }
 {}

@@ -1,20 +1,20 @@
-//! Laws of the places. They do nothing.
+//! Laws of the numbers behind rotation. They do nothing.
 
-ghost use Rattle.rotation.specs.Laws.{DifferentPlaces, DifferentRotatingPlaces, DifferentPredicatePlaces, PlacesWithin, RotatingPlacesWithin};
+ghost use Rattle.rotation.specs.Laws.{DifferentIndexes, DifferentRotatingIndexes, DifferentPredicateIndexes, IndexesWithin, RotatingIndexesWithin};
 
-/// In one frame different registers stand at different places, those of the rotating part among them.
-pub fn different_places()
-    ensures all { DifferentPlaces }
-    ensures rotating { DifferentRotatingPlaces }
+/// In one frame different registers have different numbers, those of the rotating part among them.
+pub fn different_indexes()
+    ensures all { DifferentIndexes }
+    ensures rotating { DifferentRotatingIndexes }
 {}
 
-/// Different predicates stand at different places.
-pub fn different_predicate_places()
-    ensures { DifferentPredicatePlaces }
+/// Different predicates have different numbers.
+pub fn different_predicate_indexes()
+    ensures { DifferentPredicateIndexes }
 {}
 
 /// A register of the frame stands within it, and one of its rotating part within that part.
-pub fn places_within()
-    ensures frame { PlacesWithin }
-    ensures rotating { RotatingPlacesWithin }
+pub fn indexes_within()
+    ensures frame { IndexesWithin }
+    ensures rotating { RotatingIndexesWithin }
 {}

@@ -3,10 +3,10 @@
 #![tactic(auto)]
 
 mod bases;
+mod index;
 mod laws;
-mod place;
 
 pub use bases::rotate;
 pub use ia_meaning::Rrbs;
-pub use laws::{different_places, different_predicate_places, places_within};
-pub use place::{gr_place, pr_place};
+pub use index::{general_index, predicate_index_of};
+pub use laws::{different_indexes, different_predicate_indexes, indexes_within};

@@ -6,7 +6,7 @@ use Rattle.ia_insn.specs.declared.choices.Update.{Update}
 use Rattle.ia_insn.specs.Ranges.{IsAccessSize}
 use Rattle.ia_meaning.specs.declared.state.Cell.{Cell}
 use Rattle.ia_meaning.specs.declared.state.FrameShape.{FrameShape}
-use Rattle.ia_meaning.specs.declared.state.AlatKey.{AlatKey as Spot}
+use Rattle.ia_meaning.specs.declared.state.Spot.{Spot}
 use Rattle.ia_meaning.specs.declared.state.AlatEntry.{AlatEntry}
 use Rattle.ia_meaning.specs.declared.next.Next.{Next}
 use Rattle.ia_meaning.specs.State.{zero_cell, Registers, Memory, HasReservedZeros}
@@ -16,12 +16,12 @@ use Rattle.ia_meaning.specs.declared.write.FrameCause.TheVariants.{Resized, Rena
 use Rattle.ia_meaning.specs.Names.{spot, look, set_spot, predicate_spot, set_predicate}
 use Rattle.ia_meaning.specs.Outcomes.{Outcome}
 use Rattle.ia_meaning.specs.Moves.{predicate_writes}
-use Rattle.ia_meaning.specs.Loads.{access_fault, stored, forgotten, entered, untouched, update_register, base_writes, unat_bit}
+use Rattle.ia_meaning.specs.Loads.{access_fault, stored, invalidated, entered, untouched, update_register, base_writes, unat_bit}
 use Rattle.ia_meaning.specs.Frames.{with_sizes, cleared, epilog_of, call_state, call_frame, marked_frame, return_fault, returned_frame}
 use Rattle.ia_meaning.specs.Loops.{turn_of, turn_writes}
 use Rattle.frame_shapes.specs.Faults.{alloc_fault}
 use Rattle.slot_effects.specs.declared.change.Change.{Change}
-use Rattle.slot_effects.specs.declared.change.Change.TheVariants.{Nothing, General, Predicates, PredicateWord, Branch, Application, Loaded, Entered, Hit, Stored, Exchanged, Forgotten, AllForgotten, Allocated, Turned, Called, Returned, Cleared}
+use Rattle.slot_effects.specs.declared.change.Change.TheVariants.{Nothing, General, Predicates, PredicateWord, Branch, Application, Loaded, Entered, Hit, Stored, Exchanged, Invalidated, AllInvalidated, Allocated, Turned, Called, Returned, Cleared}
 
 -- the write of an application register
 abbrev pub application_write : Ar → ℕ → Write
@@ -66,13 +66,13 @@ writes_of r (Predicates p1 first p2 second) =
 writes_of r (PredicateWord mask word) = predicate_writes mask word
 writes_of r (Branch b1 value) = SetBranch b1 value ∷ []
 writes_of r (Application ar value) = application_write ar value ∷ []
-writes_of r (Loaded r1 r3 forgets update cell) = set_at (spot r.frame r1) cell (load_update r r3 update)
+writes_of r (Loaded r1 r3 invalidates update cell) = set_at (spot r.frame r1) cell (load_update r r3 update)
 writes_of r (Entered r1 r3 size update cell) = set_at (spot r.frame r1) cell (load_update r r3 update)
-writes_of r (Hit r1 r3 forgets update) = load_update r r3 update
+writes_of r (Hit r1 r3 invalidates update) = load_update r r3 update
 writes_of r (Stored r3 size spills update cell) = base_update r r3 update zero_cell
 writes_of r (Exchanged r1 r3 size old value) = set_at (spot r.frame r1) (record { value = old; nat = false }) []
-writes_of r (Forgotten r1) = []
-writes_of r AllForgotten = []
+writes_of r (Invalidated r1) = []
+writes_of r AllInvalidated = []
 writes_of r (Allocated r1 sof sol sor) =
     SetFrame Resized (with_sizes r.frame sof sol sor)
     ∷ set_at (spot (with_sizes r.frame sof sol sor) r1) (record { value = r.pfs; nat = false }) []
@@ -85,13 +85,13 @@ writes_of r Returned =
 writes_of r (Cleared pred_only) = SetFrame Renamed (cleared pred_only r.frame) ∷ []
 
 -- the entries without that of the register at a place, where there is one
-abbrev pub forgotten_at : Option Spot → List AlatEntry → List AlatEntry
-forgotten_at None es = es
-forgotten_at (Some d) es = forgotten es d
+abbrev pub invalidated_at : Option Spot → List AlatEntry → List AlatEntry
+invalidated_at None es = es
+invalidated_at (Some d) es = invalidated es d
 
--- the entries without that of the register at a place, where a load forgets it
-abbrev pub forgotten_where : Bool → Option Spot → List AlatEntry → List AlatEntry
-forgotten_where forgets d es = if forgets then forgotten_at d es else es
+-- the entries without that of the register at a place, where a load invalidates it
+abbrev pub invalidated_where : Bool → Option Spot → List AlatEntry → List AlatEntry
+invalidated_where invalidates d es = if invalidates then invalidated_at d es else es
 
 -- the entries with a new one of the register at a place, where there is one
 abbrev pub entered_at : Option Spot → ℕ → ℕ → List AlatEntry → List AlatEntry
@@ -100,10 +100,10 @@ entered_at (Some d) address size es = entered es (record { key = d; address = ad
 
 -- the memory after a change of these registers
 abbrev pub memory_after : Registers → Change → Memory → Memory
-memory_after r (Loaded r1 r3 forgets update cell) m = record m { alat = forgotten_where forgets (spot r.frame r1) m.alat }
+memory_after r (Loaded r1 r3 invalidates update cell) m = record m { alat = invalidated_where invalidates (spot r.frame r1) m.alat }
 memory_after r (Entered r1 r3 size update cell) m =
     record m { alat = entered_at (spot r.frame r1) (held r r3).value size m.alat }
-memory_after r (Hit r1 r3 forgets update) m = record m { alat = forgotten_where forgets (spot r.frame r1) m.alat }
+memory_after r (Hit r1 r3 invalidates update) m = record m { alat = invalidated_where invalidates (spot r.frame r1) m.alat }
 memory_after r (Stored r3 size spills update cell) m = record {
   bytes = stored m.bytes (held r r3).value size cell.value;
   alat = untouched m.alat (held r r3).value size;
@@ -112,8 +112,8 @@ memory_after r (Exchanged r1 r3 size old value) m = record {
   bytes = stored m.bytes (held r r3).value size value;
   alat = untouched m.alat (held r r3).value size;
 }
-memory_after r (Forgotten r1) m = record m { alat = forgotten_at (spot r.frame r1) m.alat }
-memory_after r AllForgotten m = record m { alat = [] }
+memory_after r (Invalidated r1) m = record m { alat = invalidated_at (spot r.frame r1) m.alat }
+memory_after r AllInvalidated m = record m { alat = [] }
 memory_after r change m = m
 
 -- the bit of UNAT that a change of these registers spills, and its value

@@ -1,7 +1,7 @@
 -- What a slot does.
 use Rattle.std.specs.Prelude.{◌≡◌, ◌⊎◌, Option, Some, None}
 use Rattle.ia_meaning.specs.declared.state.Cell.{Cell}
-use Rattle.ia_meaning.specs.declared.state.AlatKey.{AlatKey}
+use Rattle.ia_meaning.specs.declared.state.Spot.{Spot}
 use Rattle.ia_meaning.specs.State.{Registers, Memory}
 use Rattle.ia_meaning.specs.Names.{spot}
 use Rattle.ia_meaning.specs.Outcomes.{Outcome}
@@ -25,5 +25,5 @@ pub record IsLoadOf (r : Registers) (load : FoundLoad) : Type 0 where
   pub address : (held r load.r3).value ≡ load.entry.address
 
 -- a target is outside the frame, or a source is
-abbrev pub IsMissing : Option AlatKey → Option Cell → Option Cell → Type 0
+abbrev pub IsMissing : Option Spot → Option Cell → Option Cell → Type 0
 IsMissing d a b = (d ≡ None) ⊎ ((a ≡ None) ⊎ (b ≡ None))

@@ -59,7 +59,7 @@ pub enum Change {
         /// The base.
         r3: Gr,
         /// Whether the target's entry leaves the ALAT.
-        forgets: bool,
+        invalidates: bool,
         /// What is added to the base, after the target is written.
         update: Update,
         /// What the target gets.
@@ -85,7 +85,7 @@ pub enum Change {
         /// The base.
         r3: Gr,
         /// Whether the target's entry leaves the ALAT.
-        forgets: bool,
+        invalidates: bool,
         /// What is added to the base.
         update: Update,
     },
@@ -116,12 +116,12 @@ pub enum Change {
         value: u64,
     },
     /// The entry of a register leaves the ALAT.
-    Forgotten {
+    Invalidated {
         /// The register.
         r1: Gr,
     },
     /// All entries leave the ALAT.
-    AllForgotten,
+    AllInvalidated,
     /// A new frame, and the previous function state into a register.
     Allocated {
         /// The register.

@@ -8,18 +8,18 @@ ghost use Rattle.slot_effects.specs.Outcomes.{outcome_of_effect};
 
 use crate::change::Change;
 use crate::frames::{allocate, call, land, ret};
-use crate::loads::{check_alat, check_nat, exchange, forget, load, store};
+use crate::loads::{check_alat, check_nat, exchange, invalidate, load, store};
 use crate::loops::turn;
 use crate::moves::{compute, fetch, skip_test, test, to_application, to_branch, to_predicates};
-use crate::sees::Sees;
 use crate::slot_effect::SlotEffect;
+use crate::state_view::StateView;
 use ia_insn::Pr;
 use ia_meaning::{Action, target_of};
 use ia_program::Program;
 
 /// What an instruction does that is executed.
 #[inline(always)]
-fn act<S: Sees>(seen: &S, program: &Program, bundle: u32, action: &Action) -> SlotEffect
+fn act<S: StateView>(seen: &S, program: &Program, bundle: u32, action: &Action) -> SlotEffect
     requires place { bundle < 2 ^ 31 }
     requires ranges { HasActionRanges action.now }
     ensures value { outcome_of_effect (S.registers seen.now) (S.memory seen.now) result ≡ act (site program.now bundle) action.now (S.registers seen.now) (S.memory seen.now) (S.unat seen.now) }
@@ -67,13 +67,13 @@ fn act<S: Sees>(seen: &S, program: &Program, bundle: u32, action: &Action) -> Sl
         } => exchange(seen, size, r1, r3, r2, inc),
         Action::CheckNat { r2, disp } => check_nat(seen, bundle, r2, disp),
         Action::CheckAlat { clear, r1, disp } => check_alat(seen, bundle, clear, r1, disp),
-        Action::ForgetAll => SlotEffect::falls(Change::AllForgotten),
-        Action::Forget { r1 } => forget(seen, r1),
+        Action::InvalidateAll => SlotEffect::falls(Change::AllInvalidated),
+        Action::Invalidate { r1 } => invalidate(seen, r1),
         Action::Allocate { r1, sof, sol, sor } => allocate(seen, r1, sof, sol, sor),
         Action::Jump { disp } => SlotEffect::goes(Change::Nothing, target_of(bundle, disp)),
         Action::JumpIndirect { b2 } => land(seen, program, b2, Change::Nothing),
         Action::Loop { kind, disp } => turn(seen, kind, true, target_of(bundle, disp)),
-        Action::Call { b1, goal } => call(seen, program, bundle, b1, goal),
+        Action::Call { b1, callee } => call(seen, program, bundle, b1, callee),
         Action::Return { b2 } => ret(seen, program, b2),
         Action::ClearBases { pred_only } => SlotEffect::falls(Change::Cleared { pred_only }),
         Action::Stop { imm, .. } => SlotEffect::breaks(imm),
@@ -83,7 +83,7 @@ fn act<S: Sees>(seen: &S, program: &Program, bundle: u32, action: &Action) -> Sl
 
 /// What an instruction does whose qualifying predicate is 0: nothing but for `unc` tests and loop branches.
 #[inline(always)]
-fn skip<S: Sees>(seen: &S, program: &Program, bundle: u32, action: &Action) -> SlotEffect
+fn skip<S: StateView>(seen: &S, program: &Program, bundle: u32, action: &Action) -> SlotEffect
     requires { bundle < 2 ^ 31 }
     ensures value { outcome_of_effect (S.registers seen.now) (S.memory seen.now) result ≡ skip (site program.now bundle) action.now (S.registers seen.now) (S.memory seen.now) }
     ensures may { MayMake (S.registers seen.now) (S.memory seen.now) result.change }
@@ -97,7 +97,7 @@ fn skip<S: Sees>(seen: &S, program: &Program, bundle: u32, action: &Action) -> S
 
 /// What an instruction of this action does under a qualifying predicate (volume 3, chapter 2).
 #[inline(always)]
-pub fn effect<S: Sees>(
+pub fn effect<S: StateView>(
     seen: &S,
     program: &Program,
     bundle: u32,

@@ -11,15 +11,15 @@ ghost use Rattle.slot_effects.specs.Outcomes.{outcome_of_effect, IsPlain};
 
 use crate::change::Change;
 use crate::landings::arrival;
-use crate::sees::Sees;
 use crate::slot_effect::SlotEffect;
+use crate::state_view::StateView;
 use ia_insn::{Br, Gr};
-use ia_meaning::{Goal, target_of};
+use ia_meaning::{CallTarget, target_of};
 use ia_program::{FaultKind, Program, bundle_address};
 
 /// `alloc`. Its target is named in the new frame.
 #[tactic(auto, using(crate::proofs::NewFrames::outside_new, crate::proofs::NewFrames::inside_new, crate::proofs::NewFrames::allocated_fits, crate::proofs::NewFrames::allocated_fails))]
-pub(crate) fn allocate<S: Sees>(seen: &S, r1: Gr, sof: u8, sol: u8, sor: u8) -> SlotEffect
+pub(crate) fn allocate<S: StateView>(seen: &S, r1: Gr, sof: u8, sol: u8, sor: u8) -> SlotEffect
     requires size { sof ≤ 96 }
     requires locals { sol ≤ sof }
     requires rotating { 8 * sor ≤ sof }
@@ -37,7 +37,7 @@ pub(crate) fn allocate<S: Sees>(seen: &S, r1: Gr, sof: u8, sol: u8, sor: u8) -> 
 
 /// An indirect branch that makes a change of registers.
 #[inline(always)]
-pub(crate) fn land<S: Sees>(seen: &S, program: &Program, b2: Br, change: Change) -> SlotEffect
+pub(crate) fn land<S: StateView>(seen: &S, program: &Program, b2: Br, change: Change) -> SlotEffect
     requires plain { IsPlain change }
     requires may { MayMake (S.registers seen.now) (S.memory seen.now) change }
     ensures value { outcome_of_effect (S.registers seen.now) (S.memory seen.now) result ≡ lands (writes_of (S.registers seen.now) change) (S.memory seen.now) (arrival program.now (take 16 (S.registers seen.now).predicates) (get_or (S.registers seen.now).branches b2 0)) }
@@ -50,29 +50,29 @@ pub(crate) fn land<S: Sees>(seen: &S, program: &Program, b2: Br, change: Change)
 }
 
 /// A call.
-pub(crate) fn call<S: Sees>(
+pub(crate) fn call<S: StateView>(
     seen: &S,
     program: &Program,
     bundle: u32,
     b1: Br,
-    goal: Goal,
+    callee: CallTarget,
 ) -> SlotEffect
     requires { bundle < 2 ^ 31 }
-    ensures value { outcome_of_effect (S.registers seen.now) (S.memory seen.now) result ≡ called goal (site program.now bundle) (call_writes bundle b1 (S.registers seen.now).frame (S.registers seen.now).ec) (S.registers seen.now) (S.memory seen.now) }
+    ensures value { outcome_of_effect (S.registers seen.now) (S.memory seen.now) result ≡ called callee (site program.now bundle) (call_writes bundle b1 (S.registers seen.now).frame (S.registers seen.now).ec) (S.registers seen.now) (S.memory seen.now) }
     ensures may { MayMake (S.registers seen.now) (S.memory seen.now) result.change }
 {
     let change = Change::Called {
         b1,
         address: bundle_address(bundle + 1),
     };
-    match goal {
-        Goal::Direct(disp) => SlotEffect::goes(change, target_of(bundle, disp)),
-        Goal::Indirect(b2) => land(seen, program, b2, change),
+    match callee {
+        CallTarget::Direct(disp) => SlotEffect::goes(change, target_of(bundle, disp)),
+        CallTarget::Indirect(b2) => land(seen, program, b2, change),
     }
 }
 
 /// A return. The frame is looked at before the landing.
-pub(crate) fn ret<S: Sees>(seen: &S, program: &Program, b2: Br) -> SlotEffect
+pub(crate) fn ret<S: StateView>(seen: &S, program: &Program, b2: Br) -> SlotEffect
     ensures value { outcome_of_effect (S.registers seen.now) (S.memory seen.now) result ≡ returned (S.registers seen.now).frame.base (S.registers seen.now).pfs (arrival program.now (take 16 (S.registers seen.now).predicates) (get_or (S.registers seen.now).branches b2 0)) (S.memory seen.now) }
     ensures may { MayMake (S.registers seen.now) (S.memory seen.now) result.change }
 {

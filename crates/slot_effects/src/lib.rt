@@ -1,7 +1,7 @@
 //! What a slot does, by what it sees (Intel Itanium Architecture Software Developer's Manual, volume 3,
 //! chapter 2).
 //!
-//! A slot reads registers and memory through [`Sees`], and what it does is a small value, a [`SlotEffect`]: a
+//! A slot reads registers and memory through [`StateView`], and what it does is a small value, a [`SlotEffect`]: a
 //! [`Change`], and how the run goes on. Nothing is written here. The contracts tie an effect to the outcomes that
 //! `ia_meaning` speaks of, whatever it is that the slot sees: [`effect`] is the effect of an action under its
 //! qualifying predicate.
@@ -19,8 +19,8 @@ mod loops;
 mod moves;
 mod operands;
 mod predicates;
-mod sees;
 mod slot_effect;
+mod state_view;
 
 pub use change::Change;
 pub use effects::effect;
@@ -28,5 +28,5 @@ pub use loads::{load, store};
 pub use loops::{turn, turn_of};
 pub use moves::{compute, test};
 pub use predicates::predicate_word;
-pub use sees::Sees;
 pub use slot_effect::SlotEffect;
+pub use state_view::StateView;

@@ -6,15 +6,15 @@ ghost use Rattle.ia_insn.specs.Ranges.{IsAccessSize, IsLoadSize, IsStoreSize};
 ghost use Rattle.ia_meaning.specs.declared.state.AlatEntry.{AlatEntry};
 ghost use Rattle.ia_meaning.specs.Names.{spot, look};
 ghost use Rattle.ia_meaning.specs.Landings.{target_of};
-ghost use Rattle.ia_meaning.specs.Loads.{access_fault, loaded, update_register, is_speculative, is_check, takes_nat, load_nat, load_made, load_hit, load_failed, load_tried, load_checked, from_memory, to_memory, exchange, check_nat, check_alat, forget};
+ghost use Rattle.ia_meaning.specs.Loads.{access_fault, loaded, update_register, is_speculative, is_check, takes_nat, load_nat, load_made, load_hit, load_failed, load_tried, load_checked, from_memory, to_memory, exchange, check_nat, check_alat, invalidate};
 ghost use Rattle.nat_alat.specs.Faults.{fault_of};
 ghost use Rattle.slot_effects.specs.Changes.{load_update, MayMake};
 ghost use Rattle.slot_effects.specs.Outcomes.{outcome_of_effect, IsLoadOf};
 
 use crate::change::Change;
 use crate::operands::operands;
-use crate::sees::Sees;
 use crate::slot_effect::SlotEffect;
+use crate::state_view::StateView;
 use ia_insn::{Gr, LoadKind, StoreKind, Update};
 use ia_meaning::{AlatEntry, Cell, target_of, update_register};
 use ia_program::FaultKind;
@@ -62,7 +62,7 @@ fn is_check(kind: LoadKind) -> bool
 
 /// A load that fails: where it is speculative the fault is deferred.
 #[inline(always)]
-fn load_failed<S: Sees>(seen: &S, fault: FaultKind, load: &FoundLoad) -> SlotEffect
+fn load_failed<S: StateView>(seen: &S, fault: FaultKind, load: &FoundLoad) -> SlotEffect
     requires { IsLoadOf (S.registers seen.now) load.now }
     ensures value { outcome_of_effect (S.registers seen.now) (S.memory seen.now) result ≡ load_failed fault load.now.kind load.now.entry.key (S.memory seen.now) (load_update (S.registers seen.now) load.now.r3 load.now.update) }
     ensures may { MayMake (S.registers seen.now) (S.memory seen.now) result.change }
@@ -73,7 +73,7 @@ fn load_failed<S: Sees>(seen: &S, fault: FaultKind, load: &FoundLoad) -> SlotEff
     SlotEffect::falls(Change::Loaded {
         r1: load.r1,
         r3: load.r3,
-        forgets: load.kind == LoadKind::Sa,
+        invalidates: load.kind == LoadKind::Sa,
         update: load.update,
         cell: Cell {
             value: 0,
@@ -84,7 +84,7 @@ fn load_failed<S: Sees>(seen: &S, fault: FaultKind, load: &FoundLoad) -> SlotEff
 
 /// A check that hits: the target isn't written.
 #[inline(always)]
-fn load_hit<S: Sees>(seen: &S, load: &FoundLoad) -> SlotEffect
+fn load_hit<S: StateView>(seen: &S, load: &FoundLoad) -> SlotEffect
     requires { IsLoadOf (S.registers seen.now) load.now }
     ensures value { outcome_of_effect (S.registers seen.now) (S.memory seen.now) result ≡ load_hit load.now.kind load.now.entry.key (S.memory seen.now) (load_update (S.registers seen.now) load.now.r3 load.now.update) }
     ensures may { MayMake (S.registers seen.now) (S.memory seen.now) result.change }
@@ -92,14 +92,14 @@ fn load_hit<S: Sees>(seen: &S, load: &FoundLoad) -> SlotEffect
     SlotEffect::falls(Change::Hit {
         r1: load.r1,
         r3: load.r3,
-        forgets: load.kind != LoadKind::CNc,
+        invalidates: load.kind != LoadKind::CNc,
         update: load.update,
     })
 }
 
 /// A load that is made.
 #[inline(always)]
-fn load_made<S: Sees>(seen: &S, load: &FoundLoad, cell: Cell) -> SlotEffect
+fn load_made<S: StateView>(seen: &S, load: &FoundLoad, cell: Cell) -> SlotEffect
     requires made { IsLoadOf (S.registers seen.now) load.now }
     requires cell { cell ≡ record { value = loaded (S.memory seen.now).bytes load.now.entry.address load.now.entry.size; nat = load_nat load.now.kind load.now.entry.address (S.unat seen.now) } }
     ensures value { outcome_of_effect (S.registers seen.now) (S.memory seen.now) result ≡ load_made load.now.kind load.now.entry (S.memory seen.now) (S.unat seen.now) (load_update (S.registers seen.now) load.now.r3 load.now.update) }
@@ -116,7 +116,7 @@ fn load_made<S: Sees>(seen: &S, load: &FoundLoad, cell: Cell) -> SlotEffect
         kind => Change::Loaded {
             r1: load.r1,
             r3: load.r3,
-            forgets: matches!(kind, LoadKind::CClr | LoadKind::CClrAcq),
+            invalidates: matches!(kind, LoadKind::CClr | LoadKind::CClrAcq),
             update: load.update,
             cell,
         },
@@ -125,7 +125,7 @@ fn load_made<S: Sees>(seen: &S, load: &FoundLoad, cell: Cell) -> SlotEffect
 
 /// What a load or a fill reads.
 #[inline(always)]
-fn read<S: Sees>(seen: &S, kind: LoadKind, address: u64, size: u8) -> Result<Cell, MemFault>
+fn read<S: StateView>(seen: &S, kind: LoadKind, address: u64, size: u8) -> Result<Cell, MemFault>
     requires { IsLoadSize kind size }
     ensures ok { IfOk result (λ c. (access_fault (S.memory seen.now).bytes address size ≡ None) × (c ≡ record { value = loaded (S.memory seen.now).bytes address size; nat = load_nat kind address (S.unat seen.now) })) }
     ensures err { IfErr result (λ e. access_fault (S.memory seen.now).bytes address size ≡ Some (fault_of e)) }
@@ -141,7 +141,7 @@ fn read<S: Sees>(seen: &S, kind: LoadKind, address: u64, size: u8) -> Result<Cel
 
 /// A load that isn't found in the ALAT.
 #[inline(always)]
-fn load_tried<S: Sees>(seen: &S, load: &FoundLoad) -> SlotEffect
+fn load_tried<S: StateView>(seen: &S, load: &FoundLoad) -> SlotEffect
     requires size { IsLoadSize load.now.kind load.now.entry.size }
     requires made { IsLoadOf (S.registers seen.now) load.now }
     ensures value { outcome_of_effect (S.registers seen.now) (S.memory seen.now) result ≡ load_tried (access_fault (S.memory seen.now).bytes load.now.entry.address load.now.entry.size) load.now.kind load.now.entry (S.memory seen.now) (S.unat seen.now) (load_update (S.registers seen.now) load.now.r3 load.now.update) }
@@ -155,7 +155,7 @@ fn load_tried<S: Sees>(seen: &S, load: &FoundLoad) -> SlotEffect
 
 /// A load whose base has no NaT; a check looks for a hit first.
 #[inline(always)]
-fn load_checked<S: Sees>(seen: &S, load: &FoundLoad) -> SlotEffect
+fn load_checked<S: StateView>(seen: &S, load: &FoundLoad) -> SlotEffect
     requires size { IsLoadSize load.now.kind load.now.entry.size }
     requires made { IsLoadOf (S.registers seen.now) load.now }
     ensures value { outcome_of_effect (S.registers seen.now) (S.memory seen.now) result ≡ load_checked load.now.kind load.now.entry (S.memory seen.now) (S.unat seen.now) (load_update (S.registers seen.now) load.now.r3 load.now.update) }
@@ -171,7 +171,7 @@ fn load_checked<S: Sees>(seen: &S, load: &FoundLoad) -> SlotEffect
 /// A load.
 #[inline(always)]
 #[tactic(auto, using(crate::proofs::Named::from_memory_missing))]
-pub fn load<S: Sees>(
+pub fn load<S: StateView>(
     seen: &S,
     size: u8,
     kind: LoadKind,
@@ -222,7 +222,7 @@ fn is_forbidden(kind: StoreKind, base: Cell, cell: Cell) -> bool
 /// A store.
 #[inline(always)]
 #[tactic(auto, using(crate::proofs::Named::to_memory_missing))]
-pub fn store<S: Sees>(
+pub fn store<S: StateView>(
     seen: &S,
     size: u8,
     kind: StoreKind,
@@ -254,7 +254,7 @@ pub fn store<S: Sees>(
 
 /// An exchange with a register, or a sum with an increment.
 #[tactic(auto, using(crate::proofs::Named::exchange_missing))]
-pub(crate) fn exchange<S: Sees>(
+pub(crate) fn exchange<S: StateView>(
     seen: &S,
     size: u8,
     r1: Gr,
@@ -285,7 +285,7 @@ pub(crate) fn exchange<S: Sees>(
 }
 
 /// `chk.s`: a branch where the register has NaT.
-pub(crate) fn check_nat<S: Sees>(seen: &S, bundle: u32, r2: Gr, disp: i32) -> SlotEffect
+pub(crate) fn check_nat<S: StateView>(seen: &S, bundle: u32, r2: Gr, disp: i32) -> SlotEffect
     requires { bundle < 2 ^ 31 }
     ensures value { outcome_of_effect (S.registers seen.now) (S.memory seen.now) result ≡ check_nat (target_of bundle disp) (look (S.registers seen.now) r2) (S.memory seen.now) }
     ensures may { MayMake (S.registers seen.now) (S.memory seen.now) result.change }
@@ -298,7 +298,7 @@ pub(crate) fn check_nat<S: Sees>(seen: &S, bundle: u32, r2: Gr, disp: i32) -> Sl
 }
 
 /// `chk.a`: a branch where the ALAT has no entry of the register.
-pub(crate) fn check_alat<S: Sees>(
+pub(crate) fn check_alat<S: StateView>(
     seen: &S,
     bundle: u32,
     clear: bool,
@@ -316,19 +316,19 @@ pub(crate) fn check_alat<S: Sees>(
         return SlotEffect::goes(Change::Nothing, target_of(bundle, disp));
     }
     SlotEffect::falls(if clear {
-        Change::Forgotten { r1 }
+        Change::Invalidated { r1 }
     } else {
         Change::Nothing
     })
 }
 
 /// `invala.e`: the entry of the register leaves the ALAT.
-pub(crate) fn forget<S: Sees>(seen: &S, r1: Gr) -> SlotEffect
-    ensures value { outcome_of_effect (S.registers seen.now) (S.memory seen.now) result ≡ forget (spot (S.registers seen.now).frame r1) (S.memory seen.now) }
+pub(crate) fn invalidate<S: StateView>(seen: &S, r1: Gr) -> SlotEffect
+    ensures value { outcome_of_effect (S.registers seen.now) (S.memory seen.now) result ≡ invalidate (spot (S.registers seen.now).frame r1) (S.memory seen.now) }
     ensures may { MayMake (S.registers seen.now) (S.memory seen.now) result.change }
 {
     match seen.spot(r1) {
         None => SlotEffect::faults(FaultKind::OutOfFrame),
-        Some(_) => SlotEffect::falls(Change::Forgotten { r1 }),
+        Some(_) => SlotEffect::falls(Change::Invalidated { r1 }),
     }
 }

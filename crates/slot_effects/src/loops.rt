@@ -7,8 +7,8 @@ ghost use Rattle.slot_effects.specs.Changes.{MayMake};
 ghost use Rattle.slot_effects.specs.Outcomes.{outcome_of_effect};
 
 use crate::change::Change;
-use crate::sees::Sees;
 use crate::slot_effect::SlotEffect;
+use crate::state_view::StateView;
 use ia_insn::{Ar, BranchKind};
 use ia_meaning::Turn;
 
@@ -97,7 +97,7 @@ pub fn turn_of(kind: BranchKind, qp: bool, lc: u64, ec: u64) -> Turn
 
 /// A loop branch to a bundle.
 #[inline(always)]
-pub fn turn<S: Sees>(seen: &S, kind: BranchKind, qp: bool, bundle: u32) -> SlotEffect
+pub fn turn<S: StateView>(seen: &S, kind: BranchKind, qp: bool, bundle: u32) -> SlotEffect
     ensures value { outcome_of_effect (S.registers seen.now) (S.memory seen.now) result ≡ turned (turn_of kind qp (S.registers seen.now).lc (S.registers seen.now).ec) (S.registers seen.now).frame bundle (S.memory seen.now) }
     ensures may { MayMake (S.registers seen.now) (S.memory seen.now) result.change }
 {

@@ -11,8 +11,8 @@ ghost use Rattle.slot_effects.specs.Outcomes.{outcome_of_effect, IsPlain};
 
 use crate::change::Change;
 use crate::operands::operands;
-use crate::sees::Sees;
 use crate::slot_effect::SlotEffect;
+use crate::state_view::StateView;
 use ia_insn::{AluFn, Ar, Br, CmpKind, Gr, Pr};
 use ia_meaning::{Cell, Condition, FetchSource, Function, MovedWord};
 use ia_program::{FaultKind, bundle_address};
@@ -34,7 +34,7 @@ fn computed_value(function: &Function, a: u64, b: u64) -> u64
 /// A computation.
 #[inline(always)]
 #[tactic(auto, using(crate::proofs::Named::computed_missing))]
-pub fn compute<S: Sees>(seen: &S, r1: Gr, r2: Gr, r3: Gr, function: &Function) -> SlotEffect
+pub fn compute<S: StateView>(seen: &S, r1: Gr, r2: Gr, r3: Gr, function: &Function) -> SlotEffect
     requires { IsFunction function.now }
     ensures value { outcome_of_effect (S.registers seen.now) (S.memory seen.now) result ≡ computed (value_of function.now) (spot (S.registers seen.now).frame r1) (look (S.registers seen.now) r2) (look (S.registers seen.now) r3) (S.memory seen.now) }
     ensures may { MayMake (S.registers seen.now) (S.memory seen.now) result.change }
@@ -50,7 +50,7 @@ pub fn compute<S: Sees>(seen: &S, r1: Gr, r2: Gr, r3: Gr, function: &Function) -
 }
 
 /// What is copied in a bundle.
-fn source_value<S: Sees>(seen: &S, bundle: u32, source: FetchSource) -> u64
+fn source_value<S: StateView>(seen: &S, bundle: u32, source: FetchSource) -> u64
     requires { bundle < 2 ^ 31 }
     ensures { result ≡ source_value bundle (S.registers seen.now) source }
 {
@@ -63,7 +63,7 @@ fn source_value<S: Sees>(seen: &S, bundle: u32, source: FetchSource) -> u64
 }
 
 /// A copy into a general register.
-pub(crate) fn fetch<S: Sees>(seen: &S, bundle: u32, r1: Gr, source: FetchSource) -> SlotEffect
+pub(crate) fn fetch<S: StateView>(seen: &S, bundle: u32, r1: Gr, source: FetchSource) -> SlotEffect
     requires { bundle < 2 ^ 31 }
     ensures value { outcome_of_effect (S.registers seen.now) (S.memory seen.now) result ≡ fetched (spot (S.registers seen.now).frame r1) (source_value bundle (S.registers seen.now) source) (S.memory seen.now) }
     ensures may { MayMake (S.registers seen.now) (S.memory seen.now) result.change }
@@ -104,7 +104,7 @@ fn test_change(kind: CmpKind, p1: Pr, p2: Pr, is_one: Option<bool>) -> Change
 
 /// A test.
 #[inline(always)]
-pub fn test<S: Sees>(
+pub fn test<S: StateView>(
     seen: &S,
     kind: CmpKind,
     targets: (Pr, Pr),
@@ -134,7 +134,12 @@ pub(crate) fn skip_test(kind: CmpKind, p1: Pr, p2: Pr) -> SlotEffect
 }
 
 /// A move to the predicates.
-pub(crate) fn to_predicates<S: Sees>(seen: &S, r2: Gr, mask: u32, word: &MovedWord) -> SlotEffect
+pub(crate) fn to_predicates<S: StateView>(
+    seen: &S,
+    r2: Gr,
+    mask: u32,
+    word: &MovedWord,
+) -> SlotEffect
     ensures value { outcome_of_effect (S.registers seen.now) (S.memory seen.now) result ≡ to_predicates (moved word.now) mask (look (S.registers seen.now) r2) (S.memory seen.now) }
     ensures may { MayMake (S.registers seen.now) (S.memory seen.now) result.change }
 {
@@ -149,7 +154,7 @@ pub(crate) fn to_predicates<S: Sees>(seen: &S, r2: Gr, mask: u32, word: &MovedWo
 }
 
 /// A move to a branch register.
-pub(crate) fn to_branch<S: Sees>(seen: &S, b1: Br, r2: Gr) -> SlotEffect
+pub(crate) fn to_branch<S: StateView>(seen: &S, b1: Br, r2: Gr) -> SlotEffect
     ensures value { outcome_of_effect (S.registers seen.now) (S.memory seen.now) result ≡ to_branch b1 (look (S.registers seen.now) r2) (S.memory seen.now) }
     ensures may { MayMake (S.registers seen.now) (S.memory seen.now) result.change }
 {
@@ -183,7 +188,7 @@ fn application_written(ar: Ar, value: u64) -> SlotEffect
 }
 
 /// A move to an application register.
-pub(crate) fn to_application<S: Sees>(seen: &S, ar: Ar, r2: Gr, word: &MovedWord) -> SlotEffect
+pub(crate) fn to_application<S: StateView>(seen: &S, ar: Ar, r2: Gr, word: &MovedWord) -> SlotEffect
     ensures value { outcome_of_effect (S.registers seen.now) (S.memory seen.now) result ≡ to_application ar (moved word.now) (look (S.registers seen.now) r2) (S.memory seen.now) }
     ensures may { MayMake (S.registers seen.now) (S.memory seen.now) result.change }
 {

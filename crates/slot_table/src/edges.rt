@@ -5,7 +5,7 @@ ghost use Rattle.ia_meaning.specs.Sequence.{next_of, is_stopped};
 ghost use Rattle.predicate_rel.specs.Edges.{leaves, displacement_of, target_at};
 
 use ia_insn::Pr;
-use ia_meaning::{Action, Goal, target_of};
+use ia_meaning::{Action, CallTarget, target_of};
 use ia_program::{Place, Program};
 
 /// Whether it is a `br.cond`, `br.call` or `br.ret`, direct or indirect, or a `break`: where the
@@ -42,7 +42,7 @@ fn displacement(action: &Action) -> Option<i32>
         | Action::Jump { disp }
         | Action::Loop { disp, .. } => Some(disp),
         Action::Call {
-            goal: Goal::Direct(disp),
+            callee: CallTarget::Direct(disp),
             ..
         } => Some(disp),
         _ => None,

@@ -6,8 +6,8 @@ use Rattle.std.proofs.lemmas.List.Elements.{All-set}
 use Rattle.ia_meaning.specs.declared.limits.TheConstants.{STACK_LIMIT}
 use Rattle.ia_meaning.specs.declared.state.Cell.{Cell}
 use Rattle.ia_meaning.specs.declared.state.FrameShape.{FrameShape}
-use Rattle.ia_meaning.specs.declared.state.AlatKey.{AlatKey as Spot}
-use Rattle.ia_meaning.specs.declared.state.AlatKey.TheVariants.{Static, Stacked}
+use Rattle.ia_meaning.specs.declared.state.Spot.{Spot}
+use Rattle.ia_meaning.specs.declared.state.Spot.TheVariants.{Static, Stacked}
 use Rattle.ia_meaning.specs.State.{zero_cell, Registers, IsWord, AreWords, AreCells, HasReservedZeros, AreRegisters}
 use Rattle.ia_meaning.specs.declared.write.Write.{Write}
 use Rattle.ia_meaning.specs.declared.write.Write.TheVariants.{SetStatic, SetCell, SetPredicate, SetBranch, SetUnat, SetPfs, SetLc, SetEc, SetFrame}
@@ -15,7 +15,7 @@ use Rattle.ia_meaning.specs.Writes.{resized, put, apply}
 use Rattle.ia_meaning.specs.Names.{set_spot, set_predicate, predicate_spot}
 use Rattle.ia_meaning.specs.Steps.{spilled, with_bit}
 use Rattle.ia_meaning.proofs.Resizing.{length-resized, words-resized}
-use Rattle.ia_meaning.proofs.PredicatePlaces.{place_some}
+use Rattle.ia_meaning.proofs.PredicateIndexes.{place_some}
 use Rattle.state_laws.proofs.FrameParts.{IsFrameWithin}
 use Rattle.state_laws.proofs.Words.{with_bit_word}
 

@@ -11,13 +11,13 @@ use Rattle.std.proofs.lemmas.List.Quantifiers.{all_pairs_push}
 use Rattle.ia_insn.specs.declared.choices.LoadKind.{LoadKind}
 use Rattle.ia_insn.specs.declared.choices.LoadKind.TheVariants as load
 use Rattle.ia_program.specs.Programs.{Program, AreBytes}
-use Rattle.ia_meaning.specs.declared.state.AlatKey.{AlatKey as Spot}
-use Rattle.ia_meaning.specs.declared.state.AlatKey.TheVariants.{Static, Stacked}
+use Rattle.ia_meaning.specs.declared.state.Spot.{Spot}
+use Rattle.ia_meaning.specs.declared.state.Spot.TheVariants.{Static, Stacked}
 use Rattle.ia_meaning.specs.declared.state.AlatEntry.{AlatEntry}
 use Rattle.ia_program.specs.Addresses.{data_base}
 use Rattle.ia_meaning.specs.State.{Memory, IsAlatEntry, IsMemory}
-use Rattle.ia_meaning.specs.Loads.{with_bytes, stored, is_spot, is_apart, forgotten, entered, untouched, load_alat}
-use Rattle.ia_meaning.proofs.AlatLists.{untouched_is_filter, forgotten_is_filter}
+use Rattle.ia_meaning.specs.Loads.{with_bytes, stored, is_spot, is_apart, invalidated, entered, untouched, load_alat}
+use Rattle.ia_meaning.proofs.AlatLists.{untouched_is_filter, invalidated_is_filter}
 use Rattle.ia_meaning.proofs.DataAccesses.{length-with_bytes}
 
 -- the entries of a memory
@@ -41,8 +41,8 @@ filtered_entries count p es h = record {
   apart = AllPairs-filter (λ d e. d.key ≢ e.key) p es h.apart;
 }
 
-pub forgotten_entries : (count : ℕ) (es : List AlatEntry) (d : Spot) → AreEntries count es → AreEntries count (forgotten es d)
-forgotten_entries count es d h = rw (forgotten_is_filter es d) (filtered_entries count (λ e. not (is_spot e.key d)) es h)
+pub invalidated_entries : (count : ℕ) (es : List AlatEntry) (d : Spot) → AreEntries count es → AreEntries count (invalidated es d)
+invalidated_entries count es d h = rw (invalidated_is_filter es d) (filtered_entries count (λ e. not (is_spot e.key d)) es h)
 
 pub untouched_entries : (count : ℕ) (es : List AlatEntry) (address size : ℕ) → AreEntries count es → AreEntries count (untouched es address size)
 untouched_entries count es address size h = rw (untouched_is_filter es address size) (filtered_entries count (λ e. is_apart e address size) es h)
@@ -60,8 +60,8 @@ HasOther d e = e.key ≢ d
 other_key : (d : Spot) (e : AlatEntry) → not (is_spot e.key d) ≡ true → HasOther d e
 other_key d e h same = let s = spot_itself e.key d same in absurd (cc)
 
-each_other : (d : Spot) (es : List AlatEntry) → All (HasOther d) (forgotten es d)
-each_other d es = rw (forgotten_is_filter es d) (λ k x h. other_key d (get_or (filter (λ e. not (is_spot e.key d)) es) k x) (filter_passes (λ e. not (is_spot e.key d)) es k x h))
+each_other : (d : Spot) (es : List AlatEntry) → All (HasOther d) (invalidated es d)
+each_other d es = rw (invalidated_is_filter es d) (λ k x h. other_key d (get_or (filter (λ e. not (is_spot e.key d)) es) k x) (filter_passes (λ e. not (is_spot e.key d)) es k x h))
 
 dropped_pairs : {X : Type 0} (R : X → X → Type 0) (n : ℕ) (xs : List X) → AllPairs R xs → AllPairs R (drop n xs)
 dropped_pairs R n xs h i j d below within =
@@ -73,8 +73,8 @@ dropped_pairs R n xs h i j d below within =
 pub entered_entries : (count : ℕ) (es : List AlatEntry) (e : AlatEntry) → IsAlatEntry count e → AreEntries count es → AreEntries count (entered es e)
 unfolding entered
 entered_entries count es e is h =
-    let f = forgotten_entries count es e.key h in
-    let left : List AlatEntry = forgotten es e.key in
+    let f = invalidated_entries count es e.key h in
+    let left : List AlatEntry = invalidated es e.key in
     let n : ℕ = length left - 31 in
     let short = length-drop n left in
     let long = length-append (drop n left) (e ∷ []) in
@@ -120,6 +120,6 @@ pub load_entries : (count : ℕ) (kind : LoadKind) (e : AlatEntry) (es : List Al
 load_entries count load.A e es is h = entered_entries count es e is h
 load_entries count load.Sa e es is h = entered_entries count es e is h
 load_entries count load.CNc e es is h = entered_entries count es e is h
-load_entries count load.CClr e es is h = forgotten_entries count es e.key h
-load_entries count load.CClrAcq e es is h = forgotten_entries count es e.key h
+load_entries count load.CClr e es is h = invalidated_entries count es e.key h
+load_entries count load.CClrAcq e es is h = invalidated_entries count es e.key h
 load_entries count kind e es is h = h

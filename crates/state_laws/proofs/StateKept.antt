@@ -29,10 +29,10 @@ use Rattle.ia_meaning.specs.declared.next.Next.{Next}
 use Rattle.ia_meaning.specs.declared.next.Next.TheVariants.{Falls, Goes, Breaks, Faults}
 use Rattle.ia_meaning.specs.declared.state.Cell.{Cell}
 use Rattle.ia_meaning.specs.declared.state.FrameShape.{FrameShape}
-use Rattle.ia_meaning.specs.declared.state.AlatKey.{AlatKey as Spot}
+use Rattle.ia_meaning.specs.declared.state.Spot.{Spot}
 use Rattle.ia_meaning.specs.declared.state.AlatEntry.{AlatEntry}
 use Rattle.ia_meaning.specs.declared.turn.Turn.{Turn}
-use Rattle.ia_meaning.specs.declared.action.Goal.TheVariants.{Direct, Indirect}
+use Rattle.ia_meaning.specs.declared.action.CallTarget.TheVariants.{Direct, Indirect}
 use Rattle.ia_meaning.specs.State.{zero_cell, Registers, Memory, State, IsWord, HasReservedZeros, AreRegisters, IsKey, IsAlatEntry, IsMemory, IsState}
 use Rattle.ia_meaning.specs.declared.write.Write.{Write}
 use Rattle.ia_meaning.specs.declared.write.Write.TheVariants.{SetPredicate, SetFrame}
@@ -41,7 +41,7 @@ use Rattle.ia_meaning.specs.Names.{spot, predicate_spot}
 use Rattle.ia_meaning.specs.Arithmetic.{immediate, bit}
 use Rattle.ia_meaning.specs.Outcomes.{Outcome, falls, goes, faults}
 use Rattle.ia_meaning.specs.declared.action.Action.{Action}
-use Rattle.ia_meaning.specs.declared.action.Action.TheVariants.{Compute, Fetch, Test, ToPredicates, ToBranch, ToApplication, FromMemory, ToMemory, Exchange, CheckNat, CheckAlat, ForgetAll, Forget, Allocate, Jump, JumpIndirect, Loop, Call, Return, ClearBases, Stop, Idle}
+use Rattle.ia_meaning.specs.declared.action.Action.TheVariants.{Compute, Fetch, Test, ToPredicates, ToBranch, ToApplication, FromMemory, ToMemory, Exchange, CheckNat, CheckAlat, InvalidateAll, Invalidate, Allocate, Jump, JumpIndirect, Loop, Call, Return, ClearBases, Stop, Idle}
 use Rattle.ia_meaning.specs.Actions.{action_of, result_of, moved}
 use Rattle.ia_meaning.specs.Moves.{test_writes, is_masked, masked_writes, predicate_writes, has_reserved_zeros}
 use Rattle.ia_meaning.specs.Loads.{base_writes, store_spills, load_alat}
@@ -50,17 +50,17 @@ use Rattle.ia_meaning.specs.Loops.{counted_turn, while_turn, simple_turn, turn_o
 use Rattle.ia_meaning.specs.Effects.{Site, site, effect}
 use Rattle.ia_meaning.specs.Sequence.{next_of}
 use Rattle.ia_meaning.specs.Steps.{settled, outcome_of, step_by, step_of}
-use Rattle.ia_meaning.proofs.Inversions.{MayForget, LoadCases, ApplicationCases, ActCases, SkipCases, guarded_cases}
+use Rattle.ia_meaning.proofs.Inversions.{MayInvalidate, LoadCases, ApplicationCases, ActCases, SkipCases, guarded_cases}
 use Rattle.ia_meaning.proofs.Inside.{stays_inside}
 use Rattle.ia_meaning.proofs.StepHere.{by_insn}
 use Rattle.ia_meaning.proofs.DataAccesses.{is_access}
 use Rattle.ia_meaning.proofs.WriteLists.{may_write, each_written}
-use Rattle.ia_meaning.proofs.PredicatePlaces.{place_some}
+use Rattle.ia_meaning.proofs.PredicateIndexes.{place_some}
 use Rattle.state_laws.specs.Kept.{KeepsState}
 use Rattle.state_laws.proofs.Words.{word_word, loaded_word}
 use Rattle.state_laws.proofs.Values.{look_word, spot_key, source_word}
 use Rattle.state_laws.proofs.InRange.{IsInRange, apply_keeps, spilled_keeps, spot_in_range, predicate_in_range}
-use Rattle.state_laws.proofs.Memories.{AreEntries, forgotten_entries, load_entries, entries_of, with_entries, stored_memory}
+use Rattle.state_laws.proofs.Memories.{AreEntries, invalidated_entries, load_entries, entries_of, with_entries, stored_memory}
 use Rattle.state_laws.proofs.FrameParts.{IsFrameWithin, sized_frame, rotated_within, cleared_within, called_within, returned_within, call_state_in_range}
 use Rattle.state_laws.proofs.ActionWords.{HasActionWords, action_words}
 
@@ -161,9 +161,9 @@ module _ (p : Program) (s : Site) (r : Registers) (m : Memory) (unat : ℕ) (bel
   fell_with : (ws : List Write) (es : List AlatEntry) → Each IsInRange ws → AreEntries (length m.bytes) es → IsOutcomeInRange p (falls ws (record m { alat = es }))
   fell_with ws es w e = record { writes = w; memory = with_entries p m es mem e; spills = tt }
 
-  may_forget : (d : Spot) (es : List AlatEntry) → MayForget m.alat d es → AreEntries (length m.bytes) es
-  may_forget d es (inl e) = rw e entries
-  may_forget d es (inr e) = rw e (forgotten_entries (length m.bytes) m.alat d entries)
+  may_invalidate : (d : Spot) (es : List AlatEntry) → MayInvalidate m.alat d es → AreEntries (length m.bytes) es
+  may_invalidate d es (inl e) = rw e entries
+  may_invalidate d es (inr e) = rw e (invalidated_entries (length m.bytes) m.alat d entries)
 
   frame : IsFrameWithin r.frame
   frame = (h.frame, let count = h.cell_count in let most = h.most in omega arith)
@@ -185,8 +185,8 @@ module _ (p : Program) (s : Site) (r : Registers) (m : Memory) (unat : ℕ) (bel
             let good : IsAlatEntry (length m.bytes) entry = record { key = key; size = is; aligned = a.aligned; above = a.above; within = a.within } in
             fell_with _ (load_alat kind entry m.alat) (spot_in_range d _ _ (loaded_word m.bytes base.value size mem.bytes is) (base_in_range u e base more))
             (load_entries (length m.bytes) kind entry m.alat good entries);
-        defers = λ n es f. fell_with _ es (spot_in_range d _ _ (omega arith) (base_in_range u e base more)) (may_forget d es f);
-        hits = λ n c i es f. fell_with _ es (base_in_range u e base more) (may_forget d es f);
+        defers = λ n es f. fell_with _ es (spot_in_range d _ _ (omega arith) (base_in_range u e base more)) (may_invalidate d es f);
+        hits = λ n c i es f. fell_with _ es (base_in_range u e base more) (may_invalidate d es f);
       }
 
   call_in_range : (b1 : ℕ) → Each IsInRange (call_writes s.bundle b1 r.frame r.ec)
@@ -208,9 +208,9 @@ module _ (p : Program) (s : Site) (r : Registers) (m : Memory) (unat : ℕ) (bel
   act_in_range (Exchange size r1 r3 r2 inc) l =
       (failed, λ d base x i j k n t a. record { writes = spot_in_range d _ [] (loaded_word m.bytes base.value size mem.bytes l) tt; memory = stored_memory p m base.value size _ mem; spills = tt })
   act_in_range (CheckNat r2 disp) l = (failed, λ a i n. went [] _ tt, λ a i n. fell [] tt)
-  act_in_range (CheckAlat clear r1 disp) l = (failed, λ d i n. went [] _ tt, λ d i n es f. fell_with [] es tt (may_forget d es f))
-  act_in_range ForgetAll l = fell_with [] [] tt (record { most = omega arith; entries = All-nil (IsAlatEntry (length m.bytes)); apart = λ i j d below within. absurd (omega arith) })
-  act_in_range (Forget r1) l = (failed, λ d i. fell_with [] _ tt (forgotten_entries (length m.bytes) m.alat d entries))
+  act_in_range (CheckAlat clear r1 disp) l = (failed, λ d i n. went [] _ tt, λ d i n es f. fell_with [] es tt (may_invalidate d es f))
+  act_in_range InvalidateAll l = fell_with [] [] tt (record { most = omega arith; entries = All-nil (IsAlatEntry (length m.bytes)); apart = λ i j d below within. absurd (omega arith) })
+  act_in_range (Invalidate r1) l = (failed, λ d i. fell_with [] _ tt (invalidated_entries (length m.bytes) m.alat d entries))
   act_in_range (Allocate r1 sof sol sor) l =
       (failed, λ d i same within. fell _ ((sized_frame r.frame sof sol sor h.frame l.0 l.1 l.2 same, within), spot_in_range d _ [] h.pfs tt))
   act_in_range (Jump disp) l = went [] _ tt

@@ -9,14 +9,14 @@ use Rattle.ia_insn.specs.declared.registers.Ar.{Ar}
 use Rattle.ia_insn.specs.declared.registers.Ar.TheVariants as ar
 use Rattle.ia_meaning.specs.declared.state.Cell.{Cell}
 use Rattle.ia_meaning.specs.declared.state.FrameShape.{FrameShape}
-use Rattle.ia_meaning.specs.declared.state.AlatKey.{AlatKey as Spot}
-use Rattle.ia_meaning.specs.declared.state.AlatKey.TheVariants.{Static, Stacked}
+use Rattle.ia_meaning.specs.declared.state.Spot.{Spot}
+use Rattle.ia_meaning.specs.declared.state.Spot.TheVariants.{Static, Stacked}
 use Rattle.ia_meaning.specs.declared.action.FetchSource.{FetchSource}
 use Rattle.ia_meaning.specs.declared.action.FetchSource.TheVariants as source
 use Rattle.ia_meaning.specs.State.{zero_cell, Registers, IsWord, AreWords, AreCells, IsFrame, AreRegisters, IsKey}
-use Rattle.ia_meaning.specs.Names.{is_stacked, frame_place, spot, cell_at, look}
+use Rattle.ia_meaning.specs.Names.{is_stacked, frame_index, spot, cell_at, look}
 use Rattle.ia_meaning.specs.Moves.{application, source_value}
-use Rattle.rotation.proofs.Places.{within}
+use Rattle.rotation.proofs.Indexes.{within}
 use Rattle.state_laws.proofs.Words.{predicates_word}
 
 -- what a register holds is a word
@@ -53,12 +53,12 @@ unfolding spot
 spot_key f frame most r d some h = by_tests (is_stacked r) (nat_lt (r - 32) f.sof) refl refl h
   where
     by_tests : (b c : Bool) → is_stacked r ≡ b → nat_lt (r - 32) f.sof ≡ c
-        → (if b then (if c then Some (Stacked (f.base + frame_place f (r - 32))) else None) else Some (Static r)) ≡ Some d
+        → (if b then (if c then Some (Stacked (f.base + frame_index f (r - 32))) else None) else Some (Static r)) ≡ Some d
         → IsKey d
     by_tests true true i j e =
         let inside : r - 32 < f.sof = grind (arith, nat_tests) in
-        let below : frame_place f (r - 32) < f.sof = within f frame (r - 32) inside in
-        let same : Stacked (f.base + frame_place f (r - 32)) ≡ d = cc in
+        let below : frame_index f (r - 32) < f.sof = within f frame (r - 32) inside in
+        let same : Stacked (f.base + frame_index f (r - 32)) ≡ d = cc in
         subst IsKey same (omega arith)
     by_tests true false i j e = absurd (cc)
     by_tests false c i j e =

@@ -4,14 +4,14 @@ ghost use Rattle.std.specs.Prelude.{◌≡◌, ◌++◌, OnOk, Some, codes, deci
 ghost use Rattle.ia_meaning.specs.StateText.{key_text, word_text, entry_lines};
 
 use crate::word::WordText;
-use ia_meaning::{AlatEntry, AlatKey};
+use ia_meaning::{AlatEntry, Spot};
 use std::alloc::AllocError;
 use std::fmt;
 
 /// The place of a general register, as it is printed.
 #[derive(Clone, Copy, Debug)]
 struct KeyText {
-    key: AlatKey,
+    key: Spot,
 }
 
 impl fmt::Display for KeyText {
@@ -20,8 +20,8 @@ impl fmt::Display for KeyText {
     /// `r` and the number of a static register, or `s` and the number of a cell.
     fn fmt<W: fmt::Write>(&self, f: &mut fmt::Formatter<W>) -> fmt::Result {
         match self.key {
-            AlatKey::Static(n) => write!(f, "r{n}"),
-            AlatKey::Stacked(n) => write!(f, "s{n}"),
+            Spot::Static(n) => write!(f, "r{n}"),
+            Spot::Stacked(n) => write!(f, "s{n}"),
         }
     }
 }

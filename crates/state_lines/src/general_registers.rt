@@ -7,7 +7,7 @@ ghost use Rattle.ia_meaning.specs.StateText.{cell_line, gr_line, gr_lines};
 use crate::word::WordText;
 use ia_insn::Gr;
 use ia_meaning::{Cell, FrameShape};
-use slot_effects::Sees;
+use slot_effects::StateView;
 use std::alloc::AllocError;
 
 /// The line of a register with what it holds, unless that is 0 without NaT.
@@ -25,7 +25,7 @@ fn push_cell(out: &mut String, register: Gr, cell: Cell) -> Result<(), AllocErro
 }
 
 /// The line of a register, unless it is 0 without NaT or outside the frame.
-fn push_general<S: Sees>(out: &mut String, seen: &S, register: Gr) -> Result<(), AllocError>
+fn push_general<S: StateView>(out: &mut String, seen: &S, register: Gr) -> Result<(), AllocError>
     ensures { OnOk result (string_bytes out.new ≡ string_bytes out.old ++ gr_line (S.registers seen.now) register) }
 {
     match seen.general(register) {
@@ -35,7 +35,7 @@ fn push_general<S: Sees>(out: &mut String, seen: &S, register: Gr) -> Result<(),
 }
 
 /// The lines of r1 to r31 and of the registers of the frame.
-pub(crate) fn push_general_registers<S: Sees>(
+pub(crate) fn push_general_registers<S: StateView>(
     out: &mut String,
     frame: &FrameShape,
     seen: &S,

@@ -3,7 +3,7 @@
 //! The text is `parts_text` of `ia_meaning`: how the run ended and how many groups there were, the
 //! frame and the resident range of the register stack, the registers, the data and the ALAT, a line
 //! each. Registers and words of the data that are 0 are left out, but for the predicates. The registers
-//! and the memory are read through [`Sees`], so that every engine prints its state by the same lines.
+//! and the memory are read through [`StateView`], so that every engine prints its state by the same lines.
 #![tactic(auto)]
 
 mod alat;
@@ -24,7 +24,7 @@ use crate::other_registers::{push_applications, push_branches, push_predicates};
 pub use head::push_outcome;
 use ia_meaning::{FrameShape, Rse};
 use ia_program::End;
-use slot_effects::Sees;
+use slot_effects::StateView;
 use std::alloc::{AllocError, Global};
 pub use word::WordText;
 
@@ -38,7 +38,7 @@ pub use word::WordText;
 /// # Errors
 ///
 /// Want of memory.
-pub fn state_text<S: Sees>(
+pub fn state_text<S: StateView>(
     alloc: Global,
     end: &End,
     groups: u64,

@@ -7,11 +7,11 @@ ghost use Rattle.ia_meaning.specs.StateText.{line, word_text, word_line, br_line
 
 use crate::word::WordText;
 use ia_insn::{Ar, Br};
-use slot_effects::Sees;
+use slot_effects::StateView;
 use std::alloc::AllocError;
 
 /// The line of the predicates.
-pub(crate) fn push_predicates<S: Sees>(out: &mut String, seen: &S) -> Result<(), AllocError>
+pub(crate) fn push_predicates<S: StateView>(out: &mut String, seen: &S) -> Result<(), AllocError>
     ensures { OnOk result (string_bytes out.new ≡ string_bytes out.old ++ line (codes "pr " ++ word_text (predicate_word (S.registers seen.now).predicates))) }
 {
     let shown = WordText {
@@ -32,7 +32,7 @@ fn push_branch(out: &mut String, register: Br, word: u64) -> Result<(), AllocErr
 }
 
 /// The lines of the branch registers.
-pub(crate) fn push_branches<S: Sees>(out: &mut String, seen: &S) -> Result<(), AllocError>
+pub(crate) fn push_branches<S: StateView>(out: &mut String, seen: &S) -> Result<(), AllocError>
     ensures { OnOk result (string_bytes out.new ≡ string_bytes out.old ++ br_lines (S.registers seen.now)) }
 {
     for n in 0..8 {
@@ -54,7 +54,7 @@ fn push_application(out: &mut String, name: &str, word: u64) -> Result<(), Alloc
 }
 
 /// The lines of the application registers.
-pub(crate) fn push_applications<S: Sees>(out: &mut String, seen: &S) -> Result<(), AllocError>
+pub(crate) fn push_applications<S: StateView>(out: &mut String, seen: &S) -> Result<(), AllocError>
     ensures { OnOk result (string_bytes out.new ≡ string_bytes out.old ++ application_lines (S.registers seen.now)) }
 {
     push_application(out, "ar.unat", seen.application(Ar::Unat))?;

@@ -11,7 +11,7 @@ use Rattle.ia_meaning.specs.Sequence.{first_of}
 use Rattle.group_checker.specs.WindowLaws.{AgreeBefore}
 use Rattle.loose_items.specs.declared.item.Item.{Item}
 use Rattle.loose_text.specs.LooseTexts.{Loose}
-use Rattle.bundling.specs.Laws.{row_stop}
+use Rattle.bundling.specs.Laws.{sequence_stop}
 use Rattle.bundling.proofs.Lists.{slice_get-append_left}
 use Rattle.stop_placer.specs.declared.packing.Cause.{Cause}
 use Rattle.stop_placer.specs.declared.packing.Cause.TheVariants.{Pair}
@@ -86,8 +86,8 @@ get_or-map_default f (x ∷ xs) zero d = refl
 get_or-map_default f (x ∷ xs) (suc n) d = get_or-map_default f xs n d
 
 -- A stop is wanted behind an instruction where there is a cause.
-pub row_stop_is : (s : Loose) (k : Packing) (place : Place) → IsPack s k → row_stop (all_chunks s k) place ≡ stopped_by (all_causes s k) place
-row_stop_is s k place pack = ap (λ (l : List Bool). get_or l place.bundle false) (pack_gaps s k pack) ∙ get_or-map_default is_some (all_causes s k) place.bundle None
+pub sequence_stop_is : (s : Loose) (k : Packing) (place : Place) → IsPack s k → sequence_stop (all_chunks s k) place ≡ stopped_by (all_causes s k) place
+sequence_stop_is s k place pack = ap (λ (l : List Bool). get_or l place.bundle false) (pack_gaps s k pack) ∙ get_or-map_default is_some (all_causes s k) place.bundle None
 
 -- Where no stop comes at the n-th gap, stops that go on like all causes stand before the next instruction where the
 -- causes before that gap have them.

@@ -13,9 +13,9 @@ pub mod NamedStops
 pub mod PackedTexts
 pub mod QuietCounts
 pub mod PlacesCounted
-pub mod RowKnown
+pub mod SequenceKnown
 pub mod PackSteps
-pub mod RowWindows
+pub mod SequenceWindows
 pub mod LastItems
 pub mod Cuts
 pub mod Naming

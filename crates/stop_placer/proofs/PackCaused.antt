@@ -11,9 +11,9 @@ use Rattle.ia_meaning.specs.Sequence.{is_stopped}
 use Rattle.flow_facts.specs.Graphs.{over_program}
 use Rattle.group_checker.specs.declared.violation.Violation.{Violation}
 use Rattle.group_checker.specs.Violations.{ViolatesIn}
-use Rattle.row_laws.specs.Spreads.{IsSpread}
+use Rattle.sequence_laws.specs.Spreads.{IsSpread}
 use Rattle.loose_text.specs.LooseTexts.{Loose, IsLoose}
-use Rattle.bundling.specs.Bundled.{row_of, program_of, places_of, place_of}
+use Rattle.bundling.specs.Bundled.{sequence_of, program_of, places_of, place_of}
 use Rattle.stop_placer.specs.declared.packing.Cause.{Cause}
 use Rattle.stop_placer.specs.declared.packing.Cause.TheVariants.{Pair}
 use Rattle.stop_placer.specs.Packings.{Packing}
@@ -21,7 +21,7 @@ use Rattle.stop_placer.specs.Packs.{IsPack, end_cause, ends_written, all_causes,
 use Rattle.stop_placer.specs.Placing.{without_stop}
 use Rattle.stop_placer.specs.Caused.{IsBehind, AreCaused}
 use Rattle.stop_placer.proofs.PackChunks.{pack_are_chunks, pack_causes}
-use Rattle.stop_placer.proofs.PackFree.{row_length, pack_is_free, pair_has_violation}
+use Rattle.stop_placer.proofs.PackFree.{sequence_length, pack_has_no_violation, pair_has_violation}
 use Rattle.stop_placer.proofs.PlacesCounted.{places_counted}
 use Rattle.stop_placer.proofs.StopCauses.{stop_has_cause, stop_behind_first}
 
@@ -33,7 +33,7 @@ not_last [] written (suc n) e = absurd cc
 not_last (x ∷ causes) written zero e = omega arith
 not_last (x ∷ causes) written (suc n) e = let h = not_last causes written n e in omega (arith, h)
 
-module _ (s : Loose) (k : Packing) (is : IsLoose s) (pack : IsPack s k) (few : length (all_chunks s k) ≤ BUNDLE_LIMIT) (spread : IsSpread (row_of s) (program_of s (all_chunks s k)) (place_of (all_chunks s k))) where
+module _ (s : Loose) (k : Packing) (is : IsLoose s) (pack : IsPack s k) (few : length (all_chunks s k) ≤ BUNDLE_LIMIT) (spread : IsSpread (sequence_of s) (program_of s (all_chunks s k)) (place_of (all_chunks s k))) where
   abbrev p : Program
   p = program_of s (all_chunks s k)
 
@@ -44,11 +44,11 @@ module _ (s : Loose) (k : Packing) (is : IsLoose s) (pack : IsPack s k) (few : l
   count = let are = pack_are_chunks s k is pack few in places_counted (all_chunks s k) s.items are.chunks
 
   there : (n : ℕ) → n < length s.items → IsPlaceOf p.bundles (place_of (all_chunks s k) n)
-  there n inside = of (slice_get_cases (row_of s).insns n).1
+  there n inside = of (slice_get_cases (sequence_of s).insns n).1
     where
-      of : ((i : Insn) × (n < length (row_of s).insns) × (slice_get (row_of s).insns n ≡ Some i) × (slice_index_or (row_of s).insns n i ≡ i)) ⊎ ((length (row_of s).insns ≤ n) × (slice_get (row_of s).insns n ≡ None)) → IsPlaceOf p.bundles (place_of (all_chunks s k) n)
+      of : ((i : Insn) × (n < length (sequence_of s).insns) × (slice_get (sequence_of s).insns n ≡ Some i) × (slice_index_or (sequence_of s).insns n i ≡ i)) ⊎ ((length (sequence_of s).insns ≤ n) × (slice_get (sequence_of s).insns n ≡ None)) → IsPlaceOf p.bundles (place_of (all_chunks s k) n)
       of (inl (i, short, at, same)) = let (j, here, like) = spread.there n i at in subst IsSome (sym here) refl
-      of (inr (past, none)) = absurd (omega (arith, past, inside, row_length s is))
+      of (inr (past, none)) = absurd (omega (arith, past, inside, sequence_length s is))
 
   violated : (n : ℕ) (place : Place) → IsBehind places n place → IsPlaceOf p.bundles place → is_stopped p.bundles place ≡ true → slice_get (all_causes s k) n ≡ Some (Some Pair)
       → (v : Violation) × ViolatesIn (over_program p) (without_stop p place) v
@@ -61,11 +61,11 @@ module _ (s : Loose) (k : Packing) (is : IsLoose s) (pack : IsPack s k) (few : l
   pub pack_is_caused : AreCaused p places (all_causes s k)
   unfolding place_of
   pack_is_caused = record {
-    free = pack_is_free s k is pack few;
+    free = pack_has_no_violation s k is pack few;
     some = omega (arith, count, is.some);
     same_length = pack_causes s k pack ∙ sym count;
     there = λ n inside. there n (omega (arith, inside, count));
-    rises = λ m n less inside. spread.rises m n less (omega (arith, inside, count, row_length s is));
+    rises = λ m n less inside. spread.rises m n less (omega (arith, inside, count, sequence_length s is));
     first = λ place at stopped. stop_behind_first s k place is pack few at stopped;
     caused = λ n place behind at stopped. stop_has_cause s k n place is pack few (record {
       inside = omega (arith, behind.inside, count);

@@ -9,13 +9,13 @@ use Rattle.ia_program.specs.declared.limits.TheConstants.{BUNDLE_LIMIT}
 use Rattle.ia_program.specs.declared.place.Place.{Place}
 use Rattle.ia_program.specs.Programs.{Program, IsProgram}
 use Rattle.ia_meaning.specs.Sequence.{first_of}
-use Rattle.group_checker.specs.Violations.{IsFree}
+use Rattle.group_checker.specs.Violations.{HasNoViolation}
 use Rattle.asm_build.specs.declared.reason.Reason.TheVariants.{Limit}
 use Rattle.asm_build.specs.declared.reason.TextError.TheVariants.{Fault}
-use Rattle.row_laws.specs.Spreads.{IsSpread, IsFiller}
+use Rattle.sequence_laws.specs.Spreads.{IsSpread, IsFiller}
 use Rattle.loose_text.specs.LooseTexts.{Loose, IsLoose}
 use Rattle.loose_text.specs.Laws.{OneLooseText, OneLooseFault, NoLooseFaultWhereRead, ReadIsLoose}
-use Rattle.bundling.specs.Bundled.{row_of, place_of, places_of, program_of}
+use Rattle.bundling.specs.Bundled.{sequence_of, place_of, places_of, program_of}
 use Rattle.bundling.specs.Chunk.{Chunk}
 use Rattle.bundling.specs.Chunks.{AreChunksOf}
 use Rattle.bundling.proofs.Locating.{length-places}
@@ -23,12 +23,12 @@ use Rattle.stop_placer.specs.Packed.{Packed}
 use Rattle.stop_placer.specs.Packings.{Packing}
 use Rattle.stop_placer.specs.Packs.{IsPack, IsFirstPast, all_causes, all_chunks}
 use Rattle.stop_placer.specs.Placing.{NamesStops, IsPlaced, line_of_item}
-use Rattle.stop_placer.specs.Laws.{OnePlaced, OnePlacingFault, NoFaultWherePlaced, PlacedIsFree, KeepsText, PlacedKeepsText}
+use Rattle.stop_placer.specs.Laws.{OnePlaced, OnePlacingFault, NoFaultWherePlaced, PlacedHasNoViolation, KeepsText, PlacedKeepsText}
 use Rattle.stop_placer.proofs.BundleLaws.{layouts, bundled_is_spread, bundled_has_instructions}
 use Rattle.stop_placer.proofs.NamedStops.{one_naming}
 use Rattle.stop_placer.proofs.OnePacking.{one_pack, one_first_past, none_past}
 use Rattle.stop_placer.proofs.PackChunks.{pack_are_chunks, pack_causes}
-use Rattle.stop_placer.proofs.PackFree.{row_length, pack_is_program, pack_is_free}
+use Rattle.stop_placer.proofs.PackFree.{sequence_length, pack_is_program, pack_has_no_violation}
 
 -- What a loose text with this packing is packed into.
 record IsPackedAs (s : Loose) (packing : Packing) (k : Packed) : Type 0 where
@@ -53,13 +53,13 @@ one_packed s packing k m is a b = λ i. record { program = program i; places = p
     places : k.places ≡ m.places
     places = a.places ∙ sym b.places
 
-    spread : IsSpread (row_of s) (program_of s cs) (place_of cs)
+    spread : IsSpread (sequence_of s) (program_of s cs) (place_of cs)
     spread = bundled_is_spread s cs is (pack_are_chunks s packing is a.pack a.few)
 
     stops : k.stops ≡ m.stops
     stops =
         one_naming m.program (place_of cs) (all_causes s packing)
-        (λ n l less inside. spread.rises n l less (omega (arith, row_length s is, pack_causes s packing a.pack)))
+        (λ n l less inside. spread.rises n l less (omega (arith, sequence_length s is, pack_causes s packing a.pack)))
         k.stops m.stops (subst (λ (p : Program). NamesStops p (place_of cs) (all_causes s packing) k.stops) program a.stops) b.stops
 
 pub placed_once : OneLooseText → ReadIsLoose → OnePlaced
@@ -88,11 +88,11 @@ none_where_placed one none text k e placed (inl fault) = none text placed.loose 
 none_where_placed one none text k e placed (inr (s, reads, a)) =
     none_past placed.loose placed.packing a.n placed.pack placed.few (subst (λ (u : Loose). IsFirstPast u a.n) (one text s placed.loose reads placed.reads) a.past)
 
-pub free_where_placed : ReadIsLoose → PlacedIsFree
+pub free_where_placed : ReadIsLoose → PlacedHasNoViolation
 free_where_placed loose text k placed =
     let is = loose text placed.loose placed.reads in (
       subst IsProgram (sym placed.program) (pack_is_program placed.loose placed.packing is placed.pack placed.few),
-      subst IsFree (sym placed.program) (pack_is_free placed.loose placed.packing is placed.pack placed.few),
+      subst HasNoViolation (sym placed.program) (pack_has_no_violation placed.loose placed.packing is placed.pack placed.few),
     )
 
 module _ (text : List ℕ) (k : Packed) (placed : IsPlaced text k) (is : IsLoose placed.loose) where
@@ -102,7 +102,7 @@ module _ (text : List ℕ) (k : Packed) (placed : IsPlaced text k) (is : IsLoose
   chunks : AreChunksOf placed.loose cs
   chunks = pack_are_chunks placed.loose placed.packing is placed.pack placed.few
 
-  spread : IsSpread (row_of placed.loose) (program_of placed.loose cs) (place_of cs)
+  spread : IsSpread (sequence_of placed.loose) (program_of placed.loose cs) (place_of cs)
   spread = bundled_is_spread placed.loose cs is chunks
 
   abbrev there : Packed
@@ -112,13 +112,13 @@ module _ (text : List ℕ) (k : Packed) (placed : IsPlaced text k) (is : IsLoose
   count = length-places layouts cs placed.loose.items 0 chunks.chunks
 
   -- the n-th place is one of them
-  listed : (place : Place) (n : ℕ) → n < length (row_of placed.loose).insns → place ≡ place_of cs n → Contains (places_of cs) place
+  listed : (place : Place) (n : ℕ) → n < length (sequence_of placed.loose).insns → place ≡ place_of cs n → Contains (places_of cs) place
   unfolding place_of
   listed place n inside e =
-      let room : n < length (places_of cs) = omega (arith, count, row_length placed.loose is) in
+      let room : n < length (places_of cs) = omega (arith, count, sequence_length placed.loose is) in
       (n, room, get_or_default (places_of cs) n place (first_of 0) room ∙ sym e)
 
-  filler : (place : Place) (i : Insn) → ((n : ℕ) × (n < length (row_of placed.loose).insns) × (place ≡ place_of cs n)) ⊎ IsFiller i → Contains (places_of cs) place ⊎ IsFiller i
+  filler : (place : Place) (i : Insn) → ((n : ℕ) × (n < length (sequence_of placed.loose).insns) × (place ≡ place_of cs n)) ⊎ IsFiller i → Contains (places_of cs) place ⊎ IsFiller i
   filler place i (inl (n, inside, e)) = inl (listed place n inside e)
   filler place i (inr f) = inr f
 
@@ -128,7 +128,7 @@ module _ (text : List ℕ) (k : Packed) (placed : IsPlaced text k) (is : IsLoose
     loose = placed.loose;
     reads = placed.reads;
     count = count;
-    rises = λ m n less inside. spread.rises m n less (omega (arith, count, row_length placed.loose is));
+    rises = λ m n less inside. spread.rises m n less (omega (arith, count, sequence_length placed.loose is));
     kept = λ n inside. bundled_has_instructions placed.loose cs n is chunks (omega (arith, count));
     fillers = λ place i e. filler place i (spread.fillers place i e);
   }

@@ -9,7 +9,7 @@ use Rattle.slot_table.specs.declared.slot.Slot.{Slot}
 use Rattle.flow_facts.specs.Graphs.{over_program}
 use Rattle.group_checker.specs.declared.violation.Violation.{Violation}
 use Rattle.group_checker.specs.Violations.{ViolatesIn}
-use Rattle.group_checker.specs.Violations.{IsFree}
+use Rattle.group_checker.specs.Violations.{HasNoViolation}
 use Rattle.stop_placer.specs.declared.packing.Cause.{Cause}
 use Rattle.stop_placer.specs.declared.packing.Cause.TheVariants.{Pair}
 use Rattle.stop_placer.specs.declared.packed.StopWhy.{StopWhy}
@@ -29,7 +29,7 @@ IsAfterStop p place =
 -- The program has a violation without the stop behind `out`, and none with it; `behind` is no later place, and a stop comes
 -- right before it.
 pub record IsCut (p : Program) (behind out : Place) : Type 0 where
-  pub free : IsFree p
+  pub free : HasNoViolation p
   pub violated : (v : Violation) × ViolatesIn (over_program p) (without_stop p out) v
   pub is : IsPlaceOf p.bundles behind
   pub parted : IsAfterStop p behind
@@ -48,7 +48,7 @@ pub record IsBehind (places : List Place) (n : ℕ) (place : Place) : Type 0 whe
 -- The instructions stand in order, each stop stands behind one at whose gap there is a reason, and without a stop that
 -- stands for a pair there is a violation.
 pub record AreCaused (p : Program) (places : List Place) (causes : List (Option Cause)) : Type 0 where
-  pub free : IsFree p
+  pub free : HasNoViolation p
   pub some : 1 ≤ length places
   pub same_length : length causes ≡ length places
   pub there : (n : ℕ) → n < length places → IsPlaceOf p.bundles (place_in places n)

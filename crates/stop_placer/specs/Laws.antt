@@ -5,9 +5,9 @@ use Rattle.ia_program.specs.declared.place.Place.{Place}
 use Rattle.ia_program.specs.Places.{insn_at, IsBefore}
 use Rattle.ia_program.specs.Programs.{IsProgram}
 use Rattle.ia_meaning.specs.Sequence.{first_of}
-use Rattle.group_checker.specs.Violations.{IsFree}
+use Rattle.group_checker.specs.Violations.{HasNoViolation}
 use Rattle.asm_build.specs.declared.reason.TextError.{TextError}
-use Rattle.row_laws.specs.Spreads.{IsFiller}
+use Rattle.sequence_laws.specs.Spreads.{IsFiller}
 use Rattle.loose_text.specs.LooseTexts.{Loose}
 use Rattle.loose_text.specs.LooseReading.{ReadsLoose}
 use Rattle.bundling.specs.Bundled.{targeted}
@@ -27,8 +27,8 @@ abbrev pub NoFaultWherePlaced : Type 0
 NoFaultWherePlaced = (text : List ℕ) (k : Packed) (e : TextError) → IsPlaced text k → HasPlacingFault text e → ⊥
 
 -- The program of a packed text has no violation.
-abbrev pub PlacedIsFree : Type 0
-PlacedIsFree = (text : List ℕ) (k : Packed) → IsPlaced text k → IsProgram k.program × IsFree k.program
+abbrev pub PlacedHasNoViolation : Type 0
+PlacedHasNoViolation = (text : List ℕ) (k : Packed) → IsPlaced text k → IsProgram k.program × HasNoViolation k.program
 
 -- the place of the n-th instruction
 abbrev pub nth_place : Packed → ℕ → Place

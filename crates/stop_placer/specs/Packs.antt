@@ -1,27 +1,27 @@
--- The packing of a loose text, by the rules of instruction groups over the row of its instructions (volume 1, chapter 3,
+-- The packing of a loose text, by the rules of instruction groups over the sequence of its instructions (volume 1, chapter 3,
 -- instruction groups and instruction dependencies).
 use Rattle.std.specs.Prelude.{◌≡◌, ℕ, ◌+◌, Bool, true, false, List, [], ◌∷◌, ◌++◌, length, slice_index_or, Option, Some, None, is_some}
 use Rattle.std.specs.Bool.{Decides}
 use Rattle.ia_program.specs.declared.limits.TheConstants.{BUNDLE_LIMIT}
 use Rattle.ia_program.specs.declared.place.Place.{Place}
 use Rattle.ia_meaning.specs.Sequence.{first_of}
-use Rattle.flow_facts.specs.Graphs.{over_row}
+use Rattle.flow_facts.specs.Graphs.{over_sequence}
 use Rattle.group_checker.specs.Firsts.{IsViolatedAt}
 use Rattle.loose_items.specs.declared.item.Item.{Item}
 use Rattle.loose_text.specs.LooseTexts.{Loose}
-use Rattle.bundling.specs.Bundled.{row_of}
+use Rattle.bundling.specs.Bundled.{sequence_of}
 use Rattle.bundling.specs.Chunk.{Chunk}
 use Rattle.stop_placer.specs.declared.packing.Cause.{Cause}
 use Rattle.stop_placer.specs.declared.packing.Cause.TheVariants.{Written}
 use Rattle.stop_placer.specs.Packings.{Packing, begun_with, packed_next, chunks_of}
 
--- the stops so far, over the row: behind an instruction at whose gap there is a reason
+-- the stops so far, over the sequence: behind an instruction at whose gap there is a reason
 abbrev pub stopped_by : List (Option Cause) → Place → Bool
 stopped_by causes place = is_some (slice_index_or causes place.bundle None)
 
 -- With the stops so far, some walk to the n-th instruction breaks a rule there. Each instruction is a place of its own.
 abbrev pub IsPairAt : Loose → List (Option Cause) → ℕ → Type 0
-IsPairAt s causes n = IsViolatedAt (over_row (row_of s)) (stopped_by causes) (first_of n)
+IsPairAt s causes n = IsViolatedAt (over_sequence (sequence_of s)) (stopped_by causes) (first_of n)
 
 -- The packing goes on from the item before, whose number is that of the gaps so far, over more items to another. Where no
 -- `;;` decides, it is asked whether the rules are broken.

@@ -1,6 +1,6 @@
 //! The laws of packed texts. They do nothing.
 
-ghost use Rattle.stop_placer.specs.Laws.{OnePlaced, OnePlacingFault, NoFaultWherePlaced, PlacedIsFree, PlacedKeepsText};
+ghost use Rattle.stop_placer.specs.Laws.{OnePlaced, OnePlacingFault, NoFaultWherePlaced, PlacedHasNoViolation, PlacedKeepsText};
 
 use loose_text::{
     loose_texts_are_loose, no_loose_fault_where_read, one_loose_fault, one_loose_text,
@@ -32,8 +32,8 @@ pub fn no_fault_where_placed()
 }
 
 /// The law that the program of a packed text has no violation. It does nothing.
-pub fn placed_is_free()
-    ensures { PlacedIsFree }
+pub fn placed_has_no_violation()
+    ensures { PlacedHasNoViolation }
 {
     loose_texts_are_loose();
 }

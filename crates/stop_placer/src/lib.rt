@@ -15,7 +15,8 @@ mod plain;
 mod reasons;
 
 pub use laws::{
-    no_fault_where_placed, one_placed, one_placing_fault, placed_is_free, placed_keeps_text,
+    no_fault_where_placed, one_placed, one_placing_fault, placed_has_no_violation,
+    placed_keeps_text,
 };
 pub use packed::{Packed, StopWhy, Why};
 pub use packing::Cause;

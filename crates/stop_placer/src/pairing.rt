@@ -11,7 +11,7 @@ ghost use Rattle.flow_facts.specs.Walks.{known_at};
 ghost use Rattle.group_checker.specs.Firsts.{IsViolatedAt};
 ghost use Rattle.group_checker.specs.Windows.{Describes, HasWindow};
 ghost use Rattle.asm_build.specs.declared.reason.TextError.TheVariants as error;
-ghost use Rattle.bundling.specs.Bundled.{row_of};
+ghost use Rattle.bundling.specs.Bundled.{sequence_of};
 ghost use Rattle.stop_placer.specs.Packs.{IsPack};
 ghost use Rattle.stop_placer.specs.Placing.{IsPackingFault};
 ghost use Rattle.stop_placer.specs.Known.{AreKnown};
@@ -20,7 +20,7 @@ use crate::packing::Packing;
 use crate::plain::plain_chunks;
 use asm_build::{Reason, TextError};
 use bundling::{
-    BundledText, bundled, bundled_is_program, bundled_is_spread, quiet_is_short, row_insns,
+    BundledText, bundled, bundled_is_program, bundled_is_spread, quiet_is_short, sequence_insns,
 };
 use flow_facts::{InFacts, solve};
 use group_checker::Window;
@@ -31,39 +31,39 @@ use ia_program::limits::BUNDLE_LIMIT;
 use loose_text::{Item, LooseText};
 use predicate_rel::Facts;
 use resource_sets::{Masks, masks_of};
-use row_laws::known_in_the_row;
+use sequence_laws::known_in_the_sequence;
 use slot_table::{Slot, SlotTable, may_fall};
 use std::alloc::{AllocError, Global};
 
-/// What is known of predicates before each instruction of a row: what is known at its place in a program that has the
-/// row's instructions.
+/// What is known of predicates before each instruction of a sequence: what is known at its place in a program that has the
+/// sequence's instructions.
 #[derive(Drop)]
-pub(crate) struct RowFacts {
+pub(crate) struct SequenceFacts {
     /// What is known at each place of the program.
     pub facts: InFacts,
     /// Where each instruction stands.
     pub places: Vec<Place>,
 }
 
-impl RowFacts {
-    /// That of a text's row.
+impl SequenceFacts {
+    /// That of a text's sequence.
     ///
     /// # Errors
     ///
     /// Want of memory.
-    pub fn of(alloc: Global, text: &LooseText) -> Result<RowFacts, AllocError>
-        ensures { IfOk result (λ known. AreKnown (row_of text.now) known.facts known.places.items) }
+    pub fn of(alloc: Global, text: &LooseText) -> Result<SequenceFacts, AllocError>
+        ensures { IfOk result (λ known. AreKnown (sequence_of text.now) known.facts known.places.items) }
     {
         text.is_loose();
         quiet_is_short();
         bundled_is_program();
         bundled_is_spread();
-        known_in_the_row();
+        known_in_the_sequence();
         let chunks = plain_chunks(alloc, text)?;
         let BundledText { program, places } = bundled(alloc, text, &chunks)?;
         let table = SlotTable::open(alloc, &program)?;
         let facts = solve(alloc, &table)?;
-        Ok(RowFacts { facts, places })
+        Ok(SequenceFacts { facts, places })
     }
 
     /// What is known before the n-th instruction.
@@ -75,7 +75,7 @@ impl RowFacts {
     }
 }
 
-/// What windows ask of an instruction of a row, where no stop follows it. Where control goes on from it they don't ask.
+/// What windows ask of an instruction of a sequence, where no stop follows it. Where control goes on from it they don't ask.
 fn slot_of(insn: &Insn) -> Slot
     ensures { (g : Graph) (has_stop : Place → Bool) (place : Place) → insn_in g place ≡ Some insn.now → has_stop place ≡ false → Describes g has_stop place result }
 {
@@ -90,8 +90,8 @@ fn slot_of(insn: &Insn) -> Slot
     }
 }
 
-/// The place of the n-th instruction of a row.
-fn row_place(n: usize) -> Place
+/// The place of the n-th instruction of a sequence.
+fn sequence_place(n: usize) -> Place
     requires { n < 2 ^ 32 }
     ensures { result ≡ first_of n }
 {
@@ -131,14 +131,14 @@ pub(crate) fn pack(alloc: Global, text: &LooseText) -> Result<Packing, TextError
     ensures fault { IfErr result (λ e. (e ≡ error.Memory) ⊎ IsPackingFault text.now e) }
 {
     text.is_loose();
-    let known = RowFacts::of(alloc, text)?;
-    let insns = row_insns(alloc, text)?;
+    let known = SequenceFacts::of(alloc, text)?;
+    let insns = sequence_insns(alloc, text)?;
     let items = text.items();
     let mut packing = Packing::begun_with(alloc, &items[0]);
     let mut window = Window::new(alloc);
     let first = slot_of(&insns[0]);
     let accesses = masks_of(first.qp, &first.action);
-    window.move_on(known.at(0), row_place(0), &first, accesses)?;
+    window.move_on(known.at(0), sequence_place(0), &first, accesses)?;
     for n in 1..items.len() {
         let before = &items[n - 1];
         let item = &items[n];
@@ -153,7 +153,7 @@ pub(crate) fn pack(alloc: Global, text: &LooseText) -> Result<Packing, TextError
             });
         }
         part(&mut window, packing.is_stopped(n - 1));
-        window.move_on(known.at(n), row_place(n), &slot, masks)?;
+        window.move_on(known.at(n), sequence_place(n), &slot, masks)?;
     }
     Ok(packing)
 }

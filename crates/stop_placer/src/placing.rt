@@ -1,7 +1,7 @@
 //! Packing a loose text.
 
 ghost use Rattle.std.specs.Prelude.{◌≡◌, ◌≢◌, ◌⊎◌, ◌+◌, ◌^◌, ◌<◌, Ok, Err, IfOk, IfErr, length};
-ghost use Rattle.group_checker.specs.Violations.{IsFree};
+ghost use Rattle.group_checker.specs.Violations.{HasNoViolation};
 ghost use Rattle.asm_build.specs.declared.reason.TextError.{TextError as ErrorOf};
 ghost use Rattle.asm_build.specs.declared.reason.TextError.TheVariants as error;
 ghost use Rattle.stop_placer.specs.Packed.{Packed as PackedOf};
@@ -10,7 +10,8 @@ ghost use Rattle.stop_placer.specs.Placing.{IsPlaced, HasPlacingFault};
 ghost use Rattle.stop_placer.specs.Laws.{KeepsText};
 
 use crate::laws::{
-    no_fault_where_placed, one_placed, one_placing_fault, placed_is_free, placed_keeps_text,
+    no_fault_where_placed, one_placed, one_placing_fault, placed_has_no_violation,
+    placed_keeps_text,
 };
 use crate::packed::Packed;
 use crate::packing::Whole;
@@ -79,7 +80,7 @@ pub fn place_stops(alloc: Global, text: &[u8]) -> Result<Packed, TextError>
     ensures only_fault { (e : ErrorOf) → HasPlacingFault text.now e → (result ≡ Err e) ⊎ (result ≡ Err error.Memory) }
 
     // The program has no violation.
-    ensures accepted { IfOk result (λ k. IsFree k.program) }
+    ensures accepted { IfOk result (λ k. HasNoViolation k.program) }
 
     // It has the text's instructions, in order, with their targets put in, and nops beside them.
     ensures keeps { IfOk result (KeepsText text.now) }
@@ -87,7 +88,7 @@ pub fn place_stops(alloc: Global, text: &[u8]) -> Result<Packed, TextError>
     one_placed();
     one_placing_fault();
     no_fault_where_placed();
-    placed_is_free();
+    placed_has_no_violation();
     placed_keeps_text();
     place(alloc, text)
 }

@@ -66,7 +66,7 @@ fn compare(draw: u32) -> Insn
     ensures { result ≡ compare draw }
 {
     always(Op::Cmp {
-        four: false,
+        four_bytes: false,
         rel: Rel::Lt,
         kind: CmpKind::Normal,
         p1: Pr::of_field(6),

@@ -4,7 +4,7 @@ use crate::program::program_of;
 use emulator::Machine;
 use ia_insn::{Ar, Br, Gr};
 use ia_program::{End, GroupEvent, How, Place};
-use nat_alat::{AlatEntry, AlatKey};
+use nat_alat::{AlatEntry, Spot};
 use reg_stack::StackFault;
 use slot_table::SlotTable;
 use std::process::Abort;
@@ -117,7 +117,7 @@ fn slots_run_one_by_one(rt: HostRuntime) -> Result<(), Fail> {
     assert_eq!(rt; machine.gr(Gr::of_field(35)), Err(StackFault::OutOfFrame));
 
     let entry = AlatEntry {
-        key: AlatKey::Stacked(4),
+        key: Spot::Stacked(4),
         address: 0x10_0000,
         size: 8,
     };

@@ -1,8 +1,8 @@
 //! The rows of faults, and of lines that aren't slots.
 
+use asm_lexemes::limits::LINE_LIMIT;
+use asm_lexemes::{LineFault, Name};
 use asm_reading::{Line, TemplateName, read_line};
-use asm_words::limits::LINE_LIMIT;
-use asm_words::{LineFault, Name};
 
 /// Whether the line has the fault of this name.
 pub fn has_fault(line: &str, fault: &str) -> bool {

@@ -4,9 +4,9 @@ ghost use Rattle.std.specs.Prelude.{IsTrue, IsOk};
 ghost use Rattle.hex.specs.Hex.{decode_sized};
 
 use crate::wanted::{Wanted, in_unit};
+use asm_lexemes::Name;
+use asm_lexemes::limits::LINE_LIMIT;
 use asm_reading::{Draft, Line, read_line};
-use asm_words::Name;
-use asm_words::limits::LINE_LIMIT;
 use hex::FromHex;
 use insn_codec::decode_bundle;
 

@@ -1,7 +1,7 @@
 //! The rows of words and tokens.
 
-use asm_words::limits::LINE_LIMIT;
-use asm_words::{Token, Word, WordKind, token, words};
+use asm_lexemes::limits::LINE_LIMIT;
+use asm_lexemes::{LexemeKind, Token, Word, token, words};
 use std::alloc::{AllocError, Global};
 
 /// Whether a row of a line's words is right: of each word its kind, its start and its end, with blanks
@@ -41,12 +41,12 @@ fn is_word(word: &Word, kind: &str, start: &str, end: &str) -> bool {
 }
 
 /// The name of a kind of word in the input.
-fn kind_name(kind: WordKind) -> &'static str {
+fn kind_name(kind: LexemeKind) -> &'static str {
     match kind {
-        WordKind::Name => "name",
-        WordKind::Number => "number",
-        WordKind::Quoted => "quoted",
-        WordKind::Mark => "mark",
+        LexemeKind::Name => "name",
+        LexemeKind::Number => "number",
+        LexemeKind::Quoted => "quoted",
+        LexemeKind::Mark => "mark",
     }
 }
 

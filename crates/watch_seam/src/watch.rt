@@ -16,12 +16,12 @@ pub enum Keep {
     Full,
 }
 
-/// Sees the groups that a run executes, one after the other, and reports what it has seen.
+/// StateView the groups that a run executes, one after the other, and reports what it has seen.
 pub trait Watch: Drop {
     /// What the watcher has seen.
     ghost state: { Self → WatchState };
 
-    /// Sees a group. The answer is `Full` exactly where the watcher has then seen as many groups as
+    /// StateView a group. The answer is `Full` exactly where the watcher has then seen as many groups as
     /// it is to see. It then sees no more: this is for a watcher that isn't full.
     ///
     /// # Errors

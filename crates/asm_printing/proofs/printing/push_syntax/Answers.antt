@@ -4,7 +4,7 @@ use Rattle.asm_forms.specs.declared.form.Form.{Form}
 use Rattle.asm_forms.specs.declared.completer.Completer.{Completer}
 use Rattle.asm_forms.specs.declared.items.FormItem.{FormItem}
 use Rattle.asm_forms.specs.Rows.{row_of}
-use Rattle.asm_words.specs.declared.tokens.Token.{Token}
+use Rattle.asm_lexemes.specs.declared.tokens.Token.{Token}
 use Rattle.asm_printing.specs.SlotTexts.{predicate_text, mnemonic_text, spaced, operands_text, stop_text}
 use Rattle.asm_printing.proofs.Rooms.{items_are_few}
 use Rattle.asm_printing.proofs.printing.push_syntax.Goals as goal

@@ -1,5 +1,5 @@
 use Rattle.std.proofs.Common.{◌≡◌, ◌+◌, ◌-◌, ◌≤◌, drop, length}
-use Rattle.asm_words.specs.declared.limits.TheConstants.{NUMBER_TOKEN_LIMIT}
+use Rattle.asm_lexemes.specs.declared.limits.TheConstants.{NUMBER_TOKEN_LIMIT}
 use Rattle.asm_reading.specs.Lines.{agreed_data}
 use Rattle.asm_reading.proofs.data.agreed_data.Given as goal
 

@@ -1,6 +1,6 @@
 use Rattle.std.proofs.Common.{◌∙◌, sym, ◌-◌, drop, length, arith, length-drop}
 use Rattle.std.proofs.lemmas.List.{take_all}
-use Rattle.asm_reading.proofs.WordLists.{label_missing, label_later, parts_later}
+use Rattle.asm_reading.proofs.LexemeLists.{label_missing, label_later, parts_later}
 use Rattle.asm_reading.proofs.reading.label_name.Goals as goal
 
 pub returns-in_default : goal.returns-in_default

@@ -1,4 +1,4 @@
-use Rattle.asm_reading.proofs.WordLists.{label_alone}
+use Rattle.asm_reading.proofs.LexemeLists.{label_alone}
 use Rattle.asm_reading.proofs.reading.label_of.Goals as goal
 
 pub returns-in-len1-up : goal.returns-in-len1-up

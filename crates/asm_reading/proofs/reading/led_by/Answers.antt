@@ -1,4 +1,4 @@
-use Rattle.asm_reading.proofs.WordLists.{led_name}
+use Rattle.asm_reading.proofs.LexemeLists.{led_name}
 use Rattle.asm_reading.proofs.reading.led_by.Goals as goal
 
 pub returns-in-Name : goal.returns-in-Name

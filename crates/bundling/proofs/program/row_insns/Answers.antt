@@ -4,7 +4,7 @@ use Rattle.asm_build.specs.declared.address.Address.{Address}
 use Rattle.asm_build.specs.Addresses.{IsReachable}
 use Rattle.loose_items.specs.declared.item.Item.{Item}
 use Rattle.bundling.proofs.Making.{target_within}
-use Rattle.bundling.proofs.program.row_insns.Goals as goal
+use Rattle.bundling.proofs.program.sequence_insns.Goals as goal
 
 pub put_in-requires-clause-there : goal.put_in-requires-clause-there
 put_in-requires-clause-there c =

@@ -1,6 +1,6 @@
 use Rattle.std.proofs.Common.{◌≡◌, inr, sym, subst}
 use Rattle.std.proofs.lemmas.Result.{on_ok_weaker, on_err_weaker}
-use Rattle.group_checker.specs.Violations.{IsFree}
+use Rattle.group_checker.specs.Violations.{HasNoViolation}
 use Rattle.ia64_top.specs.Judgements.{IsJudgedViolated}
 use Rattle.ia64_top.specs.Readings.{IsRefusal, as_either}
 use Rattle.ia64_top.specs.Runs.{watch_text}
@@ -33,7 +33,7 @@ returns-in-Ok-2-clause-cut_short g c =
     let read : as_either.Gives c.args.input.now c.in-Ok.program = rw c.in-Ok.is at c.in_ok-program.ensures in
     let same : c.in-Ok-2.accepted ≡ c.in-Ok.program = rw c.in-Ok-2.is at c.in_ok-accepted.ensures in
     let gives = subst (λ q. as_either.Gives c.args.input.now q) (sym same) read in
-    let free : IsFree c.in-Ok-2.accepted = rw (sym c.accepted.view_is) c.accepted.invariant in
+    let free : HasNoViolation c.in-Ok-2.accepted = rw (sym c.accepted.view_is) c.accepted.invariant in
     on_err_weaker c.watch_accepted.result (λ cut. inr (c.in-Ok-2.accepted, gives, free, cut)) c.watch_accepted.ensures.cut_short
 
 pub returns-clause-watched : goal.returns-clause-watched

@@ -9,8 +9,8 @@ use Rattle.slot_effects.proofs.frames.allocate.Goals as goal
 pub returns-in-Some-clause-value : goal.returns-in-Some-clause-value
 returns-in-Some-clause-value g c =
     let a = c.args in
-    let r = g.S.Sees.registers a.seen.now in
+    let r = g.S.StateView.registers a.seen.now in
     let new = with_sizes r.frame a.sof a.sol a.sor in
     let fault : alloc_fault r.frame new ≡ Some c.in-Some.kind = search rules in
     let some : spot new a.r1 ≢ None = search (rules, inside_new) in
-    rw c.faults-in-Some.ensures (sym (allocated_fails r.frame new a.r1 r.pfs (g.S.Sees.memory a.seen.now) c.in-Some.kind some fault))
+    rw c.faults-in-Some.ensures (sym (allocated_fails r.frame new a.r1 r.pfs (g.S.StateView.memory a.seen.now) c.in-Some.kind some fault))

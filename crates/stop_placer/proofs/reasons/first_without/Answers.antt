@@ -9,7 +9,7 @@ use Rattle.group_checker.proofs.Reporting.{number_small, number_next}
 use Rattle.group_checker.proofs.Slots.{slot_next}
 use Rattle.stop_placer.specs.Placing.{without_stop}
 use Rattle.stop_placer.proofs.Cuts.{cut_none, cut_window, none_next, some_left, first_of_all}
-use Rattle.stop_placer.proofs.RowWindows.{described_under_way}
+use Rattle.stop_placer.proofs.SequenceWindows.{described_under_way}
 use Rattle.stop_placer.proofs.reasons.first_without.Goals as goal
 
 pub slots-init : goal.slots-init

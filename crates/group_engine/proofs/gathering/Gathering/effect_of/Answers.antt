@@ -66,6 +66,6 @@ returns-else-is_branch c insn at =
     let action = ap (λ (s : Slot). s.action) same in
     let qp = ap (λ (s : Slot). s.qp) same in
     let plain : is_branch (insn_action insn) ≡ false = ap is_branch action ∙ sym c.if-is_branch.ensures in
-    effect_is p g insn c.effect-else-is_branch.result c.steering-steering.result.now
-    (c.steering-steering.ensures ∙ sym (plain_sight insn (now_of g) g.base plain))
+    effect_is p g insn c.effect-else-is_branch.result c.branch_inputs-branch_inputs.result.now
+    (c.branch_inputs-branch_inputs.ensures ∙ sym (plain_sight insn (now_of g) g.base plain))
     (rw (action, qp, ← c.program-else-is_branch.ensures) c.effect-else-is_branch.ensures.value) c.effect-else-is_branch.ensures.may

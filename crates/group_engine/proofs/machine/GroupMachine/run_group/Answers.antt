@@ -10,5 +10,5 @@ returns c =
     let m = group_made c.args.number inside.table.now (state_of inside.gathering) (gathered_of gathered) c.gather-self-inside.result c.gather-self-inside.ensures.value in
     let made = c.finish-self-inside.ensures in
     engine_made c.args.number inside.table.now (state_of inside.gathering) (gathered_of gathered) c.gather-self-inside.result inside.end inside.groups inside.range c.finish-self-inside.result
-    c.finish-self-inside.new.self.registers (memory_of c.finish-self-inside.new.self.thread) c.finish-self-inside.new.self.place c.args.self.now
-    m (sym c.self.view_is) made.registers (ap memory_of made.thread) made.place made.range
+    c.finish-self-inside.new.self.registers (memory_of c.finish-self-inside.new.self.in_order) c.finish-self-inside.new.self.place c.args.self.now
+    m (sym c.self.view_is) made.registers (ap memory_of made.in_order) made.place made.range

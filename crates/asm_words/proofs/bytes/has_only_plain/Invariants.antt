@@ -1,6 +1,0 @@
-use Rattle.std.proofs.Common.{◌≡◌, drop}
-use Rattle.asm_words.specs.Bytes.{has_only_plain}
-use Rattle.asm_words.proofs.bytes.has_only_plain.Given as goal
-
-abbrev pub invariant-loop-byte : goal.invariant-loop-byte
-invariant-loop-byte l = has_only_plain (drop l.byte-index l.line) ≡ has_only_plain l.line

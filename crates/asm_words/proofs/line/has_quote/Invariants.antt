@@ -1,6 +1,0 @@
-use Rattle.std.proofs.Common.{◌≡◌, drop}
-use Rattle.asm_words.specs.Words.{has_quote}
-use Rattle.asm_words.proofs.line.has_quote.Given as goal
-
-abbrev pub invariant-loop-byte : goal.invariant-loop-byte
-invariant-loop-byte l = has_quote (drop l.byte-index l.bytes) ≡ has_quote l.bytes

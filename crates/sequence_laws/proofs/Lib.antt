@@ -1,0 +1,12 @@
+pub mod Rows
+pub mod Fillers
+pub mod Between
+pub mod Edges
+pub mod Groups
+pub mod Back
+pub mod Forth
+pub mod Knowing
+pub mod Alike
+pub mod InTheSequence
+pub mod Allocating
+pub mod InTheProgram

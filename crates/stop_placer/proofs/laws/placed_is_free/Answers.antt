@@ -1,5 +1,0 @@
-use Rattle.stop_placer.proofs.PackedTexts.{free_where_placed}
-use Rattle.stop_placer.proofs.laws.placed_is_free.Goals as goal
-
-pub returns : goal.returns
-returns c = free_where_placed c.loose_texts_are_loose.ensures
