@@ -1,6 +1,6 @@
 //! The step from the slot under way to the next one.
 
-ghost use Rattle.std.specs.Prelude.{◌≡◌, ℕ, Bool, true, length};
+ghost use Rattle.std.specs.Prelude.{◌≡◌, ℕ, Bool, length};
 ghost use Rattle.ia_program.specs.declared.place.Place.{Place};
 ghost use Rattle.predicate_rel.specs.declared.edge.Edge.TheVariants.{Falls};
 ghost use Rattle.predicate_rel.specs.Pairs.{pairs_of};
@@ -52,28 +52,61 @@ fn pass_known(known: &mut Facts, slot: &Slot, passed: &mut Passed)
     *known = passed.after;
 }
 
+/// Takes one earlier slot past the one under way, which leaves what is known as it is and may write the predicates of the
+/// mask.
+fn mark(earlier: &mut EarlierSlot, slot: &Slot, mask: u64)
+    requires { (x y : ℕ) → action_rule slot.now.action Falls slot.now.qp x y ≡ one x y }
+    ensures { (g : Graph) (has_stop : Place → Bool) (j : Place) → Describes g has_stop j slot.now → GoesOn g j mask earlier.old earlier.new }
+{
+    earlier.written |= mask;
+}
+
+/// Takes all earlier slots past such a one.
+fn mark_all(window: &mut Vec<EarlierSlot>, slot: &Slot, mask: u64)
+    requires { (x y : ℕ) → action_rule slot.now.action Falls slot.now.qp x y ≡ one x y }
+    ensures { (g : Graph) (has_stop : Place → Bool) (j : Place) → Describes g has_stop j slot.now → HasAdvanced g j mask window.old.items window.new.items (length window.old.items) }
+{
+    for m in 0..window.len() {
+        mark(&mut window[m], slot, mask);
+    }
+}
+
 /// Takes one earlier slot past the one under way, which may write the predicates of the mask.
-fn pass(earlier: &mut EarlierSlot, slot: &Slot, keeps: bool, mask: u64, passed: &mut Passed)
-    requires keeps { keeps ≡ true → (x y : ℕ) → action_rule slot.now.action Falls slot.now.qp x y ≡ one x y }
-    requires passed { IsPassed slot.now passed.old }
+fn pass(earlier: &mut EarlierSlot, slot: &Slot, mask: u64, passed: &mut Passed)
+    requires { IsPassed slot.now passed.old }
     ensures passed { IsPassed slot.now passed.new }
     ensures goes_on { (g : Graph) (has_stop : Place → Bool) (j : Place) → Describes g has_stop j slot.now → GoesOn g j mask earlier.old earlier.new }
 {
     earlier.written |= mask;
-    if keeps {
-        return;
-    }
     pass_known(&mut earlier.known, slot, passed);
 }
 
-/// Takes the earlier slots past the one under way, which may write the predicates of the mask. `passed` is what is known
-/// before and past it on all walks that end there; in most programs nothing else is known on those through an earlier slot.
-pub(crate) fn advance(window: &mut Vec<EarlierSlot>, slot: &Slot, mask: u64, mut passed: Passed)
+/// Takes all earlier slots past the one under way. `passed` is what is known before and past it on all walks that end there;
+/// in most programs nothing else is known on those through an earlier slot.
+fn pass_all(window: &mut Vec<EarlierSlot>, slot: &Slot, mask: u64, mut passed: Passed)
     requires { IsPassed slot.now passed }
     ensures { (g : Graph) (has_stop : Place → Bool) (j : Place) → Describes g has_stop j slot.now → HasAdvanced g j mask window.old.items window.new.items (length window.old.items) }
 {
-    let keeps = keeps_pairs(&slot.action, Edge::Falls);
     for m in 0..window.len() {
-        pass(&mut window[m], slot, keeps, mask, &mut passed);
+        pass(&mut window[m], slot, mask, &mut passed);
     }
+}
+
+/// Takes the earlier slots past the one under way, which may write the predicates of the mask and before which `here` is known
+/// on all walks that end there. Answers what is known past it on these.
+pub(crate) fn advance(window: &mut Vec<EarlierSlot>, slot: &Slot, mask: u64, here: &Facts) -> Facts
+    ensures known { pairs_of result ≡ pairs_by (pairs_of here.now) (action_rule slot.now.action Falls slot.now.qp) }
+    ensures advanced { (g : Graph) (has_stop : Place → Bool) (j : Place) → Describes g has_stop j slot.now → HasAdvanced g j mask window.old.items window.new.items (length window.old.items) }
+{
+    if keeps_pairs(&slot.action, Edge::Falls) {
+        mark_all(window, slot, mask);
+        return *here;
+    }
+    let after = here.after_action(&slot.action, slot.qp, Edge::Falls);
+    let passed = Passed {
+        before: *here,
+        after,
+    };
+    pass_all(window, slot, mask, passed);
+    after
 }

@@ -7,11 +7,11 @@ ghost use Rattle.flow_facts.specs.Graphs.{Graph, next_in};
 ghost use Rattle.group_checker.specs.Firsts.{IsViolatedAt, IsFirstAt};
 ghost use Rattle.group_checker.specs.Windows.{IsWindow, HasWindow, IsKnownAt};
 
-use crate::moves::{Passed, advance, clears, joins};
+use crate::moves::{advance, clears, joins};
 use crate::pairs::{breaks_rule, first_of_pair};
 use crate::violation::Violation;
 use ia_program::Place;
-use predicate_rel::{Edge, Facts};
+use predicate_rel::Facts;
 use resource_sets::Masks;
 use slot_table::Slot;
 use std::alloc::{AllocError, Global};
@@ -62,7 +62,7 @@ impl Window {
         }
     }
 
-    /// Invalidates the slots: none is earlier.
+    /// Leaves out all slots: none is earlier.
     pub fn clear(&mut self)
         ensures { self.new ≡ [] }
     {
@@ -127,12 +127,7 @@ impl Window {
             return Ok(());
         }
         let written = masks.written_predicates();
-        let known = here.after_action(&slot.action, slot.qp, Edge::Falls);
-        let passed = Passed {
-            before: *here,
-            after: known,
-        };
-        advance(&mut self.slots, slot, written, passed);
+        let known = advance(&mut self.slots, slot, written, here);
         self.slots.push(EarlierSlot {
             place,
             clears: clears(&slot.action),

@@ -13,12 +13,12 @@ returns c g has_stop next known u follows =
     let f = pairs_of c.in-Some.here.now in
     let old = c.self.inside.slots.items in
     let was : old ≡ c.args.self.now = c.self.view_is in
-    rw c.in_ok-push.ensures.items (next_window g has_stop j next f c.written_predicates-written.result old c.advance.new.window.items _
+    rw c.in_ok-push.ensures.items (next_window g has_stop j next f c.written_predicates-written.result old c.advance-known.new.window.items _
     (slot_joins g has_stop j s u.slot next (sym c.joins.ensures ∙ c.if-not-joins.false) follows)
     (rw c.in-Some.is at known)
     (subst (λ (es : List EarlierSlot). IsWindow g has_stop es j) (sym was) u.window)
-    (c.advance.ensures g has_stop j u.slot)
-    (record { place = refl; clears = c.clears.ensures ∙ sym (slot_clears g has_stop j s u.slot); accesses = u.accesses; known = c.after_action-known.ensures ∙ slot_past g has_stop j s u.slot f; written = refl })
+    (c.advance-known.ensures.advanced g has_stop j u.slot)
+    (record { place = refl; clears = c.clears.ensures ∙ sym (slot_clears g has_stop j s u.slot); accesses = u.accesses; known = c.advance-known.ensures.known ∙ slot_past g has_stop j s u.slot f; written = refl })
     (subst (IsGuardMask c.written_predicates-written.result) u.accesses (guard_mask c.written_predicates-written.result c.args.masks c.written_predicates-written.ensures)))
 
 pub returns-in_default : goal.returns-in_default

@@ -2,7 +2,7 @@ use Rattle.std.proofs.Common.{Bool}
 use Rattle.ia_program.specs.declared.place.Place.{Place}
 use Rattle.flow_facts.specs.Graphs.{Graph}
 use Rattle.group_checker.specs.Windows.{Describes, HasAdvanced, IsPassed}
-use Rattle.group_checker.proofs.moves.advance.Given as goal
+use Rattle.group_checker.proofs.moves.pass_all.Given as goal
 
 abbrev pub invariant-loop-m : goal.invariant-loop-m
 invariant-loop-m l = record {
