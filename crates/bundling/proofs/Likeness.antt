@@ -17,7 +17,7 @@ use Rattle.predicate_rel.specs.declared.edge.Edge.TheVariants.{Falls, Taken}
 use Rattle.predicate_rel.specs.Pairs.{Pairs, in_range}
 use Rattle.predicate_rel.specs.Rules.{is_met, action_rule, rule_of, pairs_after}
 use Rattle.predicate_rel.specs.Edges.{leaves}
-use Rattle.group_checker.specs.Violations.{clears}
+use Rattle.order_laws.specs.Violations.{clears}
 use Rattle.sequence_laws.specs.Spreads.{DoesLike}
 use Rattle.asm_build.specs.declared.address.Address.{Address}
 use Rattle.asm_build.specs.declared.address.Address.TheVariants.{Bundle, Byte}

@@ -5,7 +5,7 @@ use Rattle.ia_program.specs.Bundles.{Bundle}
 use Rattle.ia_program.specs.Places.{IsPlaceOf, IsBefore, place_number}
 use Rattle.ia_program.specs.Runs.{EndsRun, StandBefore}
 use Rattle.ia_program.proofs.InOrder.{slot_small}
-use Rattle.group_checker.proofs.Falling.{number_rises}
+use Rattle.order_laws.proofs.Falling.{number_rises}
 use Rattle.bundling.proofs.Locating.{in_bundle}
 
 -- of two places one comes before the other, or they are the same

@@ -13,7 +13,7 @@ use Rattle.ia_meaning.specs.Actions.{insn_action, action_of, is_alloc, allocates
 use Rattle.ia_meaning.specs.Sequence.{first_of, next_of, is_stopped}
 use Rattle.ia_meaning.proofs.Sequences.{next_same}
 use Rattle.flow_facts.specs.Graphs.{over_sequence, sequence_insn}
-use Rattle.group_checker.specs.Violations.{clears, clears_in, allocates_at, clears_at}
+use Rattle.order_laws.specs.Violations.{clears, clears_in, allocates_at, clears_at}
 use Rattle.slot_layouts.specs.declared.classes.SlotClass.{SlotClass}
 use Rattle.slot_layouts.specs.declared.classes.SlotClass.TheVariants.{M, B}
 use Rattle.slot_layouts.specs.declared.layout.Wanted.{Wanted}

@@ -12,7 +12,7 @@ use Rattle.ia_program.proofs.InOrder.{is_place, bundle_small}
 use Rattle.ia_meaning.specs.Sequence.{first_of, is_stopped}
 use Rattle.slot_layouts.specs.declared.layout.Wanted.{Wanted}
 use Rattle.slot_layouts.specs.Laws.{HasStopWhere}
-use Rattle.group_checker.proofs.Falling.{none_before_first}
+use Rattle.order_laws.proofs.Falling.{none_before_first}
 use Rattle.sequence_laws.specs.Spreads.{IsBetween, AreStops}
 use Rattle.loose_items.specs.declared.item.Item.{Item}
 use Rattle.loose_text.specs.LooseTexts.{Loose, IsLoose}

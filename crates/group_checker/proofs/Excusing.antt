@@ -10,10 +10,10 @@ use Rattle.predicate_rel.proofs.PairLemmas.{in_range_parts}
 use Rattle.flow_facts.specs.Graphs.{Graph}
 use Rattle.flow_facts.specs.Walks.{Walk, group_since}
 use Rattle.group_checker.specs.declared.window.EarlierSlot.{EarlierSlot}
-use Rattle.group_checker.specs.Excuses.{accesses_at, IsExcused}
+use Rattle.order_laws.specs.Excuses.{accesses_at, IsExcused}
 use Rattle.group_checker.specs.Windows.{IsThrough, IsAt, HasWriter, HasPlace, IsWindow}
 use Rattle.group_checker.specs.Findings.{excused_by}
-use Rattle.group_checker.proofs.Falling.{before_trans, not_before_itself}
+use Rattle.order_laws.proofs.Falling.{before_trans, not_before_itself}
 use Rattle.group_checker.proofs.EarlierSlots.{at_once}
 
 -- A walk through the slot that doesn't excuse the two accesses.

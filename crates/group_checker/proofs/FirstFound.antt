@@ -17,11 +17,11 @@ use Rattle.resource_sets.specs.declared.clashes.Rule.TheVariants.{Raw, Waw, War6
 use Rattle.resource_sets.specs.ResourceSets.{has_resource, resources_in}
 use Rattle.resource_sets.proofs.Members.{not_in_none, cases_in, head_in}
 use Rattle.flow_facts.specs.Graphs.{Graph}
-use Rattle.group_checker.specs.declared.violation.Violation.{Violation}
+use Rattle.order_laws.specs.declared.violation.Violation.{Violation}
 use Rattle.group_checker.specs.declared.window.EarlierSlot.{EarlierSlot}
 use Rattle.group_checker.specs.declared.broken.Broken.{Broken}
 use Rattle.group_checker.specs.Order.{compare, Precedes, Rises, IsListOf}
-use Rattle.group_checker.specs.Violations.{ViolatesIn}
+use Rattle.order_laws.specs.Violations.{ViolatesIn}
 use Rattle.group_checker.specs.Windows.{IsAt, IsWindow}
 use Rattle.group_checker.specs.Findings.{IsNthPair, IsPairViolated, IsFirstOfPair, AreBroken}
 use Rattle.group_checker.specs.Firsts.{IsViolatedAt, IsFirstAt}

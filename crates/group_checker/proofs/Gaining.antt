@@ -19,7 +19,7 @@ use Rattle.resource_sets.specs.Clashes.{clash, clash_of}
 use Rattle.resource_sets.specs.Masks.{may_clash}
 use Rattle.resource_sets.proofs.Members.{any_of}
 use Rattle.slot_table.specs.declared.slot.Slot.{Slot}
-use Rattle.group_checker.specs.declared.violation.Violation.{Violation}
+use Rattle.order_laws.specs.declared.violation.Violation.{Violation}
 use Rattle.group_checker.specs.declared.window.EarlierSlot.{EarlierSlot}
 use Rattle.group_checker.specs.declared.broken.Broken.{Broken}
 use Rattle.group_checker.specs.Broken.{Gains}

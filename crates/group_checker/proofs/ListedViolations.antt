@@ -11,7 +11,7 @@ use Rattle.resource_sets.specs.declared.clashes.Rule.{Rule}
 use Rattle.resource_sets.specs.declared.clashes.Rule.TheVariants.{Raw, Waw, War63, AllocFirst, ClearLast}
 use Rattle.resource_sets.specs.ResourceSets.{has_resource, resources_in}
 use Rattle.resource_sets.proofs.Members.{in_map, from_map}
-use Rattle.group_checker.specs.declared.violation.Violation.{Violation}
+use Rattle.order_laws.specs.declared.violation.Violation.{Violation}
 use Rattle.group_checker.specs.declared.broken.Broken.{Broken}
 use Rattle.group_checker.specs.Order.{rule_cmp, resource_cmp, compare, Precedes, Rises, IsListOf}
 use Rattle.group_checker.specs.Broken.{broken_on, is_broken, violations_by, violations_of}

@@ -10,7 +10,7 @@ use Rattle.predicate_rel.specs.Edges.{pairs_past_insn}
 use Rattle.flow_facts.specs.Graphs.{Graph, insn_in, pairs_past_in}
 use Rattle.flow_facts.specs.Walks.{Walk, EndsIn, facts_in, IsMeetIn}
 use Rattle.group_checker.specs.Windows.{IsMeetOf}
-use Rattle.group_checker.proofs.Falling.{past_is}
+use Rattle.order_laws.proofs.Falling.{past_is}
 
 past_insn_within : (o : Option Insn) (f h : Pairs) → IsWithin f h → IsWithin (pairs_past_insn o Falls f) (pairs_past_insn o Falls h)
 past_insn_within None f h w = w

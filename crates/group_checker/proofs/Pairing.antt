@@ -20,16 +20,16 @@ use Rattle.slot_table.specs.declared.slot.Slot.{Slot}
 use Rattle.flow_facts.specs.Graphs.{Graph, IsEdgeIn}
 use Rattle.flow_facts.specs.Walks.{Walk, end_of, group_since}
 use Rattle.predicate_rel.specs.declared.edge.Edge.TheVariants.{Falls}
-use Rattle.group_checker.specs.declared.violation.Violation.{Violation}
+use Rattle.order_laws.specs.declared.violation.Violation.{Violation}
 use Rattle.group_checker.specs.declared.window.EarlierSlot.{EarlierSlot}
-use Rattle.group_checker.specs.Excuses.{accesses_at, IsExcused, IsLatest}
-use Rattle.group_checker.specs.Violations.{Clashes, Breaks, ViolatesIn, allocates_at}
+use Rattle.order_laws.specs.Excuses.{accesses_at, IsExcused, IsLatest}
+use Rattle.order_laws.specs.Violations.{Clashes, Breaks, ViolatesIn, allocates_at}
 use Rattle.group_checker.specs.declared.broken.Broken.{Broken}
 use Rattle.group_checker.specs.Broken.{is_broken, Gains}
 use Rattle.group_checker.specs.Windows.{IsThrough, IsAt, IsWindow, Describes, HasWindow}
 use Rattle.group_checker.specs.Findings.{may_be_excused, excused_by, FindsIn, AreBroken, IsPair, IsNthPair, IsSlotRule}
 use Rattle.group_checker.proofs.Gaining.{apart_clash}
-use Rattle.group_checker.proofs.Falling.{not_before_itself, one_before, comes_from}
+use Rattle.order_laws.proofs.Falling.{not_before_itself, one_before, comes_from}
 use Rattle.group_checker.proofs.EarlierSlots.{at_once, earlier_at}
 use Rattle.group_checker.proofs.Excusing.{opens, excuses}
 use Rattle.group_checker.proofs.Slots.{slot_allocates}

@@ -20,13 +20,13 @@ use Rattle.resource_sets.specs.declared.clashes.Rule.TheVariants.{Raw, Waw, War6
 use Rattle.resource_sets.specs.ResourceSets.{resources_in}
 use Rattle.resource_sets.proofs.Members.{not_in_none}
 use Rattle.flow_facts.specs.Graphs.{Graph, over_program}
-use Rattle.group_checker.specs.declared.violation.Violation.{Violation}
+use Rattle.order_laws.specs.declared.violation.Violation.{Violation}
 use Rattle.group_checker.specs.declared.window.EarlierSlot.{EarlierSlot}
 use Rattle.group_checker.specs.declared.report.TheConstants.{SHOWN_LIMIT}
 use Rattle.group_checker.specs.declared.report.Verdict.TheVariants.{Accepted, Violations}
 use Rattle.group_checker.specs.Order.{Precedes, IsListOf}
 use Rattle.group_checker.specs.Shown.{Report}
-use Rattle.group_checker.specs.Violations.{ViolatesIn, Violates, HasNoViolation}
+use Rattle.order_laws.specs.Violations.{ViolatesIn, Violates, HasNoViolation}
 use Rattle.group_checker.specs.Reports.{Shows, IsVerdict}
 use Rattle.group_checker.specs.Windows.{IsWindow, IsAt}
 use Rattle.group_checker.specs.Findings.{IsPair, IsNthPair, AreBroken}
@@ -35,7 +35,7 @@ use Rattle.group_checker.specs.Broken.{is_broken, violations_by, violations_of}
 use Rattle.group_checker.specs.Progress.{HasReported, IsEarlier, IsEarlierPair, IsUpTo, pair_bound, place_bound, ReportsAll}
 use Rattle.group_checker.proofs.EarlierSlots.{at_once}
 use Rattle.group_checker.proofs.ListedViolations.{listed}
-use Rattle.group_checker.proofs.Falling.{before_trans, number_rises, place_cases, next_after, comes_from}
+use Rattle.order_laws.proofs.Falling.{before_trans, number_rises, place_cases, next_after, comes_from}
 use Rattle.group_checker.proofs.Rising.{precedes_by_second, precedes_by_first, rises_append, rises_none}
 
 -- what is cut is cut again

@@ -19,8 +19,8 @@ use Rattle.resource_sets.specs.declared.access.Resource.{Resource}
 use Rattle.resource_sets.specs.declared.access.Resource.TheVariants.{Gr, Pr, Br, Unat, Pfs, Lc, Ec, Cfm}
 use Rattle.resource_sets.specs.declared.clashes.Rule.{Rule}
 use Rattle.resource_sets.specs.declared.clashes.Rule.TheVariants.{Raw, Waw, War63, AllocFirst, ClearLast}
-use Rattle.group_checker.specs.declared.violation.Violation.{Violation}
-use Rattle.group_checker.specs.contracts.violation.ViolationOrd.TheImpl.Laws as laws
+use Rattle.order_laws.specs.declared.violation.Violation.{Violation}
+use Rattle.order_laws.specs.contracts.violation.ViolationOrd.TheImpl.Laws as laws
 use Rattle.group_checker.specs.Order.{place_cmp, rule_cmp, resource_cmp, compare, Precedes, Rises}
 use Rattle.group_checker.proofs.SetLists.{sorted_append}
 

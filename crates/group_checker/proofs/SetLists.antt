@@ -17,7 +17,7 @@ use Rattle.resource_sets.specs.declared.sets.ResourceSet.{ResourceSet}
 use Rattle.resource_sets.specs.ResourceSets.{has_resource, numbered, others, resources_in}
 use Rattle.resource_sets.proofs.Members.{not_in_none, cases_in, in_head, in_tail, head_in}
 use Rattle.group_checker.specs.Order.{resource_cmp}
-use Rattle.group_checker.proofs.Untouched.{each_append}
+use Rattle.order_laws.proofs.Untouched.{each_append}
 
 pub each_of : {X : Type 0} (P : X → Type 0) (xs : List X) → ((x : X) → Contains xs x → P x) → Each P xs
 each_of P [] h = tt

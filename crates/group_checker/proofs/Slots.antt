@@ -19,10 +19,10 @@ use Rattle.slot_table.specs.Slots.{slot_at}
 use Rattle.slot_table.proofs.SlotLaws.{slot_is}
 use Rattle.flow_facts.specs.Graphs.{Graph, over_program, next_in, IsPlaceIn, IsEdgeIn, pairs_past_in}
 use Rattle.group_checker.specs.declared.window.EarlierSlot.{EarlierSlot}
-use Rattle.group_checker.specs.Excuses.{accesses_in, accesses_at}
-use Rattle.group_checker.specs.Violations.{clears, clears_in, allocates_at, clears_at}
+use Rattle.order_laws.specs.Excuses.{accesses_in, accesses_at}
+use Rattle.order_laws.specs.Violations.{clears, clears_in, allocates_at, clears_at}
 use Rattle.group_checker.specs.Windows.{IsWindow, Describes, HasWindow, joins}
-use Rattle.group_checker.proofs.Falling.{past_is, fall_is, fall_edge}
+use Rattle.order_laws.proofs.Falling.{past_is, fall_is, fall_edge}
 use Rattle.group_checker.proofs.Windowing.{Joins}
 
 module _ (g : Graph) (has_stop : Place → Bool) (j : Place) (s : Slot) (d : Describes g has_stop j s) where

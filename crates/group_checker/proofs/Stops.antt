@@ -10,11 +10,11 @@ use Rattle.predicate_rel.specs.declared.edge.Edge.TheVariants.{Falls, Taken}
 use Rattle.flow_facts.specs.Graphs.{Graph}
 use Rattle.flow_facts.specs.Walks.{Walk, begins, goes_on, EndsIn, end_of, group_since}
 use Rattle.group_checker.specs.declared.window.EarlierSlot.{EarlierSlot}
-use Rattle.group_checker.specs.Excuses.{IsExcused, IsLatest}
-use Rattle.group_checker.specs.Violations.{ClashesUnexcused, Breaks}
+use Rattle.order_laws.specs.Excuses.{IsExcused, IsLatest}
+use Rattle.order_laws.specs.Violations.{ClashesUnexcused, Breaks}
 use Rattle.group_checker.specs.Windows.{IsThrough, IsCarried}
 use Rattle.group_checker.specs.WindowLaws.{AgreeBefore, GroupsAgree, ViolationsAgree, WindowsAgree}
-use Rattle.group_checker.proofs.Falling.{before_trans, falls_up}
+use Rattle.order_laws.proofs.Falling.{before_trans, falls_up}
 
 -- a group looks only at the stops before the walk's end
 pub groups_agree : GroupsAgree

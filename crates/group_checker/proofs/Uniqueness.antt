@@ -2,12 +2,12 @@
 use Rattle.std.proofs.Common.{◌≡◌, ◌≤◌, List, [], ◌∷◌, length, take, refl, sym, ap, ◌∙◌, arith}
 use Rattle.ia_program.specs.Programs.{Program}
 use Rattle.resource_sets.proofs.Members.{in_head}
-use Rattle.group_checker.specs.declared.violation.Violation.{Violation}
+use Rattle.order_laws.specs.declared.violation.Violation.{Violation}
 use Rattle.group_checker.specs.declared.report.TheConstants.{SHOWN_LIMIT}
 use Rattle.group_checker.specs.declared.report.Verdict.TheVariants.{Accepted, Violations}
 use Rattle.group_checker.specs.Order.{IsListOf}
 use Rattle.group_checker.specs.Shown.{Report}
-use Rattle.group_checker.specs.Violations.{Violates}
+use Rattle.order_laws.specs.Violations.{Violates}
 use Rattle.group_checker.specs.Reports.{IsReport, OneVerdict}
 use Rattle.group_checker.proofs.Rising.{one_rising_list}
 

@@ -15,10 +15,10 @@ use Rattle.predicate_rel.proofs.BitLemmas.{has_bit_or}
 use Rattle.flow_facts.specs.Graphs.{Graph, next_in, IsPlaceIn, IsEdgeIn, pairs_past_in}
 use Rattle.flow_facts.specs.Walks.{Walk, goes_on, EndsIn, end_of, facts_in, group_since, IsMeetIn, NoWalkIn}
 use Rattle.group_checker.specs.declared.window.EarlierSlot.{EarlierSlot}
-use Rattle.group_checker.specs.Excuses.{accesses_at}
-use Rattle.group_checker.specs.Violations.{clears_at}
+use Rattle.order_laws.specs.Excuses.{accesses_at}
+use Rattle.order_laws.specs.Violations.{clears_at}
 use Rattle.group_checker.specs.Windows.{IsThrough, IsMeetOf, IsAt, IsCarried, HasWriter, IsWritten, HasPlace, IsWindow, IsGuardMask, GoesOn, HasAdvanced}
-use Rattle.group_checker.proofs.Falling.{before_trans, not_before_itself, number_rises, edge_inside, slot_below, falls_next, same_before, falls_up, comes_from, falls_group, none_before_first}
+use Rattle.order_laws.proofs.Falling.{before_trans, not_before_itself, number_rises, edge_inside, slot_below, falls_next, same_before, falls_up, comes_from, falls_group, none_before_first}
 use Rattle.group_checker.proofs.Meets.{GoOn, meet_past, meet_at}
 use Rattle.group_checker.proofs.EarlierSlots.{at_once, earlier_at, at_push, pushed_left, pushed_last}
 

@@ -5,7 +5,7 @@ use Rattle.resource_sets.specs.declared.sets.ResourceSet.{ResourceSet}
 use Rattle.resource_sets.specs.declared.clashes.Rule.{Rule}
 use Rattle.resource_sets.specs.declared.clashes.Rule.TheVariants.{Raw, Waw, War63, AllocFirst, ClearLast}
 use Rattle.resource_sets.specs.ResourceSets.{has_resource, resources_in}
-use Rattle.group_checker.specs.declared.violation.Violation.{Violation}
+use Rattle.order_laws.specs.declared.violation.Violation.{Violation}
 use Rattle.group_checker.specs.declared.broken.Broken.{Broken}
 
 -- the resources on which a rule is broken

@@ -10,11 +10,11 @@ use Rattle.resource_sets.specs.Clashes.{clash_of}
 use Rattle.resource_sets.specs.ResourceSets.{has_resource}
 use Rattle.predicate_rel.specs.Pairs.{has_bit, pairs_of}
 use Rattle.slot_table.specs.declared.slot.Slot.{Slot}
-use Rattle.group_checker.specs.declared.violation.Violation.{Violation}
+use Rattle.order_laws.specs.declared.violation.Violation.{Violation}
 use Rattle.group_checker.specs.declared.window.EarlierSlot.{EarlierSlot}
 use Rattle.group_checker.specs.declared.broken.Broken.{Broken}
 use Rattle.flow_facts.specs.Graphs.{Graph}
-use Rattle.group_checker.specs.Violations.{ViolatesIn}
+use Rattle.order_laws.specs.Violations.{ViolatesIn}
 use Rattle.group_checker.specs.Broken.{is_broken}
 use Rattle.group_checker.specs.Order.{Precedes}
 use Rattle.group_checker.specs.Windows.{IsAt}

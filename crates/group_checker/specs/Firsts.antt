@@ -2,8 +2,8 @@
 use Rattle.std.specs.Prelude.{◌≡◌, ◌⊎◌, Bool}
 use Rattle.ia_program.specs.declared.place.Place.{Place}
 use Rattle.flow_facts.specs.Graphs.{Graph}
-use Rattle.group_checker.specs.declared.violation.Violation.{Violation}
-use Rattle.group_checker.specs.Violations.{ViolatesIn}
+use Rattle.order_laws.specs.declared.violation.Violation.{Violation}
+use Rattle.order_laws.specs.Violations.{ViolatesIn}
 use Rattle.group_checker.specs.Order.{Precedes}
 
 -- A slot that is earlier in its group and the slot at the place break a rule on some walk.

@@ -1,5 +1,3 @@
-pub mod Excuses
-pub mod Violations
 pub mod Order
 pub mod Shown
 pub mod Reports
@@ -7,12 +5,5 @@ pub mod Windows
 pub mod Broken
 pub mod Findings
 pub mod Progress
-pub mod Traces
-pub mod Agreement
-pub mod OrderLaws
-pub mod GroupSlots
-pub mod Targets
-pub mod OrderExamples
-pub mod FetchAdds
 pub mod Firsts
 pub mod WindowLaws

@@ -12,7 +12,7 @@ use Rattle.resource_sets.specs.contracts.access.ResourceOrd.TheImpl as resources
 use Rattle.resource_sets.specs.declared.clashes.Rule.{Rule}
 use Rattle.resource_sets.specs.declared.clashes.Rule.TheVariants.{Raw, Waw, War63, AllocFirst, ClearLast}
 use Rattle.resource_sets.specs.contracts.clashes.RuleOrd.TheImpl as rules
-use Rattle.group_checker.specs.declared.violation.Violation.{Violation}
+use Rattle.order_laws.specs.declared.violation.Violation.{Violation}
 
 -- The orders that places, rules and resources derive, which are these: places are in order of the bundle, then of the slot,
 abbrev pub place_cmp : Place → Place → Ordering

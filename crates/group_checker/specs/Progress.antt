@@ -5,9 +5,9 @@ use Rattle.ia_program.specs.declared.place.Place.{Place}
 use Rattle.ia_program.specs.Places.{IsBefore}
 use Rattle.ia_program.specs.Programs.{Program}
 use Rattle.resource_sets.specs.declared.sets.TheConstants.{RESOURCE_COUNT}
-use Rattle.group_checker.specs.declared.violation.Violation.{Violation}
+use Rattle.order_laws.specs.declared.violation.Violation.{Violation}
 use Rattle.group_checker.specs.declared.window.EarlierSlot.{EarlierSlot}
-use Rattle.group_checker.specs.Violations.{Violates}
+use Rattle.order_laws.specs.Violations.{Violates}
 use Rattle.group_checker.specs.Order.{IsListOf}
 use Rattle.group_checker.specs.Reports.{Shows}
 use Rattle.group_checker.specs.Shown.{Report}

@@ -1,12 +1,12 @@
 -- Verdicts and what they report.
 use Rattle.std.specs.Prelude.{◌≡◌, ◌≤◌, List, length, take}
 use Rattle.ia_program.specs.Programs.{Program}
-use Rattle.group_checker.specs.declared.violation.Violation.{Violation}
+use Rattle.order_laws.specs.declared.violation.Violation.{Violation}
 use Rattle.group_checker.specs.declared.report.TheConstants.{SHOWN_LIMIT}
 use Rattle.group_checker.specs.declared.report.Verdict.{Verdict}
 use Rattle.group_checker.specs.declared.report.Verdict.TheVariants.{Accepted, Violations}
 use Rattle.group_checker.specs.Order.{IsListOf}
-use Rattle.group_checker.specs.Violations.{Violates, HasNoViolation}
+use Rattle.order_laws.specs.Violations.{Violates, HasNoViolation}
 use Rattle.group_checker.specs.Shown.{Report}
 
 -- The report counts the whole list and shows the first violations, as many as the limit lets.

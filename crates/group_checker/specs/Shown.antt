@@ -1,6 +1,6 @@
 -- What contracts see of a report.
 use Rattle.std.specs.Prelude.{ℕ, List}
-use Rattle.group_checker.specs.declared.violation.Violation.{Violation}
+use Rattle.order_laws.specs.declared.violation.Violation.{Violation}
 
 -- how many violations there are, and those that are shown
 pub record Report : Type 0 where

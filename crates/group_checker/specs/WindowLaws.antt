@@ -10,9 +10,9 @@ use Rattle.slot_table.specs.declared.slot.Slot.{Slot}
 use Rattle.slot_table.specs.Slots.{slot_at}
 use Rattle.flow_facts.specs.Graphs.{Graph, over_program, next_in, IsPlaceIn, IsEdgeIn}
 use Rattle.flow_facts.specs.Walks.{Walk, IsWalkIn, end_of, group_since}
-use Rattle.group_checker.specs.declared.violation.Violation.{Violation}
+use Rattle.order_laws.specs.declared.violation.Violation.{Violation}
 use Rattle.group_checker.specs.declared.window.EarlierSlot.{EarlierSlot}
-use Rattle.group_checker.specs.Violations.{ViolatesIn}
+use Rattle.order_laws.specs.Violations.{ViolatesIn}
 use Rattle.group_checker.specs.Windows.{IsWindow, Describes}
 
 -- At the first place of a program or a row no slot is earlier in the group.

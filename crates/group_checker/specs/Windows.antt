@@ -15,8 +15,8 @@ use Rattle.flow_facts.specs.Graphs.{Graph, insn_in, IsEdgeIn, pairs_past_in}
 use Rattle.flow_facts.specs.Walks.{Walk, EndsIn, NoWalkIn, IsMeetIn, Known, facts_in, group_since}
 use Rattle.group_checker.specs.declared.window.EarlierSlot.{EarlierSlot}
 use Rattle.group_checker.specs.declared.moves.Passed.{Passed}
-use Rattle.group_checker.specs.Excuses.{accesses_at}
-use Rattle.group_checker.specs.Violations.{clears_at}
+use Rattle.order_laws.specs.Excuses.{accesses_at}
+use Rattle.order_laws.specs.Violations.{clears_at}
 
 -- a walk to j with i earlier in its group
 pub record IsThrough (g : Graph) (has_stop : Place → Bool) (i j : Place) (w : Walk) : Type 0 where

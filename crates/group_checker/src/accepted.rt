@@ -3,7 +3,7 @@
 ghost use Rattle.std.specs.Prelude.{◌≡◌};
 ghost use Rattle.ia_program.specs.Programs.{IsProgram};
 ghost use Rattle.ia_meaning.specs.OrderIndependence.{IsRobust};
-ghost use Rattle.group_checker.specs.Violations.{HasNoViolation};
+ghost use Rattle.order_laws.specs.Violations.{HasNoViolation};
 
 use slot_table::SlotTable;
 use std::marker::Model;
@@ -17,7 +17,7 @@ pub struct Accepted<'p> {
 
 impl<'p> Model for Accepted<'p> {
     ghost use Rattle.ia_program.specs.Programs.{Program};
-    ghost use Rattle.group_checker.specs.Violations.{HasNoViolation};
+    ghost use Rattle.order_laws.specs.Violations.{HasNoViolation};
 
     ghost Value = { Program };
 

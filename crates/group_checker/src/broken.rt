@@ -4,11 +4,11 @@ ghost use Rattle.std.specs.Prelude.{◌≡◌, true, false, slice_get};
 ghost use Rattle.std.specs.Bool.{OnTrue, OnFalse};
 ghost use Rattle.resource_sets.specs.declared.access.Resource.TheVariants as resource;
 ghost use Rattle.resource_sets.specs.ResourceSets.{has_resource};
-ghost use Rattle.group_checker.specs.declared.violation.Violation.{Violation};
+ghost use Rattle.order_laws.specs.declared.violation.Violation.{Violation};
 ghost use Rattle.group_checker.specs.Broken.{is_broken, violations_by, violations_of, Gains};
 
-use crate::violation::Violation;
 use ia_program::Place;
+use order_laws::Violation;
 use resource_sets::{Resource, ResourceSet, Rule};
 
 /// Of each rule the resources on which two slots break it.

@@ -21,15 +21,11 @@ mod laws;
 mod moves;
 mod pairs;
 mod report;
-mod violation;
 mod window;
 
 pub use accepted::Accepted;
 pub use checker::{check, one_verdict};
-pub use laws::{
-    law_fetch_adds, law_orders, law_targets, law_two_orders, law_view, law_walk, law_windows,
-    violations_in_order,
-};
+pub use laws::{law_windows, violations_in_order};
+pub use order_laws::Violation;
 pub use report::{Report, SHOWN_LIMIT, Verdict};
-pub use violation::Violation;
 pub use window::Window;

@@ -6,7 +6,7 @@ ghost use Rattle.predicate_rel.specs.declared.edge.Edge.TheVariants.{Falls};
 ghost use Rattle.predicate_rel.specs.Pairs.{pairs_of};
 ghost use Rattle.predicate_rel.specs.Rules.{one, action_rule, pairs_by};
 ghost use Rattle.flow_facts.specs.Graphs.{Graph};
-ghost use Rattle.group_checker.specs.Violations.{clears};
+ghost use Rattle.order_laws.specs.Violations.{clears};
 ghost use Rattle.group_checker.specs.Windows.{Describes, GoesOn, HasAdvanced, IsPassed, joins};
 
 use crate::window::EarlierSlot;

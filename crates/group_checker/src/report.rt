@@ -2,14 +2,14 @@
 
 ghost use Rattle.std.specs.Prelude.{◌≡◌, ◌≤◌, ◌+◌, ◌<◌, ◌^◌, ◌++◌, ◌∷◌, [], length, take, map, OnOk, if◌then◌else◌, ◌==◌};
 ghost use Rattle.group_checker.specs.Broken.{violations_by, violations_of};
-ghost use Rattle.group_checker.specs.Violations.{HasNoViolation};
+ghost use Rattle.order_laws.specs.Violations.{HasNoViolation};
 ghost use Rattle.group_checker.specs.Progress.{pair_bound};
 
 use crate::accepted::Accepted;
 use crate::broken::Broken;
-use crate::violation::Violation;
 use flow_facts::Analysis;
 use ia_program::Place;
+use order_laws::Violation;
 use resource_sets::{RESOURCE_COUNT, Resource, ResourceSet, Rule};
 use std::alloc::{AllocError, Global};
 use std::marker::Model;

@@ -9,8 +9,8 @@ ghost use Rattle.group_checker.specs.Windows.{IsWindow, HasWindow, IsKnownAt};
 
 use crate::moves::{advance, clears, joins};
 use crate::pairs::{breaks_rule, first_of_pair};
-use crate::violation::Violation;
 use ia_program::Place;
+use order_laws::Violation;
 use predicate_rel::Facts;
 use resource_sets::Masks;
 use slot_table::Slot;

@@ -19,7 +19,7 @@ use Rattle.watch_seam.specs.Watching.{staying}
 use Rattle.ia_program.specs.Programs.{Program}
 use Rattle.image_form.specs.Images.{Spells, BeginsAsImage}
 use Rattle.image_form.specs.Laws.{ImageSize}
-use Rattle.group_checker.specs.Violations.{HasNoViolation}
+use Rattle.order_laws.specs.Violations.{HasNoViolation}
 use Rattle.ia64_top.specs.Runs.{Printing, run_of, end_status, watch_text}
 use Rattle.ia64_top.specs.Readings.{as_either}
 use Rattle.ia64_top.specs.Output.{is_too_long, IsSilent, IsRunAs, IsCommandOutput, IsOutput, GivesOutput, GivesPart}

@@ -2,10 +2,10 @@
 use Rattle.std.proofs.Common.{◌≡◌, ℕ, ◌≤◌, inl, inr, List, [], ◌∷◌, length, refl, sym, subst, arith}
 use Rattle.std.specs.Prelude.{◌↔◌, Contains}
 use Rattle.ia_program.specs.Programs.{Program, IsProgram}
-use Rattle.group_checker.specs.declared.violation.Violation.{Violation}
+use Rattle.order_laws.specs.declared.violation.Violation.{Violation}
 use Rattle.group_checker.specs.declared.report.Verdict.{Verdict}
 use Rattle.group_checker.specs.declared.report.Verdict.TheVariants.{Accepted, Violations}
-use Rattle.group_checker.specs.Violations.{HasNoViolation}
+use Rattle.order_laws.specs.Violations.{HasNoViolation}
 use Rattle.group_checker.specs.Reports.{IsReport, IsVerdict}
 use Rattle.group_checker.specs.Shown.{Report}
 use Rattle.ia64_top.specs.declared.status.Status.{Status}

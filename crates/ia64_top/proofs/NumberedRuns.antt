@@ -11,8 +11,8 @@ use Rattle.ia_meaning.specs.StateText.{state_text}
 use Rattle.ia_meaning.specs.Runs.{run_text}
 use Rattle.ia_meaning.specs.NumberedRuns.{numbered_run, numbered_codes, NumberedRunIsParallel}
 use Rattle.image_form.specs.Laws.{ImageSize}
-use Rattle.group_checker.specs.Violations.{HasNoViolation}
-use Rattle.group_checker.specs.OrderLaws.{FreeIsRobust}
+use Rattle.order_laws.specs.Violations.{HasNoViolation}
+use Rattle.order_laws.specs.OrderLaws.{FreeIsRobust}
 use Rattle.group_engine.specs.Engine.{Engine, begun, after_run}
 use Rattle.watch_seam.specs.Watchers.{WatchState}
 use Rattle.ia64_top.specs.declared.limits.TheConstants.{INPUT_LIMIT, GROUP_LIMIT}

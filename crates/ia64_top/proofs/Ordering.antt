@@ -6,8 +6,8 @@ use Rattle.ia_program.specs.Programs.{Program, IsProgram}
 use Rattle.ia_meaning.specs.State.{zero_state, ZeroIsStart}
 use Rattle.ia_meaning.specs.Steps.{Run as WholeRun}
 use Rattle.ia_meaning.specs.OrderIndependence.{IsRobust}
-use Rattle.group_checker.specs.Violations.{HasNoViolation}
-use Rattle.group_checker.specs.OrderLaws.{FreeIsRobust}
+use Rattle.order_laws.specs.Violations.{HasNoViolation}
+use Rattle.order_laws.specs.OrderLaws.{FreeIsRobust}
 use Rattle.stop_placer.specs.Laws.{OnePlaced}
 use Rattle.ia64_top.specs.declared.words.Command.{Command}
 use Rattle.ia64_top.specs.declared.words.Command.TheVariants.{Stops, Check, Run, Watch, Trace, Trial}

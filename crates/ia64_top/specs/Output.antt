@@ -17,7 +17,7 @@ use Rattle.trial_maker.specs.Trials.{trial_program}
 use Rattle.watch_seam.specs.Watchers.{WatchState}
 use Rattle.ia64_top.specs.Runs.{Printing, state_after, watch_text, trace_text, IsRunOf, IsNumberedRunOf, IsRunOfEveryOrder}
 use Rattle.ia64_top.specs.Trials.{IsTrialOutput}
-use Rattle.group_checker.specs.Violations.{HasNoViolation}
+use Rattle.order_laws.specs.Violations.{HasNoViolation}
 use Rattle.stop_placer.specs.Packed.{Packed}
 use Rattle.stop_placer.specs.Laws.{KeepsText}
 use Rattle.stop_placer.specs.Placing.{IsPlaced}

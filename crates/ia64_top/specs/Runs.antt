@@ -10,7 +10,7 @@ use Rattle.ia_meaning.specs.ParallelGroups.{par_run}
 use Rattle.ia_meaning.specs.NumberedRuns.{numbered_run}
 use Rattle.ia_meaning.specs.OrderIndependence.{IsRobust}
 use Rattle.ia_meaning.specs.Runs.{run_text}
-use Rattle.group_checker.specs.Violations.{HasNoViolation}
+use Rattle.order_laws.specs.Violations.{HasNoViolation}
 use Rattle.watch_seam.specs.Watchers.{WatchState, line, event_text}
 use Rattle.watch_seam.specs.Watching.{numbered, reports}
 use Rattle.ia64_top.specs.declared.status.Status.{Status}

@@ -8,7 +8,7 @@ use Rattle.resource_sets.specs.declared.access.Resource.{Resource}
 use Rattle.resource_sets.specs.declared.access.Resource.TheVariants.{Gr, Pr, Br, Unat, Pfs, Lc, Ec, Cfm}
 use Rattle.resource_sets.specs.declared.clashes.Rule.{Rule}
 use Rattle.resource_sets.specs.declared.clashes.Rule.TheVariants.{Raw, Waw, War63, AllocFirst, ClearLast}
-use Rattle.group_checker.specs.declared.violation.Violation.{Violation}
+use Rattle.order_laws.specs.declared.violation.Violation.{Violation}
 use Rattle.group_checker.specs.declared.report.Verdict.{Verdict}
 use Rattle.group_checker.specs.declared.report.Verdict.TheVariants.{Accepted, Violations}
 use Rattle.insn_codec.specs.declared.bundle.SlotFault.TheVariants.{ReservedTemplate, Unlisted}

@@ -8,7 +8,7 @@ use Rattle.ia_meaning.specs.State.{Registers}
 use Rattle.ia_meaning.specs.Names.{look}
 use Rattle.ia_meaning.specs.StateText.{line, end_text, word_text}
 use Rattle.ia_meaning.specs.OrderIndependence.{IsRobust}
-use Rattle.group_checker.specs.Violations.{HasNoViolation}
+use Rattle.order_laws.specs.Violations.{HasNoViolation}
 use Rattle.trial_maker.specs.Trials.{trial_program}
 use Rattle.ia64_top.specs.declared.status.Status.{Status}
 use Rattle.ia64_top.specs.declared.status.Status.TheVariants.{Done, Violated}

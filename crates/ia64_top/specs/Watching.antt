@@ -1,7 +1,7 @@
 -- Which watchers stay after a call with `watch`, and what they have seen.
 use Rattle.std.specs.Prelude.{◌≡◌, ◌⊎◌, ℕ, List}
 use Rattle.ia_program.specs.Programs.{Program}
-use Rattle.group_checker.specs.Violations.{HasNoViolation}
+use Rattle.order_laws.specs.Violations.{HasNoViolation}
 use Rattle.watch_seam.specs.Watchers.{WatchState}
 use Rattle.watch_seam.specs.Watching.{staying, IsCutShort}
 use Rattle.ia64_top.specs.declared.status.Status.{Status}

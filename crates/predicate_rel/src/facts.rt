@@ -118,15 +118,6 @@ impl Facts {
         Facts { rows }
     }
 
-    /// Takes what is known before an instruction of this action under this qualifying predicate past it.
-    pub fn go_past(&mut self, action: &Action, qp: Pr, edge: Edge)
-        ensures { pairs_of self.new ≡ pairs_by (pairs_of self.old) (action_rule action.now edge qp) }
-    {
-        if !keeps_pairs(action, edge) {
-            *self = self.after_action(action, qp, edge);
-        }
-    }
-
     /// Whether both are seen to be one set.
     pub fn is_same(&self, other: &Facts) -> bool
         ensures { result ≡ true → pairs_of self.now ≡ pairs_of other.now }

@@ -13,8 +13,8 @@ use Rattle.resource_sets.specs.declared.clashes.Rule.{Rule}
 use Rattle.resource_sets.proofs.Members.{not_in_none}
 use Rattle.flow_facts.specs.Graphs.{Graph, InsnSequence, over_program, over_sequence, sequence_insn}
 use Rattle.flow_facts.specs.Walks.{Walk, end_of}
-use Rattle.group_checker.specs.Excuses.{accesses_in, accesses_at, IsExcused}
-use Rattle.group_checker.specs.Violations.{Clashes, ClashesUnexcused, clears_in, allocates_at, clears_at}
+use Rattle.order_laws.specs.Excuses.{accesses_in, accesses_at, IsExcused}
+use Rattle.order_laws.specs.Violations.{Clashes, ClashesUnexcused, clears_in, allocates_at, clears_at}
 use Rattle.sequence_laws.specs.Spreads.{IsSpread}
 use Rattle.sequence_laws.proofs.Rows.{IsNumbered, sequence_numbered}
 use Rattle.sequence_laws.proofs.Fillers.{filler_accesses, filler_no_alloc, filler_no_clear}

@@ -12,8 +12,8 @@ use Rattle.predicate_rel.specs.Edges.{HasEdge}
 use Rattle.predicate_rel.proofs.EdgeEnds.{falls_next}
 use Rattle.flow_facts.specs.Graphs.{InsnSequence, over_program, over_sequence}
 use Rattle.flow_facts.specs.Walks.{Walk, begins, goes_on, end_of, IsWalkIn, group_since}
-use Rattle.group_checker.specs.Violations.{allocates_at}
-use Rattle.group_checker.proofs.Falling.{before_trans, not_before_itself, place_cases}
+use Rattle.order_laws.specs.Violations.{allocates_at}
+use Rattle.order_laws.proofs.Falling.{before_trans, not_before_itself, place_cases}
 use Rattle.sequence_laws.specs.Spreads.{IsSpread, KeepsSlotRules, IsHead}
 use Rattle.sequence_laws.proofs.Rows.{sequence_inside}
 use Rattle.sequence_laws.proofs.Between.{IsFirstFrom, Stands, own, filler, at_place, stands, first_once, first_landing}

@@ -13,7 +13,7 @@ use Rattle.predicate_rel.specs.Edges.{HasEdge, may_fall}
 use Rattle.predicate_rel.proofs.EdgeEnds.{falls_next}
 use Rattle.flow_facts.specs.Graphs.{InsnSequence, over_program, over_sequence, known_at_entry, HasSequenceEdge}
 use Rattle.flow_facts.specs.Walks.{Walk, begins, goes_on, end_of, IsWalkIn, EndsIn, facts_in, group_since}
-use Rattle.group_checker.proofs.Falling.{fall_edge, fall_is, place_cases}
+use Rattle.order_laws.proofs.Falling.{fall_edge, fall_is, place_cases}
 use Rattle.sequence_laws.specs.Spreads.{IsSpread, AreStops}
 use Rattle.sequence_laws.proofs.Rows.{sequence_inside, sequence_next_is}
 use Rattle.sequence_laws.proofs.Fillers.{walk_bounded, filler_past}

@@ -9,7 +9,7 @@ use Rattle.ia_program.specs.Places.{insn_at, IsBefore, IsNext, IsPlaceOf}
 use Rattle.ia_program.specs.Programs.{Program}
 use Rattle.ia_meaning.specs.Sequence.{first_of}
 use Rattle.flow_facts.specs.Graphs.{InsnSequence, sequence_insn}
-use Rattle.group_checker.proofs.Falling.{before_trans, not_before_itself, place_cases}
+use Rattle.order_laws.proofs.Falling.{before_trans, not_before_itself, place_cases}
 use Rattle.flow_facts.proofs.Numbering.{cases_place}
 use Rattle.sequence_laws.specs.Spreads.{IsSpread, DoesLike, IsFiller, IsHead}
 use Rattle.sequence_laws.proofs.Rows.{sequence_insn_is}

@@ -19,7 +19,7 @@ use Rattle.predicate_rel.specs.Rules.{is_met, rule_of, pairs_after}
 use Rattle.predicate_rel.specs.Edges.{may_fall, displacement_of, pairs_past, pairs_past_insn}
 use Rattle.flow_facts.specs.Graphs.{over_program, with_relations, known_at_entry}
 use Rattle.flow_facts.specs.Walks.{Walk, begins, goes_on, end_of, IsWalkIn, facts_in}
-use Rattle.group_checker.specs.Violations.{clears}
+use Rattle.order_laws.specs.Violations.{clears}
 use Rattle.sequence_laws.specs.Spreads.{IsFiller}
 
 -- It accesses nothing.

@@ -13,7 +13,7 @@ use Rattle.predicate_rel.specs.declared.edge.Edge.TheVariants.{Falls, Taken}
 use Rattle.predicate_rel.specs.Edges.{HasEdge, may_fall}
 use Rattle.flow_facts.specs.Graphs.{InsnSequence, over_program, over_sequence, HasSequenceEdge, IsSequenceEntry}
 use Rattle.flow_facts.specs.Walks.{Walk, begins, goes_on, end_of, IsWalkIn, EndsIn, facts_in, group_since}
-use Rattle.group_checker.proofs.Falling.{before_trans, fall_edge, fall_is, place_cases, number_rises, not_before_itself}
+use Rattle.order_laws.proofs.Falling.{before_trans, fall_edge, fall_is, place_cases, number_rises, not_before_itself}
 use Rattle.sequence_laws.specs.Spreads.{IsSpread, AreStops}
 use Rattle.sequence_laws.proofs.Rows.{IsNumbered, sequence_inside, sequence_walk_place, sequence_fall_is}
 use Rattle.sequence_laws.proofs.Fillers.{walk_bounded, filler_past, filler_falls}

@@ -5,8 +5,8 @@ use Rattle.ia_program.specs.declared.place.Place.{Place}
 use Rattle.resource_sets.proofs.Members.{not_in_none, cases_in, in_head, in_tail, head_in}
 use Rattle.predicate_rel.specs.declared.edge.Edge.TheVariants.{Falls}
 use Rattle.flow_facts.specs.Walks.{Walk, goes_on, end_of, group_since}
-use Rattle.group_checker.specs.Excuses.{IsLatest}
-use Rattle.group_checker.proofs.Falling.{falls_group}
+use Rattle.order_laws.specs.Excuses.{IsLatest}
+use Rattle.order_laws.proofs.Falling.{falls_group}
 
 -- The place is that of the walk's end or in its group, and no stop follows the end.
 pub record IsJoined (has_stop : Place → Bool) (w : Walk) (i : Place) : Type 0 where

@@ -16,10 +16,10 @@ use Rattle.predicate_rel.specs.declared.edge.Edge.TheVariants.{Falls}
 use Rattle.predicate_rel.specs.Pairs.{Pairs}
 use Rattle.flow_facts.specs.Graphs.{InsnSequence, over_program, over_sequence, HasSequenceEdge}
 use Rattle.flow_facts.specs.Walks.{Walk, goes_on, end_of, IsWalkIn, group_since}
-use Rattle.group_checker.specs.declared.violation.Violation.{Violation}
-use Rattle.group_checker.specs.Excuses.{accesses_at, IsExcused, IsLatest}
-use Rattle.group_checker.specs.Violations.{ClashesUnexcused, Breaks, ViolatesIn, allocates_at, clears_at}
-use Rattle.group_checker.proofs.Falling.{ComesFrom, comes_from, falls_group}
+use Rattle.order_laws.specs.declared.violation.Violation.{Violation}
+use Rattle.order_laws.specs.Excuses.{accesses_at, IsExcused, IsLatest}
+use Rattle.order_laws.specs.Violations.{ClashesUnexcused, Breaks, ViolatesIn, allocates_at, clears_at}
+use Rattle.order_laws.proofs.Falling.{ComesFrom, comes_from, falls_group}
 use Rattle.sequence_laws.specs.Spreads.{IsSpread, AreStops}
 use Rattle.sequence_laws.specs.Laws.{ViolatedInTheProgram}
 use Rattle.sequence_laws.proofs.Rows.{IsNumbered, IsSequenceFall, sequence_walk_place, sequence_fall_is}

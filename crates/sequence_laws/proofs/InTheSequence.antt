@@ -19,10 +19,10 @@ use Rattle.predicate_rel.specs.declared.edge.Edge.TheVariants.{Falls}
 use Rattle.predicate_rel.specs.Pairs.{Pairs}
 use Rattle.flow_facts.specs.Graphs.{InsnSequence, over_program, over_sequence, IsEdgeIn}
 use Rattle.flow_facts.specs.Walks.{Walk, end_of, IsWalkIn, group_since}
-use Rattle.group_checker.specs.declared.violation.Violation.{Violation}
-use Rattle.group_checker.specs.Excuses.{accesses_at, IsExcused, IsLatest}
-use Rattle.group_checker.specs.Violations.{Clashes, ClashesUnexcused, Breaks, ViolatesIn, allocates_at, clears_at}
-use Rattle.group_checker.proofs.Falling.{ComesFrom, before_trans, comes_from, edge_inside, falls_next, place_cases, same_before}
+use Rattle.order_laws.specs.declared.violation.Violation.{Violation}
+use Rattle.order_laws.specs.Excuses.{accesses_at, IsExcused, IsLatest}
+use Rattle.order_laws.specs.Violations.{Clashes, ClashesUnexcused, Breaks, ViolatesIn, allocates_at, clears_at}
+use Rattle.order_laws.proofs.Falling.{ComesFrom, before_trans, comes_from, edge_inside, falls_next, place_cases, same_before}
 use Rattle.sequence_laws.specs.Laws.{ViolatedInTheSequence}
 use Rattle.sequence_laws.specs.Spreads.{IsSpread, IsBetween, AreStops, KeepsSlotRules}
 use Rattle.sequence_laws.proofs.Rows.{sequence_next_is}

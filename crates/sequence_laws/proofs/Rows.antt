@@ -11,7 +11,7 @@ use Rattle.ia_meaning.specs.Sequence.{first_of}
 use Rattle.predicate_rel.specs.declared.edge.Edge.TheVariants.{Falls}
 use Rattle.flow_facts.specs.Graphs.{InsnSequence, over_sequence, sequence_insn, sequence_next, HasSequenceEdge}
 use Rattle.flow_facts.specs.Walks.{Walk, begins, goes_on, end_of, IsWalkIn}
-use Rattle.group_checker.proofs.Falling.{falls_next}
+use Rattle.order_laws.proofs.Falling.{falls_next}
 
 -- the number of the instruction at a place of the sequence
 pub record IsNumbered (insns : List Insn) (place : Place) : Type 0 where

@@ -5,8 +5,8 @@ use Rattle.ia_program.specs.Programs.{Program, IsProgram}
 use Rattle.ia_meaning.specs.Sequence.{first_of}
 use Rattle.flow_facts.specs.Graphs.{InsnSequence, over_program, over_sequence}
 use Rattle.flow_facts.specs.Walks.{Known}
-use Rattle.group_checker.specs.declared.violation.Violation.{Violation}
-use Rattle.group_checker.specs.Violations.{ViolatesIn}
+use Rattle.order_laws.specs.declared.violation.Violation.{Violation}
+use Rattle.order_laws.specs.Violations.{ViolatesIn}
 use Rattle.group_checker.specs.Windows.{IsKnownAt}
 use Rattle.sequence_laws.specs.Spreads.{IsSpread, AreStops, KeepsSlotRules}
 

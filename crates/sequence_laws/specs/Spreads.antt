@@ -16,7 +16,7 @@ use Rattle.predicate_rel.specs.Pairs.{Pairs}
 use Rattle.predicate_rel.specs.Rules.{pairs_after}
 use Rattle.predicate_rel.specs.Edges.{HasEdge, may_fall}
 use Rattle.flow_facts.specs.Graphs.{InsnSequence, over_sequence, IsSequenceEntry, HasSequenceEdge, known_at_entry}
-use Rattle.group_checker.specs.Violations.{allocates_at, clears_at, clears}
+use Rattle.order_laws.specs.Violations.{allocates_at, clears_at, clears}
 
 -- Two instructions do the same within a group: they may differ in where they lead.
 pub record DoesLike (i j : Insn) : Type 0 where

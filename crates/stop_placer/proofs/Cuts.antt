@@ -9,12 +9,12 @@ use Rattle.ia_meaning.proofs.Sequences.{next_fits}
 use Rattle.slot_table.specs.declared.slot.Slot.{Slot}
 use Rattle.slot_table.specs.Slots.{slot_at}
 use Rattle.flow_facts.specs.Graphs.{Graph, over_program}
-use Rattle.group_checker.specs.declared.violation.Violation.{Violation}
-use Rattle.group_checker.specs.Violations.{ViolatesIn}
+use Rattle.order_laws.specs.declared.violation.Violation.{Violation}
+use Rattle.order_laws.specs.Violations.{ViolatesIn}
 use Rattle.group_checker.specs.Firsts.{IsViolatedAt, IsFirstAt, IsFirst}
 use Rattle.group_checker.specs.Order.{Precedes}
 use Rattle.group_checker.specs.Windows.{IsWindow, Describes}
-use Rattle.group_checker.proofs.Falling.{before_trans, place_cases, comes_from}
+use Rattle.order_laws.proofs.Falling.{before_trans, place_cases, comes_from}
 use Rattle.group_checker.proofs.Rising.{precedes_by_second}
 use Rattle.group_checker.proofs.Slots.{slot_describes}
 use Rattle.group_checker.proofs.Windowing.{first_window, parted_window}

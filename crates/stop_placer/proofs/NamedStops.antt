@@ -9,11 +9,11 @@ use Rattle.ia_program.specs.Places.{IsBefore}
 use Rattle.ia_program.specs.Programs.{Program}
 use Rattle.resource_sets.proofs.Members.{not_in_none, cases_in, in_tail, head_in, from_map}
 use Rattle.flow_facts.specs.Graphs.{Graph, over_program}
-use Rattle.group_checker.specs.contracts.violation.ViolationOrd.TheImpl.Laws as laws
-use Rattle.group_checker.specs.declared.violation.Violation.{Violation}
+use Rattle.order_laws.specs.contracts.violation.ViolationOrd.TheImpl.Laws as laws
+use Rattle.order_laws.specs.declared.violation.Violation.{Violation}
 use Rattle.group_checker.specs.Firsts.{IsFirst}
 use Rattle.group_checker.specs.Order.{compare, Precedes}
-use Rattle.group_checker.proofs.Falling.{before_trans, not_before_itself}
+use Rattle.order_laws.proofs.Falling.{before_trans, not_before_itself}
 use Rattle.group_checker.proofs.Rising.{not_before_itself as not_preceding_itself}
 use Rattle.stop_placer.specs.declared.packing.Cause.{Cause}
 use Rattle.stop_placer.specs.declared.packing.Cause.TheVariants as cause

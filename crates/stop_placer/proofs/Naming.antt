@@ -12,7 +12,7 @@ use Rattle.ia_meaning.specs.Sequence.{first_of, next_of, is_stopped}
 use Rattle.ia_meaning.proofs.Follows.{next_is}
 use Rattle.ia_meaning.proofs.Sequences.{next_fits}
 use Rattle.resource_sets.proofs.Members.{not_in_none, cases_in, in_head}
-use Rattle.group_checker.proofs.Falling.{before_trans, not_before_itself, place_cases, none_before_first}
+use Rattle.order_laws.proofs.Falling.{before_trans, not_before_itself, place_cases, none_before_first}
 use Rattle.stop_placer.specs.declared.packing.Cause.{Cause}
 use Rattle.stop_placer.specs.declared.packed.StopWhy.{StopWhy}
 use Rattle.stop_placer.specs.Placing.{IsReason, IsExplained, NamesStops}

@@ -9,8 +9,8 @@ use Rattle.ia_program.specs.Places.{IsPlaceOf}
 use Rattle.ia_program.specs.Programs.{Program}
 use Rattle.ia_meaning.specs.Sequence.{is_stopped}
 use Rattle.flow_facts.specs.Graphs.{over_program}
-use Rattle.group_checker.specs.declared.violation.Violation.{Violation}
-use Rattle.group_checker.specs.Violations.{ViolatesIn}
+use Rattle.order_laws.specs.declared.violation.Violation.{Violation}
+use Rattle.order_laws.specs.Violations.{ViolatesIn}
 use Rattle.sequence_laws.specs.Spreads.{IsSpread}
 use Rattle.loose_text.specs.LooseTexts.{Loose, IsLoose}
 use Rattle.bundling.specs.Bundled.{sequence_of, program_of, places_of, place_of}

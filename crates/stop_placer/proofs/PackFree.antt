@@ -14,11 +14,11 @@ use Rattle.ia_meaning.specs.Sequence.{first_of, is_stopped}
 use Rattle.predicate_rel.specs.declared.edge.Edge.TheVariants.{Falls}
 use Rattle.flow_facts.specs.Graphs.{InsnSequence, over_program, over_sequence, IsEdgeIn}
 use Rattle.flow_facts.specs.Walks.{end_of}
-use Rattle.group_checker.specs.declared.violation.Violation.{Violation}
-use Rattle.group_checker.specs.Violations.{ViolatesIn}
-use Rattle.group_checker.specs.Violations.{HasNoViolation}
+use Rattle.order_laws.specs.declared.violation.Violation.{Violation}
+use Rattle.order_laws.specs.Violations.{ViolatesIn}
+use Rattle.order_laws.specs.Violations.{HasNoViolation}
 use Rattle.group_checker.specs.WindowLaws.{AgreeBefore}
-use Rattle.group_checker.proofs.Falling.{before_trans, not_before_itself, place_cases, comes_from}
+use Rattle.order_laws.proofs.Falling.{before_trans, not_before_itself, place_cases, comes_from}
 use Rattle.group_checker.proofs.Stops.{violations_agree}
 use Rattle.sequence_laws.specs.Spreads.{IsSpread, IsBetween, AreStops}
 use Rattle.sequence_laws.proofs.Rows.{sequence_fall_is, sequence_walk_place}

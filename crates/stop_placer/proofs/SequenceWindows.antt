@@ -14,7 +14,7 @@ use Rattle.group_checker.specs.declared.window.EarlierSlot.{EarlierSlot}
 use Rattle.group_checker.specs.Windows.{IsWindow, Describes, HasWindow}
 use Rattle.group_checker.proofs.Slots.{slot_accesses}
 use Rattle.group_checker.proofs.Windowing.{parted_window}
-use Rattle.group_checker.proofs.Falling.{sequence_place}
+use Rattle.order_laws.proofs.Falling.{sequence_place}
 use Rattle.sequence_laws.proofs.Rows.{sequence_next_is}
 use Rattle.stop_placer.specs.declared.packing.Cause.{Cause}
 use Rattle.stop_placer.specs.Packs.{stopped_by}

@@ -5,7 +5,7 @@ use Rattle.ia_program.specs.declared.place.Place.{Place}
 use Rattle.ia_program.specs.Places.{insn_at, IsBefore}
 use Rattle.ia_program.specs.Programs.{IsProgram}
 use Rattle.ia_meaning.specs.Sequence.{first_of}
-use Rattle.group_checker.specs.Violations.{HasNoViolation}
+use Rattle.order_laws.specs.Violations.{HasNoViolation}
 use Rattle.asm_build.specs.declared.reason.TextError.{TextError}
 use Rattle.sequence_laws.specs.Spreads.{IsFiller}
 use Rattle.loose_text.specs.LooseTexts.{Loose}

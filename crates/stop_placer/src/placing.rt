@@ -1,7 +1,7 @@
 //! Packing a loose text.
 
 ghost use Rattle.std.specs.Prelude.{◌≡◌, ◌≢◌, ◌⊎◌, ◌+◌, ◌^◌, ◌<◌, Ok, Err, IfOk, IfErr, length};
-ghost use Rattle.group_checker.specs.Violations.{HasNoViolation};
+ghost use Rattle.order_laws.specs.Violations.{HasNoViolation};
 ghost use Rattle.asm_build.specs.declared.reason.TextError.{TextError as ErrorOf};
 ghost use Rattle.asm_build.specs.declared.reason.TextError.TheVariants as error;
 ghost use Rattle.stop_placer.specs.Packed.{Packed as PackedOf};

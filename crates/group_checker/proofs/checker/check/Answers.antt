@@ -1,7 +1,7 @@
 use Rattle.std.proofs.Common.{◌∙◌, subst}
 use Rattle.group_checker.specs.Progress.{ReportsAll}
 use Rattle.group_checker.proofs.Reporting.{free_of_none, verdict_of}
-use Rattle.group_checker.proofs.RunOrders.{accepted_robust}
+use Rattle.group_checker.proofs.Robust.{accepted_robust}
 use Rattle.group_checker.proofs.checker.check.Goals as goal
 
 pub verdict-requires : goal.verdict-requires

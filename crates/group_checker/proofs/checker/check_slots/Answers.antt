@@ -8,7 +8,7 @@ use Rattle.group_checker.specs.declared.report.TheConstants.{SHOWN_LIMIT}
 use Rattle.group_checker.specs.declared.window.EarlierSlot.{EarlierSlot}
 use Rattle.group_checker.specs.Shown.{Report}
 use Rattle.group_checker.specs.Progress.{IsEarlier, place_bound, second_bound}
-use Rattle.group_checker.proofs.Falling.{next_place}
+use Rattle.order_laws.proofs.Falling.{next_place}
 use Rattle.group_checker.proofs.Slots.{slot_next, under_way}
 use Rattle.group_checker.proofs.Windowing.{first_window}
 use Rattle.group_checker.proofs.Reporting.{none_reported, bounded, next_reported, all_reported, number_small, number_next, shown_short}

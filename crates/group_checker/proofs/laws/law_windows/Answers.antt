@@ -1,4 +1,4 @@
-use Rattle.group_checker.proofs.Falling.{falls_up, group_before}
+use Rattle.order_laws.proofs.Falling.{falls_up, group_before}
 use Rattle.group_checker.proofs.Slots.{slot_describes}
 use Rattle.group_checker.proofs.Stops.{groups_agree, violations_agree, windows_agree}
 use Rattle.group_checker.proofs.Windowing.{first_window, parted_window}

@@ -2,7 +2,7 @@ use Rattle.std.proofs.Common.{◌≡◌, take, arith, subst, List}
 use Rattle.std.proofs.lemmas.List.{take_all}
 use Rattle.resource_sets.specs.declared.access_sets.AccessSet.{AccessSet}
 use Rattle.resource_sets.proofs.Members.{not_in_none}
-use Rattle.group_checker.specs.declared.violation.Violation.{Violation}
+use Rattle.order_laws.specs.declared.violation.Violation.{Violation}
 use Rattle.group_checker.specs.Broken.{Gains}
 use Rattle.group_checker.specs.Findings.{FindsIn, FindsWith}
 use Rattle.group_checker.proofs.Gaining.{gains_nothing, gains_more}

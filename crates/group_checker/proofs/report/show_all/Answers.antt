@@ -1,7 +1,7 @@
 use Rattle.std.proofs.Common.{◌∙◌, ◌++◌, List, take, ap, sym}
 use Rattle.std.specs.Prelude.{map}
 use Rattle.resource_sets.specs.declared.access.Resource.{Resource}
-use Rattle.group_checker.specs.declared.violation.Violation.{Violation}
+use Rattle.order_laws.specs.declared.violation.Violation.{Violation}
 use Rattle.group_checker.specs.declared.report.TheConstants.{SHOWN_LIMIT}
 use Rattle.group_checker.proofs.Reporting.{none_more, shown_again, map_more, shown_short}
 use Rattle.group_checker.proofs.report.show_all.Goals as goal

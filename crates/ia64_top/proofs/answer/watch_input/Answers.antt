@@ -1,6 +1,6 @@
 use Rattle.std.proofs.Common.{◌≡◌, inr, sym, subst}
 use Rattle.std.proofs.lemmas.Result.{on_ok_weaker, on_err_weaker}
-use Rattle.group_checker.specs.Violations.{HasNoViolation}
+use Rattle.order_laws.specs.Violations.{HasNoViolation}
 use Rattle.ia64_top.specs.Judgements.{IsJudgedViolated}
 use Rattle.ia64_top.specs.Readings.{IsRefusal, as_either}
 use Rattle.ia64_top.specs.Runs.{watch_text}

@@ -4,7 +4,7 @@ use Rattle.ia_meaning.specs.Sequence.{next_of}
 use Rattle.slot_table.proofs.SlotLaws.{not_place}
 use Rattle.flow_facts.specs.Graphs.{over_program}
 use Rattle.group_checker.specs.Progress.{place_bound}
-use Rattle.group_checker.proofs.Falling.{next_place}
+use Rattle.order_laws.proofs.Falling.{next_place}
 use Rattle.group_checker.proofs.Reporting.{number_small, number_next}
 use Rattle.group_checker.proofs.Slots.{slot_next}
 use Rattle.stop_placer.specs.Placing.{without_stop}

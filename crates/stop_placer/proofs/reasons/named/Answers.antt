@@ -8,7 +8,7 @@ use Rattle.slot_table.specs.Slots.{slot_at}
 use Rattle.slot_table.proofs.SlotLaws.{not_place}
 use Rattle.flow_facts.specs.Graphs.{over_program}
 use Rattle.group_checker.specs.Progress.{place_bound}
-use Rattle.group_checker.proofs.Falling.{next_place}
+use Rattle.order_laws.proofs.Falling.{next_place}
 use Rattle.group_checker.proofs.Reporting.{number_small, number_next}
 use Rattle.group_checker.proofs.Slots.{slot_describes, slot_next}
 use Rattle.stop_placer.specs.declared.packed.StopWhy.{StopWhy}

@@ -1,6 +1,6 @@
 use Rattle.std.proofs.Common.{sym}
 use Rattle.ia_program.specs.Programs.{IsProgram}
-use Rattle.group_checker.proofs.RunOrders.{free_robust}
+use Rattle.order_laws.proofs.RunOrders.{free_robust}
 use Rattle.group_checker.proofs.accepted.Accepted.is_robust.Goals as goal
 
 pub returns-clause-free : goal.returns-clause-free

@@ -1,0 +1,9 @@
+pub mod Excuses
+pub mod Violations
+pub mod Traces
+pub mod Agreement
+pub mod OrderLaws
+pub mod GroupSlots
+pub mod Targets
+pub mod OrderExamples
+pub mod FetchAdds
