@@ -163,7 +163,7 @@ nop_inside : (count own : ℕ) (u : ExecutionUnit) → IfSome (displacement (nop
 nop_inside count own units.L = tt
 nop_inside count own u = tt
 
--- the target of each instruction of a bundle is one of so many
+-- the target of each instruction of a bundle is below a count
 part_inside : (s : Loose) (cs : List Chunk) (k j : ℕ) (c : Chunk) (i : Insn) → IsBundling s cs → slice_get cs k ≡ Some c
     → slice_get (part_of cs k c (targeted (bundle_of cs) s)) j ≡ Some i → IfSome (displacement i.op) (IsBundleAt (length cs) k)
 part_inside s cs k j c i h there at =

@@ -12,7 +12,7 @@ slice_get-drop zero xs j = ap (slice_get xs) (omega arith)
 slice_get-drop (suc h) [] j = refl
 slice_get-drop (suc h) (x ∷ xs) j = rw suc-add (slice_get-drop h xs j)
 
--- of so many from one on
+-- of n from one on
 pub slice_get-part : {X : Type 0} (m h : ℕ) (xs : List X) (j : ℕ) → j < m → slice_get (take m (drop h xs)) j ≡ slice_get xs (h + j)
 slice_get-part m h xs j less = slice_get-take m (drop h xs) j less ∙ slice_get-drop h xs j
 

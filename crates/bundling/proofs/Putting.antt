@@ -85,13 +85,13 @@ chosen : (P : Op → Type 0) (o : Option Op) (x : Op) → IsSome o → IfSome o 
 chosen P None x some p = absurd (cc)
 chosen P (Some y) x some p = p
 
--- An instruction in the own-th of so many bundles that has its target put in.
+-- An instruction in the own-th of n bundles, with its target put in.
 pub record IsPutIn (count own : ℕ) (x : Op) (i : Insn) : Type 0 where
   pub listed : IsListed i
   pub class : class_of i.op ≡ class_of x
   pub target : IfSome (displacement i.op) (IsBundleAt count own)
 
--- each instruction below a count is in one of so many bundles
+-- each instruction below a count is in one of n bundles
 abbrev pub IsInto : (ℕ → ℕ) → ℕ → ℕ → Type 0
 IsInto f items count = (n : ℕ) → n < items → f n < count
 

@@ -60,7 +60,7 @@ has_no_gap (w ∷ x ∷ ws) = not x.gap && has_no_gap (x ∷ ws)
 abbrev pub is_quiet : Chunk → Bool
 is_quiet c = not c.end && has_no_gap c.wanted
 
--- Of so many bundles that follow one another with one more behind them, some wants a stop.
+-- Of n bundles that follow one another with one more behind them, some wants a stop.
 abbrev pub HasNoLongQuiet : List Chunk → Type 0
 HasNoLongQuiet cs =
     (i : ℕ) → i + QUIET_LIMIT < length cs → (k : ℕ) × (i ≤ k) × (k < i + QUIET_LIMIT) × IsSomeAnd (slice_get cs k) (λ c. is_quiet c ≡ false)

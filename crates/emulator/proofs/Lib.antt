@@ -1,4 +1,4 @@
-pub mod Decoding
+pub mod CodeSlots
 pub mod SlotSteps
 pub mod Advancing
 pub mod Groups

@@ -23,15 +23,15 @@ use Rattle.machine_state.specs.Changes.{outcome_with}
 use Rattle.slot_table.specs.declared.slot.Slot.{Slot}
 use Rattle.slot_table.specs.Slots.{slot_of, slot_at}
 use Rattle.slot_table.proofs.SlotLaws.{in_range}
-use Rattle.emulator.specs.declared.code.Decoded.{Decoded}
+use Rattle.emulator.specs.declared.code.CodeSlot.{CodeSlot}
 use Rattle.emulator.specs.declared.run.Run.{Run}
 use Rattle.emulator.specs.Works.{action_of}
 use Rattle.emulator.specs.declared.code.TheConstants.{NO_PLACE}
-use Rattle.emulator.specs.Codes.{numbered, IsDecodedOf, IsDecoded}
+use Rattle.emulator.specs.Codes.{numbered, IsCodeSlotOf, IsCodeSlot}
 use Rattle.emulator.specs.Outcomes.{outcome_of}
 use Rattle.emulator.specs.Progress.{state_at, state_of, progress_of, settled_step, arrived, IsHere}
 
-here_of : (p : Program) (s : State) (insn : Insn) (slot : Slot) (d : Decoded) → IsProgram p → insn_at p.bundles s.place ≡ Some insn → slot_of p.bundles s.place insn ≡ slot → IsDecodedOf s.place.bundle slot d → IsHere p s d
+here_of : (p : Program) (s : State) (insn : Insn) (slot : Slot) (d : CodeSlot) → IsProgram p → insn_at p.bundles s.place ≡ Some insn → slot_of p.bundles s.place insn ≡ slot → IsCodeSlotOf s.place.bundle slot d → IsHere p s d
 here_of p s insn slot d program at e is =
     let i = in_range p s.place insn program at in
     let few = bundle_small p.bundles s.place (subst IsSome (sym at) refl) in
@@ -47,7 +47,7 @@ here_of p s insn slot d program at e is =
     }
 
 -- At a place of the program stands what its number gives.
-pub slot_here : (p : Program) (c : Contents) (n : ℕ) (d : Decoded) → IsProgram p → IsPlaceOf p.bundles (place_at n) → IsDecoded p.bundles n d → IsHere p (state_at c (place_at n)) d
+pub slot_here : (p : Program) (c : Contents) (n : ℕ) (d : CodeSlot) → IsProgram p → IsPlaceOf p.bundles (place_at n) → IsCodeSlot p.bundles n d → IsHere p (state_at c (place_at n)) d
 unfolding slot_at
 slot_here p c n d program is each =
     let i = insn_here p (state_at c (place_at n)) is in

@@ -13,7 +13,7 @@ use Rattle.ia_meaning.specs.Steps.{Step, settled, step_by, registers_after, seq_
 use Rattle.ia_meaning.specs.ResidentRange.{range_of}
 use Rattle.ia_meaning.specs.Progress.{Progress}
 use Rattle.machine_state.specs.Contents.{Contents}
-use Rattle.emulator.specs.declared.code.Decoded.{Decoded}
+use Rattle.emulator.specs.declared.code.CodeSlot.{CodeSlot}
 use Rattle.emulator.specs.declared.run.Run.{Run}
 use Rattle.emulator.specs.Works.{action_of, HasTarget}
 use Rattle.emulator.specs.Codes.{numbered}
@@ -41,7 +41,7 @@ arrived m o place slots = record m {
 }
 
 -- At the place of a state stands the slot of an instruction of the program.
-pub record IsHere (p : Program) (s : State) (slot : Decoded) : Type 0 where
+pub record IsHere (p : Program) (s : State) (slot : CodeSlot) : Type 0 where
   pub bundle : s.place.bundle < 2 ^ 30
   pub ranges : HasActionRanges (action_of slot.work)
   pub target : HasTarget s.place.bundle slot.work

@@ -5,7 +5,7 @@ ghost use Rattle.ia_program.specs.Places.{place_number, place_at, IsPlaceOf};
 ghost use Rattle.ia_program.specs.Programs.{IsProgram};
 ghost use Rattle.slot_table.specs.Slots.{slot_at};
 ghost use Rattle.emulator.specs.declared.code.TheConstants.{NO_PLACE};
-ghost use Rattle.emulator.specs.Codes.{number_of, no_slot, IsDecoded};
+ghost use Rattle.emulator.specs.Codes.{number_of, no_slot, IsCodeSlot};
 
 use crate::work::Work;
 use ia_insn::{Pr, Unit};
@@ -20,7 +20,7 @@ pub(crate) const NO_PLACE: u32 = u32::MAX;
 
 /// A slot as a run looks at it.
 #[derive(Clone, Copy)]
-pub(crate) struct Decoded {
+pub(crate) struct CodeSlot {
     /// What it does.
     pub work: Work,
     /// The number of the next place, or [`NO_PLACE`].
@@ -32,10 +32,10 @@ pub(crate) struct Decoded {
 }
 
 /// What stands for a place that there isn't.
-fn no_slot() -> Decoded
+fn no_slot() -> CodeSlot
     ensures { result ≡ no_slot }
 {
-    Decoded {
+    CodeSlot {
         work: Work::Act(Action::Idle { unit: Unit::M }),
         next: NO_PLACE,
         qp: Pr::of_field(0),
@@ -47,7 +47,7 @@ fn no_slot() -> Decoded
 #[derive(Drop)]
 pub(crate) struct Code<'a> {
     slots: &'a SlotTable<'a>,
-    decoded: Vec<Decoded>,
+    list: Vec<CodeSlot>,
 }
 
 impl<'a> Model for Code<'a> {
@@ -62,16 +62,6 @@ impl<'a> Model for Code<'a> {
     ghost invariant = { IsCode };
 }
 
-/// The place with this number.
-pub(crate) fn place_at(number: u32) -> Place
-    ensures { result ≡ place_at number }
-{
-    Place {
-        bundle: number / 3,
-        slot: (number % 3) as u8,
-    }
-}
-
 /// The number of a place, where there is one.
 fn number_of(place: Option<Place>) -> u32
     requires { IfSome place (λ place. place_number place < NO_PLACE) }
@@ -84,14 +74,14 @@ fn number_of(place: Option<Place>) -> u32
 }
 
 /// The slot at the place with this number.
-fn decode(slots: &SlotTable, number: u32) -> Decoded
-    ensures { IsDecoded slots.now.bundles number result }
+fn code_slot(slots: &SlotTable, number: u32) -> CodeSlot
+    ensures { IsCodeSlot slots.now.bundles number result }
 {
     slots.is_program();
     let Some(slot) = slots.at_number(number as usize) else {
         return no_slot();
     };
-    Decoded {
+    CodeSlot {
         work: Work::of(number / 3, &slot.action),
         next: number_of(slot.next),
         qp: slot.qp,
@@ -104,12 +94,12 @@ fn decode(slots: &SlotTable, number: u32) -> Decoded
 /// # Errors
 ///
 /// Want of memory.
-fn decoded_slots(alloc: Global, slots: &SlotTable) -> Result<Vec<Decoded>, AllocError>
+fn code_slots(alloc: Global, slots: &SlotTable) -> Result<Vec<CodeSlot>, AllocError>
     ensures count { IfOk result (λ list. length list.items ≡ 3 * length slots.now.bundles) }
-    ensures each { IfOk result (λ list. (n : ℕ) → n < length list.items → IsDecoded slots.now.bundles n (slice_index_or list.items n no_slot)) }
+    ensures each { IfOk result (λ list. (n : ℕ) → n < length list.items → IsCodeSlot slots.now.bundles n (slice_index_or list.items n no_slot)) }
 {
     let count = 3 * slots.program().bundle_count();
-    (0..count).map(|n| decode(slots, n)).collect(alloc)
+    (0..count).map(|n| code_slot(slots, n)).collect(alloc)
 }
 
 impl<'a> Code<'a> {
@@ -122,8 +112,8 @@ impl<'a> Code<'a> {
         ensures { IfOk result (λ code. code ≡ slots.now) }
     {
         slots.is_program();
-        let decoded = decoded_slots(alloc, slots)?;
-        Ok(Code { slots, decoded })
+        let list = code_slots(alloc, slots)?;
+        Ok(Code { slots, list })
     }
 
     /// The program.
@@ -135,10 +125,10 @@ impl<'a> Code<'a> {
 
     /// The slot at the place with this number.
     #[inline(always)]
-    pub fn at(&self, number: usize) -> &Decoded
+    pub fn at(&self, number: usize) -> &CodeSlot
         requires { IsPlaceOf self.now.bundles (place_at number) }
-        ensures { IsDecoded self.now.bundles number result.now }
+        ensures { IsCodeSlot self.now.bundles number result.now }
     {
-        &self.decoded[number]
+        &self.list[number]
     }
 }

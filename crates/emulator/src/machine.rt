@@ -160,14 +160,14 @@ impl<'a> Machine<'a> {
         self.run.run_group(&self.code)
     }
 
-    /// How a run that stands so ends.
-    fn ending(&self) -> End
+    /// How the run ended; `Limit` where it may go on.
+    pub fn ending(&self) -> End
         ensures { result ≡ end_of self.now.progress }
     {
         end_or(self.end(), self.place())
     }
 
-    /// Runs so many groups more, at least one, or up to an end. A group that is under way is the first
+    /// Runs at most this number of groups more, at least one. A group that is under way is the first
     /// of them. The end is `Limit` exactly where all ran without one; a later call goes on there. After
     /// another end nothing changes any more, and it is answered again.
     ///

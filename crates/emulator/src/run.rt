@@ -19,13 +19,14 @@ ghost use Rattle.emulator.specs.declared.work.Work.TheVariants.{Act};
 ghost use Rattle.emulator.specs.Progress.{state_of, progress_of, settled_step, arrived, IsHere};
 ghost use Rattle.emulator.specs.Codes.{numbered};
 
-use crate::code::{Code, Decoded, NO_PLACE, place_at};
+use crate::code::{Code, CodeSlot, NO_PLACE};
 use crate::work::Work;
 use ia_insn::{AluFn, Gr, LoadKind, StoreKind};
 use ia_meaning::{Action, Function, Next};
 use ia_program::{End, FaultKind, GroupEvent, How, Place};
 use machine_state::MachineState;
 use slot_effects::{Change, SlotEffect, compute, effect, load, store, test, turn};
+use slot_table::place_at;
 use std::alloc::{AllocError, Global};
 
 /// The state of a run, the number of the next place, the end, the groups begun, the number of the first place of the group
@@ -119,7 +120,7 @@ impl Run {
         self.finish(End::Fault { kind, place })
     }
 
-    /// Goes to the place with a number, with a change, and so many slots of its group before it.
+    /// Goes to the place with a number, with a change. `slots` slots of its group come before it.
     #[inline(always)]
     fn arrive(&mut self, change: &Change, number: usize, slots: u32)
         requires { MayChange self.old.state change.now }
@@ -133,7 +134,7 @@ impl Run {
     /// Goes on as the effect of a slot says. To fall through where there is no next place is a fault.
     #[inline(always)]
     #[tactic(auto, using(crate::proofs::SlotSteps::falls_off, crate::proofs::SlotSteps::falls_on, crate::proofs::SlotSteps::goes_on))]
-    fn go_on(&mut self, code: &Code, slot: &Decoded, effect: &SlotEffect) -> Option<How>
+    fn go_on(&mut self, code: &Code, slot: &CodeSlot, effect: &SlotEffect) -> Option<How>
         requires may { MayChange self.old.state effect.now.change }
         requires running { self.old.end ≡ None }
         requires few { self.old.slots < RUN_LIMIT }
@@ -168,7 +169,7 @@ impl Run {
 
     /// The slot at the place of a run.
     #[inline(always)]
-    fn slot<'c>(&self, code: &'c Code) -> &'c Decoded
+    fn slot<'c>(&self, code: &'c Code) -> &'c CodeSlot
         requires program { IsProgram code.now }
         requires place { IsPlaceOf code.now.bundles (place_at self.now.number) }
         ensures { IsHere code.now (state_of self.now) result.now }
@@ -178,7 +179,7 @@ impl Run {
 
     /// Does what the slot at the place of the run does, and tells how its group ends, where it does.
     #[inline(never)]
-    fn run_any(&mut self, code: &Code, slot: &Decoded) -> Option<How>
+    fn run_any(&mut self, code: &Code, slot: &CodeSlot) -> Option<How>
         requires here { IsHere code.now (state_of self.old) slot.now }
         requires running { self.old.end ≡ None }
         requires few { self.old.slots < RUN_LIMIT }
@@ -198,7 +199,7 @@ impl Run {
 
     /// Goes past the slot at the place of the run, whose qualifying predicate is 0, by its action: a test may do something.
     #[inline(always)]
-    fn skip_act(&mut self, code: &Code, slot: &Decoded, action: &Action) -> Option<How>
+    fn skip_act(&mut self, code: &Code, slot: &CodeSlot, action: &Action) -> Option<How>
         requires action { slot.now.work ≡ Act action.now }
         requires here { IsHere code.now (state_of self.old) slot.now }
         requires skipped { holds self.old.state.registers slot.now.qp ≡ false }
@@ -220,7 +221,7 @@ impl Run {
     /// Goes past the slot at the place of the run, whose qualifying predicate is 0, and tells how its group ends, where it
     /// does: tests and loop branches alone may do something.
     #[inline(always)]
-    fn skip(&mut self, code: &Code, slot: &Decoded) -> Option<How>
+    fn skip(&mut self, code: &Code, slot: &CodeSlot) -> Option<How>
         requires here { IsHere code.now (state_of self.old) slot.now }
         requires skipped { holds self.old.state.registers slot.now.qp ≡ false }
         requires running { self.old.end ≡ None }
@@ -241,7 +242,7 @@ impl Run {
 
     /// Does what the slot at the place of the run does, whose qualifying predicate is 1, by its action.
     #[inline(always)]
-    fn run_act(&mut self, code: &Code, slot: &Decoded, action: &Action) -> Option<How>
+    fn run_act(&mut self, code: &Code, slot: &CodeSlot, action: &Action) -> Option<How>
         requires here { IsHere code.now (state_of self.old) slot.now }
         requires holds { holds self.old.state.registers slot.now.qp ≡ true }
         requires action { slot.now.work ≡ Act action.now }
@@ -367,7 +368,7 @@ impl Run {
         }
     }
 
-    /// Runs so many groups, at least one, or up to an end. A group that is under way is the first of them. Each has at
+    /// Runs at most this number of groups, at least one. A group that is under way is the first of them. Each has at
     /// most [`RUN_LIMIT`](ia_program::limits::RUN_LIMIT) slots.
     pub fn run_groups(&mut self, code: &Code, groups: u64)
         requires program { IsProgram code.now }

@@ -110,7 +110,7 @@ added_after old mid new xs ys bound a b = record {
   shown = shown_again SHOWN_LIMIT old.shown xs ys mid.shown new.shown a.shown b.shown;
 }
 
--- at most so many are shown
+-- no more are shown than the limit
 pub shown_short : (n : ℕ) (r : List Violation) (all : List Violation) → r ≡ take n all → length r ≤ n
 shown_short n r all e = rw e (simp length-take (omega arith))
 

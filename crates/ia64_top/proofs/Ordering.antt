@@ -98,7 +98,7 @@ each_order law zero one text groups input bytes status ran o p g =
     subst (λ q. IsRunOfEveryOrder text q groups bytes status) (one input a.0 p at.gives g)
     (λ codes. same_run text groups a.0 codes (λ n. law a.0 at.program at.free n codes (zero_state a.0) (zero a.0 at.program)) bytes status k.runs)
 
--- The command runs so many groups of what it reads.
+-- The command runs this number of groups of what it reads.
 each_order_of : FreeIsRobust → ZeroIsStart → GivesOne as_either → (c : Command) (groups : ℕ) (ws : List WatchState) (input bytes : List ℕ) (status : Status) → groups_of c ≡ Some groups → TellsAccepted status c → IsCommandOutput c ws input bytes status
     → (p : Program) → as_either.Gives input p → IsRunOfEveryOrder (printing_of c ws) p groups bytes status
 each_order_of law zero one (Run n) groups ws input bytes status is t o p g =

@@ -18,12 +18,12 @@ use Rattle.ia64_top.specs.Runs.{run_of, further_events, traced_groups, trace_tex
 use Rattle.ia64_top.proofs.Running.{text_of_progress}
 use Rattle.ia64_top.proofs.WatchedRuns.{one_group}
 
--- One group more than so many is a group further than these.
+-- n + 1 groups are one group further than n.
 one_more : (n : ℕ) (p : Program) (m : Progress) → groups_further (suc n) p m ≡ group_further p (groups_further n p m)
 one_more zero p m = refl
 one_more (suc n) p m = one_more n p (group_further p m)
 
--- So many groups further and then more are as many as both together.
+-- n groups further, and then m groups, are n + m groups further.
 add_up : (n more : ℕ) (p : Program) (m : Progress) → groups_further more p (groups_further n p m) ≡ groups_further (n + more) p m
 add_up zero more p m = let none : 0 + more ≡ more = omega arith in rw none refl
 add_up (suc n) more p m = let one : suc n + more ≡ suc (n + more) = omega arith in rw one (add_up n more p (group_further p m))
@@ -35,7 +35,7 @@ opens n p m running = rw running refl
 none_opens : (n : ℕ) (p : Program) (m : Progress) (e : End) → m.end ≡ Some e → events_further (suc n) p m ≡ []
 none_opens n p m e is = rw is refl
 
--- The events of one group more are those of so many, and then that of the next one.
+-- The events of n + 1 groups are those of n, and then that of the next one.
 one_event_more : (n : ℕ) (p : Program) (m : Progress) → events_further (suc n) p m ≡ events_further n p m ++ events_further 1 p (groups_further n p m)
 one_event_more n p m = by_end m.end n m refl
   where
@@ -51,7 +51,7 @@ one_event_more n p m = by_end m.end n m refl
 abbrev pub told : Progress → List ℕ
 told m = state_text (end_of m) m.groups m.range m.state
 
--- What is printed of the groups of a run under way, of at most so many.
+-- What is printed of at most n groups of a run under way.
 abbrev group_told : List GroupEvent → Progress → List ℕ
 group_told events m = flat_map (λ event. line (event_text event) ++ told m) events
 
@@ -87,14 +87,14 @@ groups_are_told run events (suc more) k p program =
     rw (sym next, further_is events k p program, sym (groups_are_told run events more (suc k) p program))
     (ap (λ text. text ++ groups_told more p (groups_further (suc k) p (begun (zero_state p)))) (same_group (events_further 1 p (groups_further k p (begun (zero_state p)))) (groups_further (suc k) p (begun (zero_state p))) (run_of p (suc k)) (state_told run (suc k) p program)))
 
--- A machine that is told has so many groups left, and has this text of what it is to print.
+-- The machine has n groups left, and this is the text that it is to print.
 pub record IsTraced (p : Program) (groups : ℕ) (text : List ℕ) (now : Execution) (left : ℕ) (bytes : List ℕ) : Type 0 where
   pub program : now.program ≡ p
   pub few : now.progress.groups + left < 2 ^ 64
   pub rest : groups_further left p now.progress ≡ groups_further groups p (begun (zero_state p))
   pub printed : bytes ++ groups_told left p now.progress ≡ text
 
--- So many groups further, at most so many more began.
+-- n groups further, at most n more have begun.
 few_groups : (n : ℕ) (p : Program) (m : Progress) → (groups_further n p m).groups ≤ m.groups + n
 few_groups zero p m = omega arith
 few_groups (suc n) p m =

@@ -71,7 +71,7 @@ no_events left p m (inl none) = rw none refl
 no_events zero p m (inr over) = refl
 no_events (suc n) p m (inr over) = rw over.1 refl
 
--- A machine began so, and so many groups are left of those that it was to run. What watchers in boxes have seen is told by a function.
+-- The machine began so, and n groups are left of those that it was to run. A function says what watchers in boxes have seen.
 pub record IsUnderWatch {B : Type 0} (seen : B → WatchState) (start : Execution) (groups : ℕ) (old : List WatchState) (now : Execution) (left : ℕ) (text numbers : List ℕ) (list : List B) : Type 0 where
   pub program : now.program ≡ start.program
   pub few : now.progress.groups + left < 2 ^ 64

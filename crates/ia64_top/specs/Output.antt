@@ -61,7 +61,7 @@ IsCheckedAs reading input bytes Violated =
 IsCheckedAs reading input bytes Refused = reading.Refuses input bytes
 IsCheckedAs reading input bytes status = ⊥
 
--- What is written and answered of an input that is read in a way, where so many groups of its program are run and this is
+-- What is written and answered of an input that is read in a way, where n groups of its program are run and this is
 -- printed. A program with violations isn't run: it gets the verdict that `check` gives it.
 abbrev pub IsRunAs : Printing → ℕ → InputReading → List ℕ → List ℕ → Status → Type 0
 IsRunAs text groups reading input bytes Done =
@@ -75,7 +75,7 @@ IsRunAs text groups reading input bytes Faulted =
 IsRunAs text groups reading input bytes Refused = reading.Refuses input bytes
 IsRunAs text groups reading input bytes status = ⊥
 
--- What is written and answered of an input that is read in a way, where so many groups of its program are run all at once, in
+-- What is written and answered of an input that is read in a way, where n groups of its program are run all at once, in
 -- the order with a number. No verdict is made, so a program with violations is run as any other.
 abbrev pub IsNumberedRunAs : (groups number : ℕ) → InputReading → List ℕ → List ℕ → Status → Type 0
 IsNumberedRunAs groups number reading input bytes Done =

@@ -16,11 +16,11 @@ use Rattle.watch_seam.specs.Watching.{numbered, reports}
 use Rattle.ia64_top.specs.declared.status.Status.{Status}
 use Rattle.ia64_top.specs.declared.status.Status.TheVariants.{Done, Limit, Faulted}
 
--- the run of a program from the zero state, of at most so many groups
+-- the run of a program from the zero state, of at most n groups
 abbrev pub run_of : Program → ℕ → Run
 run_of p = λ groups. seq_run p groups (zero_state p)
 
--- The run of a program from the zero state, of at most so many groups, each all at once and its writes in the order with a
+-- The run of a program from the zero state, of at most n groups, each all at once and its writes in the order with a
 -- number.
 abbrev pub numbered_run_of : Program → ℕ → ℕ → Run
 numbered_run_of p groups number = numbered_run p groups number (zero_state p)
@@ -47,14 +47,14 @@ watch_text watchers runs groups = reports (runs groups).events (numbered watcher
 abbrev pub further_events : (ℕ → Run) → ℕ → List GroupEvent
 further_events runs groups = drop (length (runs groups).events) (runs (suc groups)).events
 
--- The groups that run behind so many, at most so many more: each as a tracer has it, and the state after it.
+-- At most m groups behind the first n of a run: each as a tracer has it, and the state after it.
 abbrev pub traced_groups : (ℕ → Run) → (groups more : ℕ) → List ℕ
 traced_groups runs groups zero = []
 traced_groups runs groups (suc more) =
     flat_map (λ event. line (event_text event) ++ run_text (runs (suc groups))) (further_events runs groups)
     ++ traced_groups runs (suc groups) more
 
--- `trace` prints the state after its first number of groups, and then so many groups that run behind them, or fewer where the
+-- `trace` prints the state after its first number of groups, and then the groups behind them up to its second number, or fewer where the
 -- run ends.
 abbrev pub trace_text : (first count : ℕ) → Printing
 trace_text first count runs groups = run_text (runs first) ++ traced_groups runs first count
@@ -75,7 +75,7 @@ pub record IsNumberedRunOf (p : Program) (groups number : ℕ) (bytes : List ℕ
   pub printed : bytes ≡ run_text (numbered_run_of p groups number)
   pub ends : status ≡ end_status (numbered_run_of p groups number).end
 
--- The run of a program from the zero state, of at most so many groups, each all at once and its writes in the order of a code.
+-- The run of a program from the zero state, of at most n groups, each all at once and its writes in the order of a code.
 abbrev pub ordered_run_of : Program → List (List ℕ) → ℕ → Run
 ordered_run_of p codes = λ groups. par_run p groups codes (zero_state p)
 

@@ -30,7 +30,7 @@ trial_text seed bundles end groups r =
     line (codes "trial " ++ decimal seed ++ codes " " ++ decimal bundles ++ 10 ∷ codes "accepted")
     ++ line (end_text end) ++ line (codes "groups " ++ decimal groups) ++ line (codes "sum " ++ word_text (register_sum r))
 
--- The bytes of the trial of a seed: its program has no violations, and so it is order independent and is run, of so many
+-- The bytes of the trial of a seed: its program has no violations, and so it is order independent and is run, of at most as many
 -- groups as it has bundles.
 pub record IsTrialOf (seed bundles : ℕ) (bytes : List ℕ) : Type 0 where
   pub program : IsProgram (trial_program seed bundles)

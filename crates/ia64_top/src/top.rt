@@ -164,7 +164,7 @@ pub fn ia64<S: Source, K: Sink>(
     // Those that stay are still to see groups, so the list may be handed in again.
     ensures still_room { result ≢ Status.NoMemory → AwaitGroups (map (λ b. state b) watchers.new.items) }
 
-    // Where memory ran out in the run, one number of groups tells what all watchers have seen: so many groups, or one more.
+    // Where memory ran out in the run, one number tells what all watchers have seen: that many groups, or one more.
     ensures cut_short { result ≡ Status.NoMemory → IfSome (S.left source.old) (λ input. (groups : ℕ) →
         command_of words.now ≡ Some (Command.Watch groups) → HaveWatchedPart groups input (map (λ b. state b) watchers.old.items) (map (λ b. state b) watchers.new.items)) }
 
@@ -193,7 +193,7 @@ pub fn ia64<S: Source, K: Sink>(
     ensures no_memory { result ≡ Status.NoMemory → S.faults source.new ≡ S.faults source.old }
 
     // Whatever the status: the bytes that are gone from the source are its first ones, at most one
-    // more than the limit, and so many exactly where the input is too long.
+    // more than the limit, and exactly that many where the input is too long.
     ensures taken { IfSome (S.left source.old) (λ input.
         LosesAtMost (INPUT_LIMIT + 1) input (S.left source.new)) }
     ensures too_long { IfSome (S.left source.old) (λ input.

@@ -7,7 +7,6 @@ ghost use Rattle.ia64_top.specs.declared.limits.TheConstants.{GROUP_LIMIT, TRACE
 ghost use Rattle.ia64_top.specs.Runs.{trace_text, IsRunOf};
 
 use crate::answer::{Answer, end_status};
-use crate::watching::ending;
 use emulator::Machine;
 use group_checker::Accepted;
 use ia_meaning::progress_is_run;
@@ -19,7 +18,7 @@ use watch_seam::push_group_line;
 fn push_state(bytes: &mut Vec<u8>, machine: &Machine<'_>) -> Result<(), AllocError>
     ensures { OnOk result (bytes.new.items ≡ bytes.old.items ++ state_text (end_of machine.now.progress) machine.now.progress.groups machine.now.progress.range machine.now.progress.state) }
 {
-    let text = state_text(*bytes.allocator(), machine, &ending(machine))?;
+    let text = state_text(*bytes.allocator(), machine, &machine.ending())?;
     bytes.extend_from_slice(&text)
 }
 
@@ -52,6 +51,6 @@ pub(crate) fn trace_accepted(
     }
     Ok(Answer {
         bytes,
-        status: end_status(&ending(&machine)),
+        status: end_status(&machine.ending()),
     })
 }

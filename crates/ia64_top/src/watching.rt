@@ -1,7 +1,7 @@
 //! The run that watchers see.
 
 ghost use Rattle.std.specs.Prelude.{◌≡◌, ◌≤◌, ◌<◌, ◌+◌, ◌^◌, IfOk, OnOk, OnErr, map};
-ghost use Rattle.ia_meaning.specs.Progress.{groups_further, end_of};
+ghost use Rattle.ia_meaning.specs.Progress.{groups_further};
 ghost use Rattle.ia_meaning.specs.Runs.{events_further};
 ghost use Rattle.watch_seam.specs.Watching.{AwaitGroups, IsCutShort, numbered, reports, staying};
 ghost use Rattle.ia64_top.specs.declared.limits.TheConstants.{GROUP_LIMIT};
@@ -10,13 +10,12 @@ ghost use Rattle.ia64_top.specs.Runs.{run_of, watch_text, IsRunOf};
 use crate::answer::{Answer, end_status};
 use emulator::Machine;
 use group_checker::Accepted;
-use ia_meaning::{end_or, progress_is_run};
-use ia_program::End;
+use ia_meaning::progress_is_run;
 use state_text::state_text;
 use std::alloc::{AllocError, Global};
 use watch_seam::{Reports, Watch};
 
-/// Runs so many groups of a machine, or up to an end, and shows each of them to the watchers. What they report is told.
+/// Runs at most this number of groups of a machine, and shows each to the watchers. Answers what they report.
 fn watch_groups(
     alloc: Global,
     groups: u64,
@@ -41,13 +40,6 @@ fn watch_groups(
     reports.finish(watchers)
 }
 
-/// How the run of a machine ended; `Limit` where it may go on.
-pub(crate) fn ending(machine: &Machine<'_>) -> End
-    ensures { result ≡ end_of machine.now.progress }
-{
-    end_or(machine.end(), machine.place())
-}
-
 /// The answer of `watch` to an accepted program.
 pub(crate) fn watch_accepted(
     alloc: Global,
@@ -67,7 +59,7 @@ pub(crate) fn watch_accepted(
     accepted.is_robust();
     let mut machine = Machine::open(alloc, accepted.slots())?;
     let mut bytes = watch_groups(alloc, groups, &mut machine, watchers)?;
-    let end = ending(&machine);
+    let end = machine.ending();
     bytes.extend_from_slice(&state_text(alloc, &machine, &end)?)?;
     Ok(Answer {
         bytes,

@@ -103,7 +103,7 @@ fn groups_command(groups: &[u8], number: &[u8]) -> Option<Command>
     Some(Command::Groups { groups, number })
 }
 
-/// The trace of so many groups behind a number of groups, where the words are such numbers.
+/// The trace of a number of groups behind another number of them, where the words are such numbers.
 fn trace_command(first: &[u8], count: &[u8]) -> Option<Command>
     ensures { result ≡ trace_command (number_between 0 GROUP_LIMIT first.now) (number_between 1 TRACE_LIMIT count.now) }
 {

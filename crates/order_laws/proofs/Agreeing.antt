@@ -52,13 +52,13 @@ agrees_here p g past w on same = record {
   unat = unat_of g (same_apply TheUnat g.writes (record g.base { unat = g.unat }));
 }
 
--- what is shown of so many slots further, behind the first
+-- what is shown of n slots further, behind the first
 abbrev RestAgrees : Program → ℕ → Type 0
 RestAgrees p n =
     (g : Gathered) (past : List Place) (w : Walk) (h : Gathered) → IsGroupOnWalk p g past w → (i : Place) → Contains (earlier_in_group p w) i
     → slots_on n p false g ≡ Some h → Agrees p h (steps_on n p (state_of g))
 
--- one slot, and so many behind it
+-- one slot, and n behind it
 module _ (p : Program) (program : IsProgram p) (n : ℕ) (rest : RestAgrees p n) (first : Bool) (g : Gathered) (past : List Place) (w : Walk) (h : Gathered) (on : IsGroupOnWalk p g past w) (o : Outcome)
     (step : seq_step p (state_of g) ≡ step_by p (state_of g) o o.next) (joins : Joins p g past o (gathers first g o)) where
   abbrev To : Gathered
@@ -80,7 +80,7 @@ module _ (p : Program) (program : IsProgram p) (n : ℕ) (rest : RestAgrees p n)
   pub slot_agrees : if_some (on_by p first g o o.next) (slots_on n p false) ≡ Some h → Agrees p h (steps_on (suc n) p (state_of g))
   slot_agrees q = by_way o.next refl q
 
--- the group with so many more slots, from the next one on
+-- the group with n more slots, from the next one on
 abbrev From : Program → ℕ → Bool → Gathered → Option Insn → Option Gathered
 From p n begins g x = if_some (on_by p (begins && allocates x) g (slot_outcome p g x) (slot_outcome p g x).next) (slots_on n p false)
 

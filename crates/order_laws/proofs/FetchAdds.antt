@@ -47,7 +47,7 @@ never : (kind : FaultKind) (next : Option Place) (m : Memory) → IsOn (settled 
 never kind None m on = on
 never kind (Some q) m on = on
 
--- a sum is one of so many bytes
+-- a sum is in the range of its bytes
 sum_fits : (size : ℕ) (inc : ℤ) (old x : ℕ) → exchanged size (Some inc) old x % 2 ^ (8 * size) ≡ exchanged size (Some inc) old 0
 sum_fits size inc old x = mod-eq_of_lt (mod_below (old + twos 64 inc) (2 ^ (8 * size)) (pow_pos (8 * size)))
 

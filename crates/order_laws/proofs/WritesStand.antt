@@ -49,7 +49,7 @@ whole_kept : (ws : List Write) (r : Registers) → IsWhole r → IsWhole (apply 
 whole_kept [] r whole = whole
 whole_kept (w ∷ ws) r whole = whole_kept ws (put w r) (whole_put w r whole)
 
--- a static register that is written is one of so many
+-- a static register that is written is below a count
 abbrev pub IsStaticOf : ℕ → Write → Type 0
 IsStaticOf n (SetStatic k c) = k < n
 IsStaticOf n w = Unit {0}

@@ -42,7 +42,7 @@ pub record SeesTheStart (insn : Insn) (seen base : Registers) : Type 0 where
 abbrev pub AllSeeTheStart : Type 0
 AllSeeTheStart = (insn : Insn) (now base : Registers) → SeesTheStart insn (view insn now base) base
 
--- so many steps further
+-- n steps further
 abbrev pub steps_on : ℕ → Program → State → State
 steps_on zero p s = s
 steps_on (suc n) p s = steps_on n p (seq_step p s).state
@@ -57,7 +57,7 @@ on_by p first g o Falls =
     if is_stopped p.bundles g.place then None else Some (gathers first g o (place_after g.place (next_of p.bundles g.place)))
 on_by p first g o way = None
 
--- the group with so many more slots, where it goes on after them
+-- the group with n more slots, where it goes on after them
 abbrev pub slots_on : ℕ → Program → Bool → Gathered → Option Gathered
 slots_on zero p begins g = Some g
 slots_on (suc n) p begins g =

@@ -20,7 +20,7 @@ use Rattle.order_laws.specs.GroupSlots.{GatheredSlot, slots_of, done_by}
 use Rattle.order_laws.specs.Targets.{Stands}
 use Rattle.order_laws.specs.OrderExamples.{plain, idle, mmi, cell, start, registers_of, static_of}
 
--- a fetch-and-add under p0 of so many bytes to an address, with an increment
+-- a fetch-and-add of a size under p0 to an address, with an increment
 pub record IsFetchAdd (size address : ℕ) (inc : ℤ) (x : GatheredSlot) : Type 0 where
   pub r1 : ℕ
   pub r3 : ℕ

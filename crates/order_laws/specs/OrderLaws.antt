@@ -24,7 +24,7 @@ abbrev pub FitTogether : List Write → Type 0
 FitTogether [] = Unit {0}
 FitTogether (w ∷ ws) = Each (FitsBeside w) ws × FitTogether ws
 
--- a cell that is written is one of so many
+-- a cell that is written is below a count
 abbrev pub IsCellBelow : ℕ → Write → Type 0
 IsCellBelow n (SetCell c x) = c < n
 IsCellBelow n w = Unit {0}

@@ -52,12 +52,12 @@ trace_unless None p t = let step = seq_step p t.state in trace_by p t step step.
 unfoldable pub trace_on : Program → Trace → Trace
 trace_on p t = trace_unless t.end p t
 
--- So many steps further, or up to an end.
+-- n steps further, or up to an end.
 abbrev pub trace_further : ℕ → Program → Trace → Trace
 trace_further zero p t = t
 trace_further (suc n) p t = trace_further n p (trace_on p t)
 
--- So many steps after a state.
+-- n steps after a state.
 abbrev pub traced : ℕ → Program → State → Trace
 traced n p s = trace_further n p (trace_begun s)
 
@@ -90,7 +90,7 @@ WalksGroup =
     (p : Program) (s : State) (w : Walk) → IsProgram p → IsKnown p s w → (seq_step p s).end ≡ None
     → earlier_in_group p (walk_after p s w (seq_step p s)) ≡ group_after (seq_step p s).how s.place (earlier_in_group p w)
 
--- Each sequential run of groups comes to where so many steps come.
+-- Each sequential run of groups comes to where some number of steps comes.
 abbrev pub RunIsTraced : Type 0
 RunIsTraced = (n : ℕ) (p : Program) (s : State) → (k : ℕ) × ((traced k p s).state ≡ (seq_run p n s).state)
 

@@ -11,6 +11,6 @@ mod slot;
 mod table;
 
 pub use edges::may_fall;
-pub use places::place_number;
+pub use places::{place_at, place_number};
 pub use slot::Slot;
 pub use table::SlotTable;

@@ -13,7 +13,7 @@ pub fn place_number(place: Place) -> usize
 }
 
 /// The place with this number.
-pub(crate) fn place_at(number: u32) -> Place
+pub fn place_at(number: u32) -> Place
     ensures { result ≡ place_at number }
 {
     Place {

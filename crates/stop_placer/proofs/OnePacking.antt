@@ -27,7 +27,7 @@ one_on s k before (item ∷ items) last other (pair, right, goes) (too, also, on
     one_on s (packed_next k before item pair) item items last other goes
     (subst (λ (n : Packing). GoesOnTo s n item items other) (sym (same_next s k before item pair too right also)) on)
 
--- the packing of so many first items is one
+-- the packing of the first n items is one
 pub one_pack : (s : Loose) (items : List Item) (k l : Packing) → IsPackOf s items k → IsPackOf s items l → k ≡ l
 one_pack s [] k l a b = absurd a
 one_pack s (item ∷ items) k l a b = one_on s (begun_with item) item items k l a b
@@ -45,7 +45,7 @@ has_front s k before (item ∷ front) items last (pair, right, goes) =
     let rest = has_front s (packed_next k before item pair) item front items last goes in
     record { middle = rest.middle; item = rest.item; up = (pair, right, rest.up); rest = rest.rest }
 
--- With so many items more no bundle is opened again, and where none is closed the current one holds them all.
+-- With n items more no bundle is opened again, and where none is closed the current one holds them all.
 pub record IsGrown (k last : Packing) (count : ℕ) : Type 0 where
   pub closed : length k.closed ≤ length last.closed
   pub current : length last.closed ≡ length k.closed → length last.current ≡ length k.current + count

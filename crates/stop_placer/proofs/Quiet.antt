@@ -15,7 +15,7 @@ use Rattle.stop_placer.specs.Packs.{IsPack}
 use Rattle.stop_placer.proofs.Gaps.{reverse_more}
 use Rattle.stop_placer.proofs.Steps.{is_long, IsKeptEach, kept_each, kept_of}
 
--- Of so many bundles some wants a stop: one at this place behind the latest.
+-- Of n bundles one wants a stop: it is the k-th from the latest on.
 pub record HasLoud (count : ℕ) (chunks : List Chunk) : Type 0 where
   pub back : ℕ
   pub below : back < count
@@ -34,7 +34,7 @@ has_loud (suc n) (c ∷ cs) e room = of (is_quiet c) refl e (λ e. has_loud n cs
         let rest = later e in
         record { back = suc rest.back; below = (let less = rest.below in omega arith); chunk = rest.chunk; there = rest.there; loud = rest.loud }
 
--- From each bundle back, so many aren't all without a stop.
+-- From each bundle back, not all of n are without a stop.
 abbrev pub NoneLong : List Chunk → Type 0
 NoneLong [] = Unit {0}
 NoneLong (c ∷ cs) = (are_quiet QUIET_LIMIT (c ∷ cs) ≡ false) × NoneLong cs
@@ -101,7 +101,7 @@ loud_in closed last i far count has sum =
           (sym (at_reversed closed last (i + count - 1 - has.back) (far + has.back) has.chunk (sym (slice_get-drop far closed has.back) ∙ has.there) (omega arith))) has.loud;
     }
 
--- Each stretch of so many closed bundles has one that wants a stop.
+-- Each stretch of n closed bundles has one that wants a stop.
 pub loud_between : (closed : List Chunk) (last : Chunk) (i : ℕ) → NoneLong closed → i + QUIET_LIMIT < length (reverse (last ∷ closed))
     → (k : ℕ) × (i ≤ k) × (k < i + QUIET_LIMIT) × IsSomeAnd (slice_get (reverse (last ∷ closed)) k) (λ c. is_quiet c ≡ false)
 loud_between closed last i none inside =

@@ -15,7 +15,7 @@ count_within (c ∷ cs) = of (is_quiet c) (count_within cs)
     of true h = omega arith
     of false h = omega arith
 
--- so many are quiet as are counted
+-- as many are quiet as are counted
 pub quiet_by_count : (n : ℕ) (cs : List Chunk) → are_quiet n cs ≡ nat_le n (quiet_count cs)
 quiet_by_count zero cs = grind (arith, nat_tests)
 quiet_by_count (suc n) [] = grind (arith, nat_tests)

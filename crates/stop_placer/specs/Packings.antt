@@ -30,13 +30,13 @@ first_cause true pair = Some Written
 first_cause false true = Some Pair
 first_cause false false = None
 
--- there are so many bundles, and the latest so many want no stop
+-- there are n bundles or more, and the latest n want no stop
 abbrev pub are_quiet : ℕ → List Chunk → Bool
 are_quiet zero chunks = true
 are_quiet (suc n) [] = false
 are_quiet (suc n) (c ∷ cs) = is_quiet c && are_quiet n cs
 
--- where no other reason stands, a stop comes after so many bundles without one
+-- where there is no other reason, a stop comes behind as many bundles without one as may be
 abbrev pub or_long : Option Cause → Bool → Option Cause
 or_long (Some cause) long = Some cause
 or_long None true = Some Long

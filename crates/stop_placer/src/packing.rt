@@ -138,7 +138,7 @@ impl Packing {
         matches!(self.causes.get(n), Some(Some(_)))
     }
 
-    /// Whether the current bundle, if it is closed without a stop, is one of so many without one that a stop has to
+    /// Whether the current bundle, if it is closed without a stop, is the last that may go without one, so that a stop has to
     /// come behind it.
     fn is_long(&self) -> bool
         requires { length self.now.closed < BUNDLE_LIMIT }

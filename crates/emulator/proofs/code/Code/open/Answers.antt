@@ -1,9 +1,9 @@
-use Rattle.emulator.proofs.Decoding.{decoded_all}
+use Rattle.emulator.proofs.CodeSlots.{all_code_slots}
 use Rattle.emulator.proofs.code.Code.open.Goals as goal
 
 pub invariant_of-result : goal.invariant_of-result
 invariant_of-result c = record {
   program = c.is_program.ensures;
-  count = c.in_ok-decoded.ensures.count;
-  each = decoded_all c.args.slots.now c.in_ok-decoded.decoded.items c.in_ok-decoded.ensures.count c.in_ok-decoded.ensures.each;
+  count = c.in_ok-code_slots.ensures.count;
+  each = all_code_slots c.args.slots.now c.in_ok-code_slots.list.items c.in_ok-code_slots.ensures.count c.in_ok-code_slots.ensures.each;
 }

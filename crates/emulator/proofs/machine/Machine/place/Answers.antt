@@ -1,4 +1,4 @@
-use Rattle.emulator.proofs.Decoding.{number_below}
+use Rattle.emulator.proofs.CodeSlots.{number_below}
 use Rattle.emulator.proofs.machine.Machine.place.Goals as goal
 
 pub place-requires : goal.place-requires

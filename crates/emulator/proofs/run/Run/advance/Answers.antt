@@ -2,7 +2,7 @@ use Rattle.std.proofs.Common.{rules, ◌≡◌}
 use Rattle.ia_meaning.specs.Progress.{advanced}
 use Rattle.emulator.specs.Progress.{progress_of}
 use Rattle.ia_meaning.proofs.WholeRuns.{advanced_is}
-use Rattle.emulator.proofs.Decoding.{number_below}
+use Rattle.emulator.proofs.CodeSlots.{number_below}
 use Rattle.emulator.proofs.Advancing.{under_way_on}
 use Rattle.emulator.proofs.run.Run.advance.Goals as goal
 

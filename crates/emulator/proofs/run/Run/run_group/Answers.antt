@@ -1,6 +1,6 @@
 use Rattle.std.proofs.Common.{sym, ◌∙◌, arith}
 use Rattle.emulator.specs.Progress.{progress_of}
-use Rattle.emulator.proofs.Decoding.{number_below}
+use Rattle.emulator.proofs.CodeSlots.{number_below}
 use Rattle.emulator.proofs.Groups.{is_over, is_within}
 use Rattle.emulator.proofs.run.Run.run_group.Goals as goal
 

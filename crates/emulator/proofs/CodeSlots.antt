@@ -14,8 +14,8 @@ use Rattle.slot_table.specs.declared.slot.Slot.{Slot}
 use Rattle.slot_table.specs.Slots.{slot_at}
 use Rattle.slot_table.proofs.SlotLaws.{slot_is}
 use Rattle.emulator.specs.declared.code.TheConstants.{NO_PLACE}
-use Rattle.emulator.specs.declared.code.Decoded.{Decoded}
-use Rattle.emulator.specs.Codes.{number_of, numbered, no_slot, IsDecoded}
+use Rattle.emulator.specs.declared.code.CodeSlot.{CodeSlot}
+use Rattle.emulator.specs.Codes.{number_of, numbered, no_slot, IsCodeSlot}
 
 -- the numbers of the places of a program
 pub number_small : (p : Program) (n : ℕ) → IsProgram p → IsPlaceOf p.bundles (place_at n) → n < 3 * length p.bundles
@@ -53,10 +53,10 @@ numbered_back None h = refl
 numbered_back (Some place) h = let e = place_at-number place h.0 in grind (arith, nat_tests, h.1)
 
 -- The list of the slots of all places says of each number what stands there.
-pub decoded_all : (p : Program) (list : List Decoded) → length list ≡ 3 * length p.bundles → ((n : ℕ) → n < length list → IsDecoded p.bundles n (get_or list n no_slot)) → (n : ℕ) → IsDecoded p.bundles n (get_or list n no_slot)
-decoded_all p list count each n = by_end (cases_lt n (length list))
+pub all_code_slots : (p : Program) (list : List CodeSlot) → length list ≡ 3 * length p.bundles → ((n : ℕ) → n < length list → IsCodeSlot p.bundles n (get_or list n no_slot)) → (n : ℕ) → IsCodeSlot p.bundles n (get_or list n no_slot)
+all_code_slots p list count each n = by_end (cases_lt n (length list))
   where
-    by_end : (n < length list) ⊎ (length list ≤ n) → IsDecoded p.bundles n (get_or list n no_slot)
+    by_end : (n < length list) ⊎ (length list ≤ n) → IsCodeSlot p.bundles n (get_or list n no_slot)
     by_end (inl inside) = each n inside
     by_end (inr beyond) = λ slot at.
         let s = slot_is p.bundles (place_at n) slot at in
