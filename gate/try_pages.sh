@@ -5,7 +5,7 @@ here=$(cd "$(dirname "$0")/.." && pwd)
 root=${1:-$here} standing=() status=0
 if [ $# != 0 ]; then standing=(--root "$1"); fi
 try() { python3 -B "$here/gate/try_page.py" "${standing[@]}" "$@" || status=1; }
-try "$root/docs/WRONG_GROUPS.md" "$root/examples/lessons/README.md"
+try "$root/docs/use/wrong_groups.md" "$root/examples/lessons/README.md"
 try --section 'From a text' --section 'See it' --section 'Let the tool set the stops' --section 'Running a program' \
   --section 'Following a run' --section 'What may a wrong group do?' --section 'Where does a program spend its groups?' --section 'Where a text is refused' \
   --section 'Where an image is refused' --section 'Exit statuses' "$root/docs/MANUAL.md"
