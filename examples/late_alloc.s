@@ -10,7 +10,7 @@
 //   violations 1
 //   ALLOC cfm 4.0 4.1
 //
-// To mend it, have the two change places. docs/WRONG_GROUPS.md has what `ia64 groups` prints.
+// To mend it, have the two change places. docs/use/wrong_groups.md has what `ia64 groups` prints.
 { .mii
   alloc r32=ar.pfs,0,1,0,0    // one local register
   nop.i 0

@@ -8,7 +8,7 @@
 //   WAW r8 1.1 1.2
 //
 // To mend it, put the rule under p7, which the compare makes 1 exactly where p6 is 0, or put a stop behind
-// it. docs/WRONG_GROUPS.md has what `ia64 groups` prints.
+// it. docs/use/wrong_groups.md has what `ia64 groups` prints.
 { .mii
   cmp.eq p6,p7=r9,r0          // r9 is 0 at the start: the special case
   nop.i 0

@@ -7,7 +7,7 @@
 //   violations 1
 //   RAW r10 1.0 1.2
 //
-// To mend it, put a stop behind the second move. docs/WRONG_GROUPS.md has what `ia64 groups` prints.
+// To mend it, put a stop behind the second move. docs/use/wrong_groups.md has what `ia64 groups` prints.
 { .mii
   addl r8=1,r0
   addl r9=2,r0

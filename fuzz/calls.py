@@ -1,4 +1,4 @@
-"""Calls the program, and holds its answers to docs/FORMATS.md and to each other."""
+"""Calls the program, and holds its answers to docs/use/formats.md and to each other."""
 
 import collections
 import os

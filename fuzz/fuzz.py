@@ -1,5 +1,5 @@
 #!/usr/bin/env python3
-"""Looks for inputs on which the built program doesn't keep docs/FORMATS.md. It is no part of the gate.
+"""Looks for inputs on which the built program doesn't keep docs/use/formats.md. It is no part of the gate.
 
 Call it when the program is built: fuzz/fuzz.py [--program FILE] [--seed S] [--cases N] [--processes P].
 Case n of a seed is the same on every machine, as far as the program builds the same images of the texts

@@ -1,5 +1,5 @@
 """What `ia64 stops` prints of a right loose text, by a model that is written apart and slow: it follows "How
-instructions are packed" of docs/FORMATS.md word by word. Of the rest it asks the built program, by other commands than
+instructions are packed" of docs/use/formats.md word by word. Of the rest it asks the built program, by other commands than
 `stops`: which slots an instruction fits (`build`), the canonical text (`show`), and whether a rule is broken (`check`).
 Whether one is broken at an instruction it finds in a program that has what is packed so far, and behind it each other
 instruction in a bundle of its own, with a stop at its end.

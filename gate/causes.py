@@ -1,5 +1,5 @@
 #!/usr/bin/env python3
-"""Keeps the table of answers in docs/CLAIMS.md true: each call that it names has to be a public one, and each clause one of
+"""Keeps the table of answers in docs/trust/claims.md true: each call that it names has to be a public one, and each clause one of
 that call; a call has a line for AllocError exactly where its signature has it; and each public call that answers a Result,
 an Option or a bool, or that is handed something to change, has to be there. It prints what isn't so, and ends with status 1
 where something isn't.

@@ -1,7 +1,7 @@
 #!/usr/bin/env python3
 """Keeps what is said of instructions elsewhere to the rows that the program decodes and encodes by.
 
-  gate/format_tables.py            says which lines of docs/FORMATS.md aren't what the rows say, and of which row of words not just one
+  gate/format_tables.py            says which lines of docs/use/formats.md aren't what the rows say, and of which row of words not just one
                                     row of instruction_rows.py is, by the ends of its operands and by what is chosen in its opcode;
                                     which zeros of that table are bits that a word may have, and which of its words no form has that
                                     is printed; and which forms that are printed have their completers or operands in the order of

@@ -1,5 +1,5 @@
 #!/usr/bin/env python3
-"""Keeps docs/READING.md true: counts the lines of the files that it lists, adds them up, and looks up each
+"""Keeps docs/trust/reading.md true: counts the lines of the files that it lists, adds them up, and looks up each
 clause that it names. With --write it writes the counts into the page; without, it prints what isn't so, and
 ends with status 1 where something isn't.
 

@@ -5,13 +5,15 @@ here=$(cd "$(dirname "$0")/.." && pwd)
 root=${1:-$here} standing=() status=0
 if [ $# != 0 ]; then standing=(--root "$1"); fi
 try() { python3 -B "$here/gate/try_page.py" "${standing[@]}" "$@" || status=1; }
-try "$root/docs/WRONG_GROUPS.md" "$root/examples/lessons/README.md"
-try --section 'From a text' --section 'See it' --section 'Let the tool set the stops' --section 'Running a program' \
-  --section 'Following a run' --section 'What may a wrong group do?' --section 'Where does a program spend its groups?' --section 'Where a text is refused' \
-  --section 'Where an image is refused' --section 'Exit statuses' "$root/docs/MANUAL.md"
-try --answers --section 'Programs of a stated size' --section 'A tour of the examples' "$root/docs/MANUAL.md"
+use=$root/docs/use
+try "$use/check.md" "$use/stops.md" "$use/wrong_groups.md" "$root/examples/lessons/README.md"
+try --section 'Running a program' --section 'Following a run' --section 'Where does a program spend its groups?' "$use/run.md"
+try --section 'See it' "$use/teach.md"
+try --section 'Exit statuses' "$use/formats.md"
+try --answers --section 'Programs of a stated size' "$use/run.md"
+try --answers --section 'A tour of the examples' "$use/teach.md"
 if type -P ia64-linux-gnu-objcopy > /dev/null; then
-  try --section 'You have an object file' --section 'Call a compiled function' "$root/docs/MANUAL.md"
+  try "$use/README.md" "$use/objects.md" "$use/calls.md"
   try --section 'In the first minute' "$root/README.md"
 fi
 exit $status

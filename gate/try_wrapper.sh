@@ -137,7 +137,7 @@ export CALLS=$dir/calls BUILT=$program FAILS='' ANSWERS=ended NAP=0 REFUSED=''
 mkdir -p "$outline/tools" "$outline/docs" "$dir/bin" "$kit/bin" "$kit/toolchain/bin"
 cp -r ia64 build crates.txt examples front "$outline"
 cp tools/sources_sum tools/kit_mirror tools/compile_unproved "$outline/tools"
-cp docs/ARCHITECTURE.md "$outline/docs"
+cp docs/build/architecture.md "$outline/docs"
 for crate in crates/*/; do mkdir -p "$outline/${crate}src" && : > "$outline/${crate}src/lib.rt"; done
 cat > "$kit/bin/rt" <<'END'
 #!/bin/bash

@@ -13,7 +13,7 @@ from pathlib import Path
 
 TOP = Path(__file__).resolve().parent.parent
 READ = [
-    "docs/FORMATS.md",
+    "docs/use/formats.md",
     "gate/format_tables.py",
     *(f"generate/{name}.py" for name in ("row_sources", "instruction_rows", "gnu_as")),
     *(f"crates/{name}/src" for name in ("insn_rows", "formats_a", "formats_i", "formats_m", "formats_b", "asm_forms", "asm_canonical")),

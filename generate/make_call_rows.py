@@ -11,7 +11,7 @@ nothing: it ends with status 1 where that isn't what it makes, or where the file
 The head of `crates/vectors/src/main.rt` says what a row is; here, a `Row`. An input or an output is pieces: a text, bytes,
 or so many times one.
 
-What is wanted is never the program's own output. The cases that are written here are worked by hand from docs/FORMATS.md,
+What is wanted is never the program's own output. The cases that are written here are worked by hand from docs/use/formats.md,
 which says how a bundle, an image and a text are made, which status comes, and how much of the input is read then. The
 others are of files of this repository: the comment of an example says what `run` or `check` prints, and a text of
 tests/check/ has its verdict beside it, both worked by hand; a text of tests/run/ has its state beside it, which a model gave

@@ -9,7 +9,7 @@ from pathlib import Path
 
 FOLDER = Path(__file__).resolve().parent.parent / "crates" / "vectors"
 
-# The parts in their order, each made by generate/make_PART_rows.py, and how many right and wrong rows each has. docs/CLAIMS.md
+# The parts in their order, each made by generate/make_PART_rows.py, and how many right and wrong rows each has. docs/trust/claims.md
 # names these numbers.
 PARTS = {"bundle": (6417, 5), "line": (5152, 12), "text": (254, 6), "call": (1172, 8)}
 

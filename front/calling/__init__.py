@@ -8,7 +8,7 @@
 - `answer`: what is said of it, as lines and as JSON; `followed`: the run group by group.
 - `command`: the words, and the call as a whole.
 
-What is proved (docs/CLAIMS.md): that the program's answer on the image is that of its run slot by slot, and that every order of
+What is proved (docs/trust/claims.md): that the program's answer on the image is that of its run slot by slot, and that every order of
 the writes of its groups leaves the same (`ordered`); with `--groups K`, which makes no verdict, that it is that of groups all at
 once in this one order (`output`). What isn't: that the linker put the image's code and data together as a program
 would have them, that they were cut out right, and that the caller does what a compiler's caller does.

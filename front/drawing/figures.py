@@ -15,7 +15,7 @@ PROVED = "The verdict is the proved program's. "
 CLASHES = f"{PROVED}Proved: each pair in red clashes on a walk, and nothing that is known of predicates excuses it there."
 ACCEPTS = (f"{PROVED}Proved: on no walk two slots of one group break a rule; and from every start state at an entry that keeps "
            "what the entry promises, each group all at once, under seven exceptions, and in any order of its writes leaves what "
-           "slot by slot leaves (docs/MANUAL.md, \"What accepted says\").")
+           "slot by slot leaves (docs/use/check.md, \"What accepted says\").")
 DRAWN = "Not proved: the drawing, with its excused pairs, its ways, what slots read and write, names and lines of sources."
 NOT_BUILT = "Nothing is known to be proved of the program that gave the verdict."
 

@@ -404,7 +404,7 @@ var ia64 = globalThis.ia64 = globalThis.ia64 || {};
     "excuses it there.";
   const ACCEPTS = `${PROVED}Proved: on no walk two slots of one group break a rule; and from every start state at an ` +
     "entry that keeps what the entry promises, each group all at once, under seven exceptions, and in any order of its " +
-    "writes leaves what slot by slot leaves (docs/MANUAL.md, \"What accepted says\").";
+    "writes leaves what slot by slot leaves (docs/use/check.md, \"What accepted says\").";
   const DRAWN = "Not proved: the drawing, with its excused pairs, its ways, what slots read and write, names and " +
     "lines of sources.";
   const NOT_BUILT = "Nothing is known to be proved of the program that gave the verdict.";

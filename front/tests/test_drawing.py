@@ -409,7 +409,7 @@ class WhatIsAccessed(unittest.TestCase):
             self.assertEqual(found, {"RAW": (said.reads - said.seen) & set(names), "WAW": said.writes & set(names)}, text)
 
     def test_the_examples_have_every_mnemonic(self):
-        """Those of the tables of docs/FORMATS.md, but for pseudo-operations."""
+        """Those of the tables of docs/use/formats.md, but for pseudo-operations."""
         formats = (ROOT / "docs" / "FORMATS.md").read_text()
         tables = formats.split("### Mnemonics and operands")[1].split("**Without a unit letter**")[0]
         wanted = {re.match(r"[a-z]+", word)[0] for row in re.findall(r"^\| (`.*?) \|", tables, re.M)

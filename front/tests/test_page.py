@@ -440,21 +440,21 @@ class Scripts(unittest.TestCase):
             self.assertEqual(trace.count("\nend "), len(asked) - 1)
 
     def test_numbers(self):
-        """The page and the manual say what the scripts hold to."""
+        """The page and docs/use/teach.md say what the scripts hold to."""
         names = ("orders.NUMBERS", "orders.MOST_SLOTS", "orders.MOST_STEPS", "orders.BUDGET", "reading.LONGEST", "reading.MOST_LINES")
         numbers, slots, steps_, budget, letters, lines = called(*((name, []) for name in names))
         self.assertEqual(numbers, math.factorial(4))
         page = (ROOT / "front" / "page" / "page.html").read_text()
         self.assertIn(f"the numbers 0 to {numbers - 1}\nhave all orders of up to four writes", page)
-        manual = (ROOT / "docs" / "MANUAL.md").read_text()
+        said_of_it = (ROOT / "docs" / "use" / "teach.md").read_text()
         for said in (f"texts of up to {letters:,} letters and {lines:,} lines", f"slot by slot at most {slots:,} slots",
                      f"it shows the first {steps_} groups", f"come to more than {budget:,} bytes"):
-            self.assertIn(said, manual)
+            self.assertIn(said, said_of_it)
 
     def test_rows_of_a_state(self):
-        """So many rows of a state are shown as FORMATS says."""
+        """So many rows of a state are shown as docs/use/formats.md says."""
         most = re.search(r"MOST_ROWS = (\d+)", (ROOT / "front" / "page" / "stepping.js").read_text())[1]
-        self.assertIn(f"Of a state at most {most} rows are shown", (ROOT / "docs" / "FORMATS.md").read_text())
+        self.assertIn(f"Of a state at most {most} rows are shown", (ROOT / "docs" / "use" / "formats.md").read_text())
 
     def test_addresses_slot_by_slot(self):
         """A bundle that was taken apart has its address by its first slot; what is in another place than a branch register is
