@@ -282,17 +282,17 @@ ROWS = [
     # A5
     Row("A", "AddImm22", "addl $r1=$imm,$r3", r1=TARGET, imm=signed(22), r3=LOW_GR),
     # A6
-    Row("A", "Cmp", "cmp$four.$rel$kind $p1,$p2=$r2,$r3", four=FOUR, rel=COMPARED, kind=WRITTEN,
+    Row("A", "Cmp", "cmp$four_bytes.$rel$kind $p1,$p2=$r2,$r3", four_bytes=FOUR, rel=COMPARED, kind=WRITTEN,
         r2=GR, r3=GR, **PREDICATES),
-    Row("A", "Cmp", "cmp$four.$rel$kind $p1,$p2=$r2,$r3", four=FOUR, rel=EQUAL, kind=PARALLEL,
+    Row("A", "Cmp", "cmp$four_bytes.$rel$kind $p1,$p2=$r2,$r3", four_bytes=FOUR, rel=EQUAL, kind=PARALLEL,
         r2=GR, r3=GR, **PREDICATES),
     # A7
-    Row("A", "CmpZero", "cmp$four.$rel$kind $p1,$p2=r0,$r3", "13-19", four=FOUR, rel=SIGN,
+    Row("A", "CmpZero", "cmp$four_bytes.$rel$kind $p1,$p2=r0,$r3", "13-19", four_bytes=FOUR, rel=SIGN,
         kind=PARALLEL, r3=GR, **PREDICATES),
     # A8
-    Row("A", "CmpImm", "cmp$four.$rel$kind $p1,$p2=$imm,$r3", four=FOUR, rel=COMPARED, kind=WRITTEN,
+    Row("A", "CmpImm", "cmp$four_bytes.$rel$kind $p1,$p2=$imm,$r3", four_bytes=FOUR, rel=COMPARED, kind=WRITTEN,
         imm=signed(8), r3=GR, **PREDICATES),
-    Row("A", "CmpImm", "cmp$four.$rel$kind $p1,$p2=$imm,$r3", four=FOUR, rel=EQUAL, kind=PARALLEL,
+    Row("A", "CmpImm", "cmp$four_bytes.$rel$kind $p1,$p2=$imm,$r3", four_bytes=FOUR, rel=EQUAL, kind=PARALLEL,
         imm=signed(8), r3=GR, **PREDICATES),
     # A9
     Row("A", "Lane", "$f$size $r1=$r2,$r3", f=choice("padd", "psub"), size=PART_SIZE,
