@@ -5,7 +5,7 @@
 // No stop has to part them. The registers that the slots of a group read and write have to be independent, but its accesses to
 // memory are made one after the other, in program order: each `fetchadd8` finds what the ones before it left. That is proved of
 // groups like this one, whose accesses to memory are fetch-and-adds of one size to one address under p0; and where a program
-// has no violation, every order of the writes leaves these numbers in the registers (`law_fetch_adds` of `group_checker`).
+// has no violation, every order of the writes leaves these numbers in the registers (`law_fetch_adds` of `order_laws`).
 //
 // `ia64 check` prints `accepted`, and `ia64 run 100` prints, since 100 is 64 in hexadecimal:
 //   end break 0x0 at 3.2
