@@ -48,7 +48,7 @@ def calls_of(crate):
 def main():
     crates = re.findall(r"^(\w+)(?=[ \w=]*:)", (ROOT / "crates.txt").read_text(), re.M)
     known = {crate: calls_of(crate) for crate in crates if (ROOT / "crates" / crate / "src" / "lib.rt").exists()}
-    table = (ROOT / "docs" / "CLAIMS.md").read_text().split(HEADING)[1].split("\n## ")[0]
+    table = (ROOT / "docs" / "trust" / "claims.md").read_text().split(HEADING)[1].split("\n## ")[0]
     faults, calls, answers = [], [], {}
     known_words = {word for path in ROOT.glob("crates/*/src/*.rt") for word in re.findall(r"\w+", path.read_text())}
     for row in re.findall(r"^\|.*", table, re.M)[2:]:

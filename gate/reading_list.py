@@ -16,7 +16,7 @@ import re
 import sys
 
 ROOT = pathlib.Path(__file__).resolve().parent.parent
-PAGE = ROOT / "docs" / "READING.md"
+PAGE = ROOT / "docs" / "trust" / "reading.md"
 TOP = "ia64_top"
 
 
