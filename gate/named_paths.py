@@ -1,11 +1,12 @@
 #!/usr/bin/env python3
-"""Checks that what the documents name is there: paths, headings and crates.
+"""Checks that what the documents name is there: paths, headings, lines of sources and crates.
 
   gate/named_paths.py
 
 A path is what stands in backticks and begins with the name of a crate or of a folder at the top, and a slash. The path of a
 crate may leave `crates/` and the ending of the file out, and `*` stands for any name. Of a command the first word is looked at.
 A heading is what stands in quotes behind the path of a page, as `docs/use/check.md`, "Seven exceptions".
+A block of differences names a file behind `+++`; each line of it that is added or stays has to stand in that file.
 The table of layers in docs/build/architecture.md has to name each crate of crates.txt just once, and no other.
 
 It prints what isn't there, and ends with status 1 where something isn't.
@@ -63,6 +64,22 @@ def faults_of(document):
                     yield f"{at}: {name} has no heading \"{heading}\""
 
 
+def missing_lines(document):
+    """The lines that a block of differences has and its file hasn't. `...` stands for lines that are left out."""
+    path, lines, is_inside = "", set(), False
+    for number, line in enumerate(document.read_text().splitlines(), 1):
+        at = f"{document.relative_to(ROOT)}:{number}"
+        if line.startswith("```"):
+            is_inside = line == "```diff"
+        elif is_inside and line.startswith("+++ "):
+            path = line[4:]
+            if not (ROOT / path).is_file():
+                yield f"{at}: no {path}"
+            lines = {text.strip() for text in (ROOT / path).read_text().splitlines()} if (ROOT / path).is_file() else set()
+        elif is_inside and line[:1] in ("+", " ") and line[1:].strip() not in {"", "...", *lines}:
+            yield f"{at}: {path} has no such line"
+
+
 def layer_faults():
     """In what the table of layers differs from crates.txt."""
     section = LAYERS.read_text().partition("\n## The crates\n")[2].partition("\n## ")[0]
@@ -73,7 +90,7 @@ def layer_faults():
 
 
 def main():
-    faults = [fault for document in documents() for fault in faults_of(document)] + list(layer_faults())
+    faults = [fault for document in documents() for fault in (*faults_of(document), *missing_lines(document))] + list(layer_faults())
     for fault in faults:
         print(f"named_paths: {fault}")
     return 1 if faults else 0
