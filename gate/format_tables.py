@@ -29,7 +29,7 @@ from row_sources import (  # noqa: E402
     FAMILIES, Operand, completer_texts, fields, formats, forms, operand_names, operands, printed_forms, rows,
 )
 
-PAGE = ROOT / "docs" / "FORMATS.md"
+PAGE = ROOT / "docs" / "use" / "formats.md"
 # The tables of the page, by their headings, with the families of each.
 TABLES = {
     "### A: M and I slots": "A",

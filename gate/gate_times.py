@@ -4,7 +4,7 @@
   gate/gate_times.py watch LOG COMMAND..   runs a command, as `bash .ci/run`, and writes to LOG a line for each check of a
                                             crate that it began: the crate, what was checked, and the seconds that it took;
                                             and last `whole`, the seconds of all that it began, and those on the clock
-  gate/gate_times.py table LOG             the table of such a log, as docs/build/architecture.md has it
+  gate/gate_times.py table LOG             the table of such a log, as docs/build/gate.md has it
 
 What is checked is `proof`, `edits` (must-fail edits, and the check that they begin with) or `tests` (the proof of tests); all
 that isn't a check of a crate (compilers, programs, the repository's own tools) is `other` in the table. The seconds are those

@@ -134,10 +134,10 @@ try 'a symbolic link' 0 "$dir/accepted" '' examples/count.s "$dir/links/ia64" ch
 # environment, and the linker makes a file `program`.
 outline="$dir/it's an outline" kit=$dir/kit
 export CALLS=$dir/calls BUILT=$program FAILS='' ANSWERS=ended NAP=0 REFUSED=''
-mkdir -p "$outline/tools" "$outline/docs" "$dir/bin" "$kit/bin" "$kit/toolchain/bin"
+mkdir -p "$outline/tools" "$outline/docs/build" "$dir/bin" "$kit/bin" "$kit/toolchain/bin"
 cp -r ia64 build crates.txt examples front "$outline"
 cp tools/sources_sum tools/kit_mirror tools/compile_unproved "$outline/tools"
-cp docs/build/architecture.md "$outline/docs"
+cp docs/build/gate.md "$outline/docs/build"
 for crate in crates/*/; do mkdir -p "$outline/${crate}src" && : > "$outline/${crate}src/lib.rt"; done
 cat > "$kit/bin/rt" <<'END'
 #!/bin/bash

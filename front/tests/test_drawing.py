@@ -410,7 +410,7 @@ class WhatIsAccessed(unittest.TestCase):
 
     def test_the_examples_have_every_mnemonic(self):
         """Those of the tables of docs/use/formats.md, but for pseudo-operations."""
-        formats = (ROOT / "docs" / "FORMATS.md").read_text()
+        formats = (ROOT / "docs" / "use" / "formats.md").read_text()
         tables = formats.split("### Mnemonics and operands")[1].split("**Without a unit letter**")[0]
         wanted = {re.match(r"[a-z]+", word)[0] for row in re.findall(r"^\| (`.*?) \|", tables, re.M)
                   for word in re.findall(r"`([a-z][^`]*)`", row)} - {"r"}                    # of `with r1=r3`
