@@ -15,7 +15,7 @@ from front.program import Program
 from front.tests.case import FRONT, PROGRAM, ROOT, Case, asked
 from front.ordering.writes import arranged
 
-PAGE = ROOT / "docs" / "WRONG_GROUPS.md"
+PAGE = ROOT / "docs" / "use" / "wrong_groups.md"
 
 REVERSE = orders.REVERSE
 ALONE = "Slot by slot isn't shown: the program has no bundle"
