@@ -8,8 +8,8 @@ They are calls of `build`, in the form of those of `make_call_rows.py`. It needs
 and `-nm` of the same package. The gate doesn't call it.
 
 The bundles and the data of an image are those of the GNU assembler, which is given the text with a label before each line of
-relations. Its linker puts the bundles at 0x10000 and the data at 0x100000, so that it makes the displacements and the addresses
-of the labels. The numbers of the declared entries, and of the bundles that lines of relations speak of, are read off the linker's
+relations. Its linker puts the bundles at 0x10000 and the data at 0x100000. So it makes the displacements and the addresses of the
+labels. The numbers of the declared entries, and of the bundles that lines of relations speak of, are read off the linker's
 table of symbols. So an image has nothing of the program that it is compared with.
 
 In the last rows one thing of a text is changed on purpose, and the image is that of the text before: a label stands a bundle
