@@ -1,8 +1,9 @@
-"""Inputs within the limits that take a command the longest, or the most memory. Each function makes one, as
-the bytes of a text, and says what makes it the worst of its kind; `bench/run.py` measures them. The commands
-that read an image or bare bundles are given what `build` makes of the text.
+"""Inputs within the limits that take a command the longest, or the most memory.
 
-Prints the input of a name: bench/inputs.py empty_lines
+  bench/inputs.py NAME      prints the input of this name, as `empty_lines`
+
+Each function makes one, as the bytes of a text, and says what makes it the worst of its kind. `bench/run.py` measures them. The
+commands that read an image or bare bundles are given what `build` makes of the text.
 """
 
 import math

@@ -1,23 +1,27 @@
 #!/usr/bin/env python3
-"""Times build, show and list beside the GNU tools on the same work, trials, run, watch and groups on loops, stops
-beside build and check of what it prints, and every command on the inputs that take it longest, and prints five tables.
-No part of the gate.
+"""Times the commands, and prints five tables.
 
-The inputs of the first table are programs of so many bundles, each with a label, a load, an addition
-and a branch to another bundle. A trial makes its own program, checks it and runs it. A time is the best of
-five, with the start of the program; all outputs go to files. The GNU assembler looks for violated dependencies under -xexplicit and not under -xnone; `build` doesn't,
-as `check` does that. `objdump -d` and `list` print bytes and instructions, `show` a text that builds
-again. A loop is run to its `break`; of its speed the slots of its turns are counted alone. `watch` shows
-each group to two watchers; on a counted loop a group is one bundle. The loose text is that of the
-first table without bundles and stops; it is packed into another program, as each label begins a bundle.
+  bench/run.py              all five
+  bench/run.py --worst      the last table alone
+  bench/run.py --count      adds millions of instructions, as valgrind counts them: they are the same on every machine, and take
+                            fifty times as long
 
-The last table has the worst inputs within the limits (`inputs.py`). Its seconds are those of the processor,
-the best of three, and its megabytes the greatest peak, at least that of this script, about 15. It ends with
-status 1 where an input takes longer than is allowed, or more than 640 MB, or isn't answered at all.
+It is called by hand, after the program was built. The tables are: build, show and list beside the GNU tools on the same work;
+trials; run, watch and groups on loops; stops beside build and check of what it prints; and every command on the inputs that take
+it longest.
 
-Call it after the program was built: bench/run.py [--worst] [--count]
---worst prints the last table alone. --count adds millions of instructions, as valgrind counts them: they are
-the same on every machine, and take fifty times as long.
+The inputs of the first table are programs of so many bundles, each with a label, a load, an addition and a branch to another
+bundle. A trial makes its own program, checks it and runs it. A time is the best of five, with the start of the program. All
+outputs go to files.
+
+The GNU assembler looks for violated dependencies under -xexplicit and not under -xnone. `build` doesn't, as `check` does that.
+`objdump -d` and `list` print bytes and instructions, `show` a text that builds again. A loop is run to its `break`; of its speed
+the slots of its turns are counted alone. `watch` shows each group to two watchers; on a counted loop a group is one bundle. The
+loose text is that of the first table without bundles and stops. It is packed into another program, as each label begins a bundle.
+
+The last table has the worst inputs within the limits (`inputs.py`). Its seconds are those of the processor, the best of three. Its
+megabytes are the greatest peak, at least that of this script, about 15. It ends with status 1 where an input takes longer than is
+allowed, or more than 640 MB, or isn't answered at all.
 """
 
 import os

@@ -1,4 +1,4 @@
-"""Edits of bytes, texts and images: each takes bytes, which aren't empty, and gives others."""
+"""Edits of bytes, texts and images. Each takes bytes, which aren't empty, and gives others. It is imported, and not called."""
 
 import re
 import struct

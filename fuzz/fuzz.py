@@ -1,36 +1,37 @@
 #!/usr/bin/env python3
-"""Looks for inputs on which the built program doesn't keep docs/use/formats.md. It is no part of the gate.
+"""Looks for inputs on which the built program doesn't keep docs/use/formats.md.
 
-Call it when the program is built: fuzz/fuzz.py [--program FILE] [--seed S] [--cases N] [--processes P].
-Case n of a seed is the same on every machine, as far as the program builds the same images of the texts
-of tests/run/ and examples/. The cases are of ten sorts by turns: random programs as texts, which have to be
-right; such texts and those of the repository, damaged; images of both, damaged; such images with relations,
-of which one may be changed; bare bundles; bytes that are nothing; words near the commands; texts with one
-fault, whose reason and line are known; loose texts, made of such texts as `ia64 loosen` does, some of them damaged;
-and loose texts with one fault.
+  fuzz/fuzz.py [--program FILE] [--seed S] [--cases N] [--processes P]
+  fuzz/fuzz.py --only N [--keep FOLDER]    runs one case, prints each call, and keeps each input in the folder
 
-Of each call it looks at the status, the form of what is printed, that nothing is on standard error, that
-a refusal names a place of the input, and at the processor time (`COMMANDS` of calls.py); and over several calls:
+It is called by hand, when the program is built. Case n of a seed is the same on every machine, as far as the program builds the
+same images of the texts of tests/run/ and examples/.
 
-- `build` of what `show` prints is the image again, in version 1 where that has room for it; the lines of
-  relations are those of the image; `list` has the bundles' bytes and the lines of the slots; `wrap` of the
-  bundles is refused as the image of them is, or gives it;
-- `check`, `run N`, `watch N` and `groups N K` answer the same of a text, its image and the image's text,
-  and refuse what `build`, or of an image `show`, refuses, in the same way. An image whose relation is refused
-  is read without its relations;
-- `run N`, `watch N` and `trace` print what `check` does exactly where that isn't `accepted`; `watch N` and a
-  trace of the N-th group end with what `run N` prints, and its reports and the state are of one run;
-  `groups N K` prints what `run N` does where `check` says `accepted`, and a state where it doesn't;
-- what `stops` prints has a line for each of its stops, each with a violation round it; `check` accepts it, and
-  `build` of it and then `show` gives its canonical text. A right loose text is packed, unless it is too long.
+The cases are of ten sorts by turns: random programs as texts, which have to be right; such texts and those of the repository,
+damaged; images of both, damaged; such images with relations, of which one may be changed; bare bundles; bytes that are nothing;
+words near the commands; texts with one fault, whose reason and line are known; loose texts, made of such texts as `ia64 loosen`
+does, some of them damaged; and loose texts with one fault.
 
-It doesn't know what a program means: neither the verdict, nor the state, nor (but for the sorts with one fault) the
-reason of a refusal is held to anything from outside. Faults of reading and writing aren't tried, and want
-of memory isn't either: status 7 within the memory limit is a finding.
+Of each call it looks at the status, the form of what is printed, that nothing is on standard error, that a refusal names a place
+of the input, and at the processor time (`COMMANDS` of calls.py). Over several calls it looks at this:
 
-It prints a line for each finding: the seed, the case, the command and what differs, and at the end how
-many cases of each sort ran, how long, and the slowest. The status is 1 where something was found. With
---only N it runs one case, prints each call, and keeps each input in the folder that --keep names.
+- `build` of what `show` prints is the image again, in version 1 where that has room for it. The lines of relations are those of
+  the image. `list` has the bundles' bytes and the lines of the slots. `wrap` of the bundles is refused as the image of them is, or
+  gives it.
+- `check`, `run N`, `watch N` and `groups N K` answer the same of a text, its image and the image's text. They refuse what `build`,
+  or of an image `show`, refuses, in the same way. An image whose relation is refused is read without its relations.
+- `run N`, `watch N` and `trace` print what `check` does exactly where that isn't `accepted`. `watch N` and a trace of the N-th
+  group end with what `run N` prints, and its reports and the state are of one run. `groups N K` prints what `run N` does where
+  `check` says `accepted`, and a state where it doesn't.
+- What `stops` prints has a line for each of its stops, each with a violation round it. `check` accepts it, and `build` of it and
+  then `show` gives its canonical text. A right loose text is packed, unless it is too long.
+
+It doesn't know what a program means. Neither the verdict, nor the state, nor (but for the sorts with one fault) the reason of a
+refusal is compared with anything from outside. Faults of reading and writing aren't tried, and want of memory isn't either: status
+7 within the memory limit is a finding.
+
+It prints a line for each finding: the seed, the case, the command and what differs. At the end it prints how many cases of each
+sort ran, how long, and the slowest. The status is 1 where something was found.
 """
 
 import argparse

@@ -1,15 +1,16 @@
 #!/usr/bin/env python3
-"""Looks for damaged files on which the readers of the front end in another way than with an answer or a refusal. It is no part
-of the gate.
+"""Looks for damaged files on which the readers of the front end in another way than with an answer or a refusal.
 
-Call it by hand: fuzz/fuzz_files.py [--seed S] [--cases N] [--only N] [--keep FOLDER]. Case n of a seed is the same on every
-machine. The files are ELF files of each class and order, PE files, COFF object files and archives, as front/tests/writers.py
-writes them, damaged: bytes, fields of the headers and the tables (0, 1, the highest, the file's length, another field's number),
-rows of tables exchanged and doubled, parts cut, put in and left out. Each is read whole.
+  fuzz/fuzz_files.py [--seed S] [--cases N] [--only N] [--keep FOLDER]
 
-A case goes wrong where another exception than a Fault comes, where it takes more than SECONDS, or where there isn't memory
-enough, of MEMORY bytes. It prints a line for each of those, and at the end how many ended how. The status is 1 where one went
-wrong. With --only N it runs one case, with the traceback, and --keep keeps the file of each wrong one.
+It is called by hand. Case n of a seed is the same on every machine. The files are ELF files of each class and order, PE files,
+COFF object files and archives, as front/tests/writers.py writes them, damaged: bytes, fields of the headers and the tables (0, 1,
+the highest, the file's length, another field's number), rows of tables exchanged and doubled, parts cut, put in and left out. Each
+is read whole.
+
+A case goes wrong where another exception than a Fault comes, where it takes more than SECONDS, or where MEMORY bytes aren't
+enough. It prints a line for each of those, and at the end how many ended how. The status is 1 where one went wrong. With --only N
+it runs one case, with the traceback. --keep keeps the file of each wrong one.
 """
 
 import argparse

@@ -1,7 +1,10 @@
-"""What `ia64 stops` prints of a right loose text, by a model that is written apart and slow: it follows "How
-instructions are packed" of docs/use/formats.md word by word. Of the rest it asks the built program, by other commands than
-`stops`: which slots an instruction fits (`build`), the canonical text (`show`), and whether a rule is broken (`check`).
-Whether one is broken at an instruction it finds in a program that has what is packed so far, and behind it each other
+"""A model of `ia64 stops`: what it prints of a right loose text. It is imported, and not called.
+
+It is written apart and slow, and follows "How instructions are packed" of docs/use/formats.md word by word. Of the rest it asks the
+built program, by other commands than `stops`: which slots an instruction fits (`build`), the canonical text (`show`), and whether
+a rule is broken (`check`).
+
+Whether a rule is broken at an instruction it finds in a program that has what is packed so far, and behind it each other
 instruction in a bundle of its own, with a stop at its end.
 """
 

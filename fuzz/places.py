@@ -1,5 +1,6 @@
 """Where things are that the scripts of this folder call and import: the repository, the built program, and the modules of
-generate/ and the package front."""
+generate/ and the package front. It is imported, and not called.
+"""
 
 import sys
 from pathlib import Path

@@ -1,15 +1,17 @@
 #!/usr/bin/env python3
-"""try_loose.py [--program FILE] [--seed S] [--texts N] [--real]: takes bundles and stops out of programs with
-`ia64 loosen`, and looks at what `stops` makes of what is left. It is no part of the gate.
+"""Takes bundles and stops out of programs with `ia64 loosen`, and looks at what `stops` makes of what is left.
 
-- Each program of `examples/` and `tests/` that is accepted, and with --real each of `../shared/real` beside the
-  repository, where that is there: `stops` packs it, `build` takes what that prints, `check` accepts it, and it runs to
-  the end and the results that the program had before. Registers that hold addresses of bundles aren't compared, since
-  the bundles are others. Where data have such addresses, those of declared entries, they are put right in the image.
-- N random loose texts, which the seed fixes: what `stops` prints is what the model of `loose_model.py` says, line by
-  line.
+  fuzz/try_loose.py [--program FILE] [--seed S] [--texts N] [--real]
 
-It prints what differs, and a count; the status is 1 where something does.
+It is called by hand.
+
+- Each program of `examples/` and `tests/` that is accepted, and with --real each of `../shared/real` beside the repository, where
+  that is there. `stops` packs it, `build` takes what that prints, `check` accepts it, and it runs to the end and the results that
+  the program had before. Registers that hold addresses of bundles aren't compared, since the bundles are others. Where data have
+  such addresses, those of declared entries, they are put right in the image.
+- N random loose texts, which the seed fixes. What `stops` prints is what the model of `loose_model.py` says, line by line.
+
+It prints what differs, and a count. The status is 1 where something does.
 """
 
 import argparse

@@ -1,11 +1,18 @@
 #!/usr/bin/env python3
-"""Keeps the table of answers in docs/trust/claims.md true: each call that it names has to be a public one, and each clause one of
-that call; a call has a line for AllocError exactly where its signature has it; and each public call that answers a Result,
-an Option or a bool, or that is handed something to change, has to be there. It prints what isn't so, and ends with status 1
-where something isn't.
+"""Checks the table "Answers and their causes" of docs/trust/claims.md against the sources.
 
-A row is `| CALLS | ANSWER | COMES | CLAUSES |`; one without calls is of those above it. A row in bold names the crates of
-the rows below it. A lone clause without a name is `the clause`; `none` says that no clause speaks of the answer.
+  gate/causes.py
+
+It checks that
+
+- each call that the table names is a public one, and each clause is one of that call;
+- a call has a line for AllocError exactly where its signature has it;
+- each public call is there that answers a Result, an Option or a bool, or that is handed something to change.
+
+A row is `| CALLS | ANSWER | COMES | CLAUSES |`. A row without calls is of the calls above it. A row in bold names the crates of
+the rows below it. A lone clause without a name is `the clause`. `none` says that no clause speaks of the answer.
+
+It prints what isn't so, and ends with status 1 where something isn't. It needs no built program.
 """
 
 import pathlib

@@ -1,16 +1,20 @@
 #!/usr/bin/env python3
-"""Keeps what is said of instructions elsewhere to the rows that the program decodes and encodes by.
+"""Checks what is said of instructions elsewhere against the rows that the program decodes and encodes by.
 
-  gate/format_tables.py            says which lines of docs/use/formats.md aren't what the rows say, and of which row of words not just one
-                                    row of instruction_rows.py is, by the ends of its operands and by what is chosen in its opcode;
-                                    which zeros of that table are bits that a word may have, and which of its words no form has that
-                                    is printed; and which forms that are printed have their completers or operands in the order of
-                                    none of its lines, and which forms write a value in another way than its operand in a word is
-                                    coded. The status is then 1
-  gate/format_tables.py --write    writes the lines
+  gate/format_tables.py            checks, and ends with status 1 where something isn't so
+  gate/format_tables.py --write    writes the lines of docs/use/formats.md
 
-A table of the page has a line for each format of a family. What its first column says, the instructions as a user writes them,
-stands in the page alone; the other columns are made here.
+It says
+
+- which lines of docs/use/formats.md aren't what the rows say;
+- of which row of words not just one row of instruction_rows.py is, by the ends of its operands and by what is chosen in its
+  opcode;
+- which zeros of that table are bits that a word may have, and which of its words no printed form has;
+- which printed forms have their completers or operands in the order of none of its lines;
+- which forms write a value in another way than its operand in a word is coded.
+
+A table of the page has a line for each format of a family. Its first column has the instructions as a user writes them, and
+stands in the page alone. The other columns are made here. It needs no built program.
 """
 
 import re

@@ -1,15 +1,19 @@
 #!/usr/bin/env python3
-"""gate_times: where the time of the gate goes, by crate, in processor seconds.
+"""Measures where the time of the gate goes, by crate, in processor seconds.
 
-  gate/gate_times.py watch LOG COMMAND..   runs a command, as `bash .ci/run`, and writes to LOG a line for each check of a
-                                            crate that it began: the crate, what was checked, and the seconds that it took;
-                                            and last `whole`, the seconds of all that it began, and those on the clock
-  gate/gate_times.py table LOG             the table of such a log, as docs/build/gate.md has it
+  gate/gate_times.py watch LOG COMMAND..   runs a command, as `bash .ci/run`, and writes LOG
+  gate/gate_times.py table LOG             prints the table of such a log, as docs/build/gate.md has it
 
-What is checked is `proof`, `edits` (must-fail edits, and the check that they begin with) or `tests` (the proof of tests); all
-that isn't a check of a crate (compilers, programs, the repository's own tools) is `other` in the table. The seconds are those
-of a check and of what it begins, read off /proc twice a second, so the last half second of a check is not in them. A log
-speaks of what its run did, and not of what an earlier one had kept. Needs Linux. The status of `watch` is the command's."""
+LOG has a line for each check of a crate that the command began: the crate, what was checked, and the seconds that it took. The
+last line is `whole`: the seconds of all that the command began, and those on the clock.
+
+What is checked is `proof`, `edits` (must-fail edits, and the check that they begin with) or `tests` (the proof of tests). All
+that isn't a check of a crate (compilers, programs, the repository's own tools) is `other` in the table.
+
+The seconds are those of a check and of what it begins, read off /proc twice a second. So the last half second of a check is not
+in them. A log speaks of what its run did, and not of what an earlier one had kept. The status of `watch` is the command's. It
+needs Linux.
+"""
 import collections
 import os
 import pathlib

@@ -1,22 +1,21 @@
 #!/usr/bin/env python3
-"""Holds the texts of tests/gnu/, on which `check` and the GNU assembler for IA-64 differ, to both.
+"""Compares the texts of tests/gnu/, on which `check` and the GNU assembler for IA-64 differ, with both.
+
+  gate/gnu_check.py [PROGRAM]      runs both on each text; PROGRAM is the built one where none is named
+  gate/gnu_check.py --table        prints the texts as a Markdown table, and runs nothing
+  gate/gnu_check.py --manual FILE  says in what the table of the file differs from this one, with status 1 where it does
 
 The first line of a text says what the two answer, and the second why they differ:
 
     // check: accepted; GNU as: may be RAW unat
     // A fill reaches UNAT in program order ...
 
-Of `check` these are the rules and the resources of its verdict, each once, of GNU as -xexplicit those
-of its warnings: `RAW r8` where it says that an instruction violates a dependency, `may be RAW r8`
-where it may, and ` at label x` where it says so of an entry at the label. Without any it is
-`accepted`, and `nothing`.
+Of `check` these are the rules and the resources of its verdict, each once. Of GNU as -xexplicit they are those of its warnings:
+`RAW r8` where it says that an instruction violates a dependency, `may be RAW r8` where it may, and ` at label x` where it says
+so of an entry at the label. Without any it is `accepted`, and `nothing`.
 
-Call it when the program is built: gate/gnu_check.py [PROGRAM]. It prints a line for each answer
-that differs from the text's, and a count; it ends with status 1 where one differs. Without the GNU
-assembler it holds the texts to `check` alone, and says so.
-
-With --table it prints the texts as a Markdown table and runs nothing; with --manual FILE it says in
-what the table of the file differs from this one, with status 1 where it does.
+It prints a line for each answer that differs from the text's, and a count, and ends with status 1 where one differs. Without the
+GNU assembler it compares the texts with `check` alone, and says so.
 """
 
 import argparse

@@ -1,10 +1,10 @@
 #!/usr/bin/env python3
-"""Draws the examples, some tests and long functions, and shoots what a browser shows of them, to be looked at by eye.
+"""Draws the examples, some tests and long functions, and takes shots of them in a browser, to be looked at by eye.
 
   gate/look_at_pictures.py FOLDER [FILE..]
 
-It wants Chromium, and IA64_PROGRAM or a built program. In FOLDER stand then each picture as SVG and as a page, and its shots: as
-wide as a telephone, a page and a screen, in light and in dark.
+FOLDER then has each picture as SVG and as a page, and its shots: as wide as a telephone, a page and a screen, in light and in
+dark. It needs Chromium, and a built program or IA64_PROGRAM. The gate doesn't call it.
 """
 
 import os

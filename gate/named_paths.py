@@ -1,11 +1,12 @@
 #!/usr/bin/env python3
-"""Checks that what the documents name is there: paths, headings, lines of sources and crates.
+"""Checks that what the documents name is there: paths, headings, links, lines of sources and crates.
 
   gate/named_paths.py
 
 A path is what stands in backticks and begins with the name of a crate or of a folder at the top, and a slash. The path of a
 crate may leave `crates/` and the ending of the file out, and `*` stands for any name. Of a command the first word is looked at.
 A heading is what stands in quotes behind the path of a page, as `docs/use/check.md`, "Seven exceptions".
+A link is one of Markdown to another file, by its path from the page, or to a heading behind `#`.
 A block of differences names a file behind `+++`; each line of it that is added or stays has to stand in that file.
 The table of layers in docs/build/architecture.md has to name each crate of crates.txt just once, and no other.
 
@@ -50,6 +51,20 @@ def headings(page):
     return {line.lstrip("#").strip().replace("`", "") for line in prose(page.read_text()).splitlines() if line.startswith("#")}
 
 
+def anchors(page):
+    """What links to the headings of a page have behind `#`."""
+    return {re.sub(r"[^\w -]", "", heading.lower()).replace(" ", "-") for heading in headings(page)}
+
+
+def dead_links(document):
+    """The links of a document whose file or heading isn't there."""
+    for number, line in enumerate(prose(document.read_text()).splitlines(), 1):
+        for path, anchor in re.findall(r"\]\(([^)#:\s]*)(?:#([^)\s]+))?\)", line):
+            page = document.parent / path if path else document
+            if not page.exists() or anchor and page.suffix == ".md" and anchor not in anchors(page):
+                yield f"{document.relative_to(ROOT)}:{number}: no {path}{'#' * bool(anchor)}{anchor}"
+
+
 def faults_of(document):
     """What a document names that isn't there."""
     for number, line in enumerate(prose(document.read_text()).splitlines(), 1):
@@ -90,7 +105,8 @@ def layer_faults():
 
 
 def main():
-    faults = [fault for document in documents() for fault in (*faults_of(document), *missing_lines(document))] + list(layer_faults())
+    faults = [fault for document in documents() for fault in (*faults_of(document), *dead_links(document), *missing_lines(document))]
+    faults += layer_faults()
     for fault in faults:
         print(f"named_paths: {fault}")
     return 1 if faults else 0

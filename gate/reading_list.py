@@ -1,14 +1,18 @@
 #!/usr/bin/env python3
-"""Keeps docs/trust/reading.md true: counts the lines of the files that it lists, adds them up, and looks up each
-clause that it names. With --write it writes the counts into the page; without, it prints what isn't so, and
-ends with status 1 where something isn't.
+"""Checks docs/trust/reading.md against the sources: the files to read, their lines, and the clauses that it names.
 
-A row of a list of files is `| PATH | LINES | .. |`, PATH as `crate/specs/File`, or as `crate/src/file` where code is
-the definition; lines that are blank, comments or imports aren't counted. Each file of definitions of this repository that a listed one imports has to be
-listed too, and above it where it stands in the same list; so has each that the clauses of the top crate
-import. A row of the table of claims is `| CLAIM | FUNCTION | CLAUSE | PATH |`, PATH as `crate/src/file.rt`:
-the function must stand there and have the clause. The row `| in all | LINES | |` adds up the rows above it,
-since the last heading.
+  gate/reading_list.py            checks, and ends with status 1 where something isn't so
+  gate/reading_list.py --write    writes the counts of lines into the page
+
+A row of a list of files is `| PATH | LINES | .. |`. PATH is `crate/specs/File`, or `crate/src/file` where code is the
+definition. Lines that are blank, comments or imports aren't counted. Each file of definitions of this repository that a listed
+one imports has to be listed too, and above it where it stands in the same list. So has each that the clauses of the top crate
+import.
+
+A row of the table of claims is `| CLAIM | FUNCTION | CLAUSE | PATH |`. PATH is `crate/src/file.rt`: the function has to stand
+there and have the clause. The row `| in all | LINES | |` adds up the rows above it, since the last heading.
+
+It prints what isn't so. It needs no built program.
 """
 
 import pathlib

@@ -1,6 +1,10 @@
 #!/bin/bash
-# Runs the tests of the front on the built program, by default that of this repository: with python3, and once more without the
-# GNU tools for ia64, with Python 3.8, the oldest that the front takes, where it is installed. It says with what each ran.
+# Runs the tests of the front on the built program.
+#
+#   gate/test_front.sh [PROGRAM]     PROGRAM is the built one of this repository where none is named
+#
+# They run twice. First with python3, and with the GNU tools for ia64 where they are installed. Then without these, with Python
+# 3.8, the oldest that the front takes, where that is installed. It says with what each ran.
 cd "$(dirname "$0")/.." || exit 1
 export IA64_PROGRAM=${1:-$PWD/crates/ia64_cli/out/ia64_cli} PYTHONDONTWRITEBYTECODE=1
 if [ ! -x "$IA64_PROGRAM" ]; then echo "test_front: $IA64_PROGRAM is not built"; exit 1; fi

@@ -1,6 +1,10 @@
 #!/bin/bash
-# Tries ./install and ./release, with the program that is built from the sources as they are: in folders of their own, on a path
-# of commands without the Rattle kit. It prints a line for each try that fails, and a count.
+# Tries ./install and ./release, and what the documents quote in a release.
+#
+#   gate/try_install.sh
+#
+# They run in folders of their own, on a path of commands without the Rattle kit. The program has to be built from the sources as
+# they are. It prints a line for each try that fails, and a count.
 here=$(cd "$(dirname "$0")/.." && pwd)
 cd "$here" || exit 1
 folder=$(mktemp -d)

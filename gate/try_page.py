@@ -1,18 +1,20 @@
 #!/usr/bin/env python3
-"""try_page.py [--section HEADING].. [--root FOLDER] PAGE..: runs the commands of pages, or of the sections of them that have
-these headings, and compares what they print with what the pages say.
+"""Runs the commands of pages, and compares what they print with what the pages say.
 
-Commands are blocks ```sh of a page; what they print is the block without a language that stands directly behind one. The
-blocks of a page run in its order, in a folder that stands for the root of the repository: it has the examples and the
-tests, and `./ia64` there is the built program by itself (by default that of this repository, which has to be built), or, where
-files are arguments, the front, which asks it. With --root they run in that folder as it is, an unpacked release, say. A page
-says what comes on standard output; nothing may come on standard error, but for the line by which the wrapper says what a
-refusal is.
+  gate/try_page.py [--section HEADING].. [--root FOLDER] [--answers] PAGE..
 
-With --answers each line of a block is a command of its own, which has to end with an answer, whatever that is: with the
-status of one, and nothing on standard error.
+Commands are blocks ```sh of a page. What they print is the block without a language that stands directly behind one. With
+--section only the sections with these headings are tried.
 
-It prints each block, or line, that does something else, and a count; the status is 1 where there is one, and where there is no
+The blocks of a page run in its order, in a folder that stands for the root of the repository. It has the examples and the tests.
+`./ia64` there is the built program by itself (by default that of this repository, which has to be built), or, where files are
+arguments, the front, which asks it. With --root they run in that folder as it is, as an unpacked release.
+
+A page says what comes on standard output. Nothing may come on standard error, but for the line by which the wrapper says what a
+refusal is. With --answers each line of a block is a command of its own, which has to end with an answer, whatever that is: with
+the status of one, and nothing on standard error.
+
+It prints each block, or line, that does something else, and a count. The status is 1 where there is one, and where there is no
 block at all.
 """
 

@@ -1,12 +1,14 @@
 #!/usr/bin/env python3
-"""Tries the page that runs the program, in Chromium, by hand.
+"""Tries the page that runs the program, in Chromium.
 
   gate/try_page_in_browser.py [PAGE] [--pictures FOLDER]
 
-It asks the program in the page what it asks the native one, IA64_PROGRAM or the built one, of all examples, lessons and tests:
-status and bytes have to be the same. Then it uses the page by keyboard alone, and holds what is shown to what the native
-program prints. With --pictures it shoots the page as wide as a telephone, a tablet and a screen, in light and in dark, and as
-it is printed, to be looked at by eye.
+It asks the program in the page what it asks the native one, of all examples, lessons and tests. Status and bytes have to be the
+same. The native one is IA64_PROGRAM, or the built one. Then it uses the page by keyboard alone, and compares what is shown with
+what the native program prints.
+
+With --pictures it takes shots of the page as wide as a telephone, a tablet and a screen, in light and in dark, and as it is
+printed, to be looked at by eye. It is called by hand, and by the tests of the front where Chromium is installed.
 """
 
 import argparse

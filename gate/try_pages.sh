@@ -1,6 +1,10 @@
 #!/bin/bash
-# try_pages.sh [FOLDER]: holds what the documents quote to the built program, by try_page.py: in an outline of the repository, or,
-# where FOLDER is an unpacked release, there, as its pages say. What needs the GNU tools is tried where they are installed.
+# Compares what the documents quote with the built program, by try_page.py.
+#
+#   gate/try_pages.sh             in an outline of the repository
+#   gate/try_pages.sh FOLDER      in FOLDER, an unpacked release, as its pages say
+#
+# What needs the GNU tools is tried where they are installed.
 here=$(cd "$(dirname "$0")/.." && pwd)
 root=${1:-$here} standing=() status=0
 if [ $# != 0 ]; then standing=(--root "$1"); fi

@@ -1,6 +1,9 @@
 #!/bin/bash
-# Runs the built program as a user would, and compares bytes and statuses. Run it after `rt ci`, which
-# builds the program. It prints a line for each try that fails, and a count.
+# Runs the built program as a user does, and compares bytes and statuses.
+#
+#   gate/try_program.sh
+#
+# `rt ci` builds the program. It prints a line for each try that fails, and a count.
 here=$(cd "$(dirname "$0")/.." && pwd)
 cd "$here" || exit 1
 program=$here/crates/ia64_cli/out/ia64_cli

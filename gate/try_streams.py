@@ -1,7 +1,9 @@
 #!/usr/bin/env python3
-"""try_streams.py [PROGRAM]: tries the built program (by default that of this repository) and ./ia64 under closed, full, slow
-and broken streams, signals, odd words and small limits. What is wanted is what docs/use/formats.md says: "Words and statuses",
-"Streams, signals and memory".
+"""Tries the built program and ./ia64 under closed, full, slow and broken streams, signals, odd words and small limits.
+
+  gate/try_streams.py [PROGRAM]    PROGRAM is the built one of this repository where none is named
+
+What is wanted is what docs/use/formats.md says: "Words and statuses", "Streams, signals and memory".
 
 What this machine gives no leave for, as a mount, is skipped, and the closing line says so.
 """

@@ -1,6 +1,10 @@
 #!/bin/bash
-# Tries ./ia64 on the program that `rt ci` has built; and, in an outline of the repository with a stand-in for the kit, what
-# ./ia64 does without a program, and ./build. It prints a line for each try that fails, and a count.
+# Tries ./ia64 and ./build.
+#
+#   gate/try_wrapper.sh
+#
+# First it tries ./ia64 on the program that `rt ci` has built. Then it makes an outline of the repository with a stand-in for the
+# kit, and tries there what ./ia64 does without a program, and ./build. It prints a line for each try that fails, and a count.
 here=$(cd "$(dirname "$0")/.." && pwd)
 cd "$here" || exit 1
 program=$here/crates/ia64_cli/out/ia64_cli

@@ -1,9 +1,12 @@
 #!/usr/bin/env python3
-"""turned_rows: tries that the tables made outside refuse a row that is wrong.
+"""Tries that gate/format_tables.py refuses a row that is wrong.
 
-A row of words or of texts is code and definition at once, so no proof tells its operands from exchanged ones. Each edit here
-turns a row in a copy of the sources, and gate/format_tables.py has to say which one; of the sources as they are it has to say
-nothing. The status is 1 where one isn't refused, or can't be applied."""
+  gate/turned_rows.py
+
+A row of words or of texts is code and definition at once. So no proof tells its operands from exchanged ones. Each edit here
+turns a row in a copy of the sources, and gate/format_tables.py has to say which one. Of the sources as they are it has to say
+nothing. The status is 1 where a turned row isn't refused, or an edit can't be applied. It needs no built program.
+"""
 
 import shutil
 import subprocess

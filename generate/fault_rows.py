@@ -1,9 +1,8 @@
-"""What decodes to nothing: codes that no instruction has, operands out of range, and instructions that
-the profile leaves out.
+"""The table of what decodes to nothing: codes that no instruction has, operands out of range, and instructions that the
+profile leaves out. It is imported, and not called.
 
-The listed codes are those of the manual's tables (volume 3, chapter 4) for the instructions of the
-profile; every other code has to be refused. What the assembler knows and the profile leaves out is
-given as the assembler's text.
+The listed codes are those of the manual's tables (volume 3, chapter 4) for the instructions of the profile. Every other code has
+to be refused. What the assembler knows and the profile leaves out is given as the assembler's text.
 """
 
 import itertools

@@ -1,6 +1,6 @@
-"""Bundles as the GNU assembler for IA-64 makes them, and as the GNU disassembler reads them.
+"""Makes bundles by the GNU assembler for IA-64, and reads them by the GNU disassembler. It is imported, and not called.
 
-Needed: `ia64-linux-gnu-as`, `ia64-linux-gnu-objcopy` and `ia64-linux-gnu-objdump`, of Debian's package
+It needs `ia64-linux-gnu-as`, `ia64-linux-gnu-objcopy` and `ia64-linux-gnu-objdump`, of Debian's package
 binutils-ia64-linux-gnu.
 """
 

@@ -1,12 +1,16 @@
-"""The table of instructions: one row for each operation and form.
+"""The table of instructions: one row for each operation and form. It is imported, and not called.
 
-A row says how the GNU assembler is given the instruction, how its canonical line differs from that,
-and between which values each operand lies. Both texts are made of the same values. The formats and
-their numbers are those of the manual (volume 3, chapter 4).
+It is made by hand from the manual (volume 3, chapter 4), and never from the program. The formats and their numbers are the
+manual's. A row says how the GNU assembler is given the instruction, how its canonical line differs from that, and between which
+values each operand lies. Both texts are made of the same values.
 
-The canonical line has the assembler's text, but for masks, which are 17 bits in hexadecimal there,
-tags, which count bundles, targets, which are labels, the numbers that the assembler reads otherwise
-(`long_number`, `memory_hint_number`), and `alloc`, which has no inputs there.
+The canonical line has the assembler's text, but for
+
+- masks, which are 17 bits in hexadecimal there,
+- tags, which count bundles,
+- targets, which are labels,
+- the numbers that the assembler reads otherwise (`long_number`, `memory_hint_number`),
+- `alloc`, which has no inputs there.
 """
 
 from string import Template

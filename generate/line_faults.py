@@ -1,9 +1,11 @@
-"""Lines with a fault, and which fault it is. The specification of the text form says so, and not the
-GNU assembler, which takes some of these lines and refuses others with words of its own.
+"""The table of lines with a fault, and which fault it is. It is imported, and not called.
 
-Each block has a line a fault row. Within a block the lines are in the order of the words that they
-try: registers and memory, compares, fields, moves, branches, the rest, and lines that aren't slots.
-`WHOLE` has a right text of each form, which is spoilt at each of its places.
+The specification of the text form says which fault it is, and not the GNU assembler. That takes some of these lines, and refuses
+others with words of its own.
+
+Each block has a line for each row of a fault. Within a block the lines are in the order of what they try: registers and memory,
+compares, fields, moves, branches, the rest, and lines that aren't slots. `WHOLE` has a right text of each form, which is spoilt
+at each of its positions.
 """
 
 import re

@@ -1,7 +1,8 @@
-"""Texts of slot lines beside those of the table of instructions, lines that aren't slots, and the words of lines.
+"""The table of texts of slot lines beside those of the table of instructions, of lines that aren't slots, and of the lexemes
+of lines. It is imported, and not called.
 
-In a text `$name` stands for an operand that is drawn (`OPERANDS`), `$n` for the number that is tried,
-and `%` for the label of the text's own bundle.
+In a text `$name` stands for an operand that is drawn (`OPERANDS`), `$n` for the number that is tried, and `%` for the label of the
+text's own bundle.
 """
 
 from instruction_rows import BR, GR, I_AR, LOW_GR, PR, TARGET, Operand, choice, register, signed

@@ -1,45 +1,49 @@
 #!/usr/bin/env python3
 """Makes rows of the program `vectors`: bundles, and what each has to decode to.
 
-It needs Python 3.9 or later, with its standard library alone, and the GNU assembler, objcopy and
-objdump for IA-64 (`ia64-linux-gnu-as` and so on, of Debian's package binutils-ia64-linux-gnu; version
-2.40 made the files that are here). It is no part of the gate, which reads what it wrote. Run
+  python3 generate/make_bundle_rows.py
 
-    python3 generate/make_bundle_rows.py
+It runs in any folder, writes its part of `crates/vectors/stdin`, and prints what that covers. The same tools give the same rows.
+The gate reads what it wrote, and doesn't call it.
 
-in any folder. It writes its part of `crates/vectors/stdin`, and prints what that covers. The same tools give the same rows.
+It needs Python 3.9 or later, with its standard library alone, and the GNU assembler, objcopy and objdump for IA-64
+(`ia64-linux-gnu-as` and so on, of Debian's package binutils-ia64-linux-gnu). Version 2.40 made the files that are here.
 
-A row has the word `bundle`, the sixteen bytes of a bundle as 32 hexadecimal digits, and what they
-are: the code of the template and then, with a `|` before each, the canonical lines of its slots with
-their stops, as they are in bundle 2^20 of a text; or the name of a fault, and the slot that has it. The
-bytes are those of the GNU assembler, and the lines are made of the operands that the assembler was
-given: nothing comes from the decoder and the printer that `vectors` tries. `instruction_rows.py` is the
-table of instructions, with a row for each operation and form. A new operation is a new row there.
+A row has the word `bundle`, the sixteen bytes of a bundle as 32 hexadecimal digits, and what they are. That is the code of the
+template and then, with a `|` before each, the canonical lines of its slots with their stops, as they are in bundle 2^20 of a
+text. Or it is the name of a fault, and the slot that has it.
 
-The last rows are wrong on purpose.
+The bytes are those of the GNU assembler. The lines are made of the operands that the assembler was given. So nothing comes from
+the decoder and the printer that `vectors` tries. `instruction_rows.py` is the table of instructions, with a row for each operation
+and form: a new operation is a new row there.
 
-The rows in their order: every template; the A, I, M, B, F and X instructions of the profile; and then
-what decodes to nothing: reserved templates, bits that have to be zero, codes that no instruction has,
-operands out of range, targets r0, equal predicate targets, loop branches outside slot 2, words of
-another unit, instructions that the profile leaves out, and words that the disassembler doesn't know.
-For these the bundle is the assembler's with one slot spoilt, and the fault is at that slot, whatever
-stands after it: a long instruction counts as slot 1. `fault_rows.py` has the codes and the
-instructions that are left out. The disassembler is a second witness: it has to know each instruction
-before the fault, and each one of a bundle without a fault.
+The rows in their order:
+
+- every template;
+- the A, I, M, B, F and X instructions of the profile;
+- what decodes to nothing: reserved templates, bits that have to be zero, codes that no instruction has, operands out of range,
+  targets r0, equal predicate targets, loop branches outside slot 2, words of another unit, instructions that the profile leaves
+  out, and words that the disassembler doesn't know;
+- last, rows that are wrong on purpose.
+
+Of what decodes to nothing the bundle is the assembler's with one slot spoilt. The fault is at that slot, whatever stands after
+it: a long instruction counts as slot 1. `fault_rows.py` has the codes and the instructions that are left out.
+
+The disassembler is a second witness. It has to know each instruction before the fault, and each one of a bundle without a fault.
 
 Where the assembler differs from the manual or from the profile:
 
-- The number of `nop.x` and `break.x` has the L slot above bit 36 of the X slot; the profile has bit 36
-  highest. They differ from 2^20 on, and `long_number` turns one into the other.
-- `hint.m` has 19 bits of a number, with bits 11:10 of the word left out, so from 16 on the number is
-  another (`memory_hint_number`). With these bits the assembler spells `mov dahr` of later processors,
-  which is a hint here, as it is for earlier ones; it is not tried.
+- The number of `nop.x` and `break.x` has the L slot above bit 36 of the X slot; the profile has bit 36 highest. They differ from
+  2^20 on, and `long_number` turns one into the other.
+- `hint.m` has 19 bits of a number, with bits 11:10 of the word left out. So from 16 on the number is another
+  (`memory_hint_number`). With these bits the assembler spells `mov dahr` of later processors. That is a hint here, as it is for
+  earlier ones; it is not tried.
 - Displacements and tags are given in bytes; here they count bundles of sixteen bytes.
-- `alloc` has to be first in its group, so outside slot 0 the assembler puts a stop before it or refuses
-  it, and `clrrrb` last, so it needs a stop after it. Both are assembled where they may stand, and the
-  word is moved. So are loop branches outside slot 2 and what the profile leaves out.
-- It warns of a target r0, of equal predicate targets and of a load that updates its target. These words
-  are made of others by changing the field.
+- `alloc` has to be first in its group. So outside slot 0 the assembler puts a stop before it or refuses it. `clrrrb` has to be
+  last, so it needs a stop after it. Both are assembled where they may stand, and the word is moved. So are loop branches outside
+  slot 2 and what the profile leaves out.
+- It warns of a target r0, of equal predicate targets and of a load that updates its target. These words are made of others by
+  changing the field.
 """
 
 import collections

@@ -1,24 +1,23 @@
 #!/usr/bin/env python3
 """Makes rows of the program `vectors`: whole calls of `ia64`, and what they have to answer.
 
-It needs nothing but Python 3.8 and the files of this repository. Run
+  generate/make_call_rows.py            writes its part of `crates/vectors/stdin`, and prints how many rows speak of what
+  generate/make_call_rows.py --check    writes nothing, and ends with status 1 where that isn't what it makes, or where the
+                                        file has lost rows of any part
 
-    generate/make_call_rows.py
+It runs in any folder, and needs nothing but Python 3.8 and the files of this repository. The gate calls it with --check.
 
-in any folder. It writes its part of `crates/vectors/stdin`, and prints how many rows speak of what. With `--check` it writes
-nothing: it ends with status 1 where that isn't what it makes, or where the file has lost rows of any part.
+The head of `crates/vectors/src/main.rt` says what a row is; here, a `Row`. An input or an output is pieces: a text, bytes, or so
+many times one.
 
-The head of `crates/vectors/src/main.rt` says what a row is; here, a `Row`. An input or an output is pieces: a text, bytes,
-or so many times one.
+What is wanted is never the program's own output. The cases that are written here are worked by hand from docs/use/formats.md. It
+says how a bundle, an image and a text are made, which status comes, and how much of the input is read then. The others are of
+files of this repository. The comment of an example says what `run` or `check` prints, and a text of tests/check/ has its verdict
+beside it, both worked by hand. A text of tests/run/ has its state beside it. A model gave that which was written apart, as it
+gave the sum of a long trial.
 
-What is wanted is never the program's own output. The cases that are written here are worked by hand from docs/use/formats.md,
-which says how a bundle, an image and a text are made, which status comes, and how much of the input is read then. The
-others are of files of this repository: the comment of an example says what `run` or `check` prints, and a text of
-tests/check/ has its verdict beside it, both worked by hand; a text of tests/run/ has its state beside it, which a model gave
-too that was written apart, as it gave the sum of a long trial.
-
-In the last rows one thing is changed on purpose: the status, a byte of the output, a line of it, what is left of the
-input, or the call that fails.
+In the last rows one thing is changed on purpose: the status, a byte of the output, a line of it, what is left of the input, or
+the call that fails.
 """
 
 import re

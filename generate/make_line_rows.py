@@ -1,40 +1,39 @@
 #!/usr/bin/env python3
 """Makes rows of the program `vectors`: lines of text, and what each has to be read as.
 
-It needs what `make_bundle_rows.py` needs, and is no part of the gate either. Run
+  python3 generate/make_line_rows.py
 
-    python3 generate/make_line_rows.py
+It runs in any folder, writes its part of `crates/vectors/stdin`, and prints what that covers. The same tools give the same rows.
+It needs what `make_bundle_rows.py` needs. The gate doesn't call it.
 
-in any folder. It writes its part of `crates/vectors/stdin`, and prints what that covers. The same tools
-give the same rows. They are:
+The rows are:
 
-- `slot HEX SLOT TEXT`, or `slot HEX SLOT:LABEL TEXT` where the text names a label: the sixteen bytes of a bundle
-  as 32 hexadecimal digits, a slot from 0 to 2, and the text of a slot's line, which has to be read as
-  the instruction of that slot, with a stop where the bundle has one after it. The bytes are those of
-  the GNU assembler. The label is that of the text's own bundle, so a displacement is 0; the address
-  that a `movl` names is 0 until the linker puts one in. A long instruction has slot 1.
-- `FAULT TEXT`: a line with this fault: char, name, register, number, range or form. `line_faults.py`
-  has them, but for numbers past their edges, which are made here. The specification says what the
-  fault is, and not the assembler.
+- `slot HEX SLOT TEXT`, or `slot HEX SLOT:LABEL TEXT` where the text names a label: the sixteen bytes of a bundle as 32
+  hexadecimal digits, a slot from 0 to 2, and the text of a slot's line. The text has to be read as the instruction of that slot,
+  with a stop where the bundle has one after it. The bytes are those of the GNU assembler. The label is that of the text's own
+  bundle, so a displacement is 0. The address that a `movl` names is 0 until the linker puts one in. A long instruction has
+  slot 1.
+- `FAULT TEXT`: a line with this fault: char, name, register, number, range or form. `line_faults.py` has them, but for numbers
+  past their edges, which are made here. The specification says what the fault is, and not the assembler.
 - `line WHAT|TEXT`: a line that isn't a slot's, and what it is (`line_texts.py`).
-- `words WORDS|TEXT`: a line and its words, and `token WHAT|TEXT`: a line of one word, and the debug text
-  of what the word may be read as (`line_texts.py`).
+- `words WORDS|TEXT`: a line and its lexemes. `token WHAT|TEXT`: a line of one lexeme, and the debug text of what that may be read
+  as (`line_texts.py`).
 
 The last rows are wrong on purpose.
 
-The assembler is given the text of a row as it stands, but where it doesn't take it or means something
-else by it. There it is given the same in its own words (`said`), and a comment says why:
+The assembler is given the text of a row as it stands, but where it doesn't take it or means something else by it. There it is
+given the same in its own words (`said`), and a comment says why:
 
-- It counts tags in bytes, has other numbers for `nop.x`, `break.x` and `hint.m`, as
-  `make_bundle_rows.py` tells, and takes a leading 0 for octal. A `nop` or `break` without a unit letter has 21 bits for it.
+- It counts tags in bytes, has other numbers for `nop.x`, `break.x` and `hint.m`, as `make_bundle_rows.py` tells, and takes a
+  leading 0 for octal. A `nop` or `break` without a unit letter has 21 bits for it.
 - It makes `addl` of `add r1=imm,r3` where r3 is r0 to r3, for numbers of 14 bits too.
-- It wants the number of `nop`, `break` and `hint`, the tag of a `mov` with completers, and the *bwh* of
-  a branch that names its kind (`br x` it takes, and `br.cond x` it doesn't).
-- It refuses some blanks round the qualifying predicate in its parentheses, and takes names of registers
-  for registers where the text form takes labels.
+- It wants the number of `nop`, `break` and `hint`, the tag of a `mov` with completers, and the *bwh* of a branch that names its
+  kind (`br x` it takes, and `br.cond x` it doesn't).
+- It refuses some blanks round the qualifying predicate in its parentheses, and takes names of registers for registers where the
+  text form takes labels.
 
-Of a pseudo-operation, and of what is left out, the assembler is given the instruction that is meant
-too, and has to make the same of both.
+Of a pseudo-operation, and of what is left out, the assembler is given the instruction that is meant too, and has to make the same
+of both.
 """
 
 import collections

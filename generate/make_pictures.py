@@ -1,8 +1,11 @@
 #!/usr/bin/env python3
-"""make_pictures.py [--check]: draws the pictures of docs/pictures/ by `./ia64 draw`, of the examples that the documents show.
+"""Draws the pictures of docs/pictures/ by `./ia64 draw`, of the examples that the documents show.
 
-They say what is proved of them, so the program has to be proved and built from the sources as they are (`./build`, or the gate).
-With `--check` nothing is written: the status is 1 where a picture isn't what is drawn.
+  generate/make_pictures.py            writes them
+  generate/make_pictures.py --check    writes nothing, and ends with status 1 where a picture isn't what is drawn
+
+The pictures say what is proved of them. So the program has to be proved and built from the sources as they are (`./build`, or the
+gate). The gate calls it with --check.
 """
 
 import os

@@ -1,7 +1,11 @@
 #!/usr/bin/env python3
-"""Makes the texts of tests/run/, programs that gate/try_program.sh runs: loop branches, frames, rotation, spills, faults and
-the ALAT. The first line of a text says for how many groups it is run and with which status that ends; NAME.state, which
-this doesn't make, has what is printed."""
+"""Makes the texts of tests/run/ that are made of parts: loop branches, frames, rotation, spills, faults and the ALAT.
+
+  generate/make_tests.py
+
+gate/try_program.sh runs these texts. The first line of a text says for how many groups it is run and with which status that ends.
+NAME.state has what is printed. This doesn't make it.
+"""
 import os
 
 folder = os.path.join(os.path.dirname(os.path.abspath(__file__)), "..", "tests/run")

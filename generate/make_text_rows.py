@@ -1,23 +1,20 @@
 #!/usr/bin/env python3
 """Makes rows of the program `vectors`: whole texts, and the images that `build` makes of them.
 
-It needs what `gnu_as.py` needs, and `ia64-linux-gnu-ld` and `-nm` of the same package, and is no part of
-the gate. Run
+  python3 generate/make_text_rows.py
 
-    python3 generate/make_text_rows.py
+It runs in any folder, writes its part of `crates/vectors/stdin`, and prints what that covers. The same tools give the same rows.
+They are calls of `build`, in the form of those of `make_call_rows.py`. It needs what `gnu_as.py` needs, and `ia64-linux-gnu-ld`
+and `-nm` of the same package. The gate doesn't call it.
 
-in any folder. It writes its part of `crates/vectors/stdin`, and prints what that covers. The same tools
-give the same rows. They are calls of `build`, in the form of those of `make_call_rows.py`.
+The bundles and the data of an image are those of the GNU assembler, which is given the text with a label before each line of
+relations. Its linker puts the bundles at 0x10000 and the data at 0x100000. So it makes the displacements and the addresses of the
+labels. The numbers of the declared entries, and of the bundles that lines of relations speak of, are read off the linker's
+table of symbols. So an image has nothing of the program that it is compared with.
 
-The bundles and the data of an image are those of the GNU assembler, which is given the text with a label
-before each line of relations. Its linker puts the bundles at 0x10000 and the data at 0x100000, so that it
-makes the displacements and the addresses of the labels. The numbers of the declared entries, and of the
-bundles that lines of relations speak of, are read off the linker's table of symbols. So an image has
-nothing of the program that it is compared with.
-
-In the last rows one thing of a text is changed on purpose, and the image is that of the text before: a label
-stands a bundle later, two bundles are exchanged, an entry isn't declared, a word of data is left out, a relation
-stands a bundle later, or one of its predicates is left out.
+In the last rows one thing of a text is changed on purpose, and the image is that of the text before: a label stands a bundle
+later, two bundles are exchanged, an entry isn't declared, a word of data is left out, a relation stands a bundle later, or one of
+its predicates is left out.
 """
 
 import itertools

@@ -1,4 +1,5 @@
-"""What the page has of the documents: the lessons with their questions and answers, as HTML, and the texts of all examples.
+"""Makes what the page has of the documents: the lessons with their questions and answers, as HTML, and the texts of all
+examples. It is imported, and not called.
 
 Of Markdown it knows what the lessons have: paragraphs, fenced code, lists with numbers, and in a line code, bold and links.
 Pictures are left out, since the page draws the program itself.

@@ -1,8 +1,9 @@
-"""Random programs as texts, and such texts with one fault, of which it is known what is answered.
+"""Makes random programs as texts, and such texts with one fault, of which it is known what is answered. It is imported, and
+not called.
 
-A program is made of every row of the table of instructions and of the other texts of slot lines, with
-labels, entries, relations, data, predicates, stops and spellings at random. It is right but for runs of slots that
-may be too long. A text is a list of lines without their ends.
+A program is made of every row of the table of instructions and of the other texts of slot lines, with labels, entries, relations,
+data, predicates, stops and spellings at random. It is right but for runs of slots that may be too long. A text is a list of lines
+without their ends.
 """
 
 import re

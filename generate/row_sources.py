@@ -1,5 +1,5 @@
-"""The rows of instructions of the crates, read from their sources: which operands each has, in which bits, with which values, and
-how it is written.
+"""Reads the rows of instructions of the crates from their sources: which operands each has, in which bits, with which values,
+and how it is written. It is imported, and not called.
 
 The rows of words stand in formats_*/src, and what they are made of in insn_rows/src: formats, operands, fields and the operations'
 names of their operands. The rows of texts stand in asm_forms/src.

@@ -1,6 +1,7 @@
-"""The input of the program `vectors`, and what it answers: a part for each script that makes rows, behind a heading.
+"""Reads and writes the input of the program `vectors`, and what it answers. It is imported, and not called.
 
-A row behind `not` is wrong on purpose. So is the last row of all, without that word, which `stdout` has the program name.
+The input has a part for each script that makes rows, behind a heading. A row behind `not` is wrong on purpose. So is the last row
+of all, without that word, which `stdout` has the program name.
 """
 
 import re
