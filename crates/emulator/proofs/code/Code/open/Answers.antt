@@ -4,6 +4,6 @@ use Rattle.emulator.proofs.code.Code.open.Goals as goal
 pub invariant_of-result : goal.invariant_of-result
 invariant_of-result c = record {
   program = c.is_program.ensures;
-  count = c.in_ok-code_slots.ensures.count;
-  each = all_code_slots c.args.slots.now c.in_ok-code_slots.list.items c.in_ok-code_slots.ensures.count c.in_ok-code_slots.ensures.each;
+  count = c.in_ok-list.ensures.count;
+  each = all_code_slots c.args.slots.now c.in_ok-list.list.items c.in_ok-list.ensures.count c.in_ok-list.ensures.each;
 }
