@@ -217,10 +217,17 @@ def read_text(path):
 
 
 def pack(options, program):
-    """A text packed anew. Of one without bundles the stops count as written, as on standard input."""
-    from front import loosen
+    """A text packed anew. Of one without bundles the stops count as written, as on standard input. Of one with bundles so do
+    those of bundles on no walk: no rule asks for a stop there."""
+    from front import loosen, programs
     data = read_text(options.file)
-    return plain_answer(program, ["stops"], loosen.loosened(data, options.keep_stops) if loosen.has_bundles(data) else data)
+    if not loosen.has_bundles(data):
+        return plain_answer(program, ["stops"], data)
+    kept = () if options.keep_stops else programs.lines_off_walks(data, program)
+    if kept:
+        complain(f"{options.file}: note: some bundles are on no walk, the first in line {min(kept) + 1}: the stops there are kept "
+                 "as they are. A line `.entry NAME` makes what a label names an entry")
+    return plain_answer(program, ["stops"], loosen.loosened(data, options.keep_stops, kept))
 
 
 def loosened(options, program):

@@ -4,7 +4,8 @@ What is left are the instructions in their order, one on a line, with the labels
 stand between them. Taken out are
 
 - braces and templates. A `nop`, `break`, `hint` or `chk.s` without its unit letter gets that of its slot;
-- each `;;`, unless stops are kept: then one behind a `nop` that is taken out stands on a line of its own;
+- each `;;`, unless stops are kept, all or those of some lines: one behind a `nop` that is taken out then stands on a line of its
+  own;
 - each `nop` with the number 0 and without a qualifying predicate, whatever its unit. One stays, the first, where
   nothing else would be left between a label, a relation line, a call or the start and the next label, relation line or
   the end: so each label keeps an instruction of its own, each relation its entry, and each call what it comes back to.
@@ -56,8 +57,8 @@ class Loosened:
     """What is left of the lines so far. A stretch goes from a label, a relation line, a call or the start to the next
     label, relation line or the end."""
 
-    def __init__(self, keeps_stops=False):
-        self.keeps_stops = keeps_stops
+    def __init__(self, keeps_stops=False, kept_lines=()):
+        self.keeps_stops, self.kept_lines = keeps_stops, kept_lines
         self.left = []        # of each line the lines that are left
         self.undecided = []   # each nop since the last other instruction: the number of its line; front, stop, comment
         self.is_bare = True   # the stretch has nothing but nops so far
@@ -85,11 +86,15 @@ class Loosened:
         """Takes a stop on a line of its own."""
         if self.undecided and not self.has_slot:
             self.undecided.append((len(self.left), front, True, comment))
-        self.left.append(self.without_nop(front, True, comment))
+        self.left.append(self.without_nop(len(self.left), front, True, comment))
 
-    def without_nop(self, front, stopped, comment):
+    def keeps_stop(self, number):
+        """Whether the stop on the line with this number, from 0, is kept."""
+        return self.keeps_stops or number in self.kept_lines
+
+    def without_nop(self, number, front, stopped, comment):
         """What is left of a line without the nop on it."""
-        if stopped and self.keeps_stops and self.has_slot:
+        if stopped and self.keeps_stop(number) and self.has_slot:
             return [f"{front};;{'  ' * bool(comment)}{comment}"]
         return lines_of(comment)
 
@@ -110,13 +115,13 @@ class Loosened:
 
     def take_out_nops(self):
         for number, *rest in self.undecided:
-            self.left[number] = self.without_nop(*rest)
+            self.left[number] = self.without_nop(number, *rest)
         self.undecided = []
 
     def slot(self, said, front, stopped, comment):
         """Takes an instruction."""
         said = with_unit(said, self.units.pop(0) if self.units else None)
-        mark = " ;;" if stopped and self.keeps_stops else ""
+        mark = " ;;" if stopped and self.keeps_stop(len(self.left)) else ""
         if is_nop(said):
             self.undecided.append((len(self.left), front, stopped, comment))
         else:
@@ -135,9 +140,9 @@ def has_bundles(data):
     return any(OPENING.match(parts_of(line)[0]) for line in lines_of_text(data))
 
 
-def loosened(data, keeps_stops=False):
-    """What is left of the bytes of a text."""
-    left = Loosened(keeps_stops)
+def loosened(data, keeps_stops=False, kept_lines=()):
+    """What is left of the bytes of a text: of its stops all, or those on the lines of these numbers, from 0."""
+    left = Loosened(keeps_stops, kept_lines)
     for line in lines_of_text(data):
         left.add(line)
     return "".join(f"{line}\n" for line in left.lines()).encode("latin-1")

@@ -3,9 +3,12 @@
 import re
 import struct
 
-from front import ways
+from front import flow, ways
+from front.bundle import split_all
+from front.code import Section
 from front.faults import ProgramFault
 from front.files import Kind
+from front.functions import Function
 from front.gnu import Source
 from front.judging import ACCEPTED, VIOLATED
 from front.program import END, Refusal
@@ -35,8 +38,8 @@ def checked(file, program, verbose=False):
     if status == 3:
         raise refused(file, text.rstrip("\n"))
     total, broken = program.verdict(text)
-    built = Image(file, program) if broken and total == len(broken) or verbose else None
-    found = ways.ways(built.ask, built.code, broken) if built and broken else {}
+    built = Image(file, program)
+    found = ways.ways(built.ask, built.code, broken) if broken and total == len(broken) else {}
     excused = ways.excused(built.ask, built.code, broken) if verbose and total == len(broken) else []
     if file.kind is Kind.TEXT:
         findings = list(text_findings(file, slots_of_text(file.data), broken, found, excused))
@@ -44,6 +47,7 @@ def checked(file, program, verbose=False):
         findings = list(image_findings(file, broken, found, excused, program))
     if verbose and not total:
         findings.append(Finding(Severity.NOTE, None, file.label, "", ACCEPTED))
+    findings += coverage(file, built)
     if total > len(broken):
         findings.append(Finding(Severity.NOTE, None, file.label, "", counted(total - len(broken), "more violation")))
     return Answer(file, [], findings, {}, {}, VIOLATED if total else ACCEPTED, total - len(broken))
@@ -89,16 +93,54 @@ def unread(file, none):
                                      f"not read without the GNU assembler: {none.why}", "refused")], {}, {})
 
 
-class Image:
+def coverage(file, built):
+    """A note where walks miss some bundles of a program: its verdict says nothing of these."""
+    function = built.function()
+    walked = flow.walks(function).walked
+    missed = flow.off_walks(function, walked)
+    if missed:
+        slots = slots_of_text(file.data) if file.kind is Kind.TEXT else []
+        at = slots[missed[0]][0].line if missed[0] < len(slots) and slots[missed[0]] else None
+        where = f"is bundle {missed[0]}" if at is None else f"begins here, bundle {missed[0]}"
+        yield Finding(Severity.NOTE, Source(file.label, at) if at else None, "" if at else file.label, "",
+                      f"{len(walked) - len(missed)} of {len(walked)} bundles are on a walk; the first that isn't {where}")
+
+
+def lines_off_walks(data, program):
+    """The numbers, from 0, of the lines of a text that belong to bundles on no walk; none of a text that isn't one."""
+    status, image = program.raw(["build"], data)
+    slots = slots_of_text(data) if status == 0 else []
+    built = Parts(image) if status == 0 else None
+    if built is None or len(slots) != len(built.code) // 16:
+        return frozenset()
+    walked = flow.walks(built.function()).walked
+    starts = [row[0].line - 1 if row else None for row in slots] + [len(lines_of_text(data))]
+    return frozenset(line for index, is_walked in enumerate(walked) if not is_walked and None not in starts[index:index + 2]
+                     for line in range(starts[index], starts[index + 1]))
+
+
+class Parts:
+    """The parts of an image: its head with entries and relations, its bundles, and its data."""
+
+    def __init__(self, image):
+        count, entries = struct.unpack_from("<2I", image, 8)
+        relations = struct.unpack_from("<I", image, 20)[0] if image.startswith(b"IA64IMG2") else 0
+        first = 24 + 4 * entries + 8 * relations
+        self.entries = struct.unpack_from(f"<{entries}I", image, 24)
+        self.head, self.code, self.rest = image[:first], image[first:first + 16 * count], image[first + 16 * count:]
+
+    def function(self):
+        """The program as a function, for its walks."""
+        section = Section(0, "", 0, len(self.code), True, True)
+        return Function(section, 0, section.size, "", bundles=split_all(self.code), entries=dict.fromkeys(self.entries, "declared"))
+
+
+class Image(Parts):
     """The image of a program, whose bundles can be changed."""
 
     def __init__(self, file, program):
         self.program = program
-        data = file.data if file.kind is Kind.IMAGE else program.raw(["build"], file.data)[1]
-        count, entries = struct.unpack_from("<2I", data, 8)
-        relations = struct.unpack_from("<I", data, 20)[0] if data.startswith(b"IA64IMG2") else 0
-        first = 24 + 4 * entries + 8 * relations
-        self.head, self.code, self.rest = data[:first], data[first:first + 16 * count], data[first + 16 * count:]
+        super().__init__(file.data if file.kind is Kind.IMAGE else program.raw(["build"], file.data)[1])
 
     def ask(self, code):
         """What a check answers of the program with these bundles, and an end bundle behind them, where those branches lead that

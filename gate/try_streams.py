@@ -724,7 +724,7 @@ cat "$OUTLINE/output" 2> /dev/null
     TERMINAL = b"ia64: standard input is a terminal: type the input and end it with Ctrl-D, or call ia64 check FILE\n"
     NOT_BUILT = (b"ia64: the program is not built from the sources as they are: nothing is proved of this answer. "
                  b"./build proves and builds it\n")
-    NOT_KEPT = (b"ia64: compiling the program without a proof, once for these sources and this kit: one or two minutes\n"
+    NOT_KEPT = (b"ia64: compiling the program without a proof, once for these sources and this kit: 40 to 90 seconds\n"
                 b"ia64: a program without a proof can't be kept: the kit %s isn't laid out as it is looked for\n"
                 b"ia64: so it is compiled for each answer anew\n")
 

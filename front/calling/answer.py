@@ -381,8 +381,9 @@ def said_numbers(rows, unit):
 
 # ---- JSON ------------------------------------------------------------------------------------------------
 
-def document(answer, names, label, function, steps=None):
-    """The answer as one JSON document, with the groups that are told of the run."""
+def document(answer, names, label, function, steps=None, is_judged=True):
+    """The answer as one JSON document, with the groups that are told of the run. Where nothing was judged, no count of violations
+    is known."""
     def value(row):
         name, number = row
         if number is None:
@@ -399,6 +400,6 @@ def document(answer, names, label, function, steps=None):
         "changes": [{"name": change.name, "argument": change.block, "offset": change.offset, "past": change.is_past,
                      "read_only": change.is_kept, "before": change.before.hex(), "after": change.after.hex()}
                     for change in answer.changes],
-        "violation_count": answer.total,
+        "violation_count": answer.total if is_judged else None,
         "violations": [{**row, "source": row["source"] and str(row["source"])} for row in answer.violations],
         **({} if steps is None else {"steps": steps})}, indent=1)

@@ -90,7 +90,8 @@ def answer_of(options, program, arguments):
     found = answered(teller, options, status, printed)
     followed = Followed(program, teller, min(options.trace, options.limit)) if options.trace and found.groups else None
     if options.format == "json":
-        print(answers.document(found, names, printable(options.file), options.function, followed and followed.rows()))
+        print(answers.document(found, names, printable(options.file), options.function, followed and followed.rows(),
+                               options.groups is None))
     else:
         print(*(followed.lines() if followed else ()), *answers.Lines(names, arguments, options.all).of(found), sep="\n")
     return found.status

@@ -4,14 +4,12 @@ import struct
 
 from front import flow, messages, programs, texts, ways
 from front.bundle import branches, split_all
-from front.code import Section
 from front.drawing import figures
 from front.drawing.accesses import accesses_of
 from front.drawing.figure import Entry, Figure, Row
 from front.drawing.relations import cliques
 from front.faults import Fault
 from front.files import Kind
-from front.functions import Function
 from front.judging import ACCEPTED, VIOLATED
 from front.program import Refusal
 
@@ -75,8 +73,7 @@ def figure(file, source, program, is_proved):
         return f"{row.rule} {row.resource}: {programs.said_pair(row, text(row.first), text(row.second))} ({places})"
 
     pairs = figures.pairs_of(broken, said, accesses) + figures.pairs_of(excused, said, accesses, True)
-    declared, function = Declared(image.head), whole(bundles, image.head)
-    walked = flow.walks(function).walked
+    declared, walked = Declared(image.head), flow.walks(image.function()).walked
     rows = make_rows(bundles, listing, told, accesses, text, declared, walked)
     only_by = figures.only_by(found)
     edges = tuple(figures.branch((index, slot), index + away, f"{index}.{slot} to bundle {index + away}", only_by)
@@ -84,12 +81,6 @@ def figure(file, source, program, is_proved):
     return Figure(source.label, "", VIOLATED if total else ACCEPTED,
                   messages.counted(total, "violation") if total else ACCEPTED,
                   notes(total, len(broken), walked, is_proved), rows, edges, tuple(pairs))
-
-
-def whole(bundles, head):
-    """A program as a function, for its walks."""
-    section = Section(0, "", 0, 16 * len(bundles), True, True)
-    return Function(section, 0, section.size, "", bundles=bundles, entries=dict.fromkeys(Declared(head).entries, "declared"))
 
 
 def make_rows(bundles, listing, told, accesses, text, declared, walked):

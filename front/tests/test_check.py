@@ -643,6 +643,15 @@ class Files(Case):
                                                 "0 accepted, 0 violated, 0 not judged"], ""))
         self.assertEqual(self.call(self.put(b"!<arch>\n", "l.a")), (0, ["0 accepted, 0 violated, 0 not judged"], ""))
 
+    def test_bundles_on_no_walk(self):
+        """A text and an image with bundles that no walk reaches have a note of them; with an entry there they have none."""
+        text = b"{ .mib\nnop 0\nnop 0\nbr.ret b0 ;;\n}\ng:\n{ .mib\nadd r8=r9,r10\nnop 0\nbr.ret b0 ;;\n}\n"
+        note, last = "note: 1 of 2 bundles are on a walk; the first that isn't", "1 accepted, 0 violated, 0 not judged"
+        self.assertEqual(self.call(self.put(text, "t.s")), (0, [f"t.s:8: {note} begins here, bundle 1", last], ""))
+        self.assertEqual(self.call(self.put(b".entry g\n" + text, "t.s")), (0, [last], ""))
+        image = subprocess.run([PROGRAM, "build"], input=text, stdout=subprocess.PIPE, check=True).stdout
+        self.assertEqual(self.call(self.put(image, "t.image")), (0, [f"t.image: {note} is bundle 1", last], ""))
+
     def test_foreign_files(self):
         good = one_function(RETURN).data()
         only = "only those for IA-64 are read"

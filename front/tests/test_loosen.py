@@ -113,6 +113,19 @@ class Calls(Case):
         Path("x.s").write_bytes(b"{ .mmi\nnop 0 ;;\nmf\nnop 0\n}\n")
         self.assertEqual(self.ia64("stops", "x.s"), (0, b"{ .mii\n  mf\n  nop.i 0x0\n  nop.i 0x0\n}\n", ""))
 
+    def test_code_on_no_walk(self):
+        """What no walk reaches keeps its stops, and a note says so; an entry is reached."""
+        bundles = b"{ .mmi\nadd r8=r9,r10 ;;\nadd r11=r8,r9\nnop 0\n}\n{ .mib\nnop 0\nnop 0\nbr.ret b0 ;;\n}\n"
+        Path("x.s").write_bytes(b"{ .mib\nnop 0\nnop 0\nbr.ret b0 ;;\n}\ng:\n" + bundles)
+        status, packed, said = self.ia64("stops", "x.s")
+        self.assertEqual(said, "ia64: x.s: note: some bundles are on no walk, the first in line 8: the stops there are kept as "
+                               "they are. A line `.entry NAME` makes what a label names an entry\n")
+        self.assertEqual((status, packed.count(b" written\n")), (0, 2))
+        self.assertEqual(self.ia64("stops", "--keep-stops", "x.s")[1].count(b" written\n"), 3)
+        Path("x.s").write_bytes(b".entry g\n" + Path("x.s").read_bytes())
+        status, packed, said = self.ia64("stops", "x.s")
+        self.assertEqual((status, said, packed.count(b" written\n"), packed.count(b" RAW r8 ")), (0, "", 0, 1))
+
     def test_what_goes_wrong(self):
         self.assertEqual(self.ia64("loosen", "nowhere"), (2, b"", "ia64: nowhere: No such file or directory\n"))
         self.assertEqual(self.ia64("loosen", "--no-such-word")[:2], (2, b""))
