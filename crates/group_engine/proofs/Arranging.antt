@@ -30,8 +30,8 @@ but_first : {X : Type 0} (x : X) (xs : List X) → others x xs 0 ≡ xs
 but_first x [] = refl
 but_first x (y ∷ ys) = refl
 
--- the order with the number 0
-unmoved : {X : Type 0} (xs : List X) (n : ℕ) → n ≡ length xs → arranged (order 0 n) xs ≡ xs
+-- The order with the number 0 is that in which they stand.
+pub unmoved : {X : Type 0} (xs : List X) (n : ℕ) → n ≡ length xs → arranged (order 0 n) xs ≡ xs
 unfolding order
 unmoved [] n e = refl
 unmoved (x ∷ xs) n e =

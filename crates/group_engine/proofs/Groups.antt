@@ -38,17 +38,17 @@ unfolding numbered_group rest_of
 group_made number p s g last h = made_is number (gathered_within RUN_LIMIT p true (gathered_from s)) g last h
 
 -- the engine after such a group
-pub engine_made : (number : ℕ) (p : Program) (s : State) (g : Gathered) (last before : Option End) (groups : ℕ) (range left : Rse) (registers : Registers) (memory : Memory) (place : Place) (e : Engine)
+pub engine_made : (number : ℕ) (p : Program) (s : State) (g : Gathered) (last before after : Option End) (groups : ℕ) (range left : Rse) (registers : Registers) (memory : Memory) (place : Place) (e : Engine)
     → IsMade (numbered_group number p s) number g last
     → e ≡ record { program = p; state = s; end = before; groups = groups; range = range }
     → registers ≡ apply (in_order number g) (record g.base { unat = g.unat }) → memory ≡ g.memory → place ≡ g.place
-    → left ≡ range_of range (g.frames ++ frame_changes (in_order number g))
-    → record { program = p; state = record { registers = registers; memory = memory; place = place }; end = last; groups = groups + 1; range = left } ≡ after_group (numbered_group number e.program e.state) e
-engine_made number p s g last before groups range left registers memory place e m is a b c d =
+    → left ≡ range_of range (g.frames ++ frame_changes (in_order number g)) → after ≡ last
+    → record { program = p; state = record { registers = registers; memory = memory; place = place }; end = after; groups = groups + 1; range = left } ≡ after_group (numbered_group number e.program e.state) e
+engine_made number p s g last before after groups range left registers memory place e m is a b c d f =
     let state = m.state in
     let end = m.end in
     let frames = m.frames in
-    rw (is, a, b, c, d, state, end, frames) refl
+    rw (is, a, b, c, d, f, state, end, frames) refl
 
 -- a group that begins at a place of the program is over after its RUN_LIMIT slots
 pub comes_to_end : (p : Program) (s : State) (g : Gathered) (begins : Bool) → ParGroupEnds → IsProgram p → IsPlaceOf p.bundles s.place → HasRestOf (rest_of RUN_LIMIT p true (gathered_from s)) (rest_of 0 p begins g) → ⊥

@@ -1,12 +1,15 @@
 -- Keeping writes: one list after another, and what they leave of the registers that steer branches.
-use Rattle.std.proofs.Common.{◌≡◌, List, [], ◌∷◌, ◌++◌, refl, append_assoc}
+use Rattle.std.proofs.Common.{◌≡◌, ℕ, List, [], ◌∷◌, ◌++◌, length, refl, append_assoc}
 use Rattle.std.proofs.lemmas.List.{append-nil}
 use Rattle.ia_meaning.specs.declared.write.Write.{Write}
 use Rattle.ia_meaning.specs.declared.write.Write.TheVariants.{SetStatic, SetCell, SetPredicate, SetBranch, SetUnat, SetPfs, SetLc, SetEc, SetFrame}
 use Rattle.ia_meaning.specs.State.{Registers}
 use Rattle.ia_meaning.specs.Writes.{put, apply}
+use Rattle.ia_meaning.specs.WriteOrders.{arranged}
+use Rattle.ia_meaning.specs.NumberedRuns.{order}
 use Rattle.group_engine.specs.declared.branch_inputs.BranchInputs.{BranchInputs}
 use Rattle.group_engine.specs.Kept.{branch_inputs_of, branch_inputs_with, branch_inputs_after, Kept, keeping}
+use Rattle.group_engine.proofs.Arranging.{unmoved}
 
 -- what some writes leave and then more of them
 steered_on : (vs ws : List Write) (s : BranchInputs) → branch_inputs_after ws (branch_inputs_after vs s) ≡ branch_inputs_after (vs ++ ws) s
@@ -40,3 +43,7 @@ steered (w ∷ ws) r = rw (steered_by w r) (steered ws (put w r))
 -- What the writes leave of the registers that steer branches is what they leave of all registers.
 pub latest_kept : (ws : List Write) (k : Kept) (r : Registers) → k.latest ≡ branch_inputs_of r → (keeping ws k).latest ≡ branch_inputs_of (apply ws r)
 latest_kept ws k r e = rw e (steered ws r)
+
+-- Writes that are made in program order, UNAT being set first, leave of them what is kept.
+pub left_in_order : (ws : List Write) (r : Registers) (unat number : ℕ) → number ≡ 0 → branch_inputs_of (apply ws r) ≡ branch_inputs_of (apply (arranged (order number (length ws)) ws) (record r { unat = unat }))
+left_in_order ws r unat number none = rw (none, unmoved ws (length ws) refl, ← steered ws r, ← steered ws (record r { unat = unat })) refl

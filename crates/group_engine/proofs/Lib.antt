@@ -10,4 +10,5 @@ pub mod Seen
 pub mod Sights
 pub mod SlotSteps
 pub mod Slots
+pub mod Starts
 pub mod Views

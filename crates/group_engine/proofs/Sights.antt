@@ -12,7 +12,7 @@ use Rattle.ia_meaning.specs.Views.{sees_static, sees_branch, sees_pfs, seen_in, 
 use Rattle.group_engine.specs.declared.branch_inputs.BranchInputs.{BranchInputs}
 use Rattle.group_engine.specs.Kept.{branch_inputs_of}
 use Rattle.group_engine.specs.Views.{target_register}
-use Rattle.ia_meaning.proofs.Views.{seen_none, view_plain}
+use Rattle.ia_meaning.proofs.Views.{seen_none}
 use Rattle.group_engine.proofs.Seen.{seen_or}
 
 -- What has a target in a branch register sees the static predicates and that register, and no other action does.
@@ -67,7 +67,3 @@ pub sight_is : (insn : Insn) (now base : Registers) (f : Action) (qp : ℕ) (lat
 sight_is insn now base f qp latest branch action_is qp_is latest_is =
     let place = predicate_index base.frame insn.qp in
     rw (← action_is, ← qp_is, ← latest_is, guard_seen (insn_action insn) place (seen_in (sees_static (insn_action insn)) 0 base.predicates now.predicates) now.predicates (ap is_branch action_is ∙ branch), seen_or (λ n. is_branch (insn_action insn) && (n == place)) (sees_static (insn_action insn)) 0 base.predicates now.predicates) refl
-
--- What is no branch sees them as they stood at the group's start.
-pub plain_sight : (insn : Insn) (now base : Registers) → is_branch (insn_action insn) ≡ false → branch_inputs_of (view insn now base) ≡ branch_inputs_of base
-plain_sight insn now base e = ap branch_inputs_of (view_plain insn now base e)

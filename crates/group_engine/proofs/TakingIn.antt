@@ -1,9 +1,8 @@
 -- What a group takes in of a slot.
-use Rattle.std.proofs.Common.{◌≡◌, ℕ, Bool, true, false, List, [], ◌∷◌, ◌++◌, refl, sym, ap, ◌∙◌, subst}
+use Rattle.std.proofs.Common.{◌≡◌, ℕ, Bool, true, false, List, [], ◌∷◌, ◌++◌, refl, sym, ap, ◌∙◌}
 use Rattle.ia_insn.specs.declared.insn.Insn.{Insn}
 use Rattle.ia_program.specs.declared.place.Place.{Place}
 use Rattle.ia_program.specs.Programs.{Program}
-use Rattle.ia_meaning.specs.declared.next.Next.{Next}
 use Rattle.ia_meaning.specs.declared.next.Next.TheVariants.{Falls}
 use Rattle.ia_meaning.specs.declared.write.Write.{Write}
 use Rattle.ia_meaning.specs.declared.write.Write.TheVariants.{SetFrame}
@@ -54,28 +53,10 @@ latest_on ws vs base k e = latest_kept vs k (apply ws base) e ∙ ap branch_inpu
 pub frame_taken : (g : Gathered) (o : Outcome) (place : Place) → g.writes ≡ [] → with_frame_ahead (gathers false g o place) ≡ gathers true g o place
 frame_taken g o place none = rw none refl
 
--- What a slot does by a view that is that of its instruction.
-pub effect_is : (p : Program) (g : Gathered) (insn : Insn) (e : SlotEffect) (s : BranchInputs) → s ≡ branch_inputs_of (view insn (now_of g) g.base)
-    → outcome_of_effect (seen_by g.base s) g.memory e ≡ guarded (site p g.place.bundle) insn.qp (insn_action insn) (seen_by g.base s) g.memory g.unat → MayMake (seen_by g.base s) g.memory e.change → IsEffectOf p g insn e s.pfs
-effect_is p g insn e s is value may =
-    let same : seen_by g.base s ≡ view insn (now_of g) g.base = ap (seen_by g.base) is in
-    record {
-      value = subst (λ r. outcome_of_effect r g.memory e ≡ guarded (site p g.place.bundle) insn.qp (insn_action insn) r g.memory g.unat) same value;
-      may = subst (λ r. MayMake r g.memory e.change) same may;
-      seen = ap (λ (s : BranchInputs). s.pfs) is;
-    }
-
--- A group takes in the same by what a slot sees and by the registers of its start with the previous function state that it
+-- An effect comes to the same by what a slot sees and by the registers of the start with the previous function state that it
 -- sees.
-gathers_seen : (first : Bool) (g : Gathered) (s : BranchInputs) (c : Change) (next : Next) (place : Place) → gathers first g (outcome_making (seen_by g.base s) g.memory c next) place ≡ gathers first g (outcome_making (record g.base { pfs = s.pfs }) g.memory c Falls) place
-gathers_seen true g s c next place = rw (writes_seen g.base s c, memory_seen g.base s c g.memory, spills_seen g.base s c, memory_pfs g.base s.pfs c g.memory, spills_pfs g.base s.pfs c) refl
-gathers_seen false g s c next place = rw (writes_seen g.base s c, memory_seen g.base s c g.memory, spills_seen g.base s c, memory_pfs g.base s.pfs c g.memory, spills_pfs g.base s.pfs c) refl
-
-pub gathers_with : (p : Program) (g : Gathered) (insn : Insn) (e : SlotEffect) (pfs : ℕ) → IsEffectOf p g insn e pfs → (first : Bool) (place : Place)
-    → gathers first g (outcome_of_effect (view insn (now_of g) g.base) g.memory e) place ≡ gathers first g (outcome_making (record g.base { pfs = pfs }) g.memory e.change Falls) place
-gathers_with p g insn e pfs h first place =
-    gathers_seen first g (branch_inputs_of (view insn (now_of g) g.base)) e.change e.next place
-    ∙ ap (λ n. gathers first g (outcome_making (record g.base { pfs = n }) g.memory e.change Falls) place) (sym h.seen)
+outcome_seen : (r : Registers) (s : BranchInputs) (m : Memory) (e : SlotEffect) → outcome_of_effect (record r { pfs = s.pfs }) m e ≡ outcome_of_effect (seen_by r s) m e
+outcome_seen r s m e = rw (writes_seen r s e.change, memory_seen r s e.change m, spills_seen r s e.change, memory_pfs r s.pfs e.change m, spills_pfs r s.pfs e.change) refl
 
 -- So may be made.
 may_seen : (r : Registers) (s : BranchInputs) (m : Memory) (c : Change) → MayMake (seen_by r s) m c → MayMake (record r { pfs = s.pfs }) m c
@@ -83,5 +64,16 @@ may_seen r s m (Stored r3 size spills update cell) h = rw (look_with_pfs r s.pfs
 may_seen r s m (Exchanged r1 r3 size old value) h = rw (look_with_pfs r s.pfs r3, ← seen_look r s r3) h
 may_seen r s m c h = h
 
-pub may_with : (p : Program) (g : Gathered) (insn : Insn) (e : SlotEffect) (pfs : ℕ) → IsEffectOf p g insn e pfs → MayMake (record g.base { pfs = pfs }) g.memory e.change
-may_with p g insn e pfs h = rw h.seen (may_seen g.base (branch_inputs_of (view insn (now_of g) g.base)) g.memory e.change h.may)
+-- What a slot does by a view that is that of its instruction.
+pub effect_is : (p : Program) (g : Gathered) (insn : Insn) (e : SlotEffect) (s : BranchInputs) → s ≡ branch_inputs_of (view insn (now_of g) g.base)
+    → outcome_of_effect (seen_by g.base s) g.memory e ≡ guarded (site p g.place.bundle) insn.qp (insn_action insn) (seen_by g.base s) g.memory g.unat → MayMake (seen_by g.base s) g.memory e.change → IsEffectOf p g insn e s.pfs
+effect_is p g insn e s is value may =
+    record {
+      value = outcome_seen g.base s g.memory e ∙ value ∙ ap (λ (t : BranchInputs). guarded (site p g.place.bundle) insn.qp (insn_action insn) (seen_by g.base t) g.memory g.unat) is;
+      may = may_seen g.base s g.memory e.change may;
+    }
+
+-- Where it goes on is nothing that a group takes in.
+pub gathers_falling : (first : Bool) (g : Gathered) (r : Registers) (e : SlotEffect) (place : Place) → gathers first g (outcome_of_effect r g.memory e) place ≡ gathers first g (outcome_making r g.memory e.change Falls) place
+gathers_falling true g r e place = refl
+gathers_falling false g r e place = refl

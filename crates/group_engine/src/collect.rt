@@ -212,6 +212,7 @@ impl KeptWrites {
     }
 
     /// Keeps the writes of a turn of a loop: that of p63 comes before that of the rotated frame.
+    #[inline(always)]
     #[tactic(auto, using(frame_shapes::proofs::FrameEnds::rotated_end))]
     fn keep_turn(&mut self, registers: &GroupRegisters, turn: Turn)
         requires fits { IfSome turn.ec (λ ec. ec < 64) }

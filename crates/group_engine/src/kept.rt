@@ -51,11 +51,18 @@ impl KeptWrites {
         })
     }
 
-    /// Begins a group: there are none so far, from these registers.
-    pub fn begin(&mut self, branch_inputs: &BranchInputs)
-        ensures { self.new ≡ record { writes = []; latest = branch_inputs.now } }
+    /// Drops all writes.
+    #[inline(always)]
+    pub fn clear(&mut self)
+        ensures { self.new ≡ record self.old { writes = [] } }
     {
         self.writes.clear();
+    }
+
+    /// Has these registers that steer branches for what the writes leave.
+    pub fn settle(&mut self, branch_inputs: &BranchInputs)
+        ensures { self.new ≡ record self.old { latest = branch_inputs.now } }
+    {
         self.latest = *branch_inputs;
     }
 

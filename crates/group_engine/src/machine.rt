@@ -19,7 +19,6 @@ use std::marker::Model;
 pub struct GroupMachine<'a> {
     table: &'a SlotTable<'a>,
     gathering: Gathering,
-    end: Option<End>,
     groups: u64,
     range: Rse,
 }
@@ -53,7 +52,6 @@ impl<'a> GroupMachine<'a> {
         Ok(GroupMachine {
             table: slots,
             gathering,
-            end: None,
             groups: 0,
             range: zero_range(),
         })
@@ -63,7 +61,7 @@ impl<'a> GroupMachine<'a> {
     pub fn end(&self) -> Option<End>
         ensures { result ≡ self.now.end }
     {
-        self.end
+        self.gathering.end
     }
 
     /// How many groups began.
@@ -100,8 +98,8 @@ impl<'a> GroupMachine<'a> {
         requires room { self.old.groups + 1 < 2 ^ 64 }
         ensures { self.new ≡ after_group (numbered_group number self.old.program self.old.state) self.old }
     {
-        self.end = self.gathering.gather(self.table);
-        self.range = self.gathering.finish(number, self.range);
+        self.gathering.gather(self.table);
+        self.gathering.finish(number, &mut self.range);
         self.groups += 1;
     }
 
@@ -111,7 +109,7 @@ impl<'a> GroupMachine<'a> {
         ensures { self.new ≡ groups_further groups number self.old }
     {
         let mut left = groups;
-        while left > 0 && self.end.is_none() {
+        while left > 0 && self.gathering.end.is_none() {
             self.run_group(number);
             left -= 1;
         }
@@ -121,7 +119,7 @@ impl<'a> GroupMachine<'a> {
     fn ending(&self) -> End
         ensures { result ≡ end_of self.now }
     {
-        end_or(self.end, self.gathering.place)
+        end_or(self.gathering.end, self.gathering.place)
     }
 
     /// Runs so many groups more, at least one, or up to an end, each in the order with this number, which may be

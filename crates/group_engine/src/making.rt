@@ -11,47 +11,43 @@ use crate::registers::GroupRegisters;
 use frame_shapes::range_after;
 use ia_meaning::{FrameCause, FrameShape, Rse, Write};
 
-/// The resident range after a change to a frame.
-fn range_resized(range: Rse, frame: &FrameShape) -> Rse
+/// The resident range follows a change to a frame.
+fn resize(range: &mut Rse, frame: &FrameShape)
     requires { frame.now.base + frame.now.sof ≤ STACK_LIMIT }
-    ensures { result ≡ range_after range (frame.now.base, frame.now.base + frame.now.sof) }
+    ensures { range.new ≡ range_after range.old (frame.now.base, frame.now.base + frame.now.sof) }
 {
-    range_after(range, frame.base, frame.base + u32::from(frame.sof))
+    *range = range_after(*range, frame.base, frame.base + u32::from(frame.sof));
 }
 
-/// The resident range after the frame of an `alloc` in first place, where this is one.
-pub(crate) fn range_ahead(range: Rse, is_ahead: bool, frame: &FrameShape) -> Rse
+/// The resident range follows the frame of an `alloc` in first place, where this is one.
+pub(crate) fn resize_ahead(range: &mut Rse, is_ahead: bool, frame: &FrameShape)
     requires { frame.now.base + frame.now.sof ≤ STACK_LIMIT }
-    ensures { result ≡ range_of range (changes_of is_ahead frame.now) }
+    ensures { range.new ≡ range_of range.old (changes_of is_ahead frame.now) }
 {
     if is_ahead {
-        range_resized(range, frame)
-    } else {
-        range
+        resize(range, frame);
     }
 }
 
-/// The resident range after a write: the range follows the frames that are resized.
+/// The resident range follows a write: that of a frame that is resized.
 #[inline(always)]
-fn range_written(range: Rse, write: &Write) -> Rse
+fn resize_by(range: &mut Rse, write: &Write)
     requires { IsMakeable write.now }
-    ensures { result ≡ range_of range (frame_changes (write.now ∷ [])) }
+    ensures { range.new ≡ range_of range.old (frame_changes (write.now ∷ [])) }
 {
-    match write {
-        Write::SetFrame(FrameCause::Resized, frame) => range_resized(range, frame),
-        _ => range,
+    if let Write::SetFrame(FrameCause::Resized, frame) = write {
+        resize(range, frame);
     }
 }
 
-/// Makes writes, in order. Gives the resident range after them.
-pub(crate) fn make(registers: &mut GroupRegisters, writes: &[Write], mut range: Rse) -> Rse
+/// Makes writes, in order. The resident range follows them.
+pub(crate) fn make(registers: &mut GroupRegisters, writes: &[Write], range: &mut Rse)
     requires { All IsMakeable writes.now }
     ensures registers { registers.new ≡ apply writes.now registers.old }
-    ensures range { result ≡ range_of range (frame_changes writes.now) }
+    ensures range { range.new ≡ range_of range.old (frame_changes writes.now) }
 {
     for write in writes {
         registers.put(write);
-        range = range_written(range, write);
+        resize_by(range, write);
     }
-    range
 }

@@ -5,7 +5,6 @@ ghost use Rattle.ia_meaning.specs.StateText.{state_text};
 ghost use Rattle.group_engine.specs.Engine.{end_of};
 
 use crate::machine::GroupMachine;
-use crate::view::View;
 use ia_program::End;
 use std::alloc::{AllocError, Global};
 
@@ -24,13 +23,12 @@ pub fn group_text(
     ensures { IfOk result (λ text. text.items ≡ state_text end.now machine.now.groups machine.now.range machine.now.state) }
 {
     let state = machine.gathering();
-    let view = View::between_groups(&state.registers, &state.in_order);
     state_lines::state_text(
         alloc,
         end,
         machine.groups(),
         &state.registers.frame,
         machine.range(),
-        &view,
+        &state.start(),
     )
 }

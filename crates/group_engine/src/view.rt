@@ -30,21 +30,6 @@ pub(crate) struct View<'a> {
     pub in_order: &'a InOrder,
 }
 
-impl<'a> View<'a> {
-    /// What is seen between two groups.
-    pub fn between_groups(registers: &'a GroupRegisters, in_order: &'a InOrder) -> View<'a>
-        ensures registers { seen_by result.registers.now result.branch_inputs.now ≡ registers.now }
-        ensures frame { result.registers.now ≡ registers.now }
-        ensures in_order { result.in_order.now ≡ in_order.now }
-    {
-        View {
-            registers,
-            branch_inputs: registers.branch_inputs(),
-            in_order,
-        }
-    }
-}
-
 impl<'a> StateView for View<'a> {
     ghost registers = { λ v. seen_by v.registers.now v.branch_inputs.now };
 

@@ -5,13 +5,13 @@ use Rattle.group_engine.specs.Groups.{gathered_of, state_of, rest_of, HasGathere
 use Rattle.group_engine.proofs.Groups.{over_from, comes_to_end}
 use Rattle.group_engine.proofs.gathering.Gathering.gather.Goals as goal
 
-pub returns-in-Some-clause-value : goal.returns-in-Some-clause-value
-returns-in-Some-clause-value c =
+pub returns-then-gather_slot-clause-value : goal.returns-then-gather_slot-clause-value
+returns-then-gather_slot-clause-value c =
     let n = c.loop-n.n in
     let left : suc (RUN_LIMIT - n - 1) ≡ RUN_LIMIT - n = omega (arith, c.loop-n-test.true) in
-    let here = c.in-Some.ensures.value (RUN_LIMIT - n - 1) in
+    let here = c.gather_slot.ensures.ends c.if-gather_slot.true (RUN_LIMIT - n - 1) in
     over_from _ _ _ _ c.loop-n.invariant.rest
-    (subst (λ most. HasGathered (rest_of most c.args.table.now (n == 0) (gathered_of c.loop-n.self)) (gathered_of c.gather_slot.new.self) c.in-Some.end) left here)
+    (subst (λ most. HasGathered (rest_of most c.args.table.now (n == 0) (gathered_of c.loop-n.self)) (gathered_of c.gather_slot.new.self) c.gather_slot.new.self.end) left here)
 
 pub unreachable-requires : goal.unreachable-requires
 unreachable-requires c =

@@ -6,7 +6,7 @@ use Rattle.group_engine.proofs.machine.GroupMachine.run_groups.Goals as goal
 pub loop-left-preserved : goal.loop-left-preserved
 loop-left-preserved c =
     let l = c.loop-left in
-    let running = ap (λ (e : Engine). e.end) (sym c.self.view_is) ∙ runs_on c.self.inside.end c.if-is_none.ensures in
+    let running = ap (λ (e : Engine). e.end) (sym c.self.view_is) ∙ runs_on c.self.inside.gathering.end c.if-is_none.ensures in
     let made = c.run_group.ensures in
     let groups = ap (λ (e : Engine). e.groups) made in
     record {
