@@ -25,16 +25,16 @@ TEXTS = "crates/asm_forms/src/rows.rt"
 # What is turned: a file, a text of it and what stands there in its place, and what is said.
 EDITS = {
     "operands exchanged": (
-        TEXTS, 'b"sub", [], Gr(1) = Gr(2), Gr(3))', 'b"sub", [], Gr(1) = Gr(3), Gr(2))', "form Sub"
+        TEXTS, 'b"sub", [], r1(1) = r2(2), r3(3))', 'b"sub", [], r1(1) = r2(3), r3(2))', "form Sub"
     ),
     "base and source exchanged": (
-        TEXTS, "[StoreTypeSpill, StoreHint(2)], [Gr(3)] = Gr(4))", "[StoreTypeSpill, StoreHint(2)], [Gr(4)] = Gr(3))", "form St8"
+        TEXTS, "[StoreTypeSpill, StoreHint(2)], [r3(3)] = r2(4))", "[StoreTypeSpill, StoreHint(2)], [r3(4)] = r2(3))", "form St8"
     ),
     "completers exchanged": (
-        TEXTS, "Ret(3), MoveWhether(5), Imp(4)], Br(1) = Gr(2), T", "Ret(4), MoveWhether(5), Imp(3)], Br(1) = Gr(2), T", "form MovToBrTag"
+        TEXTS, "Ret(3), MoveWhether(5), Imp(4)], b1(1) = r2(2), t", "Ret(4), MoveWhether(5), Imp(3)], b1(1) = r2(2), t", "form MovToBrTag"
     ),
-    "a value of another kind": (TEXTS, 'b"mov", [], Gr(2) = Gr(4))', 'b"mov", [], Gr(2) = Gr(3))', "form MovGr"),
-    "a field that is too narrow": (TEXTS, 'b"mov", [], Gr(1) = Imm22(2))', 'b"mov", [], Gr(1) = Imm14(2))', "form MovImm"),
+    "a value of another kind": (TEXTS, 'b"mov", [], r1(2) = r3(4))', 'b"mov", [], r1(2) = r3(3))', "form MovGr"),
+    "a field that is too narrow": (TEXTS, 'b"mov", [], r1(1) = imm22(2))', 'b"mov", [], r1(1) = imm14(2))', "form MovImm"),
     "a size at another place": (TEXTS, '1: Small(8); b"xchg8"', '2: Small(8); b"xchg8"', "form Xchg8"),
     "a completer with another text": (
         "crates/asm_forms/src/completer.rt", 'Suffix::F => b".f"', 'Suffix::F => b".g"', "word break.f"

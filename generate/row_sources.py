@@ -112,13 +112,15 @@ def rows(path):
     return answer
 
 
-# The marks of texts that aren't written as they are named.
-MARKS = {"Pfs": "ar.pfs", "Unat": "ar.unat", "R0": "r0", "Predicates": "pr", "RotatingPredicates": "pr.rot", "Ip": "ip", "One": "1"}
+def kinds():
+    """The kinds of operands, or their fields for numbers, by the names that the rows of texts have for them."""
+    found = re.findall(r"\((\w+)\) => \{ Kind::(?:Number\(NumberField::)?(\w+)\)? \};", source("asm_forms/src/rows.rt"))
+    return dict(found)
 
 
 def forms():
     """The forms of instructions, but for the frame's, which is written by other numbers than those of its word."""
-    text, names, answer = source("asm_forms/src/rows.rt"), operand_names(), []
+    text, names, fields, answer = source("asm_forms/src/rows.rt"), operand_names(), kinds(), []
     for line in text.splitlines():
         found = re.match(r'    row!\((\w+), Opcode::(\w+)(.*?); b"([\w.]+)", \[(.*?)\](?:, (.*))?\),$', line)
         if not found:
@@ -131,14 +133,14 @@ def forms():
             told = own[int(place)] if int(place) else kind.lower()
             return {"update": "imm" if kind == "Imm9" else "r2"}.get(told, told)
 
-        said, kinds = (re.findall(r"(\w+)\((\d)\)", it or "") for it in (sets, items))
+        said, named = (re.findall(r"(\w+)\((\d)\)", it or "") for it in (sets, items))
+        taken = [(fields[own], place) for own, place in named]
         fixed = ((kind, place) for place, kind in re.findall(r", (\d): (\w+)", rest))
-        written = tuple((int(place), kind) for kind, place in (*said, *kinds, *fixed) if int(place))
+        written = tuple((int(place), kind) for kind, place in (*said, *taken, *fixed) if int(place))
         told = tuple(value(place, kind) for kind, place in said)
-        operands = re.sub(r"(\w+)\((\d)\)", lambda it: "$" + value(it[2], it[1]), items or "")
-        operands = re.sub(r"(?<![$\w])[A-Z]\w*", lambda it: MARKS[it[0]], operands)
+        operands = re.sub(r"(\w+)\((\d)\)", lambda it: "$" + value(it[2], fields[it[1]]), items or "")
         update = "".join(re.findall(r"UpdateKind::(\w+)", rest))
-        answer.append(Form(name, variant, update, word, tuple(re.findall(r"[A-Z]\w*", sets)), told, re.sub(r" ?([=,]) ?", r"\1", operands), written))
+        answer.append(Form(name, variant, update, word, tuple(re.findall(r"\.?[A-Z]\w*", sets)), told, re.sub(r" ?([=,]) ?", r"\1", operands), written))
     if text.count("    row!(") != len(answer) + 1:
         raise ValueError(f"asm_forms/src/rows.rt: {len(answer)} rows are read of {text.count('    row!(')}")
     return answer
@@ -150,8 +152,9 @@ def printed_forms():
 
 
 def completer_texts():
-    """The texts of the completers of each set."""
+    """The texts of the completers of each set, and of each suffix that stands alone."""
     source_text = source("asm_forms/src/completer.rt")
     texts = dict(re.findall(r'Suffix::(\w+) => b"([\w.]*)"', source_text))
     sets = re.findall(r"CompleterSet::(\w+) =>\s+completers!\(((?:\s*\w+ => \w+(?:\([\w:]+\))?,?)*)\s*\)", source_text)
-    return {name: [texts[it] for it in re.findall(r"(\w+) =>", members)] for name, members in sets}
+    alone = {f".{suffix}": [text] for suffix, text in texts.items()}
+    return {**alone, **{name: [texts[it] for it in re.findall(r"(\w+) =>", members)] for name, members in sets}}

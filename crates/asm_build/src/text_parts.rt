@@ -122,6 +122,7 @@ impl TextParts {
         }
     }
 
+    #[inline(never)]
     fn label(&mut self, n: u32, name: Name) -> Result<(), TextError>
         ensures ok { OnOk result (ArePassed (value_stages self.old (line.Label name)) × (self.new ≡ after self.old n (line.Label name))) }
         ensures err { IfErr result (IsValueError self.old n (line.Label name)) }
@@ -196,6 +197,7 @@ impl TextParts {
     /// # Errors
     ///
     /// `Misplaced` within a bundle, or want of memory.
+    #[inline(never)]
     pub fn entry(&mut self, n: u32, name: Name) -> Result<(), TextError>
         ensures ok { OnOk result (ArePassed (value_stages self.old (line.Entry name)) × (self.new ≡ after self.old n (line.Entry name))) }
         ensures err { IfErr result (IsValueError self.old n (line.Entry name)) }

@@ -7,8 +7,10 @@ use Rattle.std.proofs.lemmas.Bool.{eqb-true, leb-true}
 use Rattle.ia_program.proofs.Tests.{left as both-left, right as both-right}
 use Rattle.asm_lexemes.specs.declared.tokens.Token.{Token}
 use Rattle.asm_lexemes.specs.declared.tokens.Token.TheVariants as t
+use Rattle.asm_forms.specs.declared.items.FormItem.{FormItem}
 use Rattle.asm_forms.specs.declared.items.Kind.{Kind}
 use Rattle.asm_forms.specs.declared.items.Kind.TheVariants as k
+use Rattle.asm_forms.specs.Items.{operands as form_operands}
 use Rattle.ia_insn.specs.Signed.{FitsSigned}
 use Rattle.ia_insn.specs.declared.insn.Insn.{Insn}
 use Rattle.insn_rows.specs.declared.opcode.Opcode.{Opcode}
@@ -141,5 +143,5 @@ operands_in_range : (ks : List (Kind × ℕ)) (x : Opcode) (xs : List Value) →
 operands_in_range [] x xs h = tt
 operands_in_range (kind ∷ ks) x xs h = (operand_in_range kind.0 x (at xs kind.1) (value_at_in_range xs kind.1 h), operands_in_range ks x xs h)
 
-pub printed_in_range : (ks : List (Kind × ℕ)) (x : Opcode) (xs : List Value) → AllByRecursion IsInRange xs → AllByRecursion IsTokenInRange (map (λ k. operand_of k.0 x (at (written x xs) k.1)) ks)
-printed_in_range ks x xs h = operands_in_range ks x (written x xs) (written_in_range x xs h)
+pub printed_in_range : (is : List FormItem) (x : Opcode) (xs : List Value) → AllByRecursion IsInRange xs → AllByRecursion IsTokenInRange (map (λ k. operand_of k.0 x (at (written x xs) k.1)) (form_operands is))
+printed_in_range is x xs h = operands_in_range (form_operands is) x (written x xs) (written_in_range x xs h)

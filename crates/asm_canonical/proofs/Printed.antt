@@ -55,4 +55,4 @@ printed i l =
     let All : List Value → Type 0 = AllByRecursion IsInRange in
     let h = subst All (values_first i.qp i.op) (values_in_range i l) in
     let other = subst All (sym (first_again i.op)) (lit< tt, h.1) in
-    (h.0, printed_in_range (row_of (form_of (opcode_of i.op) (at (values_under 0 i.op)))).operands (opcode_of i.op) (values_under 0 i.op) other)
+    (h.0, printed_in_range (row_of (form_of (opcode_of i.op) (at (values_under 0 i.op)))).items (opcode_of i.op) (values_under 0 i.op) other)

@@ -14,6 +14,7 @@ use Rattle.asm_forms.specs.declared.completer.CompleterSet.{CompleterSet}
 use Rattle.asm_forms.specs.declared.items.Kind.{Kind}
 use Rattle.asm_forms.specs.declared.items.Kind.TheVariants as k
 use Rattle.asm_forms.specs.Completers.{members}
+use Rattle.asm_forms.specs.Items.{operands}
 use Rattle.asm_forms.specs.Rows.{row_of}
 use Rattle.asm_forms.specs.declared.form.Form.{Form}
 use Rattle.asm_forms.specs.declared.form.Form.TheVariants as form
@@ -66,7 +67,7 @@ natural n = t.Number false n
 abbrev pub ones_number : Bool → Token
 ones_number ones = if ones then t.Number true 1 else t.Number false 0
 
--- the forms that an opcode is printed with: one, or one for each size or choice that their words tell
+-- the forms that an opcode is printed with: one, or one for each size or choice that their stems tell
 abbrev pub forms_of : Opcode → List Form
 -- A formats
 forms_of (o.Alu alu.Add) = form.Add ∷ []
@@ -220,7 +221,7 @@ operand_of kind x value = value_token value
 -- by the row of a form
 abbrev pub syntax_by : Form → Opcode → List Value → Syntax
 syntax_by f x vs =
-    syntax f (map (λ s. completer_of s.0 x (at vs s.1)) (row_of f).completers) (map (λ k. operand_of k.0 x (at vs k.1)) (row_of f).operands)
+    syntax f (map (λ s. completer_of s.0 x (at vs s.1)) (row_of f).sets) (map (λ k. operand_of k.0 x (at vs k.1)) (operands (row_of f).items))
 
 -- A frame is written by its parts: inputs, of which there are none, locals, outputs and rotating registers.
 abbrev pub frame_values : (ℕ → Value) → List Value

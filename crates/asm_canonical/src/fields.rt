@@ -92,8 +92,8 @@ pub(crate) fn is_said(said: Said, opcode: Opcode, value: &Value) -> bool
 
 /// The completer of a set that an instruction of this opcode is printed with, and of this value, where the set says one:
 /// the first that says what is so.
-pub(crate) fn completer_of(set: CompleterSet, opcode: Opcode, value: &Value) -> Completer
-    ensures { result ≡ completer_of set opcode value.now }
+pub(crate) fn completer_of(set: &CompleterSet, opcode: Opcode, value: &Value) -> Completer
+    ensures { result ≡ completer_of set.now opcode value.now }
 {
     for completer in members(set) {
         if is_said(completer.says, opcode, value) {

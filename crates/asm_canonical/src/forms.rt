@@ -10,7 +10,7 @@ use asm_forms::{Form, Row, Said};
 use ia_insn::{AluFn, Ar, BranchKind, CmpKind, LaneFn, ShiftFn, Unit};
 use insn_rows::{Opcode, UpdateKind, Values, value_at};
 
-/// The forms that an opcode is printed with: one, or one for each size or choice that their words tell.
+/// The forms that an opcode is printed with: one, or one for each size or choice that their stems tell.
 fn forms_of(opcode: Opcode) -> &'static [Form]
     ensures { result.now ≡ forms_of opcode }
 {

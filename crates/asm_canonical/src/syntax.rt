@@ -1,12 +1,14 @@
 //! A syntax: a form, its completers and its operands.
 
-ghost use Rattle.std.specs.Prelude.{◌≡◌, ◌≤◌, length, map};
+ghost use Rattle.std.specs.Prelude.{◌≡◌, ◌≤◌, ◌+◌, ◌++◌, length, map};
+ghost use Rattle.arrayvec.specs.ArrayVec.{array_vec_len};
+ghost use Rattle.asm_forms.specs.Items.{operands as operands_of};
 ghost use Rattle.insn_rows.specs.Values.{at};
 ghost use Rattle.asm_canonical.specs.Canonical.{Syntax as SyntaxOf, syntax, completer_of, operand_of, frame_values, written, syntax_by, syntax_of};
 
 use crate::fields::{completer_of, operand_of};
 use crate::forms::form_of;
-use asm_forms::{Completer, CompleterSet, Completers, Kind, Operands, Row};
+use asm_forms::{Completer, CompleterSet, Completers, FormItem, Operands, Row};
 use asm_lexemes::Token;
 use ia_insn::{Insn, Op, Pr};
 use insn_rows::{Opcode, Value, Values, opcode_of, small, value_at, values_of};
@@ -57,21 +59,34 @@ fn completers_by(sets: &[(CompleterSet, u8)], opcode: Opcode, values: &Values) -
 {
     let mut completers = Completers::new();
     for (set, at) in sets {
-        completers.push(completer_of(*set, opcode, &value_at(values, usize::from(*at))));
+        completers.push(completer_of(set, opcode, &value_at(values, usize::from(*at))));
     }
     completers
 }
 
-/// The operands that a row's are printed with.
-fn operands_by(kinds: &[(Kind, u8)], opcode: Opcode, values: &Values) -> Operands
-    requires { length kinds.now ≤ 5 }
-    ensures { result.items ≡ map (λ k. operand_of k.0 opcode (at values.now k.1)) kinds.now }
+/// The operands that the items are printed with.
+fn operands_by(items: &[FormItem], opcode: Opcode, values: &Values) -> Operands
+    requires { length (operands_of items.now) ≤ 5 }
+    ensures { result.items ≡ map (λ k. operand_of k.0 opcode (at values.now k.1)) (operands_of items.now) }
 {
     let mut operands = Operands::new();
-    for (kind, at) in kinds {
-        operands.push(operand_of(*kind, opcode, value_at(values, usize::from(*at))));
-    }
+    put_operands(items, opcode, values, &mut operands);
     operands
+}
+
+/// Appends the operands that the items are printed with.
+fn put_operands(items: &[FormItem], opcode: Opcode, values: &Values, operands: &mut Operands)
+    requires { array_vec_len operands.old + length (operands_of items.now) ≤ 5 }
+    ensures { operands.new.items ≡ operands.old.items ++ map (λ k. operand_of k.0 opcode (at values.now k.1)) (operands_of items.now) }
+{
+    match items {
+        [] => {}
+        [FormItem::Is(_), items @ ..] => put_operands(items, opcode, values, operands),
+        [FormItem::Takes(kind, at), items @ ..] => {
+            operands.push(operand_of(*kind, opcode, value_at(values, usize::from(*at))));
+            put_operands(items, opcode, values, operands);
+        }
+    }
 }
 
 /// The syntax of an opcode and values by the row of a form.
@@ -79,8 +94,8 @@ fn syntax_by(row: Row, opcode: Opcode, values: &Values) -> Syntax
     ensures { result ≡ syntax_by row opcode values.now }
 {
     Syntax {
-        completers: completers_by(row.completers(), opcode, values),
-        operands: operands_by(row.operands(), opcode, values),
+        completers: completers_by(row.sets(), opcode, values),
+        operands: operands_by(row.items(), opcode, values),
         row,
     }
 }

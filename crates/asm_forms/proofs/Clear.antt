@@ -16,8 +16,8 @@ use Rattle.asm_forms.proofs.Fits.{are_told}
 -- what is printed for the item is never read for the other one
 abbrev pub tells : FormItem → FormItem → Bool
 tells (Is mark) j = not (accepts j (mark_token mark))
-tells (Takes kind) (Is mark) = not (prints kind (mark_token mark))
-tells (Takes kind) (Takes other) = are_told kind other
+tells (Takes kind n) (Is mark) = not (prints kind (mark_token mark))
+tells (Takes kind n) (Takes other m) = are_told kind other
 
 -- the items of two rows tell them apart
 abbrev pub differ : List FormItem → List FormItem → Bool
@@ -27,26 +27,26 @@ differ (i ∷ is) [] = true
 differ (i ∷ is) (j ∷ js) = tells i j || differ is js
 
 -- each choice of completers
-abbrev pub products : List CompleterSet → List (List Completer)
+abbrev pub products : List (CompleterSet × ℕ) → List (List Completer)
 products [] = [] ∷ []
-products (s ∷ ss) = flat_map (λ c. map (λ cs. c ∷ cs) (products ss)) (members s)
+products (s ∷ ss) = flat_map (λ c. map (λ cs. c ∷ cs) (products ss)) (members s.0)
 
 -- no completers of the first are completers of the second
-abbrev pub never_named : List CompleterSet → List CompleterSet → Bool
+abbrev pub never_named : List (CompleterSet × ℕ) → List (CompleterSet × ℕ) → Bool
 never_named sets others = list_all (λ cs. not (is_some (completers_in others (flat_map text_of cs)))) (products sets)
 
 abbrev pub is_clear : FormRow → FormRow → Bool
-is_clear r q = not (bytes_eq r.word q.word) || (differ r.items q.items || never_named r.sets q.sets)
+is_clear r q = not (bytes_eq r.stem q.stem) || (differ r.items q.items || never_named r.sets q.sets)
 
 pub all_clear : list_all (λ r. list_all (is_clear r) (take (place r.form) rows)) rows ≡ true
 all_clear = refl
 
--- and no two words begin the same name
+-- and no two stems begin the same name
 abbrev pub is_other : List ℕ → FormRow → FormRow → Bool
-is_other rest r q = bytes_eq r.word q.word || not (begins (r.word ++ rest) q.word)
+is_other rest r q = bytes_eq r.stem q.stem || not (begins (r.stem ++ rest) q.stem)
 
-pub words_alone : list_all (λ r. list_all (is_other [] r) rows) rows ≡ true
-words_alone = refl
+pub stems_alone : list_all (λ r. list_all (is_other [] r) rows) rows ≡ true
+stems_alone = refl
 
-pub words_dotted : (cs : List ℕ) → list_all (λ r. list_all (is_other (46 ∷ cs) r) rows) rows ≡ true
-words_dotted cs = refl
+pub stems_dotted : (cs : List ℕ) → list_all (λ r. list_all (is_other (46 ∷ cs) r) rows) rows ≡ true
+stems_dotted cs = refl

@@ -27,16 +27,16 @@ pub spelled : (is : List FormItem) (xs : List Token) → fits is xs ≡ true →
 spelled [] [] h = refl
 spelled [] (x ∷ xs) h = cc
 spelled (Is mark ∷ is) xs h = rw (mark_is mark) (spelled is xs h)
-spelled (Takes kind ∷ is) [] h = cc
-spelled (Takes kind ∷ is) (x ∷ xs) h = rw (takes_printed kind x (left _ _ h)) (spelled is xs (right _ _ h))
+spelled (Takes kind n ∷ is) [] h = cc
+spelled (Takes kind n ∷ is) (x ∷ xs) h = rw (takes_printed kind x (left _ _ h)) (spelled is xs (right _ _ h))
 
 -- and the operands among them are those given
 pub taken_back : (is : List FormItem) (xs : List Token) → fits is xs ≡ true → taken is (filled is xs) ≡ xs
 taken_back [] [] h = refl
 taken_back [] (x ∷ xs) h = cc
 taken_back (Is mark ∷ is) xs h = taken_back is xs h
-taken_back (Takes kind ∷ is) [] h = cc
-taken_back (Takes kind ∷ is) (x ∷ xs) h = ap (λ ys. x ∷ ys) (taken_back is xs (right _ _ h))
+taken_back (Takes kind n ∷ is) [] h = cc
+taken_back (Takes kind n ∷ is) (x ∷ xs) h = ap (λ ys. x ∷ ys) (taken_back is xs (right _ _ h))
 
 -- no operand of the first kind is printed as one that the second takes
 abbrev pub are_told : Kind → Kind → Bool

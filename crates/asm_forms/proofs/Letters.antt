@@ -30,13 +30,13 @@ unlike low above (c ∷ name) (d ∷ w) e h =
 skipped : (p : FormRow → Bool) (r : FormRow) (rs : List FormRow) → p r ≡ false → filter p rs ≡ [] → filter p (r ∷ rs) ≡ []
 skipped p r rs h e = rw (h, e) refl
 
-not_named : (name : List ℕ) (r : FormRow) → begins name r.word ≡ false → is_named name r ≡ false
+not_named : (name : List ℕ) (r : FormRow) → begins name r.stem ≡ false → is_named name r ≡ false
 not_named name r h = rw h refl
 
-pub none_named : (low above : ℕ) (name : List ℕ) (rs : List FormRow) → IsElsewhere low above name → list_all (λ r. leads low above r.word) rs ≡ true → filter (is_named name) rs ≡ []
+pub none_named : (low above : ℕ) (name : List ℕ) (rs : List FormRow) → IsElsewhere low above name → list_all (λ r. leads low above r.stem) rs ≡ true → filter (is_named name) rs ≡ []
 none_named low above name [] e h = refl
 none_named low above name (r ∷ rs) e h =
-    skipped (is_named name) r rs (not_named name r (unlike low above name r.word e (left _ _ h))) (none_named low above name rs e (right _ _ h))
+    skipped (is_named name) r rs (not_named name r (unlike low above name r.stem e (left _ _ h))) (none_named low above name rs e (right _ _ h))
 
 -- what is kept of joined lists
 kept_more : (p : FormRow → Bool) (x : FormRow) (xs ys us vs : List FormRow) → filter p (xs ++ ys) ≡ us ++ vs → filter p xs ≡ us → filter p ((x ∷ xs) ++ ys) ≡ filter p (x ∷ xs) ++ vs
@@ -52,7 +52,7 @@ elsewhere low above d (c ∷ name) h = h
 
 -- The forms that a name names are those of the rows of its letters, where the rows before them have lower letters and
 -- those after them higher ones.
-in_group : (low above d : ℕ) (name : List ℕ) (before here after found : List FormRow) → before ++ here ++ after ≡ rows → list_all (λ r. leads 46 low r.word) before ≡ true → list_all (λ r. leads above 256 r.word) after ≡ true
+in_group : (low above d : ℕ) (name : List ℕ) (before here after found : List FormRow) → before ++ here ++ after ≡ rows → list_all (λ r. leads 46 low r.stem) before ≡ true → list_all (λ r. leads above 256 r.stem) after ≡ true
     → low ≤ get_or name 0 d → get_or name 0 d < above → found ≡ here → map (λ r. r.form) (filter (is_named name) found) ≡ named_forms name
 in_group low above d name before here after found all lower higher g l e =
     let p = is_named name in

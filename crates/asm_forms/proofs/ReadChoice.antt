@@ -44,9 +44,9 @@ one_flat f x y (z ∷ zs) (inl e) k = one_front y (f z) _ (rw (sym e) k)
 one_flat f x y (z ∷ zs) (inr h) k = one_back y (f z) _ (one_flat f x y zs h k)
 
 -- one completer of each set is one of the choices
-chosen : (ss : List CompleterSet) (cs : List Completer) → AreChosen ss cs → IsOneOf cs (products ss)
+chosen : (ss : List (CompleterSet × ℕ)) (cs : List Completer) → AreChosen ss cs → IsOneOf cs (products ss)
 chosen [] [] h = inl refl
-chosen (s ∷ ss) (x ∷ xs) h = one_flat (λ c. map (λ cs. c ∷ cs) (products ss)) x (x ∷ xs) (members s) (one_of (members s) x h.0) (one_mapped (λ cs. x ∷ cs) xs (products ss) (chosen ss xs h.1))
+chosen (s ∷ ss) (x ∷ xs) h = one_flat (λ c. map (λ cs. c ∷ cs) (products ss)) x (x ∷ xs) (members s.0) (one_of (members s.0) x h.0) (one_mapped (λ cs. x ∷ cs) xs (products ss) (chosen ss xs h.1))
 chosen [] (x ∷ xs) h = absurd h
 chosen (s ∷ ss) [] h = absurd h
 

@@ -27,7 +27,7 @@ use Rattle.asm_forms.specs.Spelled.{is_spelled}
 use Rattle.asm_forms.specs.Naming.{begins, ends_part, and_more, completers_in, has_completers_if, is_named, named_forms}
 use Rattle.asm_forms.specs.Rows.{FormRow, rows, first_row, row_of, place}
 use Rattle.asm_forms.proofs.ListTests.{all_take, all_both, all_found, all_flat, all_map}
-use Rattle.asm_forms.proofs.Clear.{tells, differ, products, never_named, is_clear, all_clear, is_other, words_alone, words_dotted}
+use Rattle.asm_forms.proofs.Clear.{tells, differ, products, never_named, is_clear, all_clear, is_other, stems_alone, stems_dotted}
 use Rattle.asm_forms.proofs.Fits.{spelled, told}
 use Rattle.asm_forms.proofs.RowFacts.{form_back, in_table, of_row}
 
@@ -57,9 +57,9 @@ not_the_mark k n x true e p h =
     sym s ∙ not-true _ h
 not_the_mark k n x false e p h = refl
 
-not_read : (k : Kind) (j : FormItem) (x : Token) → prints k x ≡ true → tells (Takes k) j ≡ true → accepts j x ≡ false
-not_read k (Is n) x p h = not_the_mark k n x (is_mark n x) refl p h
-not_read k (Takes o) x p h = told k o x p h
+not_read : (k : Kind) (at : ℕ) (j : FormItem) (x : Token) → prints k x ≡ true → tells (Takes k at) j ≡ true → accepts j x ≡ false
+not_read k at (Is n) x p h = not_the_mark k n x (is_mark n x) refl p h
+not_read k at (Takes o to) x p h = told k o x p h
 
 either : (t a b c : Bool) → (t ≡ true → a ≡ false) → (c ≡ true → b ≡ false) → (t || c) ≡ true → (a && b) ≡ false
 either true a b c f g h = rw (f refl) refl
@@ -73,32 +73,32 @@ not_spelled [] (j ∷ js) xs h e = refl
 not_spelled (Is n ∷ is) [] xs h e = refl
 not_spelled (Is n ∷ is) (j ∷ js) xs h e =
     either (not (accepts j (mark_token n))) (accepts j (mark_token n)) (pointwise accepts js (filled is xs)) (differ is js) (λ q. not-true _ q) (λ q. not_spelled is js xs h q) e
-not_spelled (Takes k ∷ is) js [] h e = cc
-not_spelled (Takes k ∷ is) [] (x ∷ xs) h e = refl
-not_spelled (Takes k ∷ is) (j ∷ js) (x ∷ xs) h e =
-    either (tells (Takes k) j) (accepts j x) (pointwise accepts js (filled is xs)) (differ is js) (not_read k j x (left _ _ h)) (not_spelled is js xs (right _ _ h)) e
+not_spelled (Takes k at ∷ is) js [] h e = cc
+not_spelled (Takes k at ∷ is) [] (x ∷ xs) h e = refl
+not_spelled (Takes k at ∷ is) (j ∷ js) (x ∷ xs) h e =
+    either (tells (Takes k at) j) (accepts j x) (pointwise accepts js (filled is xs)) (differ is js) (not_read k at j x (left _ _ h)) (not_spelled is js xs (right _ _ h)) e
 
-of_rest : (p : List Completer → Bool) (ss : List CompleterSet) (cs : List Completer) (c : Completer) (o : Option (List Completer))
+of_rest : (p : List Completer → Bool) (ss : List (CompleterSet × ℕ)) (cs : List Completer) (c : Completer) (o : Option (List Completer))
     → ((ds : List Completer) → o ≡ Some ds → p (c ∷ ds) ≡ true) → option_map (λ ds. c ∷ ds) o ≡ Some cs → p cs ≡ true
 of_rest p ss cs c None f e = cc
 of_rest p ss cs c (Some ds) f e = let r : p (c ∷ ds) ≡ true = f ds refl in cc
 
-of_first : (p : List Completer → Bool) (ss : List CompleterSet) (cs : List Completer) (o : Option Completer) (name : List ℕ)
+of_first : (p : List Completer → Bool) (ss : List (CompleterSet × ℕ)) (cs : List Completer) (o : Option Completer) (name : List ℕ)
     → ((c : Completer) (ds : List Completer) → o ≡ Some c → completers_in ss (drop (length (text_of c)) name) ≡ Some ds → p (c ∷ ds) ≡ true)
     → and_more o (λ c. completers_in ss (drop (length (text_of c)) name)) ≡ Some cs → p cs ≡ true
 of_first p ss cs None name f e = cc
 of_first p ss cs (Some c) name f e = of_rest p ss cs c (completers_in ss (drop (length (text_of c)) name)) (λ ds k. f c ds refl k) e
 
 -- what holds of each choice of completers holds of those that are read from a name
-pub of_products : (p : List Completer → Bool) (ss : List CompleterSet) (name : List ℕ) (cs : List Completer) → list_all p (products ss) ≡ true → completers_in ss name ≡ Some cs → p cs ≡ true
+pub of_products : (p : List Completer → Bool) (ss : List (CompleterSet × ℕ)) (name : List ℕ) (cs : List Completer) → list_all p (products ss) ≡ true → completers_in ss name ≡ Some cs → p cs ≡ true
 of_products p [] [] [] h e = left _ _ h
 of_products p [] [] (c ∷ cs) h e = cc
 of_products p [] (x ∷ xs) cs h e = cc
 of_products p (s ∷ ss) name cs h e =
-    let each = all_flat p (λ c. map (λ ds. c ∷ ds) (products ss)) (members s) h in
-    of_first p ss cs (find (λ c. begins name (text_of c)) (members s)) name
+    let each = all_flat p (λ c. map (λ ds. c ∷ ds) (products ss)) (members s.0) h in
+    of_first p ss cs (find (λ c. begins name (text_of c)) (members s.0)) name
     (λ c ds f k. of_products (λ ds. p (c ∷ ds)) ss (drop (length (text_of c)) name) ds
-    (all_map p (λ ds. c ∷ ds) (products ss) (all_found (λ c. list_all p (map (λ ds. c ∷ ds) (products ss))) (λ c. begins name (text_of c)) (members s) c each f)) k) e
+    (all_map p (λ ds. c ∷ ds) (products ss) (all_found (λ c. list_all p (map (λ ds. c ∷ ds) (products ss))) (λ c. begins name (text_of c)) (members s.0) c each f)) k) e
 
 -- a name's own front
 own_front : (w rest : List ℕ) → pointwise nat_eq w (take (length w) (w ++ rest)) ≡ true
@@ -114,11 +114,11 @@ dots : (cs : List Completer) → ends_part (flat_map text_of cs) ≡ true
 dots [] = refl
 dots (x ∷ cs) = first_dot x.suffix (flat_map text_of cs) (dots cs)
 
--- a row's own word and completers name it
-pub named_own : (r : FormRow) (cs : List Completer) → completers_in r.sets (flat_map text_of cs) ≡ Some cs → is_named (r.word ++ flat_map text_of cs) r ≡ true
+-- a row's own stem and completers name it
+pub named_own : (r : FormRow) (cs : List Completer) → completers_in r.sets (flat_map text_of cs) ≡ Some cs → is_named (r.stem ++ flat_map text_of cs) r ≡ true
 named_own r cs e =
-    let d : drop (length r.word) (r.word ++ flat_map text_of cs) ≡ flat_map text_of cs = drop-append_seam r.word (flat_map text_of cs) in
-    rw (own_front r.word (flat_map text_of cs), d, dots cs, e) refl
+    let d : drop (length r.stem) (r.stem ++ flat_map text_of cs) ≡ flat_map text_of cs = drop-append_seam r.stem (flat_map text_of cs) in
+    rw (own_front r.stem (flat_map text_of cs), d, dots cs, e) refl
 
 passed : (p : FormRow → Bool) (x : FormRow) (ys : List FormRow) (o : Option FormRow) (b a : Bool) → p x ≡ a → not (b && a) ≡ true → find p ys ≡ o → find p (cond b (x ∷ ys) ys) ≡ o
 passed p x ys o true true e n m = cc
@@ -138,26 +138,26 @@ not_second : (a b : Bool) → b ≡ false → not (a && b) ≡ true
 not_second true b h = rw h refl
 not_second false b h = refl
 
-not_first : (a : Bool) (sets : List CompleterSet) (name : List ℕ) (d : Bool) → is_some (completers_in sets name) ≡ false → not (has_completers_if a sets name && d) ≡ true
+not_first : (a : Bool) (sets : List (CompleterSet × ℕ)) (name : List ℕ) (d : Bool) → is_some (completers_in sets name) ≡ false → not (has_completers_if a sets name && d) ≡ true
 not_first true sets name d h = rw h refl
 not_first false sets name d h = refl
 
 -- a row that stands before another is not read from what the other prints
 unread : (r q : FormRow) (cs : List Completer) (xs : List Token) → fits r.items xs ≡ true → completers_in r.sets (flat_map text_of cs) ≡ Some cs → is_clear r q ≡ true → is_other (flat_map text_of cs) r q ≡ true
-    → not (is_named (r.word ++ flat_map text_of cs) q && is_read (filled r.items xs) q) ≡ true
-unread r q cs xs h e clear other = by_word (bytes_eq r.word q.word) refl clear other
+    → not (is_named (r.stem ++ flat_map text_of cs) q && is_read (filled r.items xs) q) ≡ true
+unread r q cs xs h e clear other = by_stem (bytes_eq r.stem q.stem) refl clear other
   where
-    by_word : (b : Bool) → b ≡ bytes_eq r.word q.word → (not b || (differ r.items q.items || never_named r.sets q.sets)) ≡ true → (b || not (begins (r.word ++ flat_map text_of cs) q.word)) ≡ true
-        → not (is_named (r.word ++ flat_map text_of cs) q && is_read (filled r.items xs) q) ≡ true
-    by_word false b c o = rw (not-true (begins (r.word ++ flat_map text_of cs) q.word) o) refl
-    by_word true b c o = by_items (differ r.items q.items) refl c
+    by_stem : (b : Bool) → b ≡ bytes_eq r.stem q.stem → (not b || (differ r.items q.items || never_named r.sets q.sets)) ≡ true → (b || not (begins (r.stem ++ flat_map text_of cs) q.stem)) ≡ true
+        → not (is_named (r.stem ++ flat_map text_of cs) q && is_read (filled r.items xs) q) ≡ true
+    by_stem false b c o = rw (not-true (begins (r.stem ++ flat_map text_of cs) q.stem) o) refl
+    by_stem true b c o = by_items (differ r.items q.items) refl c
       where
-        by_items : (d : Bool) → differ r.items q.items ≡ d → (d || never_named r.sets q.sets) ≡ true → not (is_named (r.word ++ flat_map text_of cs) q && is_read (filled r.items xs) q) ≡ true
-        by_items true d n = not_second (is_named (r.word ++ flat_map text_of cs) q) _ (not_spelled r.items q.items xs h d)
+        by_items : (d : Bool) → differ r.items q.items ≡ d → (d || never_named r.sets q.sets) ≡ true → not (is_named (r.stem ++ flat_map text_of cs) q && is_read (filled r.items xs) q) ≡ true
+        by_items true d n = not_second (is_named (r.stem ++ flat_map text_of cs) q) _ (not_spelled r.items q.items xs h d)
         by_items false d n =
-            let w : drop (length q.word) (r.word ++ flat_map text_of cs) ≡ flat_map text_of cs = subst (λ v. drop (length v) (r.word ++ flat_map text_of cs) ≡ flat_map text_of cs) (same_text r.word q.word b) (drop-append_seam r.word (flat_map text_of cs)) in
+            let w : drop (length q.stem) (r.stem ++ flat_map text_of cs) ≡ flat_map text_of cs = subst (λ v. drop (length v) (r.stem ++ flat_map text_of cs) ≡ flat_map text_of cs) (same_text r.stem q.stem b) (drop-append_seam r.stem (flat_map text_of cs)) in
             let u : is_some (completers_in q.sets (flat_map text_of cs)) ≡ false = not-true _ (of_products (λ ds. not (is_some (completers_in q.sets (flat_map text_of ds)))) r.sets (flat_map text_of cs) cs n e) in
-            not_first (begins (r.word ++ flat_map text_of cs) q.word) q.sets (drop (length q.word) (r.word ++ flat_map text_of cs)) _ (rw (w) u)
+            not_first (begins (r.stem ++ flat_map text_of cs) q.stem) q.sets (drop (length q.stem) (r.stem ++ flat_map text_of cs)) _ (rw (w) u)
 
 -- the completers' text is nothing, or begins with a dot
 ends : (rest : List ℕ) → ends_part rest ≡ true → (rest ≡ []) ⊎ ((cs : List ℕ) × (rest ≡ 46 ∷ cs))
@@ -165,8 +165,8 @@ ends [] h = inl refl
 ends (x ∷ cs) h = inr (cs, ap (λ y. y ∷ cs) (eqb-true x 46 h))
 
 others : (rest : List ℕ) → (rest ≡ []) ⊎ ((cs : List ℕ) × (rest ≡ 46 ∷ cs)) → list_all (λ r. list_all (is_other rest r) rows) rows ≡ true
-others rest (inl e) = subst (λ z. list_all (λ r. list_all (is_other z r) rows) rows ≡ true) (sym e) words_alone
-others rest (inr (cs, e)) = subst (λ z. list_all (λ r. list_all (is_other z r) rows) rows ≡ true) (sym e) (words_dotted cs)
+others rest (inl e) = subst (λ z. list_all (λ r. list_all (is_other z r) rows) rows ≡ true) (sym e) stems_alone
+others rest (inr (cs, e)) = subst (λ z. list_all (λ r. list_all (is_other z r) rows) rows ≡ true) (sym e) (stems_dotted cs)
 
 -- what is found among rows is found among their forms, where a row is found by its form
 found_first : (p : FormRow → Bool) (row : Form → FormRow) (x r : FormRow) (us : List FormRow) (b a : Bool) → p x ≡ a → row x.form ≡ x → (find p us ≡ Some r → find (λ f. p (row f)) (map (λ y. y.form) us) ≡ Some r.form)
@@ -182,25 +182,25 @@ found_form p q row (x ∷ xs) r e h = found_first p row x r (filter q xs) (q x) 
 rows_back : map (λ r. row_of r.form) rows ≡ rows
 rows_back = refl
 
--- What the row of a form prints is read as the form: the word, completers that are read back, and operands that fit.
+-- What the row of a form prints is read as the form: the stem, completers that are read back, and operands that fit.
 pub row_back : (f : Form) (cs : List Completer) (xs : List Token) → completers_in (row_of f).sets (flat_map text_of cs) ≡ Some cs → fits (row_of f).items xs ≡ true
-    → find (is_spelled (filled (row_of f).items xs)) (named_forms ((row_of f).word ++ flat_map text_of cs)) ≡ Some f
+    → find (is_spelled (filled (row_of f).items xs)) (named_forms ((row_of f).stem ++ flat_map text_of cs)) ≡ Some f
 row_back f cs xs e h =
     let rest = flat_map text_of cs in
     let clear : list_all (is_clear (row_of f)) (take (place f) rows) ≡ true =
     subst (λ g. list_all (is_clear (row_of f)) (take (place g) rows) ≡ true) (form_back f) (of_row (λ r. list_all (is_clear r) (take (place r.form) rows)) f all_clear) in
     let other : list_all (is_other rest (row_of f)) (take (place f) rows) ≡ true =
     all_take (is_other rest (row_of f)) (place f) rows (of_row (λ r. list_all (is_other rest r) rows) f (others rest (ends rest (dots cs)))) in
-    let first : find (is_read (filled (row_of f).items xs)) (filter (is_named ((row_of f).word ++ rest)) rows) ≡ Some (row_of f) =
-    found_at (is_read (filled (row_of f).items xs)) (is_named ((row_of f).word ++ rest)) rows (place f) first_row (in_table f)
+    let first : find (is_read (filled (row_of f).items xs)) (filter (is_named ((row_of f).stem ++ rest)) rows) ≡ Some (row_of f) =
+    found_at (is_read (filled (row_of f).items xs)) (is_named ((row_of f).stem ++ rest)) rows (place f) first_row (in_table f)
     (spelled (row_of f).items xs h) (named_own (row_of f) cs e)
     (all_both (is_clear (row_of f)) (is_other rest (row_of f)) _ (λ q c o. unread (row_of f) q cs xs h e c o) (take (place f) rows) clear other) in
-    found_form (is_read (filled (row_of f).items xs)) (is_named ((row_of f).word ++ rest)) row_of rows (row_of f) rows_back first ∙ ap Some (form_back f)
+    found_form (is_read (filled (row_of f).items xs)) (is_named ((row_of f).stem ++ rest)) row_of rows (row_of f) rows_back first ∙ ap Some (form_back f)
 
--- all rows that the name of a row names have the row's word
-alike : (r q : FormRow) (rest : List ℕ) → is_other rest r q ≡ true → (not (is_named (r.word ++ rest) q) || bytes_eq r.word q.word) ≡ true
-alike r q rest o = by_word (bytes_eq r.word q.word) o
+-- all rows that the name of a row names have the row's stem
+alike : (r q : FormRow) (rest : List ℕ) → is_other rest r q ≡ true → (not (is_named (r.stem ++ rest) q) || bytes_eq r.stem q.stem) ≡ true
+alike r q rest o = by_stem (bytes_eq r.stem q.stem) o
   where
-    by_word : (b : Bool) → (b || not (begins (r.word ++ rest) q.word)) ≡ true → (not (is_named (r.word ++ rest) q) || b) ≡ true
-    by_word true h = or_right (not (is_named (r.word ++ rest) q)) true refl
-    by_word false h = rw (not-true (begins (r.word ++ rest) q.word) h) refl
+    by_stem : (b : Bool) → (b || not (begins (r.stem ++ rest) q.stem)) ≡ true → (not (is_named (r.stem ++ rest) q) || b) ≡ true
+    by_stem true h = or_right (not (is_named (r.stem ++ rest) q)) true refl
+    by_stem false h = rw (not-true (begins (r.stem ++ rest) q.stem) h) refl

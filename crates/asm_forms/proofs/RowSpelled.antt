@@ -1,6 +1,7 @@
 -- The form that a mnemonic and its operands spell, row by row.
 use Rattle.std.proofs.Common.{◌≡◌, ◌∙◌, refl, sym, subst, ap, ℕ, ◌+◌, ◌<◌, Bool, true, false, ◌&&◌, cond, List, [], ◌∷◌, map, drop, length, get_or, Option, Some, None}
 use Rattle.std.specs.Prelude.{filter}
+use Rattle.std.specs.Borrow.{Bor}
 use Rattle.std.specs.List.{find}
 use Rattle.std.proofs.lemmas.List.{drop_more}
 use Rattle.std.specs.Cmp.Lexicographic.{pointwise}
@@ -40,21 +41,24 @@ past name operands r rs own h = past_by (is_named name r) own h
     past_by false own h = refl
 
 -- what stands past the end of a table
+abbrev nothing : {A : Type 0} → Bor (List A)
+nothing = record { ref_ptr = (0, 0); now = [] }
+
 abbrev pub no_row : Seen
-no_row = (form.Data, record { ref_ptr = (0, 0); now = [] }, record { ref_ptr = (0, 0); now = [] }, record { ref_ptr = (0, 0); now = [] }, None, record { ref_ptr = (0, 0); now = [] }, record { ref_ptr = (0, 0); now = [] }, record { ref_ptr = (0, 0); now = [] })
+no_row = record { form = form.Data; stem = nothing; sets = nothing; items = nothing; opcode = None; fixed = nothing }
 
 -- the row at a place of a table, and those that follow it
 at_place : (rs : List Seen) (i : ℕ) (d : Seen) → i < length rs → map seen (drop i rs) ≡ seen (get_or rs i d) ∷ map seen (drop (i + 1) rs)
 at_place rs i d h = ap (map seen) (drop_more rs i d h)
 
-pub own_at : (rs : List Seen) (i : ℕ) (d : Seen) → i < length rs → map (λ r. row_of r.form) (map seen (drop i rs)) ≡ map seen (drop i rs) → row_of (get_or rs i d).0 ≡ seen (get_or rs i d)
+pub own_at : (rs : List Seen) (i : ℕ) (d : Seen) → i < length rs → map (λ r. row_of r.form) (map seen (drop i rs)) ≡ map seen (drop i rs) → row_of (get_or rs i d).form ≡ seen (get_or rs i d)
 own_at rs i d h own = first_own (seen (get_or rs i d)) (map seen (drop (i + 1) rs)) (subst (λ qs. map (λ q. row_of q.form) qs ≡ qs) (at_place rs i d h) own)
 
 pub own_after : (rs : List Seen) (i : ℕ) (d : Seen) → i < length rs → map (λ r. row_of r.form) (map seen (drop i rs)) ≡ map seen (drop i rs) → map (λ r. row_of r.form) (map seen (drop (i + 1) rs)) ≡ map seen (drop (i + 1) rs)
 own_after rs i d h own = others_own (seen (get_or rs i d)) (map seen (drop (i + 1) rs)) (subst (λ qs. map (λ q. row_of q.form) qs ≡ qs) (at_place rs i d h) own)
 
 pub here_at : (name : List ℕ) (operands : List Token) (rs : List Seen) (i : ℕ) (d : Seen) → i < length rs → map (λ r. row_of r.form) (map seen (drop i rs)) ≡ map seen (drop i rs)
-    → (is_named name (seen (get_or rs i d)) && pointwise accepts (seen (get_or rs i d)).items operands) ≡ true → spelled name operands (map seen (drop i rs)) ≡ Some (get_or rs i d).0
+    → (is_named name (seen (get_or rs i d)) && pointwise accepts (seen (get_or rs i d)).items operands) ≡ true → spelled name operands (map seen (drop i rs)) ≡ Some (get_or rs i d).form
 here_at name operands rs i d h own is =
     ap (spelled name operands) (at_place rs i d h) ∙ here name operands (seen (get_or rs i d)) (map seen (drop (i + 1) rs)) (own_at rs i d h own) is
 

@@ -1,5 +1,5 @@
 -- What a form wants at one place of its operands, and from which tokens that is read.
-use Rattle.std.specs.Prelude.{ℕ, ◌+◌, ◌%◌, Bool, true, false, ◌&&◌, ◌||◌, nat_le, ◌==◌, if◌then◌else◌, List, [], ◌∷◌}
+use Rattle.std.specs.Prelude.{ℕ, ◌%◌, Bool, true, false, ◌&&◌, ◌||◌, nat_le, ◌==◌, if◌then◌else◌, List, [], ◌∷◌}
 use Rattle.asm_lexemes.specs.declared.tokens.Token.{Token}
 use Rattle.asm_lexemes.specs.declared.tokens.Token.TheVariants as t
 use Rattle.asm_forms.specs.declared.items.FormItem.{FormItem}
@@ -98,27 +98,27 @@ takes _ _ = false
 -- an item is read from the token
 abbrev pub accepts : FormItem → Token → Bool
 accepts (Is mark) x = is_mark mark x
-accepts (Takes kind) x = takes kind x
+accepts (Takes kind n) x = takes kind x
 
--- how many operands the items take
-abbrev pub operand_count : List FormItem → ℕ
-operand_count [] = 0
-operand_count (Is mark ∷ is) = operand_count is
-operand_count (Takes kind ∷ is) = operand_count is + 1
+-- the operands that the items take: their kinds, each with the number of its value
+abbrev pub operands : List FormItem → List (Kind × ℕ)
+operands [] = []
+operands (Is mark ∷ is) = operands is
+operands (Takes kind n ∷ is) = (kind, n) ∷ operands is
 
 -- the operands among the tokens of the items
 abbrev pub taken : List FormItem → List Token → List Token
 taken [] xs = []
 taken (i ∷ is) [] = []
 taken (Is mark ∷ is) (x ∷ xs) = taken is xs
-taken (Takes kind ∷ is) (x ∷ xs) = x ∷ taken is xs
+taken (Takes kind n ∷ is) (x ∷ xs) = x ∷ taken is xs
 
 -- the tokens of the items with these operands
 abbrev pub filled : List FormItem → List Token → List Token
 filled [] xs = []
 filled (Is mark ∷ is) xs = mark_token mark ∷ filled is xs
-filled (Takes kind ∷ is) [] = []
-filled (Takes kind ∷ is) (x ∷ xs) = x ∷ filled is xs
+filled (Takes kind n ∷ is) [] = []
+filled (Takes kind n ∷ is) (x ∷ xs) = x ∷ filled is xs
 
 -- an operand of the kind is printed as the token: a label as a name that is no register
 abbrev pub prints : Kind → Token → Bool
@@ -131,14 +131,14 @@ abbrev pub fits : List FormItem → List Token → Bool
 fits [] [] = true
 fits [] (x ∷ xs) = false
 fits (Is mark ∷ is) xs = fits is xs
-fits (Takes kind ∷ is) [] = false
-fits (Takes kind ∷ is) (x ∷ xs) = prints kind x && fits is xs
+fits (Takes kind n ∷ is) [] = false
+fits (Takes kind n ∷ is) (x ∷ xs) = prints kind x && fits is xs
 
 abbrev pub is_register : FormItem → Bool
-is_register (Takes k.Gr) = true
-is_register (Takes k.Pr) = true
-is_register (Takes k.Br) = true
-is_register (Takes k.Ar) = true
+is_register (Takes k.Gr n) = true
+is_register (Takes k.Pr n) = true
+is_register (Takes k.Br n) = true
+is_register (Takes k.Ar n) = true
 is_register (Is m.Unat) = true
 is_register (Is m.Pfs) = true
 is_register (Is m.R0) = true
@@ -148,12 +148,12 @@ is_register (Is m.Ip) = true
 is_register _ = false
 
 abbrev pub is_number : FormItem → Bool
-is_number (Takes (k.Number _)) = true
+is_number (Takes (k.Number field) n) = true
 is_number (Is m.One) = true
 is_number _ = false
 
 abbrev pub is_label_item : FormItem → Bool
-is_label_item (Takes k.Label) = true
+is_label_item (Takes k.Label n) = true
 is_label_item _ = false
 
 -- the token is a name that begins with a letter

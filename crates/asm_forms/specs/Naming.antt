@@ -1,4 +1,4 @@
--- A mnemonic: the word of a row, and one completer of each of the row's sets.
+-- A mnemonic: the stem of a row, and one completer of each of the row's sets.
 use Rattle.std.specs.Prelude.{ℕ, nat_eq, Bool, true, false, ◌&&◌, ◌==◌, length, drop, filter, map, List, [], ◌∷◌, Option, Some, None, option_map, is_some}
 use Rattle.std.specs.List.{Contains, find, starts_with}
 use Rattle.asm_forms.specs.declared.completer.Completer.{Completer}
@@ -25,29 +25,29 @@ and_more None more = None
 and_more (Some c) more = option_map (λ cs. c ∷ cs) (more c)
 
 -- one completer of each set, one after the other, and nothing after them
-abbrev pub completers_in : List CompleterSet → List ℕ → Option (List Completer)
+abbrev pub completers_in : List (CompleterSet × ℕ) → List ℕ → Option (List Completer)
 completers_in [] name = none_left name
 completers_in (s ∷ ss) name =
-    and_more (find (λ c. begins name (text_of c)) (members s)) (λ c. completers_in ss (drop (length (text_of c)) name))
+    and_more (find (λ c. begins name (text_of c)) (members s.0)) (λ c. completers_in ss (drop (length (text_of c)) name))
 
-abbrev pub has_completers_if : Bool → List CompleterSet → List ℕ → Bool
+abbrev pub has_completers_if : Bool → List (CompleterSet × ℕ) → List ℕ → Bool
 has_completers_if false sets name = false
 has_completers_if true sets name = is_some (completers_in sets name)
 
--- the name is the row's word and completers
+-- the name is the row's stem and completers
 abbrev pub is_named : List ℕ → FormRow → Bool
-is_named name r = has_completers_if (begins name r.word) r.sets (drop (length r.word) name)
+is_named name r = has_completers_if (begins name r.stem) r.sets (drop (length r.stem) name)
 
--- the forms whose words and completers this name is, in their order
+-- the forms whose stems and completers this name is, in their order
 abbrev pub named_forms : List ℕ → List Form
 named_forms name = map (λ r. r.form) (filter (is_named name) rows)
 
--- the completers of the form in a name that its word begins
+-- the completers of the form in a name that its stem begins
 abbrev pub completers : Form → List ℕ → Option (List Completer)
-completers f name = completers_in (row_of f).sets (drop (length (row_of f).word) name)
+completers f name = completers_in (row_of f).sets (drop (length (row_of f).stem) name)
 
 -- one completer of each set
-abbrev pub AreChosen : List CompleterSet → List Completer → Type 0
+abbrev pub AreChosen : List (CompleterSet × ℕ) → List Completer → Type 0
 AreChosen [] [] = Unit {0}
-AreChosen (s ∷ ss) (x ∷ xs) = Contains (members s) x × AreChosen ss xs
+AreChosen (s ∷ ss) (x ∷ xs) = Contains (members s.0) x × AreChosen ss xs
 AreChosen _ _ = ⊥

@@ -1,4 +1,5 @@
-//! The completers of a mnemonic: how they are written, what they say, and which may stand at one place.
+//! The completers of a mnemonic: how each is written (`Suffix`), what it says where it stands (`Said`), and which may stand
+//! at one place (`CompleterSet`). One that isn't written can say something too: a compare without `.unc` is a normal one.
 
 ghost use Rattle.std.specs.Prelude.{◌≡◌};
 ghost use Rattle.asm_forms.specs.declared.completer.Suffix.TheVariants as suffix;
@@ -6,6 +7,7 @@ ghost use Rattle.asm_forms.specs.declared.completer.Said.TheVariants.{Nothing};
 ghost use Rattle.asm_forms.specs.Completers.{text_of, suffix_text, members};
 
 use ia_insn::{BranchKind, CmpKind, LaneFn, LoadKind, Rel, ShiftFn, StoreKind, Unit};
+use std::slice;
 
 /// A completer as it is written, or that none is where one may be missing.
 #[derive(Clone, Copy)]
@@ -177,6 +179,8 @@ impl Default for Completer {
 /// A place for a completer: which may stand there.
 #[derive(Clone, Copy)]
 pub enum CompleterSet {
+    /// This one.
+    Only(Completer),
     /// `.eq`, `.lt` or `.ltu`: a compare as the machine has it (crel).
     Relation,
     /// `.ne`, `.ge` or `.geu`: the targets are exchanged.
@@ -205,12 +209,6 @@ pub enum CompleterSet {
     ShiftU,
     /// `.u` or nothing, of an extraction.
     U,
-    /// `.z`.
-    Z,
-    /// `.nz`.
-    Nz,
-    /// `.s`.
-    S,
     /// `.i`, `.m` or nothing.
     CheckUnit,
     /// `.ret` or nothing, of a move.
@@ -237,30 +235,16 @@ pub enum CompleterSet {
     StoreHint,
     /// `.acq` or `.rel` (sem).
     SemaphoreType,
-    /// `.a`.
-    A,
-    /// `.nc`.
-    Nc,
-    /// `.clr`.
-    Clr,
-    /// `.e`.
-    E,
     /// `.cond` or nothing.
     Cond,
     /// `.wexit`, `.wtop`, `.cloop`, `.cexit` or `.ctop` (btype).
     Loop,
-    /// `.call`.
-    Call,
-    /// `.ret`, of a branch.
-    Return,
     /// `.sptk`, `.spnt`, `.dptk`, `.dpnt` or nothing (bwh).
     Whether,
     /// `.few`, `.many` or nothing (ph).
     Prefetch,
     /// `.clr` or nothing (dh).
     DeallocClr,
-    /// `.pr`.
-    Pr,
     /// `.m`, `.i`, `.f`, `.b`, `.x` or nothing.
     AnyUnit,
     /// `.m`, `.i`, `.f` or `.b`.
@@ -346,14 +330,15 @@ macro_rules! completers {
 }
 
 /// The completers that may stand at this place: the first that fits is read, and the first that says it is printed.
-pub fn members(set: CompleterSet) -> &'static [Completer]
-    ensures { result.now ≡ members set }
+pub fn members(set: &CompleterSet) -> &[Completer]
+    ensures { result.now ≡ members set.now }
 {
     use Said::{
         Branch, Compare, Flag, Lane, Load, NoUnit, Nothing, Relation, Shift, Small, Store,
         Unit as InUnit,
     };
     match set {
+        CompleterSet::Only(completer) => slice::from_ref(completer),
         CompleterSet::Relation => completers!(
             Eq => Relation(Rel::Eq), Lt => Relation(Rel::Lt), Ltu => Relation(Rel::Ltu)
         ),
@@ -379,9 +364,6 @@ pub fn members(set: CompleterSet) -> &'static [Completer]
         CompleterSet::ShiftU =>
             completers!(U => Shift(ShiftFn::ShrU), Absent => Shift(ShiftFn::Shr)),
         CompleterSet::U => completers!(U => Flag(false), Absent => Flag(true)),
-        CompleterSet::Z => completers!(Z => Nothing),
-        CompleterSet::Nz => completers!(Nz => Nothing),
-        CompleterSet::S => completers!(S => Nothing),
         CompleterSet::CheckUnit =>
             completers!(I => InUnit(Unit::I), M => InUnit(Unit::M), Absent => NoUnit),
         CompleterSet::Ret => completers!(Ret => Flag(true), Absent => Flag(false)),
@@ -409,25 +391,18 @@ pub fn members(set: CompleterSet) -> &'static [Completer]
         ),
         CompleterSet::StoreHint => completers!(Nta => Small(3), Absent => Small(0)),
         CompleterSet::SemaphoreType => completers!(Acq => Flag(false), Rel => Flag(true)),
-        CompleterSet::A => completers!(A => Nothing),
-        CompleterSet::Nc => completers!(Nc => Nothing),
-        CompleterSet::Clr => completers!(Clr => Nothing),
-        CompleterSet::E => completers!(E => Nothing),
         CompleterSet::Cond => completers!(Cond => Nothing, Absent => Nothing),
         CompleterSet::Loop => completers!(
             Wexit => Branch(BranchKind::Wexit), Wtop => Branch(BranchKind::Wtop),
             Cloop => Branch(BranchKind::Cloop), Cexit => Branch(BranchKind::Cexit),
             Ctop => Branch(BranchKind::Ctop)
         ),
-        CompleterSet::Call => completers!(Call => Nothing),
-        CompleterSet::Return => completers!(Ret => Nothing),
         CompleterSet::Whether => completers!(
             Sptk => Small(0), Spnt => Small(1), Dptk => Small(2), Dpnt => Small(3), Absent => Small(0)
         ),
         CompleterSet::Prefetch =>
             completers!(Few => Flag(false), Many => Flag(true), Absent => Flag(false)),
         CompleterSet::DeallocClr => completers!(Clr => Flag(true), Absent => Flag(false)),
-        CompleterSet::Pr => completers!(Pr => Nothing),
         CompleterSet::AnyUnit => completers!(
             M => InUnit(Unit::M), I => InUnit(Unit::I), F => InUnit(Unit::F), B => InUnit(Unit::B),
             X => InUnit(Unit::X), Absent => NoUnit

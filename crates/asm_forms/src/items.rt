@@ -108,8 +108,8 @@ pub enum Kind {
 pub enum FormItem {
     /// This mark.
     Is(Mark),
-    /// An operand of this kind.
-    Takes(Kind),
+    /// An operand of this kind, with the number of its value, 0 for none.
+    Takes(Kind, u8),
 }
 
 /// Whether a number from `-below` to `above` has this sign and magnitude.
@@ -259,7 +259,7 @@ pub fn accepts(item: FormItem, token: Token) -> bool
 {
     match item {
         FormItem::Is(mark) => is_mark(mark, token),
-        FormItem::Takes(kind) => takes(kind, token),
+        FormItem::Takes(kind, _) => takes(kind, token),
     }
 }
 
@@ -284,7 +284,7 @@ pub fn is_register(item: FormItem) -> bool
 {
     matches!(
         item,
-        FormItem::Takes(Kind::Gr | Kind::Pr | Kind::Br | Kind::Ar)
+        FormItem::Takes(Kind::Gr | Kind::Pr | Kind::Br | Kind::Ar, _)
             | FormItem::Is(
                 Mark::Unat
                     | Mark::Pfs
@@ -302,7 +302,7 @@ pub fn is_number(item: FormItem) -> bool
 {
     matches!(
         item,
-        FormItem::Takes(Kind::Number(_)) | FormItem::Is(Mark::One)
+        FormItem::Takes(Kind::Number(_), _) | FormItem::Is(Mark::One)
     )
 }
 
@@ -310,7 +310,7 @@ pub fn is_number(item: FormItem) -> bool
 pub fn is_label_item(item: FormItem) -> bool
     ensures { result ≡ is_label_item item }
 {
-    matches!(item, FormItem::Takes(Kind::Label))
+    matches!(item, FormItem::Takes(Kind::Label, _))
 }
 
 /// Whether the token is a name that begins with a letter.

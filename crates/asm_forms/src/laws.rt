@@ -11,12 +11,12 @@ ghost use Rattle.asm_forms.specs.Spelled.{is_spelled};
 ghost use Rattle.asm_forms.specs.Naming.{completers, named_forms, AreChosen};
 ghost use Rattle.asm_forms.specs.Rows.{row_of};
 
-/// The law that what a row prints is read as its form: of the forms that the row's word names with one
+/// The law that what a row prints is read as its form: of the forms that the row's stem names with one
 /// completer of each set, the form is the first whose items are the row's marks with operands that fit it,
 /// and the completers and the operands are those that were printed. It does nothing.
 pub fn forms_are_read_back()
     ensures form { (f : Form) (cs : List Completer) (xs : List Token) → AreChosen (row_of f).sets cs → fits (row_of f).items xs ≡ true
-        → find (is_spelled (filled (row_of f).items xs)) (named_forms ((row_of f).word ++ flat_map text_of cs)) ≡ Some f }
-    ensures completers { (f : Form) (cs : List Completer) → AreChosen (row_of f).sets cs → completers f ((row_of f).word ++ flat_map text_of cs) ≡ Some cs }
+        → find (is_spelled (filled (row_of f).items xs)) (named_forms ((row_of f).stem ++ flat_map text_of cs)) ≡ Some f }
+    ensures completers { (f : Form) (cs : List Completer) → AreChosen (row_of f).sets cs → completers f ((row_of f).stem ++ flat_map text_of cs) ≡ Some cs }
     ensures operands { (f : Form) (xs : List Token) → fits (row_of f).items xs ≡ true → taken (row_of f).items (filled (row_of f).items xs) ≡ xs }
 {}

@@ -8,7 +8,7 @@ ghost use Rattle.asm_forms.specs.Rows.{seen, row_of};
 
 use crate::completer::{Completer, CompleterSet, Suffix, members, text};
 use crate::form::Form;
-use crate::rows::{FormRow, rows_c_to_i, rows_from_s, rows_l_to_n, rows_o_to_r, rows_to_b};
+use crate::rows::{TableRow, rows_c_to_i, rows_from_s, rows_l_to_n, rows_o_to_r, rows_to_b};
 use arrayvec::ArrayVec;
 
 /// The completers of a form, place by place.
@@ -28,7 +28,7 @@ fn ends_part(rest: &[u8]) -> bool
 }
 
 /// Whether the name has another byte, or none, where the text ends, so that it doesn't begin with the text. To look
-/// at one byte is shorter than to compare the texts, and tells most words and completers apart.
+/// at one byte is shorter than to compare the texts, and tells most stems and completers apart.
 fn differ_at_the_end(name: &[u8], text: &[u8]) -> bool
     ensures value { IsTrue result → starts_with nat_eq name.now text.now ≡ false }
     ensures room { result ≡ false → length text.now ≤ length name.now }
@@ -72,27 +72,27 @@ fn find_completer(completers: &[Completer], name: &[u8]) -> Option<Completer>
 }
 
 /// Whether the text is a completer of each set, one after the other.
-fn has_completers(sets: &[CompleterSet], name: &[u8]) -> bool
+fn has_completers(sets: &[(CompleterSet, u8)], name: &[u8]) -> bool
     ensures { result ≡ is_some (completers_in sets.now name.now) }
 {
     match sets {
         [] => name.is_empty(),
-        [set, sets @ ..] => match find_completer(members(*set), name) {
+        [(set, _), sets @ ..] => match find_completer(members(set), name) {
             Some(completer) => has_completers(sets, &name[text(completer).len()..]),
             None => false,
         },
     }
 }
 
-/// Whether the name is the row's word and completers.
-fn is_named(name: &[u8], row: &FormRow) -> bool
+/// Whether the name is the row's stem and completers.
+fn is_named(name: &[u8], row: &TableRow) -> bool
     ensures { result ≡ is_named name.now (seen row.now) }
 {
-    begins(name, row.1) && has_completers(row.2, &name[row.1.len()..])
+    begins(name, row.stem) && has_completers(row.sets, &name[row.stem.len()..])
 }
 
-/// The rows among which those of the name's word are.
-pub(crate) fn rows_by_letter(name: &[u8]) -> &'static [FormRow]
+/// The rows among which those of the name's stem are.
+pub(crate) fn rows_by_letter(name: &[u8]) -> &'static [TableRow]
     ensures value { map (λ r. r.form) (filter (is_named name.now) (map seen result.now)) ≡ named_forms name.now }
     ensures listed { map (λ r. row_of r.form) (map seen result.now) ≡ map seen result.now }
     ensures few { length result.now ≤ 64 }
@@ -115,44 +115,44 @@ pub(crate) fn rows_by_letter(name: &[u8]) -> &'static [FormRow]
     }
 }
 
-/// The forms whose words and completers this name is, in the order of the rows.
+/// The forms whose stems and completers this name is, in the order of the rows.
 pub fn named(name: &[u8]) -> Named
     ensures { result.items ≡ named_forms name.now }
 {
     named_among(rows_by_letter(name), name)
 }
 
-fn named_among(rows: &[FormRow], name: &[u8]) -> Named
+fn named_among(rows: &[TableRow], name: &[u8]) -> Named
     requires { length rows.now ≤ 64 }
     ensures { result.items ≡ map (λ r. r.form) (filter (is_named name.now) (map seen rows.now)) }
 {
     let mut named = Named::new();
     for row in rows {
         if is_named(name, row) {
-            named.push(row.0);
+            named.push(row.form);
         }
     }
     named
 }
 
-/// What follows the word in the name.
-fn past<'a>(word: &[u8], name: &'a [u8]) -> &'a [u8]
-    ensures { result.now ≡ drop (length word.now) name.now }
+/// What follows the stem in the name.
+fn past<'a>(stem: &[u8], name: &'a [u8]) -> &'a [u8]
+    ensures { result.now ≡ drop (length stem.now) name.now }
 {
-    if word.len() <= name.len() {
-        &name[word.len()..]
+    if stem.len() <= name.len() {
+        &name[stem.len()..]
     } else {
         &[]
     }
 }
 
-/// The completers of the form in a name that the form's word begins, and None where it has others.
+/// The completers of the form in a name that the form's stem begins, and None where it has others.
 pub fn completers(form: Form, name: &[u8]) -> Option<Completers>
     ensures { option_map (λ cs. cs.items) result ≡ completers form name.now }
 {
     let row = form.row();
     let mut list = Completers::new();
-    if completers_into(row.sets(), past(row.word(), name), &mut list) {
+    if completers_into(row.sets(), past(row.stem(), name), &mut list) {
         Some(list)
     } else {
         None
@@ -161,15 +161,19 @@ pub fn completers(form: Form, name: &[u8]) -> Option<Completers>
 
 /// Puts one completer of each set, one after the other, into the list, in the place of what it held. False where the
 /// name has others.
-pub(crate) fn completers_into(sets: &[CompleterSet], name: &[u8], list: &mut Completers) -> bool
+pub(crate) fn completers_into(
+    sets: &[(CompleterSet, u8)],
+    name: &[u8],
+    list: &mut Completers,
+) -> bool
     requires { length sets.now ≤ 4 }
     ensures read { IsTrue result → completers_in sets.now name.now ≡ Some list.new.items }
     ensures others { result ≡ false → completers_in sets.now name.now ≡ None }
 {
     *list = Completers::new();
     let mut at = 0;
-    for set in sets {
-        let Some(completer) = find_completer(members(*set), rest_of(name, at)) else {
+    for (set, _) in sets {
+        let Some(completer) = find_completer(members(set), rest_of(name, at)) else {
             return false;
         };
         list.push(completer);

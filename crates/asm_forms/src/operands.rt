@@ -1,8 +1,8 @@
 //! The operands between a form's marks.
 
-ghost use Rattle.std.specs.Prelude.{◌≡◌, ◌≤◌, ◌+◌, ◌++◌};
+ghost use Rattle.std.specs.Prelude.{◌≡◌, ◌≤◌, ◌+◌, ◌++◌, length};
 ghost use Rattle.arrayvec.specs.ArrayVec.{array_vec_len};
-ghost use Rattle.asm_forms.specs.Items.{operand_count, taken};
+ghost use Rattle.asm_forms.specs.Items.{operands as operands_of, taken};
 
 use crate::items::FormItem;
 use arrayvec::ArrayVec;
@@ -13,7 +13,7 @@ pub type Operands = ArrayVec<Token, 5>;
 
 /// The operands among the tokens of the items.
 pub fn taken(items: &[FormItem], tokens: &[Token]) -> Operands
-    requires { operand_count items.now ≤ 5 }
+    requires { length (operands_of items.now) ≤ 5 }
     ensures { result.items ≡ taken items.now tokens.now }
 {
     let mut operands = Operands::new();
@@ -23,11 +23,11 @@ pub fn taken(items: &[FormItem], tokens: &[Token]) -> Operands
 
 /// Appends the operands among the tokens of the items.
 fn take_into(items: &[FormItem], tokens: &[Token], operands: &mut Operands)
-    requires { array_vec_len operands.old + operand_count items.now ≤ 5 }
+    requires { array_vec_len operands.old + length (operands_of items.now) ≤ 5 }
     ensures { operands.new.items ≡ operands.old.items ++ taken items.now tokens.now }
 {
     match (items, tokens) {
-        ([FormItem::Takes(_), items @ ..], [token, tokens @ ..]) => {
+        ([FormItem::Takes(..), items @ ..], [token, tokens @ ..]) => {
             operands.push(*token);
             take_into(items, tokens, operands);
         }

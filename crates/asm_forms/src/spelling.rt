@@ -10,19 +10,19 @@ ghost use Rattle.asm_forms.specs.Spelled.{is_spelled};
 
 use crate::items::are_accepted;
 use crate::naming::{Completers, begins, completers_into, rows_by_letter};
-use crate::rows::{FormRow, Row};
+use crate::rows::{Row, TableRow};
 use asm_lexemes::Token;
 
-/// Whether the mnemonic is the row's word with completers, which are then put into the list, and the operands are the row's.
+/// Whether the mnemonic is the row's stem with completers, which are then put into the list, and the operands are the row's.
 #[inline(always)]
-fn is_spelled(row: &FormRow, name: &[u8], operands: &[Token], list: &mut Completers) -> bool
-    requires { row_of row.now.0 ≡ seen row.now }
-    ensures value { result ≡ (is_named name.now (seen row.now) && pointwise accepts row.now.3.now operands.now) }
-    ensures read { IsTrue result → completers row.now.0 name.now ≡ Some list.new.items }
+fn is_spelled(row: &TableRow, name: &[u8], operands: &[Token], list: &mut Completers) -> bool
+    requires { row_of row.now.form ≡ seen row.now }
+    ensures value { result ≡ (is_named name.now (seen row.now) && pointwise accepts row.now.items.now operands.now) }
+    ensures read { IsTrue result → completers row.now.form name.now ≡ Some list.new.items }
 {
-    begins(name, row.1)
-        && are_accepted(row.3, operands)
-        && completers_into(row.2, &name[row.1.len()..], list)
+    begins(name, row.stem)
+        && are_accepted(row.items, operands)
+        && completers_into(row.sets, &name[row.stem.len()..], list)
 }
 
 /// The row of the first of the forms that the mnemonic names whose operands these are, with the mnemonic's completers in the

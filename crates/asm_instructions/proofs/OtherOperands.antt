@@ -4,24 +4,20 @@ use Rattle.asm_lexemes.specs.declared.tokens.Token.{Token}
 use Rattle.asm_lexemes.specs.declared.tokens.Token.TheVariants as t
 use Rattle.asm_forms.specs.declared.items.FormItem.{FormItem}
 use Rattle.asm_forms.specs.declared.items.Kind.{Kind}
-use Rattle.asm_forms.specs.Items.{taken}
+use Rattle.asm_forms.specs.Items.{operands, taken}
 use Rattle.insn_rows.specs.declared.opcode.Opcode.{Opcode}
 use Rattle.insn_rows.specs.declared.opcode.Opcode.TheVariants as o
 use Rattle.insn_rows.specs.declared.value.Value.{Value}
 use Rattle.asm_instructions.specs.Instructions.{moving, moving_by, with_operands}
 
-of_nothing : (operands : List (Kind × ℕ)) (vs : List Value) → with_operands operands [] vs ≡ vs
+of_nothing : (os : List (Kind × ℕ)) (vs : List Value) → with_operands os [] vs ≡ vs
 of_nothing [] vs = refl
 of_nothing (x ∷ xs) vs = refl
 
-pub of_no_items : (items : List FormItem) (operands : List (Kind × ℕ)) (ts : List Token) (vs : List Value) → length items ≡ 0 → vs ≡ with_operands operands (taken items ts) vs
-of_no_items [] operands ts vs e = sym (of_nothing operands vs)
-of_no_items (i ∷ is) operands ts vs e = absurd (omega (arith, e))
-
-pub of_no_tokens : (items : List FormItem) (operands : List (Kind × ℕ)) (ts : List Token) (vs : List Value) → length ts ≡ 0 → vs ≡ with_operands operands (taken items ts) vs
-of_no_tokens [] operands ts vs e = sym (of_nothing operands vs)
-of_no_tokens (i ∷ is) operands [] vs e = sym (of_nothing operands vs)
-of_no_tokens (i ∷ is) operands (x ∷ ts) vs e = absurd (omega (arith, e))
+pub of_no_tokens : (items : List FormItem) (ts : List Token) (vs : List Value) → length ts ≡ 0 → vs ≡ with_operands (operands items) (taken items ts) vs
+of_no_tokens [] ts vs e = refl
+of_no_tokens (i ∷ is) [] vs e = sym (of_nothing (operands (i ∷ is)) vs)
+of_no_tokens (i ∷ is) (x ∷ ts) vs e = absurd (omega (arith, e))
 
 abbrev pub names_register : Opcode → Bool
 names_register (o.MovToAr a) = true

@@ -11,7 +11,7 @@ use Rattle.asm_forms.specs.declared.form.Form.{Form}
 use Rattle.asm_forms.specs.declared.form.Form.TheVariants as form
 use Rattle.asm_forms.specs.declared.items.Kind.{Kind}
 use Rattle.asm_forms.specs.declared.items.NumberField.TheVariants.{Imm14}
-use Rattle.asm_forms.specs.Items.{has_room}
+use Rattle.asm_forms.specs.Items.{has_room, operands}
 use Rattle.asm_forms.specs.Rows.{FormRow, row_of}
 use Rattle.asm_instructions.specs.Operands.{magnitude_at, is_negative_at, small_at, operand_value, said_value}
 use Rattle.ia_insn.specs.declared.insn.Op.{Op}
@@ -81,7 +81,7 @@ abbrev pub no_values : List Value
 no_values = v.Absent ∷ v.Absent ∷ v.Absent ∷ v.Absent ∷ v.Absent ∷ v.Absent ∷ v.Absent ∷ []
 
 abbrev pub values_by : FormRow → List Completer → List Token → List Value
-values_by r cs xs = with_completers r.completers cs (with_operands r.operands xs (with_fixed r.fixed no_values))
+values_by r cs xs = with_completers r.sets cs (with_operands (operands r.items) xs (with_fixed r.fixed no_values))
 
 -- the instruction of a row
 abbrev pub op_by : FormRow → List Completer → List Token → Option Op

@@ -3,16 +3,14 @@
 ghost use Rattle.std.specs.Prelude.{◌≡◌, List, Some};
 ghost use Rattle.asm_lexemes.specs.declared.tokens.Token.{Token as TokenOf};
 ghost use Rattle.asm_forms.specs.declared.form.Form.TheVariants as form;
-ghost use Rattle.asm_forms.specs.Items.{taken};
+ghost use Rattle.asm_forms.specs.Items.{operands, taken};
 ghost use Rattle.asm_forms.specs.Rows.{row_of, AreValues};
 ghost use Rattle.asm_instructions.specs.Instructions.{completed, completed_by, moving, moving_by, with_fixed, with_operands, with_completers, values_by, sum, allocation, settled, op_of};
 ghost use Rattle.insn_rows.specs.Values.{at};
 ghost use Rattle.insn_rows.specs.ArmsBack.{op_of as op_with};
 
 use crate::operands::{is_negative_at, magnitude_at, operand_value, said_value, small_at};
-use asm_forms::{
-    Completer, CompleterSet, Form, FormItem, Kind, NumberField, Row, Said, has_room, taken,
-};
+use asm_forms::{Completer, CompleterSet, Form, FormItem, NumberField, Row, Said, has_room, taken};
 use asm_lexemes::Token;
 use ia_insn::{Ar, Gr, Op, Unit};
 use insn_rows::{Opcode, Value, Values, insn_of};
@@ -118,23 +116,20 @@ fn put_fixed(fixed: &[(Said, u8)], values: &mut Values)
 }
 
 /// Puts the values of the operands among the tokens of the items at their numbers.
-fn put_operands(items: &[FormItem], operands: &[(Kind, u8)], tokens: &[Token], values: &mut Values)
-    requires { AreValues operands.now }
-    ensures { values.new ≡ with_operands operands.now (taken items.now tokens.now) values.old }
+fn put_operands(items: &[FormItem], tokens: &[Token], values: &mut Values)
+    requires { AreValues (operands items.now) }
+    ensures { values.new ≡ with_operands (operands items.now) (taken items.now tokens.now) values.old }
 {
     match items {
         [] => {}
         [item, items @ ..] => match tokens {
             [] => {}
             [token, tokens @ ..] => match item {
-                FormItem::Is(_) => put_operands(items, operands, tokens, values),
-                FormItem::Takes(_) => match operands {
-                    [] => {}
-                    [(kind, at), operands @ ..] => {
-                        values[usize::from(*at)] = operand_value(*kind, *token);
-                        put_operands(items, operands, tokens, values);
-                    }
-                },
+                FormItem::Is(_) => put_operands(items, tokens, values),
+                FormItem::Takes(kind, at) => {
+                    values[usize::from(*at)] = operand_value(*kind, *token);
+                    put_operands(items, tokens, values);
+                }
             },
         },
     }
@@ -163,8 +158,8 @@ fn op_with(row: &Row, completers: &[Completer], tokens: &[Token], opcode: Opcode
 {
     let mut values = [Value::Absent; 7];
     put_fixed(row.fixed(), &mut values);
-    put_operands(row.items(), row.operands(), tokens, &mut values);
-    put_completers(row.completers(), completers, &mut values);
+    put_operands(row.items(), tokens, &mut values);
+    put_completers(row.sets(), completers, &mut values);
     insn_of(opcode, &values).op
 }
 

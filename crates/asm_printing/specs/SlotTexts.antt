@@ -72,8 +72,8 @@ token_text target hex _ = []
 abbrev pub operands_text : ℕ → List FormItem → List Token → List ℕ
 operands_text target [] xs = []
 operands_text target (Is mark ∷ is) xs = token_text target false (mark_token mark) ++ operands_text target is xs
-operands_text target (Takes kind ∷ is) [] = []
-operands_text target (Takes kind ∷ is) (x ∷ xs) = token_text target (is_hex kind) x ++ operands_text target is xs
+operands_text target (Takes kind n ∷ is) [] = []
+operands_text target (Takes kind n ∷ is) (x ∷ xs) = token_text target (is_hex kind) x ++ operands_text target is xs
 
 -- after one space, where there are operands
 abbrev pub spaced : List ℕ → List ℕ
@@ -81,7 +81,7 @@ spaced [] = []
 spaced (c ∷ cs) = 32 ∷ c ∷ cs
 
 abbrev pub mnemonic_text : Form → List Completer → List ℕ
-mnemonic_text form completers = (row_of form).word ++ flat_map text_of completers
+mnemonic_text form completers = (row_of form).stem ++ flat_map text_of completers
 
 abbrev pub predicate_text : ℕ → List ℕ
 predicate_text qp = if qp == 0 then [] else codes "(p" ++ decimal qp ++ codes ") "

@@ -137,7 +137,7 @@ fn put_items(out: &mut Vec<u8>, target: u64, items: &[FormItem], operands: &[Tok
             put_mark(out, target, *mark);
             put_items(out, target, items, operands);
         }
-        [FormItem::Takes(kind), items @ ..] => match operands {
+        [FormItem::Takes(kind, _), items @ ..] => match operands {
             [] => {}
             [operand, operands @ ..] => {
                 put_token(out, target, is_hex(*kind), *operand);
@@ -167,7 +167,7 @@ fn push_mnemonic(out: &mut Vec<u8>, row: &Row, completers: &[Completer]) -> Resu
     ensures ok { OnOk result (out.new.items ≡ out.old.items ++ mnemonic_text row.now completers.now) }
     ensures err { OnErr result (StartsWith out.new.items out.old.items) }
 {
-    push_bytes(out, row.word())?;
+    push_bytes(out, row.stem())?;
     push_completers(out, completers)
 }
 

@@ -20,7 +20,7 @@ use Rattle.asm_forms.specs.declared.form.Form.{Form}
 use Rattle.asm_forms.specs.declared.form.Form.TheVariants as form
 use Rattle.asm_forms.specs.Items.{taken}
 use Rattle.asm_forms.specs.Naming.{named_forms}
-use Rattle.asm_forms.specs.Rows.{row_of}
+use Rattle.asm_forms.specs.Rows.{row_of, is_instruction}
 use Rattle.asm_forms.specs.Spelled.{is_spelled}
 use Rattle.asm_matching.specs.Matching.{agreed, reach, fault_of, read_form}
 use Rattle.asm_matching.specs.Relations.{named_predicates, agreed_relation}
@@ -196,20 +196,18 @@ alone_found forms [] after r other found = past (before_stage (beside forms [] a
 alone_found forms (b ∷ before) after r other found = inl (inl (fault.Form, refl, nothing_before (name_instruction forms) _ _ other))
 
 -- lines by the first of their forms
+by_row_found : (f : Form) (fs : List Form) (name : List ℕ) (before after : List KindAndText) (b : Bool) → is_instruction f ≡ b → operands_of (f ∷ fs) ≡ OfForms
+    → IsFound (beside_stages (beside (f ∷ fs) before after)) (if b then slot_of (f ∷ fs) name before after else alone before (directive_of (f ∷ fs) after))
+by_row_found f fs name before after true is by_form = slot_found (f ∷ fs) name before after is by_form
+by_row_found f fs name before after false is by_form = alone_found (f ∷ fs) before after _ is (directive_found (f ∷ fs) after by_form)
+
 formed_found : (f : Form) (fs : List Form) (name : List ℕ) (before after : List KindAndText) → IsFound (beside_stages (beside (f ∷ fs) before after)) (formed f (f ∷ fs) name before after)
 formed_found form.Data1 fs name before after = alone_found (form.Data1 ∷ fs) before after _ refl (data_found size.One (form.Data1 ∷ fs) (tokens after) refl)
 formed_found form.Data2 fs name before after = alone_found (form.Data2 ∷ fs) before after _ refl (data_found size.Two (form.Data2 ∷ fs) (tokens after) refl)
 formed_found form.Data4 fs name before after = alone_found (form.Data4 ∷ fs) before after _ refl (data_found size.Four (form.Data4 ∷ fs) (tokens after) refl)
 formed_found form.Data8 fs name before after = alone_found (form.Data8 ∷ fs) before after _ refl (data_found size.Eight (form.Data8 ∷ fs) (tokens after) refl)
 formed_found form.PredRel fs name before after = alone_found (form.PredRel ∷ fs) before after _ refl (relation_found (form.PredRel ∷ fs) (tokens after) refl)
-formed_found form.Text fs name before after = alone_found (form.Text ∷ fs) before after _ refl (directive_found (form.Text ∷ fs) after refl)
-formed_found form.Data fs name before after = alone_found (form.Data ∷ fs) before after _ refl (directive_found (form.Data ∷ fs) after refl)
-formed_found form.Entry fs name before after = alone_found (form.Entry ∷ fs) before after _ refl (directive_found (form.Entry ∷ fs) after refl)
-formed_found form.Global fs name before after = alone_found (form.Global ∷ fs) before after _ refl (directive_found (form.Global ∷ fs) after refl)
-formed_found form.Proc fs name before after = alone_found (form.Proc ∷ fs) before after _ refl (directive_found (form.Proc ∷ fs) after refl)
-formed_found form.Endp fs name before after = alone_found (form.Endp ∷ fs) before after _ refl (directive_found (form.Endp ∷ fs) after refl)
-formed_found form.Skip fs name before after = alone_found (form.Skip ∷ fs) before after _ refl (directive_found (form.Skip ∷ fs) after refl)
-formed_found f fs name before after = slot_found (f ∷ fs) name before after refl refl
+formed_found f fs name before after = by_row_found f fs name before after (is_instruction f) refl refl
 
 -- A leading lexeme that names nothing is Name, and else the stages beside it find what is answered.
 abbrev pub Answers : Option Beside → Result Line LineFault → Type 0

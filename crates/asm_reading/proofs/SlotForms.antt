@@ -3,7 +3,7 @@ use Rattle.std.proofs.Common.{◌≡◌, refl, ◌∙◌, ap, sym, ℕ, Bool, tr
 use Rattle.std.specs.Prelude.{filter, Ok, IfSome}
 use Rattle.std.specs.List.{find, list_all, starts_with}
 use Rattle.std.specs.Option.{option_map}
-use Rattle.std.proofs.lemmas.Bool.{eqb-true, and_from}
+use Rattle.std.proofs.lemmas.Bool.{eqb-true, and_from, cond-true}
 use Rattle.ia_insn.specs.declared.insn.Op.{Op}
 use Rattle.ia_program.proofs.Tests.{left, right}
 use Rattle.asm_lexemes.specs.declared.tokens.Token.{Token}
@@ -14,36 +14,28 @@ use Rattle.asm_forms.specs.declared.form.Form.{Form}
 use Rattle.asm_forms.specs.declared.form.Form.TheVariants as form
 use Rattle.asm_forms.specs.Items.{taken}
 use Rattle.asm_forms.specs.Naming.{is_named, begins, has_completers_if, named_forms, completers}
-use Rattle.asm_forms.specs.Rows.{FormRow, rows, row_of}
+use Rattle.asm_forms.specs.Rows.{FormRow, rows, row_of, is_instruction}
 use Rattle.asm_forms.specs.Spelled.{is_spelled}
 use Rattle.asm_matching.specs.Matching.{read_form}
 use Rattle.asm_instructions.specs.Instructions.{op_of}
 use Rattle.asm_reading.specs.declared.line.Line.{Line}
 use Rattle.asm_reading.specs.declared.line.Line.TheVariants as line
-use Rattle.asm_reading.specs.FaultOrder.{is_instruction}
-use Rattle.asm_reading.specs.Lines.{◌>>=◌, or_fault, KindAndText, draft_of, ends_in_stop, completers_or_none, formed, among, worded, slot_of, slot_under, predicate_of, tokens, without_stop}
+use Rattle.asm_reading.specs.Lines.{◌>>=◌, or_fault, KindAndText, draft_of, ends_in_stop, completers_or_none, directive_of, alone, formed, among, worded, slot_of, slot_under, predicate_of, tokens, without_stop}
 use Rattle.asm_reading.specs.SlotReading.{slot_line, is_directive_name}
 
 formed_slot : (f : Form) (forms : List Form) (name : List ℕ) (before after : List KindAndText) → is_instruction f ≡ true → formed f forms name before after ≡ slot_of forms name before after
-formed_slot form.Data forms name before after h = cc
-formed_slot form.Endp forms name before after h = cc
-formed_slot form.Entry forms name before after h = cc
-formed_slot form.Global forms name before after h = cc
-formed_slot form.PredRel forms name before after h = cc
-formed_slot form.Proc forms name before after h = cc
-formed_slot form.Skip forms name before after h = cc
-formed_slot form.Text forms name before after h = cc
 formed_slot form.Data1 forms name before after h = cc
 formed_slot form.Data2 forms name before after h = cc
 formed_slot form.Data4 forms name before after h = cc
 formed_slot form.Data8 forms name before after h = cc
-formed_slot f forms name before after h = refl
+formed_slot form.PredRel forms name before after h = cc
+formed_slot f forms name before after h = cond-true (is_instruction f) (slot_of forms name before after) (alone before (directive_of forms after)) h
 
 pub slot_first : (fs : List Form) (p : Form → Bool) (f : Form) (name : List ℕ) (before after : List KindAndText) → list_all is_instruction fs ≡ true → find p fs ≡ Some f → among fs name before after ≡ slot_of fs name before after
 slot_first [] p f name before after h e = cc
 slot_first (g ∷ gs) p f name before after h e = formed_slot g (g ∷ gs) name before after (left _ _ h)
 
--- what a lexeme begins with, so does a name of it
+-- what a stem begins with, so does a name of it
 same_byte : (c d : ℕ) → nat_eq d c ≡ true → c ≡ d
 same_byte c d h = sym (eqb-true d c h)
 
@@ -58,22 +50,22 @@ directive_so (c ∷ b ∷ name) (d ∷ e ∷ w) h k =
     let rest : (nat_eq e b && starts_with nat_eq name w) ≡ true = right (nat_eq d c) _ h in
     rw (same_byte c d first, same_byte b e (left _ _ rest)) k
 
--- the rows of other lexemes are of slot lines
-lexemes_tell : list_all (λ r. is_directive_name r.lexeme || is_instruction r.form) rows ≡ true
-lexemes_tell = refl
+-- the rows of other stems are of slot lines
+stems_tell : list_all (λ r. is_directive_name r.stem || is_instruction r.form) rows ≡ true
+stems_tell = refl
 
-named_begins : (b : Bool) (sets : List CompleterSet) (rest : List ℕ) → has_completers_if b sets rest ≡ true → b ≡ true
+named_begins : (b : Bool) (sets : List (CompleterSet × ℕ)) (rest : List ℕ) → has_completers_if b sets rest ≡ true → b ≡ true
 named_begins true sets rest h = refl
 named_begins false sets rest h = h
 
-one_slot : (name : List ℕ) (r : FormRow) → is_directive_name name ≡ false → (is_directive_name r.lexeme || is_instruction r.form) ≡ true → is_named name r ≡ true → is_instruction r.form ≡ true
-one_slot name r plain known named = other (is_directive_name r.lexeme) refl known
+one_slot : (name : List ℕ) (r : FormRow) → is_directive_name name ≡ false → (is_directive_name r.stem || is_instruction r.form) ≡ true → is_named name r ≡ true → is_instruction r.form ≡ true
+one_slot name r plain known named = other (is_directive_name r.stem) refl known
   where
-    other : (b : Bool) → b ≡ is_directive_name r.lexeme → (b || is_instruction r.form) ≡ true → is_instruction r.form ≡ true
+    other : (b : Bool) → b ≡ is_directive_name r.stem → (b || is_instruction r.form) ≡ true → is_instruction r.form ≡ true
     other false e k = k
-    other true e k = let so : is_directive_name name ≡ true = directive_so name r.lexeme (left _ _ (named_begins (begins name r.lexeme) r.sets _ named)) (sym e) in cc
+    other true e k = let so : is_directive_name name ≡ true = directive_so name r.stem (left _ _ (named_begins (begins name r.stem) r.sets _ named)) (sym e) in cc
 
-kept_slots : (name : List ℕ) (rs : List FormRow) → is_directive_name name ≡ false → list_all (λ r. is_directive_name r.lexeme || is_instruction r.form) rs ≡ true → list_all is_instruction (map (λ r. r.form) (filter (is_named name) rs)) ≡ true
+kept_slots : (name : List ℕ) (rs : List FormRow) → is_directive_name name ≡ false → list_all (λ r. is_directive_name r.stem || is_instruction r.form) rs ≡ true → list_all is_instruction (map (λ r. r.form) (filter (is_named name) rs)) ≡ true
 kept_slots name [] plain known = refl
 kept_slots name (r ∷ rs) plain known = kept_one (is_named name r) refl (kept_slots name rs plain (right _ _ known))
   where
@@ -82,7 +74,7 @@ kept_slots name (r ∷ rs) plain known = kept_one (is_named name r) refl (kept_s
     kept_one false e m = m
 
 pub all_slots : (name : List ℕ) → is_directive_name name ≡ false → list_all is_instruction (named_forms name) ≡ true
-all_slots name plain = kept_slots name rows plain lexemes_tell
+all_slots name plain = kept_slots name rows plain stems_tell
 
 -- what is made of an instruction, where there is one
 lined : (o : Option Op) (f : Op → Line) → (or_fault o fault.Form >>= λ x. Ok (f x)) ≡ or_fault (option_map f o) fault.Form

@@ -16,6 +16,7 @@ use Rattle.asm_forms.specs.declared.choices.AccessSize.TheVariants as size
 use Rattle.asm_forms.specs.declared.form.Form.{Form}
 use Rattle.asm_forms.specs.declared.form.Form.TheVariants as form
 use Rattle.asm_forms.specs.Naming.{named_forms}
+use Rattle.asm_forms.specs.Rows.{is_instruction}
 use Rattle.asm_matching.specs.Matching.{reach, fault_of}
 use Rattle.asm_matching.specs.Relations.{agreed_relation, relation_fault}
 use Rattle.asm_reading.specs.declared.line.Line.{Line}
@@ -69,22 +70,6 @@ beside_of [] = Some nothing
 beside_of (w ∷ []) = beside_lead (w ∷ [])
 beside_of (w ∷ x ∷ ws) =
     if is_name_lexeme w && is_colon (token_of x.0 x.1) then Some (beside [] [] ws) else beside_lead (w ∷ x ∷ ws)
-
--- the form is an instruction's, and no directive's
-abbrev pub is_instruction : Form → Bool
-is_instruction form.Data1 = false
-is_instruction form.Data2 = false
-is_instruction form.Data4 = false
-is_instruction form.Data8 = false
-is_instruction form.Text = false
-is_instruction form.Data = false
-is_instruction form.Entry = false
-is_instruction form.Global = false
-is_instruction form.PredRel = false
-is_instruction form.Proc = false
-is_instruction form.Endp = false
-is_instruction form.Skip = false
-is_instruction _ = true
 
 -- the forms are those of an instruction's name
 abbrev pub name_instruction : List Form → Bool

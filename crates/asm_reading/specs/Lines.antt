@@ -32,7 +32,7 @@ use Rattle.asm_forms.specs.declared.items.NumberField.{NumberField}
 use Rattle.asm_forms.specs.declared.items.NumberField.TheVariants as field
 use Rattle.asm_forms.specs.Items.{accepts, taken, is_label_item, is_stop}
 use Rattle.asm_forms.specs.Naming.{completers, named_forms}
-use Rattle.asm_forms.specs.Rows.{row_of}
+use Rattle.asm_forms.specs.Rows.{row_of, is_instruction}
 use Rattle.asm_matching.specs.Matching.{fault_at, read_form}
 use Rattle.asm_matching.specs.Relations.{named_predicates, agreed_relation, relation_fault}
 use Rattle.ia_insn.specs.declared.insn.Op.{Op}
@@ -156,7 +156,7 @@ data_field size.Four = field.Data4
 data_field size.Eight = field.Imm64
 
 abbrev pub data_item : NumberField → ℕ → FormItem
-data_item f at = if at % 2 == 0 then Takes (takes.Number f) else Is mark.Comma
+data_item f at = if at % 2 == 0 then Takes (takes.Number f) 0 else Is mark.Comma
 
 -- on how many tokens from the place on there are numbers and commas in turn
 abbrev pub agreed_data : NumberField → ℕ → List Token → ℕ
@@ -217,14 +217,7 @@ formed form.Data2 forms name before after = alone before (data_of size.Two (toke
 formed form.Data4 forms name before after = alone before (data_of size.Four (tokens after))
 formed form.Data8 forms name before after = alone before (data_of size.Eight (tokens after))
 formed form.PredRel forms name before after = alone before (relation_of (tokens after))
-formed form.Text forms name before after = alone before (directive_of forms after)
-formed form.Data forms name before after = alone before (directive_of forms after)
-formed form.Entry forms name before after = alone before (directive_of forms after)
-formed form.Global forms name before after = alone before (directive_of forms after)
-formed form.Proc forms name before after = alone before (directive_of forms after)
-formed form.Endp forms name before after = alone before (directive_of forms after)
-formed form.Skip forms name before after = alone before (directive_of forms after)
-formed _ forms name before after = slot_of forms name before after
+formed f forms name before after = if is_instruction f then slot_of forms name before after else alone before (directive_of forms after)
 
 -- a line whose leading name names these forms, the first of which decides what the line is
 abbrev pub among : List Form → List ℕ → List KindAndText → List KindAndText → Result Line LineFault

@@ -30,7 +30,7 @@ fn data_item(field: NumberField, at: usize) -> FormItem
     ensures { result ≡ data_item field at }
 {
     if at % 2 == 0 {
-        FormItem::Takes(Kind::Number(field))
+        FormItem::Takes(Kind::Number(field), 0)
     } else {
         FormItem::Is(Mark::Comma)
     }

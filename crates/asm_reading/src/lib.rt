@@ -20,4 +20,4 @@ pub use laws::{
     form_comes_last, line_or_fault, name_comes_next, the_first_wrong_token_decides,
 };
 pub use line::{Draft, Line, Predicates, TemplateName, Values};
-pub use reading::{read_line, read_line_into, read_line_with};
+pub use reading::{read_line, read_line_into};

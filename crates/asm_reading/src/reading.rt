@@ -296,23 +296,6 @@ fn directive_value(
     }
 }
 
-/// A directive, by its forms.
-fn directive_of(
-    forms: &[Form],
-    line: &[u8],
-    lexemes: &[Lexeme],
-    buffer: &mut Tokens,
-) -> Result<Line, LineFault>
-    requires few { length lexemes.now ≤ LINE_LIMIT }
-    requires parts { AreParts line.now lexemes.now }
-    ensures { result ≡ directive_of forms.now (texts line.now lexemes.now) }
-{
-    tokens_into(line, lexemes, buffer);
-    let operands = buffer.as_slice();
-    let form = read_form(forms, operands, operands)?;
-    directive_value(form, line, lexemes, operands)
-}
-
 /// A slot line, by its forms.
 fn slot_of(
     forms: &[Form],
@@ -372,7 +355,7 @@ fn relation_line(
     }
 }
 
-/// A directive, before which no predicate stands.
+/// A directive, by its forms, before which no predicate stands.
 fn directive_line(
     forms: &[Form],
     line: &[u8],
@@ -385,7 +368,12 @@ fn directive_line(
     ensures { result ≡ alone (texts line.now before.now) (directive_of forms.now (texts line.now after.now)) }
 {
     match before {
-        [] => directive_of(forms, line, after, buffer),
+        [] => {
+            tokens_into(line, after, buffer);
+            let operands = buffer.as_slice();
+            let form = read_form(forms, operands, operands)?;
+            directive_value(form, line, after, operands)
+        }
         [_, ..] => Err(LineFault::Form),
     }
 }
@@ -410,14 +398,13 @@ fn among(
         [Form::Data4, ..] => data_line(AccessSize::Four, line, before, after, buffer),
         [Form::Data8, ..] => data_line(AccessSize::Eight, line, before, after, buffer),
         [Form::PredRel, ..] => relation_line(line, before, after, buffer),
-        [Form::Text, ..] => directive_line(forms, line, before, after, buffer),
-        [Form::Data, ..] => directive_line(forms, line, before, after, buffer),
-        [Form::Entry, ..] => directive_line(forms, line, before, after, buffer),
-        [Form::Global, ..] => directive_line(forms, line, before, after, buffer),
-        [Form::Proc, ..] => directive_line(forms, line, before, after, buffer),
-        [Form::Endp, ..] => directive_line(forms, line, before, after, buffer),
-        [Form::Skip, ..] => directive_line(forms, line, before, after, buffer),
-        [_, ..] => slot_of(forms, name, line, before, after, buffer),
+        [form, ..] => {
+            if form.is_instruction() {
+                slot_of(forms, name, line, before, after, buffer)
+            } else {
+                directive_line(forms, line, before, after, buffer)
+            }
+        }
     }
 }
 
@@ -695,23 +682,14 @@ pub fn read_line(line: &[u8]) -> Result<Line, LineFault>
     ensures ok { IfOk result (LineOf line.now) }
     ensures err { IfErr result (FaultOf line.now) }
 {
-    read_line_with(line, &mut LineBuffers::new())
-}
-
-/// What a line says, as [`read_line`] has it. The buffers are lent to it, and may be lent to the next line,
-/// which saves making them anew for each.
-pub fn read_line_with(line: &[u8], buffers: &mut LineBuffers) -> Result<Line, LineFault>
-    requires { length line.now ≤ LINE_LIMIT }
-    ensures ok { IfOk result (LineOf line.now) }
-    ensures err { IfErr result (FaultOf line.now) }
-{
     let mut value = Line::Empty;
-    read_line_into(line, buffers, &mut value)?;
+    read_line_into(line, &mut LineBuffers::new(), &mut value)?;
     Ok(value)
 }
 
-/// Puts what a line says, as [`read_line_with`] has it, into `value`, in the place of what it held, so that one value
-/// serves many lines. After a fault nothing is said of what it holds.
+/// Puts what a line says, as [`read_line`] has it, into `value`, in the place of what it held. The buffers are lent to it;
+/// they and the value serve many lines, which saves making them anew for each. After a fault nothing is said of what the
+/// value holds.
 pub fn read_line_into(
     line: &[u8],
     buffers: &mut LineBuffers,

@@ -2,7 +2,7 @@
 use Rattle.std.proofs.Common.{◌≡◌, ◌⊎◌, refl, sym, subst, ◌∙◌, ap, ap₂, arith, drop, inl, inr, ℕ, zero, suc, Bool, true, false, not, ◌&&◌, ◌||◌, cond, List, [], ◌∷◌, map, get_or, Some, is_some}
 use Rattle.std.specs.Prelude.{flat_map, filter, unwrap_or}
 use Rattle.std.specs.List.{find, list_all, list_any}
-use Rattle.std.proofs.lemmas.Bool.{and_from, cond-true}
+use Rattle.std.proofs.lemmas.Bool.{and_from}
 use Rattle.ia_program.proofs.Tests.{left, right}
 use Rattle.ia_insn.specs.declared.insn.Insn.{Insn}
 use Rattle.ia_insn.specs.declared.insn.Op.{Op}
@@ -28,17 +28,15 @@ use Rattle.asm_forms.specs.declared.completer.Said.{Said}
 use Rattle.asm_forms.specs.declared.form.Form.{Form}
 use Rattle.asm_forms.specs.declared.form.Form.TheVariants as form
 use Rattle.asm_forms.specs.Items.{is_label_item}
-use Rattle.asm_forms.specs.Rows.{rows, first_row, row_of, place}
+use Rattle.asm_forms.specs.Rows.{row_of, is_instruction}
 use Rattle.asm_forms.proofs.ReadChoice.{IsOneOf, one_mapped, one_flat, same_of, same_at, read_choice}
-use Rattle.asm_forms.proofs.RowFacts.{form_back, in_table}
 use Rattle.asm_lexemes.specs.declared.tokens.Token.{Token}
 use Rattle.asm_instructions.specs.Instructions.{settled}
-use Rattle.asm_reading.specs.FaultOrder.{is_instruction}
 use Rattle.asm_canonical.specs.Canonical.{forms_of, is_said, has_fixed, form_of, written}
 use Rattle.asm_canonical.proofs.Printed.{values_first}
 use Rattle.asm_text.specs.ReadBack.{untargeted}
 use Rattle.asm_text.proofs.CompletersBack.{is_few, every, few, all_of}
-use Rattle.asm_text.proofs.FormsBack.{width_at, taken_at, AreTaken, kinds_of, agrees, agreement, begun, read_by, fit_by, are_chosen, none_missing}
+use Rattle.asm_text.proofs.FormsBack.{width_at, taken_at, AreTaken, agrees, agreement, begun, read_by, fit_by, are_chosen, none_missing}
 use Rattle.asm_text.proofs.WayBack.{ReadsBack}
 
 -- the instructions whose values are written otherwise than words have them: a frame, and long immediates
@@ -187,22 +185,6 @@ forms_had os q = filter (λ f. not (is_apart q) && may_have os q f) (forms_of q)
 abbrev pub OpcodesBack : List Row → Type 0
 OpcodesBack rs = map (λ r. map (λ f. begun (row_of f) r.opcode) (forms_had (operands r) r.opcode)) rs ≡ map (λ r. map (λ f. Some r.opcode) (forms_had (operands r) r.opcode)) rs
 
--- the columns of a row of forms say the same
-same_sets : map (λ r. r.sets) rows ≡ map (λ r. map (λ s. s.0) r.completers) rows
-same_sets = refl
-
-same_kinds : map (λ r. cond (is_instruction r.form) (kinds_of r.items) []) rows ≡ map (λ r. map (λ s. s.0) r.operands) rows
-same_kinds = refl
-
-sets_of : (f : Form) → (row_of f).sets ≡ map (λ s. s.0) (row_of f).completers
-sets_of f = same_at (λ r. r.sets) (λ r. map (λ s. s.0) r.completers) rows (place f) first_row same_sets (in_table f)
-
-kinds_are : (f : Form) → is_instruction f ≡ true → kinds_of (row_of f).items ≡ map (λ s. s.0) (row_of f).operands
-kinds_are f h =
-    let e = same_at (λ r. cond (is_instruction r.form) (kinds_of r.items) []) (λ r. map (λ s. s.0) r.operands) rows (place f) first_row same_kinds (in_table f) in
-    let own : is_instruction (row_of f).form ≡ true = ap is_instruction (form_back f) ∙ h in
-    sym (cond-true _ (kinds_of (row_of f).items) [] own) ∙ e
-
 kept_form : (p : Form → Bool) (f : Form) (fs : List Form) → IsOneOf f fs → p f ≡ true → IsOneOf f (filter p fs)
 kept_form p f [] h e = absurd h
 kept_form p f (g ∷ gs) (inl s) e = rw (sym s, e) (inl refl)
@@ -271,11 +253,11 @@ of_opcode os x t apart agreed back =
     let own_sets = (agreement os q (row_of f) own).sets in
     let w : written q z ≡ z = as_they_are q z apart in
     record {
-      choice = rw w (read_choice f _ (rw (sets_of f) (are_chosen os (row_of f).completers q (at z) own_sets taken)));
-      fits = rw w (fit_by os q (row_of f) (at z) own (kinds_are f slot) taken);
+      choice = rw w (read_choice f _ (are_chosen os (row_of f).sets q (at z) own_sets taken));
+      fits = rw w (fit_by os q (row_of f) (at z) own taken);
       label = target ∙ sym (target_is x);
       slot = slot;
-      bare = rw w (none_missing os (row_of f).completers q (at z) own_sets taken);
+      bare = rw w (none_missing os (row_of f).sets q (at z) own_sets taken);
       op = rw w (rw (read_by os x (row_of f) own begins taken found.1) (plain_settles f _ (untargeted x) plain));
     }
 

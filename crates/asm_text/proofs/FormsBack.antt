@@ -33,7 +33,7 @@ use Rattle.asm_forms.specs.declared.items.FormItem.TheVariants.{Is, Takes as Tak
 use Rattle.asm_forms.specs.declared.items.Kind.{Kind}
 use Rattle.asm_forms.specs.declared.items.Kind.TheVariants as k
 use Rattle.asm_forms.specs.Completers.{members}
-use Rattle.asm_forms.specs.Items.{prints, fits}
+use Rattle.asm_forms.specs.Items.{operands as form_operands, prints, fits}
 use Rattle.asm_forms.specs.Naming.{AreChosen}
 use Rattle.asm_forms.specs.Rows.{FormRow}
 use Rattle.asm_instructions.specs.Instructions.{completed, completed_by, moving, moving_by, with_fixed, with_operands, with_completers, no_values, values_by, op_by}
@@ -121,25 +121,20 @@ operands_put os [] o x vs h t = refl
 operands_put os (s ∷ ks) o x vs h t =
     rw ((one_back os s o x (left _ _ h) t).1) (operands_put os ks o x (slice_set vs s.1 (read_values x s.1)) (right _ _ h) t)
 
--- the kinds among items
-abbrev pub kinds_of : List FormItem → List Kind
-kinds_of [] = []
-kinds_of (Is mark ∷ is) = kinds_of is
-kinds_of (TakesKind kind ∷ is) = kind ∷ kinds_of is
-
-abbrev all_print : List Kind → List Token → Bool
+-- operands that the kinds of a form's print fit its items
+abbrev all_print : List (Kind × ℕ) → List Token → Bool
 all_print [] [] = true
-all_print (kind ∷ ks) (x ∷ xs) = prints kind x && all_print ks xs
+all_print (s ∷ ks) (x ∷ xs) = prints s.0 x && all_print ks xs
 all_print _ _ = false
 
-fit_all : (is : List FormItem) (xs : List Token) → all_print (kinds_of is) xs ≡ true → fits is xs ≡ true
+fit_all : (is : List FormItem) (xs : List Token) → all_print (form_operands is) xs ≡ true → fits is xs ≡ true
 fit_all [] [] h = refl
 fit_all [] (x ∷ xs) h = cc
 fit_all (Is mark ∷ is) xs h = fit_all is xs h
-fit_all (TakesKind kind ∷ is) [] h = cc
-fit_all (TakesKind kind ∷ is) (x ∷ xs) h = and_from _ _ (left _ _ h) (fit_all is xs (right _ _ h))
+fit_all (TakesKind kind n ∷ is) [] h = cc
+fit_all (TakesKind kind n ∷ is) (x ∷ xs) h = and_from _ _ (left _ _ h) (fit_all is xs (right _ _ h))
 
-tokens_print : (os : List Operand) (ks : List (Kind × ℕ)) (o : Opcode) (x : ℕ → Value) → list_all (suits_operand os) ks ≡ true → AreTaken os x → all_print (map (λ s. s.0) ks) (tokens_by ks o x) ≡ true
+tokens_print : (os : List Operand) (ks : List (Kind × ℕ)) (o : Opcode) (x : ℕ → Value) → list_all (suits_operand os) ks ≡ true → AreTaken os x → all_print ks (tokens_by ks o x) ≡ true
 tokens_print os [] o x h t = refl
 tokens_print os (s ∷ ks) o x h t = and_from _ _ (one_back os s o x (left _ _ h) t).0 (tokens_print os ks o x (right _ _ h) t)
 
@@ -172,7 +167,7 @@ completers_with ss o x = map (λ s. completer_of s.0 o (x s.1)) ss
 
 -- what a completer is, of either
 record IsGood (s : CompleterSet × ℕ) (o : Opcode) (x : ℕ → Value) : Type 0 where
-  chosen : AreChosen (s.0 ∷ []) (completer_of s.0 o (x s.1) ∷ [])
+  chosen : Contains (members s.0) (completer_of s.0 o (x s.1))
   there : is_missing (completer_of s.0 o (x s.1)).says ≡ false
   says : said_value (completer_of s.0 o (x s.1)).says ≡ read_values x s.1
 
@@ -181,11 +176,11 @@ good os (set, zero) o x h t =
     let g = says_own set o h in
     let first : v.Pr 0 ≡ x 0 = sym t.0 in
     record {
-      chosen = (subst (λ w. Contains (members set) (completer_of set o w)) first g.chosen, tt);
+      chosen = subst (λ w. Contains (members set) (completer_of set o w)) first g.chosen;
       there = subst (λ w. is_missing (completer_of set o w).says ≡ false) first g.there;
       says = subst (λ w. said_value (completer_of set o w).says ≡ v.Absent) first g.says;
     }
-good os (set, suc n) o x h t = let g = says_value set o (coding_at os (suc n)) (width_at os (suc n)) (x (suc n)) h (t.1 n) in record { chosen = (g.chosen, tt); there = g.there; says = g.says }
+good os (set, suc n) o x h t = let g = says_value set o (coding_at os (suc n)) (width_at os (suc n)) (x (suc n)) h (t.1 n) in record { chosen = g.chosen; there = g.there; says = g.says }
 
 completers_put : (os : List Operand) (ss : List (CompleterSet × ℕ)) (o : Opcode) (x : ℕ → Value) (vs : List Value) → list_all (suits_set os o) ss ≡ true → AreTaken os x
     → with_completers ss (completers_with ss o x) vs ≡ puts (read_values x) (map (λ s. s.1) ss) vs
@@ -193,9 +188,9 @@ completers_put os [] o x vs h t = refl
 completers_put os (s ∷ ss) o x vs h t =
     rw ((good os s o x (left _ _ h) t).says) (completers_put os ss o x (slice_set vs s.1 (read_values x s.1)) (right _ _ h) t)
 
-pub are_chosen : (os : List Operand) (ss : List (CompleterSet × ℕ)) (o : Opcode) (x : ℕ → Value) → list_all (suits_set os o) ss ≡ true → AreTaken os x → AreChosen (map (λ s. s.0) ss) (completers_with ss o x)
+pub are_chosen : (os : List Operand) (ss : List (CompleterSet × ℕ)) (o : Opcode) (x : ℕ → Value) → list_all (suits_set os o) ss ≡ true → AreTaken os x → AreChosen ss (completers_with ss o x)
 are_chosen os [] o x h t = tt
-are_chosen os (s ∷ ss) o x h t = ((good os s o x (left _ _ h) t).chosen.0, are_chosen os ss o x (right _ _ h) t)
+are_chosen os (s ∷ ss) o x h t = ((good os s o x (left _ _ h) t).chosen, are_chosen os ss o x (right _ _ h) t)
 
 pub none_missing : (os : List Operand) (ss : List (CompleterSet × ℕ)) (o : Opcode) (x : ℕ → Value) → list_all (suits_set os o) ss ≡ true → AreTaken os x → is_bare (completers_with ss o x) ≡ false
 none_missing os [] o x h t = refl
@@ -242,31 +237,31 @@ is_absent coding = false
 
 abbrev pub is_named_in : List Operand → FormRow → ℕ → Bool
 is_named_in os r m =
-    list_any (λ n. n == m) (map (λ s. s.1) r.fixed) || (list_any (λ n. n == m) (map (λ s. s.1) r.operands) || (list_any (λ n. n == m) (map (λ s. s.1) r.completers) || is_absent (coding_at os m)))
+    list_any (λ n. n == m) (map (λ s. s.1) r.fixed) || (list_any (λ n. n == m) (map (λ s. s.1) (form_operands r.items)) || (list_any (λ n. n == m) (map (λ s. s.1) r.sets) || is_absent (coding_at os m)))
 
 -- THE TEST: the two rows agree.
 abbrev pub agrees : List Operand → Opcode → FormRow → Bool
 agrees os o r =
-    list_all (suits_operand os) r.operands && (list_all (suits_set os o) r.completers && (list_all suits_fixed r.fixed
-    && (are_numbers (map (λ s. s.1) r.operands) && (are_numbers (map (λ s. s.1) r.completers) && (are_numbers (map (λ s. s.1) r.fixed)
+    list_all (suits_operand os) (form_operands r.items) && (list_all (suits_set os o) r.sets && (list_all suits_fixed r.fixed
+    && (are_numbers (map (λ s. s.1) (form_operands r.items)) && (are_numbers (map (λ s. s.1) r.sets) && (are_numbers (map (λ s. s.1) r.fixed)
     && list_all (is_named_in os r) (1 ∷ 2 ∷ 3 ∷ 4 ∷ 5 ∷ 6 ∷ []))))))
 
 pub record Agreement (os : List Operand) (o : Opcode) (r : FormRow) : Type 0 where
-  pub operands : list_all (suits_operand os) r.operands ≡ true
-  pub sets : list_all (suits_set os o) r.completers ≡ true
+  pub operands : list_all (suits_operand os) (form_operands r.items) ≡ true
+  pub sets : list_all (suits_set os o) r.sets ≡ true
   pub fixed : list_all suits_fixed r.fixed ≡ true
-  pub operand_numbers : are_numbers (map (λ s. s.1) r.operands) ≡ true
-  pub set_numbers : are_numbers (map (λ s. s.1) r.completers) ≡ true
+  pub operand_numbers : are_numbers (map (λ s. s.1) (form_operands r.items)) ≡ true
+  pub set_numbers : are_numbers (map (λ s. s.1) r.sets) ≡ true
   pub fixed_numbers : are_numbers (map (λ s. s.1) r.fixed) ≡ true
   pub named : list_all (is_named_in os r) (1 ∷ 2 ∷ 3 ∷ 4 ∷ 5 ∷ 6 ∷ []) ≡ true
 
 pub agreement : (os : List Operand) (o : Opcode) (r : FormRow) → agrees os o r ≡ true → Agreement os o r
 agreement os o r h =
-    let a = list_all (suits_operand os) r.operands in
-    let b = list_all (suits_set os o) r.completers in
+    let a = list_all (suits_operand os) (form_operands r.items) in
+    let b = list_all (suits_set os o) r.sets in
     let d = list_all suits_fixed r.fixed in
-    let e = are_numbers (map (λ s. s.1) r.operands) in
-    let f = are_numbers (map (λ s. s.1) r.completers) in
+    let e = are_numbers (map (λ s. s.1) (form_operands r.items)) in
+    let f = are_numbers (map (λ s. s.1) r.sets) in
     let g = are_numbers (map (λ s. s.1) r.fixed) in
     let h1 = right a _ h in let h2 = right b _ h1 in let h3 = right d _ h2 in let h4 = right e _ h3 in let h5 = right f _ h4 in
     record { operands = left a _ h; sets = left b _ h1; fixed = left d _ h2; operand_numbers = left e _ h3; set_numbers = left f _ h4; fixed_numbers = left g _ h5; named = right g _ h5 }
@@ -316,17 +311,17 @@ absent_value : (x : ℕ → Value) (m : ℕ) → x (suc m) ≡ v.Absent → read
 absent_value x m e = rw e refl
 
 values_put : (os : List Operand) (o : Opcode) (r : FormRow) (x : ℕ → Value) (vs : List Value) → Agreement os o r → AreTaken os x → has_fixed r.fixed o x ≡ true
-    → values_by r (completers_with r.completers o x) (tokens_by r.operands o x)
-    ≡ puts (read_values x) (map (λ s. s.1) r.completers) (puts (read_values x) (map (λ s. s.1) r.operands) (puts (read_values x) (map (λ s. s.1) r.fixed) no_values))
+    → values_by r (completers_with r.sets o x) (tokens_by (form_operands r.items) o x)
+    ≡ puts (read_values x) (map (λ s. s.1) r.sets) (puts (read_values x) (map (λ s. s.1) (form_operands r.items)) (puts (read_values x) (map (λ s. s.1) r.fixed) no_values))
 values_put os o r x vs a t e =
-    rw (fixed_put r.fixed o x no_values a.fixed e, operands_put os r.operands o x (puts (read_values x) (map (λ s. s.1) r.fixed) no_values) a.operands t)
-    (completers_put os r.completers o x _ a.sets t)
+    rw (fixed_put r.fixed o x no_values a.fixed e, operands_put os (form_operands r.items) o x (puts (read_values x) (map (λ s. s.1) r.fixed) no_values) a.operands t)
+    (completers_put os r.sets o x _ a.sets t)
 
 value_at : (os : List Operand) (o : Opcode) (r : FormRow) (x : ℕ → Value) (m : ℕ) → Agreement os o r → AreTaken os x → has_fixed r.fixed o x ≡ true → is_named_in os r (suc m) ≡ true
-    → at (values_by r (completers_with r.completers o x) (tokens_by r.operands o x)) (suc m) ≡ resting (x (suc m))
+    → at (values_by r (completers_with r.sets o x) (tokens_by (form_operands r.items) o x)) (suc m) ≡ resting (x (suc m))
 value_at os o r x m a t e n =
     ap (λ vs. at vs (suc m)) (values_put os o r x no_values a t e)
-    ∙ three (read_values x) (map (λ s. s.1) r.fixed) (map (λ s. s.1) r.operands) (map (λ s. s.1) r.completers) (suc m) (is_absent (coding_at os (suc m))) a.fixed_numbers a.operand_numbers a.set_numbers n
+    ∙ three (read_values x) (map (λ s. s.1) r.fixed) (map (λ s. s.1) (form_operands r.items)) (map (λ s. s.1) r.sets) (suc m) (is_absent (coding_at os (suc m))) a.fixed_numbers a.operand_numbers a.set_numbers n
     (λ z. absent_value x m (absent_is (coding_at os (suc m)) (width_at os (suc m)) (x (suc m)) z (t.1 m)))
 
 -- an operation is the same with the same six values
@@ -344,7 +339,7 @@ rests x = refl
 
 -- the opcode that the row reads
 unfoldable pub begun : FormRow → Opcode → Option Opcode
-begun r o = option_and_then (λ q. said_by r.completers o (moved r.operands o q)) r.opcode
+begun r o = option_and_then (λ q. said_by r.sets o (moved (form_operands r.items) o q)) r.opcode
 
 begun_is : (q : Option Opcode) (f : Opcode → Op) (cs : List Completer) (xs : List Token) (g : Opcode → Option Opcode) → ((y : Opcode) → completed_by cs (moving_by xs y) ≡ g y)
     → option_and_then (λ y. option_map f (completed_by cs (moving_by xs y))) q ≡ option_map f (option_and_then g q)
@@ -353,14 +348,14 @@ begun_is (Some y) f cs xs g h = ap (option_map f) (h y)
 
 -- What is printed by a row that agrees is read as what was printed, but for its target.
 pub read_by : (os : List Operand) (x : Op) (r : FormRow) → agrees os (opcode_of x) r ≡ true → begun r (opcode_of x) ≡ Some (opcode_of x) → AreTaken os (at (operands_of 0 x)) → has_fixed r.fixed (opcode_of x) (at (operands_of 0 x)) ≡ true
-    → op_by r (map (λ s. completer_of s.0 (opcode_of x) (at (operands_of 0 x) s.1)) r.completers) (map (λ s. operand_of s.0 (opcode_of x) (at (operands_of 0 x) s.1)) r.operands) ≡ Some (untargeted x)
+    → op_by r (map (λ s. completer_of s.0 (opcode_of x) (at (operands_of 0 x) s.1)) r.sets) (map (λ s. operand_of s.0 (opcode_of x) (at (operands_of 0 x) s.1)) (form_operands r.items)) ≡ Some (untargeted x)
 unfolding begun
 read_by os x r h b t e =
     let a = agreement os (opcode_of x) r h in
     let z = at (operands_of 0 x) in
     let o = opcode_of x in
-    let cs = completers_with r.completers o z in
-    let xs = tokens_by r.operands o z in
+    let cs = completers_with r.sets o z in
+    let xs = tokens_by (form_operands r.items) o z in
     let w = values_by r cs xs in
     let n = a.named in
     let each : (m : ℕ) → is_named_in os r (suc m) ≡ true → at w (suc m) ≡ resting (z (suc m)) = λ m k. value_at os o r z m a t e k in
@@ -370,13 +365,11 @@ read_by os x r h b t e =
     let n4 = left _ _ t3 in let t4 = right (is_named_in os r 4) _ t3 in
     let n5 = left _ _ t4 in let t5 = right (is_named_in os r 5) _ t4 in
     let n6 = left _ _ t5 in
-    begun_is r.opcode (λ y. op_with y (at w)) cs xs (λ q. said_by r.completers o (moved r.operands o q))
-    (λ y. said_is_by os r.completers o z (moving_by xs y) a.sets t ∙ ap (said_by r.completers o) (moved_is r.operands o z y))
+    begun_is r.opcode (λ y. op_with y (at w)) cs xs (λ q. said_by r.sets o (moved (form_operands r.items) o q))
+    (λ y. said_is_by os r.sets o z (moving_by xs y) a.sets t ∙ ap (said_by r.sets o) (moved_is (form_operands r.items) o z y))
     ∙ ap (option_map (λ y. op_with y (at w))) b
     ∙ ap Some (same_op o (at w) (λ m. resting (z m)) (each 0 n1) (each 1 n2) (each 2 n3) (each 3 n4) (each 4 n5) (each 5 n6) ∙ rests x)
 
--- and its operands fit the items, which have their kinds
-pub fit_by : (os : List Operand) (o : Opcode) (r : FormRow) (x : ℕ → Value) → agrees os o r ≡ true → kinds_of r.items ≡ map (λ s. s.0) r.operands → AreTaken os x
-    → fits r.items (map (λ s. operand_of s.0 o (x s.1)) r.operands) ≡ true
-fit_by os o r x h same t =
-    fit_all r.items (tokens_by r.operands o x) (rw same (tokens_print os r.operands o x (agreement os o r h).operands t))
+-- and its operands fit the items
+pub fit_by : (os : List Operand) (o : Opcode) (r : FormRow) (x : ℕ → Value) → agrees os o r ≡ true → AreTaken os x → fits r.items (map (λ s. operand_of s.0 o (x s.1)) (form_operands r.items)) ≡ true
+fit_by os o r x h t = fit_all r.items (tokens_by (form_operands r.items) o x) (tokens_print os (form_operands r.items) o x (agreement os o r h).operands t)

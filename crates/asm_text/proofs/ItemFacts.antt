@@ -26,13 +26,13 @@ use Rattle.asm_text.proofs.OperandTexts.{is_lexemelike, are_apart, label_token}
 pub as_many : (is : List FormItem) (xs : List Token) → fits is xs ≡ true → length is ≡ length (filled is xs)
 as_many [] xs h = refl
 as_many (Is mark ∷ is) xs h = rw (as_many is xs h) refl
-as_many (Takes kind ∷ is) [] h = cc
-as_many (Takes kind ∷ is) (x ∷ xs) h = rw (as_many is xs (right (prints kind x) _ h)) refl
+as_many (Takes kind n ∷ is) [] h = cc
+as_many (Takes kind n ∷ is) (x ∷ xs) h = rw (as_many is xs (right (prints kind x) _ h)) refl
 
 -- no two words next to one another
 abbrev pub is_run : FormItem → Bool
 is_run (Is mark) = is_lexemelike (mark_token mark)
-is_run (Takes kind) = true
+is_run (Takes kind n) = true
 
 abbrev pub items_apart : List FormItem → Bool
 items_apart [] = true
@@ -53,14 +53,14 @@ second_of_two false b h = refl
 apart : (is : List FormItem) (xs : List Token) → fits is xs ≡ true → items_apart is ≡ true → are_apart (filled is xs) ≡ true
 apart [] xs h e = refl
 apart (Is a ∷ []) xs h e = refl
-apart (Takes kind ∷ []) [] h e = cc
-apart (Takes kind ∷ []) (x ∷ xs) h e = refl
+apart (Takes kind n ∷ []) [] h e = cc
+apart (Takes kind n ∷ []) (x ∷ xs) h e = refl
 apart (Is a ∷ Is b ∷ is) xs h e = and_from _ _ (left _ _ e) (apart (Is b ∷ is) xs h (right _ _ e))
-apart (Is a ∷ Takes kind ∷ is) [] h e = cc
-apart (Is a ∷ Takes kind ∷ is) (x ∷ xs) h e = and_from _ _ (first_of_two (is_lexemelike (mark_token a)) (is_lexemelike x) (left _ _ e)) (apart (Takes kind ∷ is) (x ∷ xs) h (right _ _ e))
-apart (Takes kind ∷ is) [] h e = cc
-apart (Takes kind ∷ Is b ∷ is) (x ∷ xs) h e = and_from _ _ (second_of_two (is_lexemelike x) (is_lexemelike (mark_token b)) (left _ _ e)) (apart (Is b ∷ is) xs (right _ _ h) (right _ _ e))
-apart (Takes kind ∷ Takes other ∷ is) (x ∷ xs) h e = cc
+apart (Is a ∷ Takes kind n ∷ is) [] h e = cc
+apart (Is a ∷ Takes kind n ∷ is) (x ∷ xs) h e = and_from _ _ (first_of_two (is_lexemelike (mark_token a)) (is_lexemelike x) (left _ _ e)) (apart (Takes kind n ∷ is) (x ∷ xs) h (right _ _ e))
+apart (Takes kind n ∷ is) [] h e = cc
+apart (Takes kind n ∷ Is b ∷ is) (x ∷ xs) h e = and_from _ _ (second_of_two (is_lexemelike x) (is_lexemelike (mark_token b)) (left _ _ e)) (apart (Is b ∷ is) xs (right _ _ h) (right _ _ e))
+apart (Takes kind n ∷ Takes other to ∷ is) (x ∷ xs) h e = cc
 
 pub row_apart : (f : Form) (xs : List Token) → fits (row_of f).items xs ≡ true → are_apart (filled (row_of f).items xs) ≡ true
 row_apart f xs h = apart (row_of f).items xs h (of_row (λ r. items_apart r.items) f rows_apart)
@@ -73,9 +73,9 @@ label_printed x h = cc
 label_at : (is : List FormItem) (xs : List Token) → fits is xs ≡ true → label_token is (filled is xs) ≡ cond (list_any is_label_item is) (Some t.Name) None
 label_at [] xs h = refl
 label_at (Is mark ∷ is) xs h = label_at is xs h
-label_at (Takes kind ∷ is) [] h = cc
-label_at (Takes k.Label ∷ is) (x ∷ xs) h = ap Some (label_printed x (left _ _ h))
-label_at (Takes kind ∷ is) (x ∷ xs) h = label_at is xs (right _ _ h)
+label_at (Takes kind n ∷ is) [] h = cc
+label_at (Takes k.Label n ∷ is) (x ∷ xs) h = ap Some (label_printed x (left _ _ h))
+label_at (Takes kind n ∷ is) (x ∷ xs) h = label_at is xs (right _ _ h)
 
 name_where : (d : Option ℤ) → cond (is_some d) (Some t.Name) None ≡ option_map (λ disp. t.Name) d
 name_where None = refl
@@ -104,5 +104,5 @@ operand_printed kind x h r = cc
 pub all_printed : (is : List FormItem) (xs : List Token) → fits is xs ≡ true → AllByRecursion IsTokenInRange xs → AllByRecursion IsPrinted (filled is xs)
 all_printed [] xs h r = tt
 all_printed (Is mark ∷ is) xs h r = (mark_printed mark, all_printed is xs h r)
-all_printed (Takes kind ∷ is) [] h r = tt
-all_printed (Takes kind ∷ is) (x ∷ xs) h r = (operand_printed kind x (left (prints kind x) _ h) r.0, all_printed is xs (right (prints kind x) _ h) r.1)
+all_printed (Takes kind n ∷ is) [] h r = tt
+all_printed (Takes kind n ∷ is) (x ∷ xs) h r = (operand_printed kind x (left (prints kind x) _ h) r.0, all_printed is xs (right (prints kind x) _ h) r.1)

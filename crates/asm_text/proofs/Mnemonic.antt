@@ -28,14 +28,14 @@ begins_name [] = false
 begins_name (c ∷ cs) = is_name_byte c && not (is_digit_byte c)
 
 -- the bytes of each word are those of a name
-lexemes_plain : list_all (λ r. begins_name r.word && list_all is_name_byte r.word) rows ≡ true
-lexemes_plain = refl
+stems_plain : list_all (λ r. begins_name r.stem && list_all is_name_byte r.stem) rows ≡ true
+stems_plain = refl
 
-lexeme_begins : (f : Form) → begins_name (row_of f).word ≡ true
-lexeme_begins f = left _ _ (of_row (λ r. begins_name r.word && list_all is_name_byte r.word) f lexemes_plain)
+stem_begins : (f : Form) → begins_name (row_of f).stem ≡ true
+stem_begins f = left _ _ (of_row (λ r. begins_name r.stem && list_all is_name_byte r.stem) f stems_plain)
 
-lexeme_bytes : (f : Form) → list_all is_name_byte (row_of f).word ≡ true
-lexeme_bytes f = right (begins_name (row_of f).word) _ (of_row (λ r. begins_name r.word && list_all is_name_byte r.word) f lexemes_plain)
+lexeme_bytes : (f : Form) → list_all is_name_byte (row_of f).stem ≡ true
+lexeme_bytes f = right (begins_name (row_of f).stem) _ (of_row (λ r. begins_name r.stem && list_all is_name_byte r.stem) f stems_plain)
 
 -- and so are those of each completer
 completer_bytes : (suffix : Suffix) → list_all is_name_byte (suffix_text suffix) ≡ true
@@ -56,10 +56,10 @@ completers_bytes (c ∷ cs) = names_both (text_of c) (flat_map text_of cs) (comp
 
 -- the bytes of a mnemonic are those of a name
 pub mnemonic_bytes : (f : Form) (cs : List Completer) → list_all is_name_byte (mnemonic_text f cs) ≡ true
-mnemonic_bytes f cs = names_both (row_of f).word (flat_map text_of cs) (lexeme_bytes f) (completers_bytes cs)
+mnemonic_bytes f cs = names_both (row_of f).stem (flat_map text_of cs) (lexeme_bytes f) (completers_bytes cs)
 
 pub mnemonic_begins : (f : Form) (cs : List Completer) → begins_name (mnemonic_text f cs) ≡ true
-mnemonic_begins f cs = begins_both (row_of f).word (flat_map text_of cs) (lexeme_begins f)
+mnemonic_begins f cs = begins_both (row_of f).stem (flat_map text_of cs) (stem_begins f)
 
 -- a name before an end is one word
 pub name_cut : (n cs : List ℕ) → begins_name n ≡ true → list_all is_name_byte n ≡ true → is_end cs ≡ true → lexed 0 (n ++ cs) ≡ (kind.Name, n) ∷ lexed 0 cs

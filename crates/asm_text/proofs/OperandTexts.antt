@@ -29,7 +29,7 @@ use Rattle.asm_printing.specs.SlotTexts.{is_hex, label_text, token_text, operand
 -- marks and operands in turn, as they are printed
 abbrev pub item_hex : FormItem → Bool
 item_hex (Is mark) = false
-item_hex (Takes kind) = is_hex kind
+item_hex (Takes kind n) = is_hex kind
 
 abbrev pub tokens_text : ℕ → List FormItem → List Token → List ℕ
 tokens_text target [] ts = []
@@ -39,8 +39,8 @@ tokens_text target (i ∷ is) (x ∷ xs) = token_text target (item_hex i) x ++ t
 pub filled_text : (target : ℕ) (is : List FormItem) (xs : List Token) → operands_text target is xs ≡ tokens_text target is (filled is xs)
 filled_text target [] xs = refl
 filled_text target (Is mark ∷ is) xs = ap (λ cs. token_text target false (mark_token mark) ++ cs) (filled_text target is xs)
-filled_text target (Takes kind ∷ is) [] = refl
-filled_text target (Takes kind ∷ is) (x ∷ xs) = ap (λ cs. token_text target (is_hex kind) x ++ cs) (filled_text target is xs)
+filled_text target (Takes kind n ∷ is) [] = refl
+filled_text target (Takes kind n ∷ is) (x ∷ xs) = ap (λ cs. token_text target (is_hex kind) x ++ cs) (filled_text target is xs)
 
 -- the kind of the word that an operand is printed as
 abbrev pub lexeme_kind_of : Token → LexemeKind

@@ -56,7 +56,7 @@ kind_room (k.Number field) = 21
 abbrev items_room : List FormItem → ℕ
 items_room [] = 0
 items_room (Is mark ∷ is) = token_room (mark_token mark) + items_room is
-items_room (Takes kind ∷ is) = kind_room kind + items_room is
+items_room (Takes kind n ∷ is) = kind_room kind + items_room is
 
 kind_fits : (kind : Kind) (x : Token) → prints kind x ≡ true → token_room x ≡ kind_room kind
 kind_fits k.Gr (t.Gr n) h = refl
@@ -68,14 +68,14 @@ kind_fits (k.Number field) (t.Number negative m) h = refl
 kind_fits kind x h = cc
 
 -- The word of a row, any completers of its sets and its operands have at most 107 bytes.
-rows_short : list_all (λ r. list_all (λ cs. leb (length r.word + length (flat_map text_of cs) + items_room r.items) 107) (products r.sets)) rows ≡ true
+rows_short : list_all (λ r. list_all (λ cs. leb (length r.stem + length (flat_map text_of cs) + items_room r.items) 107) (products r.sets)) rows ≡ true
 rows_short = refl
 
 row_is_short : (f : Form) (cs : List Completer) → completers_in (row_of f).sets (flat_map text_of cs) ≡ Some cs → length (mnemonic_text f cs) + items_room (row_of f).items ≤ 107
 row_is_short f cs h =
-    let each = of_row (λ r. list_all (λ ds. leb (length r.word + length (flat_map text_of ds) + items_room r.items) 107) (products r.sets)) f rows_short in
-    let all = leb-true _ _ (of_products (λ ds. leb (length (row_of f).word + length (flat_map text_of ds) + items_room (row_of f).items) 107) (row_of f).sets (flat_map text_of cs) cs each h) in
-    let both = length-append (row_of f).word (flat_map text_of cs) in
+    let each = of_row (λ r. list_all (λ ds. leb (length r.stem + length (flat_map text_of ds) + items_room r.items) 107) (products r.sets)) f rows_short in
+    let all = leb-true _ _ (of_products (λ ds. leb (length (row_of f).stem + length (flat_map text_of ds) + items_room (row_of f).items) 107) (row_of f).sets (flat_map text_of cs) cs each h) in
+    let both = length-append (row_of f).stem (flat_map text_of cs) in
     omega (arith, all, both)
 
 -- The text of an operand fits in its room.
@@ -109,8 +109,8 @@ operands_are_short target (Is mark ∷ is) xs l h p =
     let more = operands_are_short target is xs l h p.1 in
     let both = length-append (token_text target false (mark_token mark)) (operands_text target is xs) in
     omega (arith, one, more, both)
-operands_are_short target (Takes kind ∷ is) [] l h p = omega arith
-operands_are_short target (Takes kind ∷ is) (x ∷ xs) l h p =
+operands_are_short target (Takes kind n ∷ is) [] l h p = omega arith
+operands_are_short target (Takes kind n ∷ is) (x ∷ xs) l h p =
     let one = token_is_short target (is_hex kind) x l p.0 in
     let same = kind_fits kind x (left (prints kind x) (fits is xs) h) in
     let more = operands_are_short target is xs l (right (prints kind x) (fits is xs) h) p.1 in

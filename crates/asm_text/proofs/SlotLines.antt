@@ -138,7 +138,7 @@ joined q r build drafted e qp f x d stop eq er eb ed ee = rw (eq, er, eb, ed, ee
 -- the completers after a word are those of the form
 own_completers : (f : Form) (cs : List Completer) → completers_in (row_of f).sets (flat_map text_of cs) ≡ Some cs → completers_or_none f (mnemonic_text f cs) ≡ cs
 own_completers f cs h =
-    ap (λ text. unwrap_or (completers_in (row_of f).sets text) []) (drop-append_seam (row_of f).word (flat_map text_of cs)) ∙ ap (λ o. unwrap_or o []) h
+    ap (λ text. unwrap_or (completers_in (row_of f).sets text) []) (drop-append_seam (row_of f).stem (flat_map text_of cs)) ∙ ap (λ o. unwrap_or o []) h
 
 -- The words after the leading one are read as the instruction that was printed.
 slot_reads : (x : Op) (before after : List KindAndText) (qp : ℕ) (name : Option (List ℕ)) (stop : Bool) → ReadsBack x → AllByRecursion IsPrinted (tokens_of x) → predicate_of (tokens before) ≡ Ok qp

@@ -4,12 +4,11 @@ use Rattle.std.specs.List.{list_any}
 use Rattle.asm_forms.specs.Completers.{text_of}
 use Rattle.asm_forms.specs.Items.{fits, is_label_item}
 use Rattle.asm_forms.specs.Naming.{completers_in}
-use Rattle.asm_forms.specs.Rows.{row_of}
+use Rattle.asm_forms.specs.Rows.{row_of, is_instruction}
 use Rattle.ia_insn.specs.declared.insn.Op.{Op}
 use Rattle.ia_insn.specs.Displacements.{displacement}
 use Rattle.asm_instructions.specs.Instructions.{op_of}
 use Rattle.asm_reading.specs.Lines.{is_bare}
-use Rattle.asm_reading.specs.FaultOrder.{is_instruction}
 use Rattle.asm_canonical.specs.Canonical.{syntax_of}
 use Rattle.asm_text.specs.ReadBack.{untargeted}
 

@@ -10,7 +10,6 @@ pub use asm_printing::{limits, print_slot, push_bytes, push_decimal, push_hex};
 pub use asm_reading::{
     Draft, Line, LineBuffers, Predicates, TemplateName, Values, a_line_has_one_answer,
     a_line_is_read_by_its_lexemes, char_comes_first, faults_in_order, form_comes_last,
-    line_or_fault, name_comes_next, read_line, read_line_into, read_line_with,
-    the_first_wrong_token_decides,
+    line_or_fault, name_comes_next, read_line, read_line_into, the_first_wrong_token_decides,
 };
 pub use laws::printed_slots_are_read_back;

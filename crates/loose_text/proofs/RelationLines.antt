@@ -17,7 +17,7 @@ use Rattle.asm_forms.specs.declared.choices.AccessSize.TheVariants as size
 use Rattle.asm_forms.specs.declared.form.Form.{Form}
 use Rattle.asm_forms.specs.declared.form.Form.TheVariants as form
 use Rattle.asm_forms.specs.Naming.{named_forms}
-use Rattle.asm_forms.specs.Rows.{row_of}
+use Rattle.asm_forms.specs.Rows.{row_of, is_instruction}
 use Rattle.asm_matching.specs.Matching.{read_form}
 use Rattle.asm_matching.specs.Related.{IsRelated}
 use Rattle.asm_matching.specs.Relations.{named_predicates, agreed_relation, relation_fault}
@@ -98,20 +98,18 @@ alone_relates : (before : List KindAndText) (r : Result Line LineFault) → Rela
 alone_relates [] r h = h
 alone_relates (b ∷ before) r h = tt
 
+either_relates : (b : Bool) (r s : Result Line LineFault) → Relates r → Relates s → Relates (if b then r else s)
+either_relates true r s h k = h
+either_relates false r s h k = k
+
 formed_relates : (f : Form) (forms : List Form) (name : List ℕ) (before after : List KindAndText) → Relates (formed f forms name before after)
 formed_relates form.Data1 forms name before after = alone_relates before _ (data_relates size.One (tokens after))
 formed_relates form.Data2 forms name before after = alone_relates before _ (data_relates size.Two (tokens after))
 formed_relates form.Data4 forms name before after = alone_relates before _ (data_relates size.Four (tokens after))
 formed_relates form.Data8 forms name before after = alone_relates before _ (data_relates size.Eight (tokens after))
 formed_relates form.PredRel forms name before after = alone_relates before _ (relation_relates (tokens after))
-formed_relates form.Text forms name before after = alone_relates before _ (directive_relates forms after)
-formed_relates form.Data forms name before after = alone_relates before _ (directive_relates forms after)
-formed_relates form.Entry forms name before after = alone_relates before _ (directive_relates forms after)
-formed_relates form.Global forms name before after = alone_relates before _ (directive_relates forms after)
-formed_relates form.Proc forms name before after = alone_relates before _ (directive_relates forms after)
-formed_relates form.Endp forms name before after = alone_relates before _ (directive_relates forms after)
-formed_relates form.Skip forms name before after = alone_relates before _ (directive_relates forms after)
-formed_relates _ forms name before after = slot_relates forms name before after
+formed_relates f forms name before after =
+    either_relates (is_instruction f) (slot_of forms name before after) (alone before (directive_of forms after)) (slot_relates forms name before after) (alone_relates before _ (directive_relates forms after))
 
 worded_relates : (forms : List Form) (name : List ℕ) (before after : List KindAndText) → Relates (among forms name before after)
 worded_relates [] name before after = tt

@@ -19,7 +19,7 @@ use crate::relations::all_related;
 use crate::targets::{items_of, named};
 use asm_build::{Reason, TextError, fault, reason_of, rising};
 use asm_lexemes::limits::LINE_LIMIT;
-use asm_text::{LineBuffers, read_line_with};
+use asm_text::{Line, LineBuffers, read_line_into};
 use bstr::ByteSlice;
 use std::alloc::Global;
 
@@ -36,8 +36,9 @@ fn take_line(
     if line.len() > LINE_LIMIT {
         return Err(fault(n, Reason::Limit));
     }
-    match read_line_with(line, buffers) {
-        Ok(value) => parts.take(n, value),
+    let mut value = Line::Empty;
+    match read_line_into(line, buffers, &mut value) {
+        Ok(()) => parts.take(n, value),
         Err(why) => Err(fault(n, reason_of(why))),
     }
 }

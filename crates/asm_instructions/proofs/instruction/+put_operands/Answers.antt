@@ -1,9 +1,6 @@
 use Rattle.std.proofs.Common.{arith}
-use Rattle.asm_instructions.proofs.OtherOperands.{of_no_items, of_no_tokens}
+use Rattle.asm_instructions.proofs.OtherOperands.{of_no_tokens}
 use Rattle.asm_instructions.proofs.instruction.+put_operands.Goals as goal
 
-pub returns-in-empty : goal.returns-in-empty
-returns-in-empty n c = of_no_items c.args.items.now c.args.operands.now c.args.tokens.now c.args.values.now (omega arith)
-
 pub returns-in-empty-tokens : goal.returns-in-empty-tokens
-returns-in-empty-tokens n c = of_no_tokens c.args.items.now c.args.operands.now c.args.tokens.now c.args.values.now (omega arith)
+returns-in-empty-tokens n c = of_no_tokens c.args.items.now c.args.tokens.now c.args.values.now (omega arith)
