@@ -85,7 +85,7 @@ one_found e a b rule common broken stays both old new gains =
       of_second = record { kind = refl; guard = refl; resource = parts.1 };
       first_on = refl;
       second_on = refl;
-      clash = kinds_clash _ _ v.rule refl (broken ∙ ap Some (sym h.0));
+      clash = kinds_clash (record { resource = v.resource; kind = a.kind; guard = a.guard }) (record { resource = v.resource; kind = b.kind; guard = b.guard }) v.rule refl (broken ∙ ap Some (sym h.0));
       stays = ap (λ (r : Rule). may_be_excused r && excused_by e a.guard b.guard) h.0 ∙ stays;
     })
     (λ v h. let found = sets_found e a b v h in
