@@ -1,16 +1,12 @@
 -- What is found of a slot of the window and the slot under way is what they break on some walk.
-use Rattle.std.proofs.Common.{◌≡◌, ℕ, ◌+◌, ◌-◌, ◌<◌, ◌⊎◌, Bool, true, false, cond, ◌&&◌, None, Some, Option, List, length, get_or, refl, sym, ap, ◌∙◌, subst, arith, inl, inr}
+use Rattle.std.proofs.Common.{◌≡◌, ℕ, ◌+◌, ◌-◌, ◌<◌, ◌⊎◌, Bool, true, false, cond, ◌&&◌, None, Some, List, length, get_or, refl, sym, ap, ◌∙◌, subst, arith, inl, inr}
 use Rattle.std.specs.Prelude.{Contains}
 use Rattle.std.proofs.lemmas.Bool.{cases_lt, cases_Bool, and_cases, true≢false}
 use Rattle.ia_program.specs.declared.place.Place.{Place}
 use Rattle.ia_program.specs.Places.{IsBefore}
 use Rattle.ia_meaning.specs.Actions.{is_alloc}
 use Rattle.resource_sets.specs.declared.access.Access.{Access}
-use Rattle.resource_sets.specs.declared.access_sets.AccessSet.{AccessSet}
-use Rattle.resource_sets.specs.ResourceSets.{has_resource}
-use Rattle.resource_sets.specs.AccessSets.{AreSetsOf}
 use Rattle.resource_sets.specs.Masks.{may_clash}
-use Rattle.resource_sets.proofs.AccessSets.{resource_itself}
 use Rattle.resource_sets.specs.declared.access.Resource.{Resource}
 use Rattle.resource_sets.specs.declared.access.Resource.TheVariants.{Cfm}
 use Rattle.resource_sets.specs.declared.clashes.Rule.{Rule}
@@ -27,7 +23,7 @@ use Rattle.order_laws.specs.Violations.{Clashes, Breaks, ViolatesIn, allocates_a
 use Rattle.group_checker.specs.declared.broken.Broken.{Broken}
 use Rattle.group_checker.specs.Broken.{is_broken, Gains}
 use Rattle.group_checker.specs.Windows.{IsThrough, IsAt, IsWindow, Describes, HasWindow}
-use Rattle.group_checker.specs.Findings.{may_be_excused, excused_by, FindsIn, AreBroken, IsPair, IsNthPair, IsSlotRule}
+use Rattle.group_checker.specs.Findings.{may_be_excused, excused_by, Finds, AreBroken, IsPair, IsNthPair, IsSlotRule}
 use Rattle.group_checker.proofs.Gaining.{apart_clash}
 use Rattle.order_laws.proofs.Falling.{not_before_itself, one_before, comes_from}
 use Rattle.group_checker.proofs.EarlierSlots.{at_once, earlier_at}
@@ -54,16 +50,6 @@ IsClashRule ClearLast = ⊥
 clash_rule : (a b : Access) (rule : Rule) → clash a b ≡ Some rule → IsClashRule rule
 unfolding clash_of
 clash_rule a b rule e = of_three (is_resource a.resource b.resource) (is_raw a.kind b.kind) (is_waw a.kind b.kind) (is_war63 a.kind b.kind) IsClashRule rule e tt tt tt
-
--- accesses of two resources never clash, and of one by their kinds
-by_kinds : (s : Bool) (c : Option Rule) (rule : Rule) → cond s c None ≡ Some rule → (s ≡ true) × (c ≡ Some rule)
-by_kinds true c rule e = (refl, e)
-by_kinds false c rule e = absurd cc
-
-kinds_clash : (a b : Access) (rule : Rule) → a.resource ≡ b.resource → clash_of a.kind b.kind ≡ Some rule → clash a b ≡ Some rule
-kinds_clash a b rule same e =
-    let on : is_resource a.resource b.resource ≡ true = ap (λ (q : Resource). is_resource a.resource q) (sym same) ∙ resource_itself a.resource in
-    rw on e
 
 -- accesses that clash break the rule, if they are not excused where they could be
 breaks_by_clash : (g : Graph) (has_stop : Place → Bool) (w : Walk) (i : Place) (rule : Rule) (q : Resource) (c : Clashes g i (end_of w) rule q) → (may_be_excused rule ≡ true → ¬ IsExcused g has_stop w i c.first.guard c.second.guard) → Breaks g has_stop w i rule q
@@ -109,61 +95,13 @@ unexcused g has_stop es j n e rule guard other win at fails = elim (and_cases (m
   | inr q ↦ (let o = opens g has_stop es j n e guard other win at q in record { walk = o.walk; through = o.through; stays = λ may. o.stays })
 ]
 
--- access sets of an earlier slot and of the one under way
-pub record AreOf (g : Graph) (j : Place) (e : EarlierSlot) (firsts seconds : List AccessSet) : Type 0 where
-  pub of_first : AreSetsOf e.masks firsts
-  pub of_second : AreSetsOf (accesses_at g j) seconds
-
--- what is found are accesses that clash
-pub record FoundClash (e : EarlierSlot) (seconds : List Access) (v : Violation) : Type 0 where
-  pub first : Access
-  pub second : Access
-  pub of_first : Contains e.masks first
-  pub of_second : Contains seconds second
-  pub first_on : first.resource ≡ v.resource
-  pub second_on : second.resource ≡ v.resource
-  pub clash : clash first second ≡ Some v.rule
-  pub stays : (may_be_excused v.rule && excused_by e first.guard second.guard) ≡ false
-
-found_clash : (g : Graph) (j : Place) (e : EarlierSlot) (xs ys : List AccessSet) (v : Violation) → AreOf g j e xs ys → FindsIn e xs ys v → FoundClash e (accesses_at g j) v
-found_clash g j e xs ys v of (s, in_first, (t, in_second, found)) =
-    let a : Access = record { resource = v.resource; kind = s.kind; guard = s.guard } in
-    let b : Access = record { resource = v.resource; kind = t.kind; guard = t.guard } in
-    record {
-      first = a;
-      second = b;
-      of_first = of.of_first.only a (s, in_first, record { kind = refl; guard = refl; resource = found.first_on });
-      of_second = of.of_second.only b (t, in_second, record { kind = refl; guard = refl; resource = found.second_on });
-      first_on = refl;
-      second_on = refl;
-      clash = kinds_clash a b v.rule refl found.clash;
-      stays = found.stays;
-    }
-
--- and accesses that clash are found
-clash_found : (g : Graph) (j : Place) (e : EarlierSlot) (xs ys : List AccessSet) (v : Violation) → AreOf g j e xs ys → FoundClash e (accesses_at g j) v → FindsIn e xs ys v
-clash_found g j e xs ys v of c =
-    let (s, in_first, x) = of.of_first.has c.first c.of_first in
-    let (t, in_second, y) = of.of_second.has c.second c.of_second in
-    let kinds = (by_kinds (is_resource c.first.resource c.second.resource) (clash_of c.first.kind c.second.kind) v.rule c.clash).1 in (
-      s,
-      in_first,
-      (
-        t,
-        in_second,
-        record {
-          first_on = ap (has_resource s.resources) (sym c.first_on) ∙ x.resource;
-          second_on = ap (has_resource t.resources) (sym c.second_on) ∙ y.resource;
-          clash = (λ i. clash_of (x.kind i) (y.kind i)) ∙ kinds;
-          stays = (λ i. may_be_excused v.rule && excused_by e (x.guard i) (y.guard i)) ∙ c.stays;
-        },
-      ),
-    )
+-- what is found of an earlier slot and the one at a place
+abbrev FindsAt : Graph → Place → EarlierSlot → Violation → Type 0
+FindsAt g j e v = Finds e (Contains e.masks) (Contains (accesses_at g j)) v
 
 -- what is found is broken on a walk
-pub found_violates : (g : Graph) (has_stop : Place → Bool) (es : List EarlierSlot) (j : Place) (n : ℕ) (e : EarlierSlot) (xs ys : List AccessSet) (v : Violation) → IsWindow g has_stop es j → IsAt es n e → AreOf g j e xs ys → IsPair e.place j v → FindsIn e xs ys v → ViolatesIn g has_stop v
-found_violates g has_stop es j n e xs ys v win at sets is found =
-    let c = found_clash g j e xs ys v sets found in
+pub found_violates : (g : Graph) (has_stop : Place → Bool) (es : List EarlierSlot) (j : Place) (n : ℕ) (e : EarlierSlot) (v : Violation) → IsWindow g has_stop es j → IsAt es n e → IsPair e.place j v → FindsAt g j e v → ViolatesIn g has_stop v
+found_violates g has_stop es j n e v win at is c =
     let o = unexcused g has_stop es j n e v.rule c.first.guard c.second.guard win at c.stays in
     let carried = win.carried n e at in
     violates_by g has_stop e.place j v o.walk is o.through (breaks_by_clash g has_stop o.walk e.place v.rule v.resource (record {
@@ -177,7 +115,7 @@ found_violates g has_stop es j n e xs ys v win at sets is found =
     }) o.stays)
 
 -- accesses of one that may not clash are never found
-apart_finds : (g : Graph) (j : Place) (e : EarlierSlot) (v : Violation) → may_clash e.masks (accesses_at g j) ≡ false → FoundClash e (accesses_at g j) v → ⊥
+apart_finds : (g : Graph) (j : Place) (e : EarlierSlot) (v : Violation) → may_clash e.masks (accesses_at g j) ≡ false → FindsAt g j e v → ⊥
 apart_finds g j e v apart c = apart_clash e.masks (accesses_at g j) c.first c.second v.rule apart c.of_first c.of_second c.clash
 
 -- the last slot of the window is the latest of the group on each walk through it
@@ -223,7 +161,7 @@ slot_violates g has_stop es j s n e v win here_at at end is rule =
     broken w through here (inr r) = of w ClearLast r.rule r.resource (sym (win.carried n e at).clears ∙ r.clears, here, refl)
 
 -- a clash on a walk is found
-finds_clash : (g : Graph) (has_stop : Place → Bool) (es : List EarlierSlot) (j : Place) (n : ℕ) (e : EarlierSlot) (v : Violation) (w : Walk) → IsWindow g has_stop es j → IsAt es n e → IsThrough g has_stop e.place j w → (c : Clashes g e.place (end_of w) v.rule v.resource) → (may_be_excused v.rule && excused_by e c.first.guard c.second.guard) ≡ false → FoundClash e (accesses_at g j) v
+finds_clash : (g : Graph) (has_stop : Place → Bool) (es : List EarlierSlot) (j : Place) (n : ℕ) (e : EarlierSlot) (v : Violation) (w : Walk) → IsWindow g has_stop es j → IsAt es n e → IsThrough g has_stop e.place j w → (c : Clashes g e.place (end_of w) v.rule v.resource) → (may_be_excused v.rule && excused_by e c.first.guard c.second.guard) ≡ false → FindsAt g j e v
 finds_clash g has_stop es j n e v w win at through c stays =
     let carried = win.carried n e at in
     record {
@@ -238,7 +176,7 @@ finds_clash g has_stop es j n e v w win at through c stays =
     }
 
 -- what is broken on a walk is found
-pub violation_found : (g : Graph) (has_stop : Place → Bool) (es : List EarlierSlot) (j : Place) (s : Slot) (n : ℕ) (e : EarlierSlot) (v : Violation) → IsWindow g has_stop es j → Describes g has_stop j s → IsAt es n e → IsPair e.place j v → ViolatesIn g has_stop v → FoundClash e (accesses_at g j) v ⊎ ((n + 1 ≡ length es) × IsSlotRule e s v)
+pub violation_found : (g : Graph) (has_stop : Place → Bool) (es : List EarlierSlot) (j : Place) (s : Slot) (n : ℕ) (e : EarlierSlot) (v : Violation) → IsWindow g has_stop es j → Describes g has_stop j s → IsAt es n e → IsPair e.place j v → ViolatesIn g has_stop v → FindsAt g j e v ⊎ ((n + 1 ≡ length es) × IsSlotRule e s v)
 violation_found g has_stop es j s n e v win here_at at is x = let b = broken_on g has_stop e.place j v is x in by_rule b.walk b.through v.rule refl b.breaks
   where
     unexcused_stays : (w : Walk) → IsThrough g has_stop e.place j w → (may : Bool) (guard other : ℕ) → ¬ IsExcused g has_stop w e.place guard other → (may && excused_by e guard other) ≡ false
@@ -248,13 +186,13 @@ violation_found g has_stop es j s n e v win here_at at is x = let b = broken_on 
       | inr f ↦ f
     ]
 
-    by_clash : (w : Walk) (rule : Rule) → v.rule ≡ rule → IsThrough g has_stop e.place j w → (c : Clashes g e.place (end_of w) rule v.resource) → (may_be_excused rule && excused_by e c.first.guard c.second.guard) ≡ false → FoundClash e (accesses_at g j) v
+    by_clash : (w : Walk) (rule : Rule) → v.rule ≡ rule → IsThrough g has_stop e.place j w → (c : Clashes g e.place (end_of w) rule v.resource) → (may_be_excused rule && excused_by e c.first.guard c.second.guard) ≡ false → FindsAt g j e v
     by_clash w rule same through c stays =
         finds_clash g has_stop es j n e v w win at through
         (record { first = c.first; second = c.second; of_first = c.of_first; of_second = c.of_second; first_on = c.first_on; second_on = c.second_on; clash = c.clash ∙ ap Some (sym same) })
         (ap (λ (r : Rule). may_be_excused r && excused_by e c.first.guard c.second.guard) same ∙ stays)
 
-    by_rule : (w : Walk) → IsThrough g has_stop e.place j w → (rule : Rule) → v.rule ≡ rule → Breaks g has_stop w e.place rule v.resource → FoundClash e (accesses_at g j) v ⊎ ((n + 1 ≡ length es) × IsSlotRule e s v)
+    by_rule : (w : Walk) → IsThrough g has_stop e.place j w → (rule : Rule) → v.rule ≡ rule → Breaks g has_stop w e.place rule v.resource → FindsAt g j e v ⊎ ((n + 1 ≡ length es) × IsSlotRule e s v)
     by_rule w through Raw same b = inl (by_clash w Raw same through b.clashes (unexcused_stays w through true b.clashes.first.guard b.clashes.second.guard b.stays))
     by_rule w through Waw same b = inl (by_clash w Waw same through b.clashes (unexcused_stays w through true b.clashes.first.guard b.clashes.second.guard b.stays))
     by_rule w through War63 same b = inl (by_clash w War63 same through b refl)
@@ -276,25 +214,22 @@ apart_pair g has_stop es j s seconds n e v u at apart no_rule nth x =
       | inr slots ↦ no_rule slots.0 slots.1
     ]
 
--- what a pair of slots breaks is what its access sets find, and if the slots follow each other, what the rules on slots say
-pub pair_all : (g : Graph) (has_stop : Place → Bool) (es : List EarlierSlot) (j : Place) (s : Slot) (seconds : List Access) (n : ℕ) (e : EarlierSlot) (xs ys : List AccessSet) (none some all : Broken) → HasWindow g has_stop es j s seconds → IsAt es n e
-    → AreSetsOf e.masks xs → AreSetsOf seconds ys → ((v : Violation) → is_broken none v ≡ false) → Gains none some (FindsIn e xs ys) → Gains some all (λ v. (n + 1 ≡ length es) × IsSlotRule e s v) → AreBroken g has_stop es n j all
-pair_all g has_stop es j s seconds n e xs ys none some all u at firsts lasts nothing a b = record {
+-- what a pair of slots breaks is what its accesses find, and if the slots follow each other, what the rules on slots say
+pub pair_all : (g : Graph) (has_stop : Place → Bool) (es : List EarlierSlot) (j : Place) (s : Slot) (seconds : List Access) (n : ℕ) (e : EarlierSlot) (none some all : Broken) → HasWindow g has_stop es j s seconds → IsAt es n e
+    → ((v : Violation) → is_broken none v ≡ false) → Gains none some (Finds e (Contains e.masks) (Contains seconds)) → Gains some all (λ v. (n + 1 ≡ length es) × IsSlotRule e s v) → AreBroken g has_stop es n j all
+pair_all g has_stop es j s seconds n e none some all u at nothing a b = record {
   has = λ v nth x. elim (violation_found g has_stop es j s n e v u.window u.slot at (pair v nth) x) [
-    | inl found ↦ b.keeps v (a.has v (clash_found g j e xs ys v sets found))
+    | inl found ↦ b.keeps v (a.has v (subst (λ (l : List Access). Finds e (Contains e.masks) (Contains l) v) (sym u.accesses) found))
     | inr slots ↦ b.has v slots
   ];
   only = λ v nth c. elim (b.only v c) [
     | inl d ↦ elim (a.only v d) [
       | inl before ↦ absurd (true≢false (sym before ∙ nothing v))
-      | inr found ↦ found_violates g has_stop es j n e xs ys v u.window at sets (pair v nth) found
+      | inr found ↦ found_violates g has_stop es j n e v u.window at (pair v nth) (subst (λ (l : List Access). Finds e (Contains e.masks) (Contains l) v) u.accesses found)
     ]
     | inr h ↦ slot_violates g has_stop es j s n e v u.window u.slot at h.0 (pair v nth) h.1
   ];
 }
   where
-    sets : AreOf g j e xs ys
-    sets = record { of_first = firsts; of_second = subst (λ (l : List Access). AreSetsOf l ys) u.accesses lasts }
-
     pair : (v : Violation) → IsNthPair es n j v → IsPair e.place j v
     pair v nth = subst (λ (q : EarlierSlot). IsPair q.place j v) (at_once es n nth.slot e nth.at at) nth.pair

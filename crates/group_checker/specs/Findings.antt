@@ -1,13 +1,12 @@
 -- What is found of two slots of one group by their accesses and by what is known of them.
-use Rattle.std.specs.Prelude.{◌≡◌, ℕ, Bool, true, false, not, ◌&&◌, ◌⊎◌, List, Contains, Some}
+use Rattle.std.specs.Prelude.{◌≡◌, ℕ, Bool, true, false, not, ◌&&◌, ◌⊎◌, List, Some}
 use Rattle.ia_program.specs.declared.place.Place.{Place}
 use Rattle.ia_meaning.specs.Actions.{is_alloc}
 use Rattle.resource_sets.specs.declared.access.Resource.TheVariants.{Cfm}
 use Rattle.resource_sets.specs.declared.clashes.Rule.{Rule}
 use Rattle.resource_sets.specs.declared.clashes.Rule.TheVariants.{Raw, Waw, War63, AllocFirst, ClearLast}
-use Rattle.resource_sets.specs.declared.access_sets.AccessSet.{AccessSet}
-use Rattle.resource_sets.specs.Clashes.{clash_of}
-use Rattle.resource_sets.specs.ResourceSets.{has_resource}
+use Rattle.resource_sets.specs.declared.access.Access.{Access}
+use Rattle.resource_sets.specs.Clashes.{clash}
 use Rattle.predicate_rel.specs.Pairs.{has_bit, pairs_of}
 use Rattle.slot_table.specs.declared.slot.Slot.{Slot}
 use Rattle.order_laws.specs.declared.violation.Violation.{Violation}
@@ -32,20 +31,16 @@ may_be_excused War63 = false
 may_be_excused AllocFirst = false
 may_be_excused ClearLast = false
 
--- Accesses of two sets break the rule on the resource, and some walk doesn't excuse them.
-pub record FindsBy (first : EarlierSlot) (a b : AccessSet) (v : Violation) : Type 0 where
-  pub first_on : has_resource a.resources v.resource ≡ true
-  pub second_on : has_resource b.resources v.resource ≡ true
-  pub clash : clash_of a.kind b.kind ≡ Some v.rule
-  pub stays : (may_be_excused v.rule && excused_by first a.guard b.guard) ≡ false
-
--- one of the access sets of the second slot
-abbrev pub FindsWith : EarlierSlot → AccessSet → List AccessSet → Violation → Type 0
-FindsWith first a seconds v = (b : AccessSet) × Contains seconds b × FindsBy first a b v
-
--- and one of the first
-abbrev pub FindsIn : EarlierSlot → List AccessSet → List AccessSet → Violation → Type 0
-FindsIn first firsts seconds v = (a : AccessSet) × Contains firsts a × FindsWith first a seconds v
+-- An access of the one sort and one of the other clash by the rule on the resource, and some walk doesn't excuse them.
+pub record Finds (slot : EarlierSlot) (IsOne IsOther : Access → Type 0) (v : Violation) : Type 0 where
+  pub first : Access
+  pub second : Access
+  pub of_first : IsOne first
+  pub of_second : IsOther second
+  pub first_on : first.resource ≡ v.resource
+  pub second_on : second.resource ≡ v.resource
+  pub clash : clash first second ≡ Some v.rule
+  pub stays : (may_be_excused v.rule && excused_by slot first.guard second.guard) ≡ false
 
 abbrev pub IsPair : Place → Place → Violation → Type 0
 IsPair first second v = (v.first ≡ first) × (v.second ≡ second)

@@ -1,15 +1,17 @@
 //! What two slots of one group break.
 
-ghost use Rattle.std.specs.Prelude.{◌≡◌, ◌<◌, ◌↔◌, Bool, true, false, IsTrue, length, ◌&&◌, MatchOption};
+ghost use Rattle.std.specs.Prelude.{◌≡◌, ◌<◌, ◌↔◌, Bool, true, false, IsTrue, length, ◌&&◌, ◌∷◌, [], MatchOption, Contains};
 ghost use Rattle.ia_program.specs.declared.place.Place.{Place};
 ghost use Rattle.ia_meaning.specs.Actions.{is_alloc};
+ghost use Rattle.resource_sets.specs.AccessSets.{IsInSet};
+ghost use Rattle.resource_sets.specs.Ranges.{IsNumberInRange};
 ghost use Rattle.slot_table.specs.declared.slot.Slot.{Slot};
 ghost use Rattle.flow_facts.specs.Graphs.{Graph};
 ghost use Rattle.order_laws.specs.declared.violation.Violation.{Violation};
 ghost use Rattle.order_laws.specs.Violations.{ViolatesIn};
 ghost use Rattle.group_checker.specs.Windows.{HasWindow};
 ghost use Rattle.group_checker.specs.Broken.{Gains};
-ghost use Rattle.group_checker.specs.Findings.{IsNthPair, IsPairViolated, IsFirstOfPair, AreBroken, may_be_excused, excused_by, FindsBy, FindsWith, FindsIn, IsSlotRule};
+ghost use Rattle.group_checker.specs.Findings.{IsNthPair, IsPairViolated, IsFirstOfPair, AreBroken, may_be_excused, excused_by, Finds, IsSlotRule};
 
 use crate::broken::Broken;
 use crate::window::EarlierSlot;
@@ -18,7 +20,7 @@ use ia_meaning::Action;
 use ia_program::Place;
 use order_laws::Violation;
 use predicate_rel::has_bit;
-use resource_sets::{AccessSet, Masks, Rule, clash_of, may_clash};
+use resource_sets::{Access, AccessSet, Masks, Rule, clash_of, may_clash, may_clash_with};
 use slot_table::Slot;
 
 /// Whether it is an `alloc`.
@@ -45,9 +47,9 @@ fn is_excused(first: &EarlierSlot, rule: Rule, a: Pr, b: Pr) -> bool
     may_be_excused(rule) && first.known.has(a, b) && !has_bit(first.written, a.number())
 }
 
-/// Notes the rule that the accesses of two sets break, where some walk doesn't excuse them.
+/// Notes the rule that accesses of two sets break, where some walk doesn't excuse them.
 fn clash_of_two(first: &EarlierSlot, a: &AccessSet, b: &AccessSet, broken: &mut Broken)
-    ensures { Gains broken.old broken.new (FindsBy first.now a.now b.now) }
+    ensures { Gains broken.old broken.new (Finds first.now (IsInSet a.now) (IsInSet b.now)) }
 {
     let Some(rule) = clash_of(a.kind, b.kind) else {
         return;
@@ -58,22 +60,48 @@ fn clash_of_two(first: &EarlierSlot, a: &AccessSet, b: &AccessSet, broken: &mut 
     broken.add(rule, &a.resources.intersection(&b.resources));
 }
 
-/// Notes the rules that one access set of the first slot breaks with those of the second.
-fn clashes_with(first: &EarlierSlot, a: &AccessSet, seconds: &[AccessSet], broken: &mut Broken)
-    ensures { Gains broken.old broken.new (FindsWith first.now a.now seconds.now) }
+/// Notes the rule that accesses of a set break with one access of the second slot.
+fn clash_with(first: &EarlierSlot, a: &AccessSet, b: &Access, broken: &mut Broken)
+    requires { IsNumberInRange b.now.resource }
+    ensures { Gains broken.old broken.new (Finds first.now (IsInSet a.now) (Contains (b.now ∷ []))) }
 {
-    for b in seconds {
-        clash_of_two(first, a, b, broken);
+    if a.resources.has(b.resource) {
+        clash_of_two(first, a, &AccessSet::of(b), broken);
     }
 }
 
-/// Notes the rules that the access sets of two slots break.
-fn clashes(first: &EarlierSlot, firsts: &[AccessSet], seconds: &[AccessSet], broken: &mut Broken)
-    ensures { Gains broken.old broken.new (FindsIn first.now firsts.now seconds.now) }
+/// Notes the rules that accesses of a set break with those of the second slot.
+fn clashes_with(first: &EarlierSlot, a: &AccessSet, seconds: &Masks, broken: &mut Broken)
+    ensures { Gains broken.old broken.new (Finds first.now (IsInSet a.now) (Contains seconds.now)) }
 {
-    for a in firsts {
-        clashes_with(first, a, seconds, broken);
+    let parts = seconds.parts();
+    let named = parts.named.as_slice();
+    for n in 0..named.len() {
+        clash_with(first, a, &named[n], broken);
     }
+    clash_of_two(first, a, &parts.placed, broken);
+}
+
+/// Notes the rules that one access of the first slot breaks with those of the second.
+fn clashes_of(first: &EarlierSlot, a: &Access, seconds: &Masks, broken: &mut Broken)
+    requires { IsNumberInRange a.now.resource }
+    ensures { Gains broken.old broken.new (Finds first.now (Contains (a.now ∷ [])) (Contains seconds.now)) }
+{
+    if may_clash_with(a, seconds) {
+        clashes_with(first, &AccessSet::of(a), seconds, broken);
+    }
+}
+
+/// Notes the rules that accesses of two slots break.
+fn clashes(first: &EarlierSlot, seconds: &Masks, broken: &mut Broken)
+    ensures { Gains broken.old broken.new (Finds first.now (Contains first.now.masks) (Contains seconds.now)) }
+{
+    let parts = first.masks.parts();
+    let named = parts.named.as_slice();
+    for n in 0..named.len() {
+        clashes_of(first, &named[n], seconds, broken);
+    }
+    clashes_with(first, &parts.placed, seconds, broken);
 }
 
 /// Notes the rules on a slot and the one just after it: `alloc` comes first in its group, `clrrrb` last.
@@ -112,12 +140,7 @@ pub(crate) fn pair_broken(window: &[EarlierSlot], n: usize, slot: &Slot, seconds
 {
     let mut broken = Broken::nothing();
     let first = &window[n];
-    clashes(
-        first,
-        first.masks.access_sets(),
-        seconds.access_sets(),
-        &mut broken,
-    );
+    clashes(first, seconds, &mut broken);
     if n + 1 < window.len() {
         return broken;
     }

@@ -3,7 +3,7 @@ use Rattle.std.proofs.Common.{◌≡◌, ℕ, ◌*◌, ◌%◌, ◌^◌, ◌<◌
 use Rattle.std.specs.Prelude.{bit_and, bit_or, min, max}
 use Rattle.std.specs.Int.{bit_at, trailing_zeros, Width}
 use mir.Val.{bits}
-use Rattle.std.proofs.lemmas.Nat.{and_le_l}
+use Rattle.std.proofs.lemmas.Nat.{and_le_l, one_shl}
 use Rattle.std.proofs.lemmas.Bool.{cases_eq, ne_eqb, and_parts, not-true, true≢false, not-false, or_right}
 use Rattle.std.proofs.lemmas.Bool.Decides.{nat_tests}
 use Rattle.std.proofs.lemmas.Nat.Bits.{bit_at_and, bit_at_or, bit_at-lt, bit_at-zero, bit_at-pow_same, bit_at-pow_other, bit_at_set_same, bit_at_set_other, bit_at-trailing_zeros}
@@ -34,3 +34,10 @@ bit_more w a k y l = elim (cases_eq y k) [
   | inl e ↦ rw (eq-eqb y k e) (rw e (eq-eqb _ 1 (bit_at_set_same w a k l)) ∙ sym (or_right (bit a y) true refl))
   | inr e ↦ rw (ne_eqb y k e) (ap (λ (v : ℕ). eqb v 1) (bit_at_set_other w a k l y e) ∙ sym (or_false (bit a y)))
 ]
+
+-- a word of one bit
+pub one_bit : (k y : ℕ) → k < 64 → bit (1 * 2 ^ k % 2 ^ 64) y ≡ eqb k y
+one_bit k y l = ap (λ (n : ℕ). bit n y) (one_shl k 64 l) ∙ (elim (cases_eq k y) [
+  | inl e ↦ rw e (eq-eqb (bit_at (2 ^ y) y) 1 (bit_at-pow_same y) ∙ sym (eq-eqb y y refl))
+  | inr e ↦ ne_eqb (bit_at (2 ^ k) y) 1 (λ q. omega (arith, bit_at-pow_other k y (λ s. e (sym s)))) ∙ sym (ne_eqb k y e)
+])

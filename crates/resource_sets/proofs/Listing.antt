@@ -11,7 +11,7 @@ use Rattle.resource_sets.specs.declared.access.Access.{Access}
 use Rattle.resource_sets.specs.AccessLaws.{HasRow}
 use Rattle.ia_meaning.specs.declared.action.Action.{Action}
 use Rattle.resource_sets.specs.Rows.{access, listed}
-use Rattle.resource_sets.specs.Accesses.{frame_row, qp_rows, own_rows, place_rows, mask_rows, placed_rows, rows_by_name, rows}
+use Rattle.resource_sets.specs.Accesses.{frame_row, qp_rows, own_rows, place_rows, mask_rows, placed_rows, rows_by_name, rows, accesses_of}
 
 -- Rows of a list that is put together.
 pub has_left : (qp : ℕ) (a : Access) (front back : List AccessRow) → HasRow qp a front → HasRow qp a (front ++ back)
@@ -45,16 +45,22 @@ listed_append qp (x ∷ xs) ys = by_row x.there (listed_append qp xs ys)
     by_row true e = ap (λ rest. access qp x ∷ rest) e
     by_row false e = e
 
--- the accesses of an instruction, part by part
-pub in_parts : (qp : ℕ) (f : Action)
-    → listed qp (rows qp f) ≡ ((listed qp (frame_row qp f ∷ []) ++ listed qp (qp_rows qp f)) ++ listed qp (own_rows f)) ++ listed qp (placed_rows f)
-unfolding rows
-in_parts qp f =
-    listed_append qp (rows_by_name qp f) (placed_rows f)
-    ∙ ap (λ x. x ++ listed qp (placed_rows f))
-    (listed_append qp (frame_row qp f ∷ []) (qp_rows qp f ++ own_rows f)
+-- the accesses by name, part by part
+pub by_name : (qp : ℕ) (f : Action) → listed qp (rows_by_name qp f) ≡ (listed qp (frame_row qp f ∷ []) ++ listed qp (qp_rows qp f)) ++ listed qp (own_rows f)
+by_name qp f =
+    listed_append qp (frame_row qp f ∷ []) (qp_rows qp f ++ own_rows f)
     ∙ ap (λ x. listed qp (frame_row qp f ∷ []) ++ x) (listed_append qp (qp_rows qp f) (own_rows f))
-    ∙ sym (append_assoc (listed qp (frame_row qp f ∷ [])) (listed qp (qp_rows qp f)) (listed qp (own_rows f))))
+    ∙ sym (append_assoc (listed qp (frame_row qp f ∷ [])) (listed qp (qp_rows qp f)) (listed qp (own_rows f)))
+
+-- those by name, and after them those of predicates by place
+pub in_two : (qp : ℕ) (f : Action) → accesses_of qp f ≡ listed qp (rows_by_name qp f) ++ listed qp (placed_rows f)
+unfolding rows
+in_two qp f = listed_append qp (rows_by_name qp f) (placed_rows f)
+
+-- all, part by part
+pub in_parts : (qp : ℕ) (f : Action)
+    → accesses_of qp f ≡ ((listed qp (frame_row qp f ∷ []) ++ listed qp (qp_rows qp f)) ++ listed qp (own_rows f)) ++ listed qp (placed_rows f)
+in_parts qp f = in_two qp f ∙ ap (λ x. x ++ listed qp (placed_rows f)) (by_name qp f)
 
 -- the row of the n-th predicate, and those of the later ones
 pub place_step : (old : List AccessRow) (n mask : ℕ) (kind : Kind) (row : AccessRow) → n < 64

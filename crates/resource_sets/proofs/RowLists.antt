@@ -1,6 +1,6 @@
--- Rows of an instruction, in order.
-use Rattle.std.proofs.Common.{◌≡◌, ℕ, ◌+◌, ◌<◌, ◌≤◌, zero, suc, List, [], ◌∷◌, ◌++◌, length, get_or, take, append_assoc, sym, ap, ◌∙◌, arith}
-use Rattle.std.proofs.lemmas.List.{take_more}
+-- Rows with numbers of their sort.
+use Rattle.std.proofs.Common.{◌≡◌, ℕ, Bool, true, false, if◌then◌else◌, ◌+◌, ◌<◌, ◌≤◌, zero, suc, List, [], ◌∷◌, ◌++◌, subst, inl, inr, arith}
+use Rattle.std.specs.Prelude.{Contains}
 use Rattle.ia_meaning.specs.declared.action.Action.{Action}
 use Rattle.ia_meaning.specs.declared.action.Action.TheVariants as action
 use Rattle.ia_meaning.specs.declared.action.FetchSource.TheVariants as source
@@ -9,22 +9,23 @@ use Rattle.resource_sets.specs.declared.access.Kind.{Kind}
 use Rattle.resource_sets.specs.declared.access.Kind.TheVariants.{Read, BranchRead, Write}
 use Rattle.resource_sets.specs.declared.access.Access.{Access}
 use Rattle.resource_sets.specs.declared.row.AccessRow.{AccessRow}
-use Rattle.resource_sets.specs.Rows.{listed}
+use Rattle.resource_sets.specs.Rows.{access, listed}
 use Rattle.resource_sets.specs.Ranges.{IsNumberInRange, AreNumbersInRange}
 use Rattle.resource_sets.specs.Accesses.{place_rows, mask_rows, placed_rows}
-use Rattle.resource_sets.proofs.Listing.{listed_append}
+use Rattle.resource_sets.proofs.Members.{not_in_none, cases_in}
 
--- one more row of some
-pub rows_taken : (qp : ℕ) (earlier : List Access) (rows : List AccessRow) (n : ℕ) (d : AccessRow) → n < length rows
-    → (earlier ++ listed qp (take n rows)) ++ listed qp (get_or rows n d ∷ []) ≡ earlier ++ listed qp (take (n + 1) rows)
-rows_taken qp earlier rows n d short =
-    append_assoc earlier (listed qp (take n rows)) (listed qp (get_or rows n d ∷ []))
-    ∙ ap (λ (l : List Access). earlier ++ l) (sym (ap (listed qp) (take_more rows n d short) ∙ listed_append qp (take n rows) (get_or rows n d ∷ [])))
+pub within_append : (front back : List AccessRow) → AreNumbersInRange front → AreNumbersInRange back → AreNumbersInRange (front ++ back)
+within_append [] back f b = b
+within_append (row ∷ front) back f b = (f.0, within_append front back f.1 b)
 
-pub within_at : (rows : List AccessRow) (n : ℕ) (d : AccessRow) → AreNumbersInRange rows → n < length rows → IsNumberInRange (get_or rows n d).resource
-within_at [] n d w l = absurd (omega arith)
-within_at (x ∷ xs) zero d w l = w.0
-within_at (x ∷ xs) (suc n) d w l = within_at xs n d w.1 (omega arith)
+-- so the accesses of rows are
+pub within_listed : (qp : ℕ) (rows : List AccessRow) → AreNumbersInRange rows → (a : Access) → Contains (listed qp rows) a → IsNumberInRange a.resource
+within_listed qp [] w a c = absurd (not_in_none a c)
+within_listed qp (row ∷ rows) w a c = of row.there c (within_listed qp rows w.1 a)
+  where
+    of : (b : Bool) → Contains (if b then access qp row ∷ listed qp rows else listed qp rows) a → (Contains (listed qp rows) a → IsNumberInRange a.resource) → IsNumberInRange a.resource
+    of true d rest = elim (cases_in (access qp row) a (listed qp rows) d) [ inl e ↦ subst (λ (x : Access). IsNumberInRange x.resource) e w.0 | inr k ↦ rest k ]
+    of false d rest = rest d
 
 place_within : (left n mask : ℕ) (kind : Kind) → n + left ≤ 64 → AreNumbersInRange (place_rows left n mask kind)
 place_within zero n mask kind l = tt

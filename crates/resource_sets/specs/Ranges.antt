@@ -1,7 +1,8 @@
 -- Resources with numbers of their sort.
-use Rattle.std.specs.Prelude.{◌<◌, List, [], ◌∷◌}
+use Rattle.std.specs.Prelude.{◌<◌, List, [], ◌∷◌, Contains}
 use Rattle.resource_sets.specs.declared.access.Resource.{Resource}
 use Rattle.resource_sets.specs.declared.access.Resource.TheVariants.{Gr, Pr, Br}
+use Rattle.resource_sets.specs.declared.access.Access.{Access}
 use Rattle.resource_sets.specs.declared.row.AccessRow.{AccessRow}
 
 -- the resource has a number of its sort
@@ -14,3 +15,6 @@ IsNumberInRange q = Unit {0}
 abbrev pub AreNumbersInRange : List AccessRow → Type 0
 AreNumbersInRange [] = Unit {0}
 AreNumbersInRange (row ∷ rows) = IsNumberInRange row.resource × AreNumbersInRange rows
+
+abbrev pub AreInRange : List Access → Type 0
+AreInRange accesses = (a : Access) → Contains accesses a → IsNumberInRange a.resource

@@ -17,9 +17,9 @@ mod row;
 mod sets;
 
 pub use access::{ACCESS_LIMIT, Access, Kind, Resource};
-pub use access_sets::{ACCESS_SET_LIMIT, AccessSet};
+pub use access_sets::{AccessSet, NAMED_LIMIT, Parts};
 pub use clashes::{Rule, clash, clash_of};
 pub use insn_accesses::{accesses, accesses_of};
 pub use laws::{accesses_are_regular, accesses_clash, law_reads, law_writes};
-pub use masking::{Masks, masks_of, may_clash};
+pub use masking::{Masks, masks_of, may_clash, may_clash_with};
 pub use sets::{RESOURCE_COUNT, ResourceSet};

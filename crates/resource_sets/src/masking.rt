@@ -1,18 +1,20 @@
 //! The accesses of an instruction, with what tells soon that another one can't clash with it.
 
-ghost use Rattle.std.specs.Prelude.{◌≡◌, ◌<◌, ◌++◌, ◌∷◌, [], ◌||◌, ◌&&◌, ℕ, true, false, List};
+ghost use Rattle.std.specs.Prelude.{◌≡◌, ◌<◌, ◌++◌, ◌∷◌, [], ℕ, false, List};
 ghost use Rattle.ia_meaning.specs.Arithmetic.{bit};
-ghost use Rattle.ia_meaning.specs.Names.{is_rotating};
-ghost use Rattle.resource_sets.specs.declared.access_sets.AccessSet.{AccessSet};
-ghost use Rattle.resource_sets.specs.Accesses.{accesses_of};
-ghost use Rattle.resource_sets.specs.AccessSets.{AreSetsOf};
-ghost use Rattle.resource_sets.specs.Clashes.{may_write_guard};
-ghost use Rattle.resource_sets.specs.Masks.{may_clash, is_first, is_second, set_writes, IsSummary};
+ghost use Rattle.resource_sets.specs.declared.access.Access.{Access};
+ghost use Rattle.resource_sets.specs.Accesses.{placed_rows, accesses_of};
+ghost use Rattle.resource_sets.specs.AccessSets.{IsSetOf, ArePartsOf};
+ghost use Rattle.resource_sets.specs.Clashes.{writes_guard, may_write_guard};
+ghost use Rattle.resource_sets.specs.Masks.{may_clash, is_first, is_second, IsSummary};
+ghost use Rattle.resource_sets.specs.Ranges.{IsNumberInRange, AreInRange};
+ghost use Rattle.resource_sets.specs.Rows.{listed};
 
-use crate::access::{Kind, Resource};
-use crate::access_sets::{ACCESS_SET_LIMIT, AccessSet, access_sets_of};
+use crate::access::{Access, Kind, Resource};
+use crate::access_sets::{
+    AccessSet, Parts, named_accesses, placed_accesses, placed_kind, resources_of,
+};
 use crate::sets::ResourceSet;
-use arrayvec::ArrayVec;
 use ia_insn::Pr;
 use ia_meaning::Action;
 use std::marker::Model;
@@ -20,7 +22,7 @@ use std::marker::Model;
 /// The bits of p16 to p63.
 const ROTATING: u64 = 0xffff_ffff_ffff_0000;
 
-/// What the access sets of an instruction have in all.
+/// What the accesses of an instruction have in all.
 #[derive(Clone, Copy, Debug)]
 pub(crate) struct Summary {
     /// The resources of accesses that may clash with a later one.
@@ -31,12 +33,12 @@ pub(crate) struct Summary {
     pub written: u64,
 }
 
-/// The accesses of an instruction in sets, with what these have in all. Contracts see the list of the accesses.
+/// The accesses of an instruction, with what these have in all. Contracts see the list of the accesses.
 #[derive(Drop)]
 pub struct Masks {
     qp: Pr,
     action: Action,
-    sets: ArrayVec<AccessSet, ACCESS_SET_LIMIT>,
+    parts: Parts,
     summary: Summary,
 }
 
@@ -50,7 +52,7 @@ impl Model for Masks {
 
     ghost view = { λ m. accesses_of m.qp m.action };
 
-    ghost invariant = { λ m. AreSummed (accesses_of m.qp m.action) m.sets.items m.summary };
+    ghost invariant = { λ m. AreSummed (accesses_of m.qp m.action) m.parts m.summary };
 }
 
 /// Whether an access of this kind may clash with a later one: all but reads.
@@ -67,27 +69,23 @@ fn is_second(kind: Kind) -> bool
     kind != Kind::BranchRead
 }
 
-/// The predicates of the word, and those of the frame where this is written.
-fn with_frame(named: u64, framed: bool) -> u64
-    ensures { (g : ℕ) → g < 64 → bit result g ≡ (bit named g || (framed && is_rotating g)) }
+/// The predicates that an access may write.
+fn written_by(access: &Access) -> u64
+    requires { IsNumberInRange access.now.resource }
+    ensures { (g : ℕ) → g < 64 → bit result g ≡ writes_guard g access.now.resource access.now.kind }
 {
-    if framed { named | ROTATING } else { named }
-}
-
-/// The predicates that accesses of a set may write.
-fn written_by(set: &AccessSet) -> u64
-    ensures { (g : ℕ) → g < 64 → bit result g ≡ set_writes g set.now }
-{
-    let named = set.resources.predicates();
-    match set.kind {
-        Kind::Write => with_frame(named, set.resources.has(Resource::Cfm)),
-        Kind::LoopWrite | Kind::OrWrite | Kind::AndWrite => named,
+    match (access.resource, access.kind) {
+        (Resource::Pr(p), Kind::Write) => 1 << p,
+        (Resource::Pr(p), Kind::LoopWrite) => 1 << p,
+        (Resource::Pr(p), Kind::OrWrite) => 1 << p,
+        (Resource::Pr(p), Kind::AndWrite) => 1 << p,
+        (Resource::Cfm, Kind::Write) => ROTATING,
         _ => 0,
     }
 }
 
 impl Summary {
-    /// No set has anything.
+    /// No access has anything.
     fn none() -> Summary
         ensures { IsSummary [] result }
     {
@@ -98,33 +96,51 @@ impl Summary {
         }
     }
 
-    /// Takes in one more set.
-    fn add(&mut self, set: &AccessSet)
-        ensures { (sets : List AccessSet) → IsSummary sets self.old → IsSummary (sets ++ set.now ∷ []) self.new }
+    /// Takes in one more access.
+    fn add(&mut self, access: &Access)
+        requires { IsNumberInRange access.now.resource }
+        ensures { (earlier : List Access) → IsSummary earlier self.old → IsSummary (earlier ++ access.now ∷ []) self.new }
     {
-        self.barred.insert_if(is_first(set.kind), &set.resources);
-        self.made.insert_if(is_second(set.kind), &set.resources);
-        self.written |= written_by(set);
+        self.barred
+            .insert_if(is_first(access.kind), access.resource);
+        self.made.insert_if(is_second(access.kind), access.resource);
+        self.written |= written_by(access);
+    }
+
+    /// Takes in more accesses.
+    fn add_all(&mut self, accesses: &[Access])
+        requires { AreInRange accesses.now }
+        ensures { (earlier : List Access) → IsSummary earlier self.old → IsSummary (earlier ++ accesses.now) self.new }
+    {
+        for n in 0..accesses.len() {
+            self.add(&accesses[n]);
+        }
     }
 }
 
-/// What these sets have in all.
-fn summary_of(sets: &[AccessSet]) -> Summary
-    ensures { IsSummary sets.now result }
+/// Takes in the accesses of predicates by place, and answers the set of them.
+fn add_placed(summary: &mut Summary, qp: Pr, action: &Action) -> AccessSet
+    ensures sums { (earlier : List Access) → IsSummary earlier summary.old → IsSummary (earlier ++ listed qp (placed_rows action.now)) summary.new }
+    ensures set { IsSetOf (listed qp (placed_rows action.now)) result }
 {
-    let mut summary = Summary::none();
-    for n in 0..sets.len() {
-        summary.add(&sets[n]);
+    let Some(kind) = placed_kind(action) else {
+        return AccessSet::empty();
+    };
+    let accesses = placed_accesses(qp, action);
+    summary.add_all(accesses.as_slice());
+    AccessSet {
+        resources: resources_of(accesses.as_slice()),
+        kind,
+        guard: qp,
     }
-    summary
 }
 
 impl Masks {
-    /// The accesses in sets, each of one kind and under one guard.
-    pub fn access_sets(&self) -> &[AccessSet]
-        ensures { AreSetsOf self.now result.now }
+    /// The accesses by name, and those by place.
+    pub fn parts(&self) -> &Parts
+        ensures { ArePartsOf self.now result.now }
     {
-        self.sets.as_slice()
+        &self.parts
     }
 
     /// The predicates that the instruction may write, by their names: those that it writes, and from p16 on all if it
@@ -140,12 +156,14 @@ impl Masks {
 pub fn masks_of(qp: Pr, action: &Action) -> Masks
     ensures { result ≡ accesses_of qp action.now }
 {
-    let sets = access_sets_of(qp, action);
-    let summary = summary_of(sets.as_slice());
+    let named = named_accesses(qp, action);
+    let mut summary = Summary::none();
+    summary.add_all(named.as_slice());
+    let placed = add_placed(&mut summary, qp, action);
     Masks {
         qp,
         action: *action,
-        sets,
+        parts: Parts { named, placed },
         summary,
     }
 }
@@ -156,4 +174,13 @@ pub fn may_clash(first: &Masks, second: &Masks) -> bool
     ensures { result ≡ false → may_clash first.now second.now ≡ false }
 {
     first.summary.barred.meets(&second.summary.made)
+}
+
+/// Whether an access may clash with some access of the second, if it is made in an earlier slot of the group. False only
+/// where `clash` names no rule for it and any of them.
+pub fn may_clash_with(first: &Access, second: &Masks) -> bool
+    requires { IsNumberInRange first.now.resource }
+    ensures { result ≡ false → may_clash (first.now ∷ []) second.now ≡ false }
+{
+    is_first(first.kind) && second.summary.made.has(first.resource)
 }

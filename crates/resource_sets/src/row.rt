@@ -4,7 +4,7 @@ ghost use Rattle.std.specs.Prelude.{◌≡◌, ◌+◌, ◌≤◌, ◌<◌, ◌+
 ghost use Rattle.arrayvec.specs.ArrayVec.{array_vec_len};
 ghost use Rattle.resource_sets.specs.Rows.{gr, pr, always, access, listed};
 
-use crate::access::{ACCESS_LIMIT, Access, Kind, Resource};
+use crate::access::{Access, Kind, Resource};
 use arrayvec::ArrayVec;
 use ia_insn::{Gr, Pr};
 
@@ -91,8 +91,8 @@ impl AccessRow {
 }
 
 /// Appends a row's access, where it is there.
-pub(crate) fn push(out: &mut ArrayVec<Access, ACCESS_LIMIT>, qp: Pr, row: AccessRow)
-    requires { array_vec_len out.old < ACCESS_LIMIT }
+pub(crate) fn push<const N: usize>(out: &mut ArrayVec<Access, N>, qp: Pr, row: AccessRow)
+    requires { array_vec_len out.old < N }
     ensures items { out.new.items ≡ out.old.items ++ listed qp (row ∷ []) }
     ensures len { array_vec_len out.new ≤ array_vec_len out.old + 1 }
 {
@@ -102,8 +102,8 @@ pub(crate) fn push(out: &mut ArrayVec<Access, ACCESS_LIMIT>, qp: Pr, row: Access
 }
 
 /// Appends the accesses of rows.
-pub(crate) fn push_all(out: &mut ArrayVec<Access, ACCESS_LIMIT>, qp: Pr, rows: &[AccessRow])
-    requires { array_vec_len out.old + length rows.now ≤ ACCESS_LIMIT }
+pub(crate) fn push_all<const N: usize>(out: &mut ArrayVec<Access, N>, qp: Pr, rows: &[AccessRow])
+    requires { array_vec_len out.old + length rows.now ≤ N }
     ensures items { out.new.items ≡ out.old.items ++ listed qp rows.now }
     ensures len { array_vec_len out.new ≤ array_vec_len out.old + length rows.now }
 {

@@ -1,13 +1,12 @@
 //! Sets of resources.
 
-ghost use Rattle.std.specs.Prelude.{◌≡◌, ◌||◌, ◌&&◌, ◌+◌, ◌^◌, ◌≤◌, ◌<◌, ◌++◌, ◌∷◌, [], ℕ, false, filter, length, count_ones};
+ghost use Rattle.std.specs.Prelude.{◌≡◌, ◌||◌, ◌&&◌, ◌+◌, ◌^◌, ◌≤◌, ◌<◌, ◌++◌, ◌∷◌, [], false, filter, length, count_ones};
 ghost use Rattle.arrayvec.specs.ArrayVec.{array_vec_len};
 ghost use Rattle.resource_sets.specs.declared.access.Resource.{Resource};
 ghost use Rattle.resource_sets.specs.declared.access.Resource.TheVariants as spec;
 ghost use Rattle.resource_sets.specs.Clashes.{is_resource};
 ghost use Rattle.resource_sets.specs.Ranges.{IsNumberInRange};
 ghost use Rattle.resource_sets.specs.ResourceSets.{has_resource, numbered, others, resources_in};
-ghost use Rattle.ia_meaning.specs.Arithmetic.{bit};
 
 use crate::access::Resource;
 use arrayvec::ArrayVec;
@@ -161,12 +160,13 @@ impl ResourceSet {
         self.cfm |= other.cfm;
     }
 
-    /// Adds all resources of another set, where the test holds.
-    pub(crate) fn insert_if(&mut self, on: bool, other: &ResourceSet)
-        ensures { (q : Resource) → has_resource self.new q ≡ (has_resource self.old q || (on && has_resource other.now q)) }
+    /// Adds a resource, where the test holds.
+    pub(crate) fn insert_if(&mut self, on: bool, resource: Resource)
+        requires { IsNumberInRange resource }
+        ensures { (q : Resource) → has_resource self.new q ≡ (has_resource self.old q || (on && is_resource resource q)) }
     {
         if on {
-            self.insert_all(other);
+            self.insert(resource);
         }
     }
 
@@ -182,13 +182,6 @@ impl ResourceSet {
             | (self.lc & other.lc)
             | (self.ec & other.ec)
             | (self.cfm & other.cfm)
-    }
-
-    /// The predicates of the set: bit p is that of the predicate p.
-    pub(crate) fn predicates(&self) -> u64
-        ensures { (p : ℕ) → p < 64 → bit result p ≡ has_resource self.now (spec.Pr p) }
-    {
-        self.predicates
     }
 
     /// The resources that are in both sets.

@@ -1,5 +1,5 @@
-use Rattle.resource_sets.proofs.RowLists.{within_at}
+use Rattle.std.proofs.lemmas.List.Elements.{Contains-get_or}
 use Rattle.resource_sets.proofs.access_sets.resources_of.Goals as goal
 
-pub insert_row-requires : goal.insert_row-requires
-insert_row-requires c = within_at c.args.rows.now c.loop-n.n _ c.requires c.loop-n-test.true
+pub insert-requires : goal.insert-requires
+insert-requires c = c.requires _ (Contains-get_or c.args.accesses.now c.loop-n.n _ c.loop-n-test.true)
