@@ -30,13 +30,13 @@ mod bundle_texts;
 mod bundles;
 mod bytes;
 mod calls;
+mod lexemes;
 mod lines;
 mod rows;
 mod slots;
 mod spelling;
 mod streams;
 mod wanted;
-mod words;
 
 use rows::is_right;
 use std::io::{self, BufRead, BufReader};

@@ -2,9 +2,9 @@
 
 use crate::bundles::is_bundle;
 use crate::calls::is_answered;
+use crate::lexemes::{is_cut, is_token_row};
 use crate::lines::{has_fault, is_line};
 use crate::slots::is_slot;
-use crate::words::{is_cut, is_token_row};
 use std::alloc::{AllocError, Global};
 
 /// Whether a row is right: one behind `not` where what stands there isn't.
