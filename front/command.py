@@ -16,6 +16,7 @@ from front.faults import Fault, ProgramFault, Unread, printable
 from front.files import Kind
 from front.functions import chosen
 from front.judging import Judge
+from front.messages import counted
 from front.content import read_file, write_file
 from front.program import Program
 
@@ -219,22 +220,30 @@ def read_text(path):
 def pack(options, program):
     """A text packed anew. Of one without bundles the stops count as written, as on standard input. Of one with bundles so do
     those of bundles on no walk: no rule asks for a stop there."""
-    from front import loosen, programs
+    from front import loosen
     data = read_text(options.file)
-    if not loosen.has_bundles(data):
-        return plain_answer(program, ["stops"], data)
-    kept = () if options.keep_stops else programs.lines_off_walks(data, program)
-    if kept:
-        complain(f"{options.file}: note: some bundles are on no walk, the first in line {min(kept) + 1}: the stops there are kept "
-                 "as they are. A line `.entry NAME` makes what a label names an entry")
-    return plain_answer(program, ["stops"], loosen.loosened(data, options.keep_stops, kept))
+    return plain_answer(program, ["stops"], without_bundles(options, program, data) if loosen.has_bundles(data) else data)
+
+
+def without_bundles(options, program, data):
+    """The instructions of a text with bundles, with the stops that are kept, and a note of those that no rule asks for."""
+    from front import loosen, programs
+    kept = () if options.keep_stops else programs.stops_off_walks(data, program)
+    if kept is None:
+        complain(f"{options.file}: note: its bundles make no program, so it isn't known which of them walks reach: the stops of "
+                 "the others are taken out too. --keep-stops keeps all stops")
+    elif kept:
+        complain(f"{options.file}: note: some bundles are on no walk: {counted(len(kept), 'stop')} there, the first in line "
+                 f"{min(kept) + 1}, {'is' if len(kept) == 1 else 'are'} kept. A line `.entry NAME` makes what a label names an entry")
+    return loosen.loosened(data, options.keep_stops, kept or ())
 
 
 def loosened(options, program):
     from front import loosen
-    del program
+    data = read_text(options.file)
+    left = without_bundles(options, program, data) if loosen.has_bundles(data) else loosen.loosened(data, options.keep_stops)
     sys.stdout.flush()
-    sys.stdout.buffer.write(loosen.loosened(read_text(options.file), options.keep_stops))
+    sys.stdout.buffer.write(left)
     return DONE
 
 

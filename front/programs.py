@@ -14,7 +14,7 @@ from front.judging import ACCEPTED, VIOLATED
 from front.program import END, Refusal
 from front.reports import Answer, Finding
 from front.rules import RULES
-from front.texts import REASONS, lines_of_text, slots_of_text
+from front.texts import REASONS, lines_of_text, parts_of, slots_of_text, without_stop
 from front.messages import Severity, counted
 
 
@@ -103,20 +103,24 @@ def coverage(file, built):
         at = slots[missed[0]][0].line if missed[0] < len(slots) and slots[missed[0]] else None
         where = f"is bundle {missed[0]}" if at is None else f"begins here, bundle {missed[0]}"
         yield Finding(Severity.NOTE, Source(file.label, at) if at else None, "" if at else file.label, "",
-                      f"{len(walked) - len(missed)} of {len(walked)} bundles are on a walk; the first that isn't {where}")
+                      f"{sum(walked)} of {len(walked)} bundles are on a walk; the first that isn't {where}")
 
 
-def lines_off_walks(data, program):
-    """The numbers, from 0, of the lines of a text that belong to bundles on no walk; none of a text that isn't one."""
+def stops_off_walks(data, program):
+    """The numbers, from 0, of the lines of a text whose stops end groups of bundles on no walk: those of the bundles, and the
+    first stop behind each that has none at its end. None of a text whose bundles make no program."""
     status, image = program.raw(["build"], data)
     slots = slots_of_text(data) if status == 0 else []
     built = Parts(image) if status == 0 else None
-    if built is None or len(slots) != len(built.code) // 16:
-        return frozenset()
-    walked = flow.walks(built.function()).walked
-    starts = [row[0].line - 1 if row else None for row in slots] + [len(lines_of_text(data))]
-    return frozenset(line for index, is_walked in enumerate(walked) if not is_walked and None not in starts[index:index + 2]
-                     for line in range(starts[index], starts[index + 1]))
+    if built is None or len(slots) != len(built.code) // 16 or not all(slots):
+        return None
+    lines, kept, function = lines_of_text(data), set(), built.function()
+    stops = [number for number, line in enumerate(lines) if without_stop(parts_of(line)[0])[1]]
+    for index in flow.off_walks(function, flow.walks(function).walked):
+        first, last = slots[index][0].line - 1, slots[index][-1].line - 1
+        kept.update(number for number in stops if first <= number <= last)
+        kept.update(next(([number] for number in stops if number >= last), ()))
+    return frozenset(kept)
 
 
 class Parts:

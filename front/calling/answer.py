@@ -401,5 +401,5 @@ def document(answer, names, label, function, steps=None, is_judged=True):
                      "read_only": change.is_kept, "before": change.before.hex(), "after": change.after.hex()}
                     for change in answer.changes],
         "violation_count": answer.total if is_judged else None,
-        "violations": [{**row, "source": row["source"] and str(row["source"])} for row in answer.violations],
+        "violations": None if not is_judged else [{**row, "source": row["source"] and str(row["source"])} for row in answer.violations],
         **({} if steps is None else {"steps": steps})}, indent=1)

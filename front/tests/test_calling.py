@@ -796,7 +796,7 @@ class Calls(Case):
         self.assertEqual((document["end"], document["violation_count"]), ("violated", 2))
         self.assertEqual(document["violations"][0]["resource"], "r8")
         document = json.loads(self.ia64("call", "x.o", "wrong", 1, "--groups", 1, "--format", "json")[1])
-        self.assertEqual((document["end"], document["violation_count"]), ("returned", None))
+        self.assertEqual((document["end"], document["violation_count"], document["violations"]), ("returned", None, None))
 
     def test_the_image(self):
         self.call("add", 3, 4, "--image", "made.image")

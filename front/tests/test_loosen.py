@@ -118,13 +118,27 @@ class Calls(Case):
         bundles = b"{ .mmi\nadd r8=r9,r10 ;;\nadd r11=r8,r9\nnop 0\n}\n{ .mib\nnop 0\nnop 0\nbr.ret b0 ;;\n}\n"
         Path("x.s").write_bytes(b"{ .mib\nnop 0\nnop 0\nbr.ret b0 ;;\n}\ng:\n" + bundles)
         status, packed, said = self.ia64("stops", "x.s")
-        self.assertEqual(said, "ia64: x.s: note: some bundles are on no walk, the first in line 8: the stops there are kept as "
-                               "they are. A line `.entry NAME` makes what a label names an entry\n")
+        self.assertEqual(said, "ia64: x.s: note: some bundles are on no walk: 2 stops there, the first in line 8, are kept. "
+                               "A line `.entry NAME` makes what a label names an entry\n")
+        self.assertEqual(self.ia64("loosen", "x.s")[1].count(b";;"), 2)
         self.assertEqual((status, packed.count(b" written\n")), (0, 2))
         self.assertEqual(self.ia64("stops", "--keep-stops", "x.s")[1].count(b" written\n"), 3)
         Path("x.s").write_bytes(b".entry g\n" + Path("x.s").read_bytes())
         status, packed, said = self.ia64("stops", "x.s")
         self.assertEqual((status, said, packed.count(b" written\n"), packed.count(b" RAW r8 ")), (0, "", 0, 1))
+
+    def test_a_fall_from_no_walk(self):
+        """The first stop behind code that no walk reaches, and that falls into code that one does, is kept too."""
+        Path("x.s").write_bytes(b"{ .mbb\nnop 0\n(p6) br.cond w\nbr.cond b6 ;;\n}\nt:\n{ .mii\nmov r8=1\nnop 0\nnop 0\n}\n"
+                                b"w:\n{ .mii\nmov r10=2\nnop 0\nnop 0 ;;\n}\n{ .mib\nmov r9=r8\nnop 0\nbr.ret b0 ;;\n}\n")
+        status, packed, said = self.ia64("stops", "x.s")
+        self.assertEqual((status, packed.count(b" written\n"), said.count("1 stop there, the first in line 16, is kept")), (0, 1, 1))
+
+    def test_bundles_that_are_no_program(self):
+        Path("x.s").write_bytes(b"{ .mii\nadd r8=r9,r10\nadd r11=r8,r9 ;;\nbr.ret b0 ;;\n}\n")
+        status, _, said = self.ia64("stops", "x.s")
+        self.assertEqual((status, said), (0, "ia64: x.s: note: its bundles make no program, so it isn't known which of them walks "
+                                             "reach: the stops of the others are taken out too. --keep-stops keeps all stops\n"))
 
     def test_what_goes_wrong(self):
         self.assertEqual(self.ia64("loosen", "nowhere"), (2, b"", "ia64: nowhere: No such file or directory\n"))
