@@ -21,7 +21,8 @@ import sys
 ROOT = pathlib.Path(__file__).resolve().parent.parent
 LAYERS = ROOT / "docs" / "build" / "architecture.md"
 CRATES = re.findall(r"^(\w+):", (ROOT / "crates.txt").read_text(), re.M)
-FOLDERS = sorted(path.name for path in ROOT.iterdir() if path.is_dir() and not path.name.startswith("."))
+MADE = ("out", "__pycache__")   # made by calls, and not in the repository
+FOLDERS = sorted(path.name for path in ROOT.iterdir() if path.is_dir() and not path.name.startswith(".") and path.name not in MADE)
 ENDINGS = ("", ".rt", ".antt")
 
 
