@@ -2,6 +2,7 @@
 
 import re
 import struct
+from bisect import bisect_left
 
 from front import flow, ways
 from front.bundle import split_all
@@ -108,7 +109,7 @@ def coverage(file, built):
 
 def stops_off_walks(data, program):
     """The numbers, from 0, of the lines of a text whose stops end groups of bundles on no walk: those of the bundles, and the
-    first stop behind each that has none at its end. None of a text whose bundles make no program."""
+    first stop behind each that has none at its end. Where the bundles make no program the answer is None."""
     status, image = program.raw(["build"], data)
     slots = slots_of_text(data) if status == 0 else []
     built = Parts(image) if status == 0 else None
@@ -118,8 +119,7 @@ def stops_off_walks(data, program):
     stops = [number for number, line in enumerate(lines) if without_stop(parts_of(line)[0])[1]]
     for index in flow.off_walks(function, flow.walks(function).walked):
         first, last = slots[index][0].line - 1, slots[index][-1].line - 1
-        kept.update(number for number in stops if first <= number <= last)
-        kept.update(next(([number] for number in stops if number >= last), ()))
+        kept.update(stops[bisect_left(stops, first):bisect_left(stops, last) + 1])
     return frozenset(kept)
 
 
