@@ -1,10 +1,5 @@
 //! The rows of the A instructions (volume 3, chapter 4, instruction formats, A1 to A9, and the tables of opcodes).
 
-ghost use Rattle.std.specs.Prelude.{◌≡◌, IsTrue, map};
-ghost use Rattle.formats_a.specs.Listed.{rows};
-ghost use Rattle.insn_rows.specs.WellMade.{is_table};
-ghost use Rattle.insn_rows.specs.Indexes.{is_index};
-
 use ia_insn::{AluFn, CmpKind, LaneFn, Rel};
 use insn_rows::{Opcode, Row, row};
 
@@ -99,18 +94,3 @@ pub static BY_MAJOR: [&[u8]; 16] = [
     &[43, 19, 46, 22, 27, 28, 37, 38, 39, 40, 51, 52],
     &[],
 ];
-
-/// The rows, which are a table.
-pub(crate) fn rows() -> &'static [Row]
-    ensures value { result.now ≡ rows }
-    ensures table { IsTrue (is_table result.now) }
-{
-    &ROWS
-}
-
-/// Places of rows by major opcode: that of each row is among those of its own.
-pub(crate) fn by_major() -> &'static [&'static [u8]; 16]
-    ensures { IsTrue (is_index rows (map (λ places. places.now) result.now)) }
-{
-    &BY_MAJOR
-}

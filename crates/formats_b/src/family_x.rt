@@ -2,7 +2,8 @@
 //! formats, X1, X2 and X5).
 
 ghost use Rattle.std.specs.Prelude.{◌≡◌, ℕ, ◌<◌, ◌≤◌, ◌^◌, ◌↔◌, IsTrue, IsSome, IsNone, IfSome, Some};
-ghost use Rattle.formats_b.specs.ListedX.{CodeX, IsListedX, OneLongInstruction, OneLongWord};
+ghost use Rattle.formats_b.specs.ListedX.{rows, CodeX, IsListedX, OneLongInstruction, OneLongWord};
+ghost use Rattle.formats_b.specs.PlacesX.{place_of};
 ghost use Rattle.ia_insn.specs.declared.insn.Insn.{Insn};
 
 mod parts;
@@ -10,7 +11,7 @@ mod places;
 pub mod rows;
 
 use ia_insn::Insn;
-use insn_rows::{decode_with, encode_with, lists_with, opcode_of, word_with};
+use insn_rows::{Family, Opcode, Row};
 use parts::{is_within, low_of, slot_part, whole};
 
 /// The words of a long instruction, 41 bits each (volume 1, chapter 3, instruction encoding).
@@ -20,6 +21,34 @@ pub struct LongWord {
     pub l: u64,
     /// That of the X slot, slot 2.
     pub word: u64,
+}
+
+/// What X slots hold of the long instructions, as a family.
+struct FamilyX;
+
+impl Family for FamilyX {
+    ghost rows = { rows };
+
+    ghost place_of = { place_of };
+
+    ghost least = { 0 };
+
+    ghost width = { 41 };
+
+    fn rows() -> &'static [Row] {
+        &rows::ROWS
+    }
+
+    fn by_major() -> &'static [&'static [u8]; 16] {
+        &rows::BY_MAJOR
+    }
+
+    fn place_of(opcode: Opcode) -> Option<usize> {
+        places::place_of(opcode)
+    }
+
+    #[tactic(auto, using(crate::proofs::TableX::is_family))]
+    fn is_family() {}
 }
 
 /// The long instruction whose words these are, `l` that of the L slot and `word` that of the X
@@ -41,7 +70,7 @@ pub fn decode_x(l: u64, word: u64) -> Option<Insn>
     if l >= 1 << 41 {
         return None;
     }
-    match decode_with(rows::rows(), rows::by_major(), word) {
+    match FamilyX::decode(word) {
         Some(part) => Some(whole(l, part)),
         None => None,
     }
@@ -49,7 +78,6 @@ pub fn decode_x(l: u64, word: u64) -> Option<Insn>
 
 /// The words of a long instruction, and None exactly where the instruction is of another family or
 /// an operand is not in its range (volume 3, chapter 4, instruction formats, X1, X2 and X5).
-#[tactic(auto, using(crate::proofs::TableX::is_place_of))]
 pub fn encode_x(insn: &Insn) -> Option<LongWord>
     // Words come exactly where it is a long instruction in its range.
     ensures listed { IsSome result ↔ IsListedX insn.now }
@@ -64,8 +92,7 @@ pub fn encode_x(insn: &Insn) -> Option<LongWord>
     if !is_within(&insn.op) {
         return None;
     }
-    let part = slot_part(insn);
-    match encode_with(rows::rows(), places::place_of(opcode_of(&part.op)), &part) {
+    match FamilyX::encode(&slot_part(insn)) {
         Some(word) => Some(LongWord {
             l: low_of(&insn.op),
             word,
@@ -76,30 +103,23 @@ pub fn encode_x(insn: &Insn) -> Option<LongWord>
 
 /// The words of a long instruction whose operands are known to be in their ranges (volume 3, chapter 4, instruction
 /// formats, X1, X2 and X5).
-#[tactic(auto, using(crate::proofs::TableX::is_place_of))]
 pub fn word_x(insn: &Insn) -> LongWord
     requires { IsListedX insn.now }
     ensures code { CodeX insn.now result.l result.word }
     ensures within_l { result.l < 2 ^ 41 }
     ensures within_word { result.word < 2 ^ 41 }
 {
-    let part = slot_part(insn);
     LongWord {
         l: low_of(&insn.op),
-        word: word_with(rows::rows(), places::place_of(opcode_of(&part.op)), &part),
+        word: FamilyX::word(&slot_part(insn)),
     }
 }
 
 /// Whether the instruction is a long one whose operands are in their ranges: whether it has words.
-#[tactic(auto, using(crate::proofs::TableX::is_place_of))]
 pub fn is_listed_x(insn: &Insn) -> bool
     ensures { IsTrue result ↔ IsListedX insn.now }
 {
-    is_within(&insn.op)
-        && {
-            let part = slot_part(insn);
-            lists_with(rows::rows(), places::place_of(opcode_of(&part.op)), &part)
-        }
+    is_within(&insn.op) && FamilyX::is_listed(&slot_part(insn))
 }
 
 /// The law that two words are those of at most one long instruction. It does nothing.

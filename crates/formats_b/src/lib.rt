@@ -5,10 +5,9 @@
 //! branches, the clearings of the rotating register bases, and `break`, `nop` and `hint`. Of the F
 //! instructions there are `break` and `nop`, and of the long ones `movl`, `break` and `nop`.
 //!
-//! [`decode_b`] and [`decode_f`] give the instruction of a slot's word, and [`decode_x`] that of the
-//! words of two slots; [`encode_b`], [`encode_f`] and [`encode_x`] give the word or the words of an
-//! instruction. All are exact: a word with a bit set that its format leaves blank, a reserved code
-//! or an operand out of its range is that of no instruction.
+//! [`FamilyB`] and [`FamilyF`] decode and encode the word of a slot, [`decode_x`] and [`encode_x`] the
+//! words of two slots. All are exact: a word with a bit set that its format leaves blank, a reserved
+//! code or an operand out of its range is that of no instruction.
 //!
 //! Nothing here takes memory.
 #![tactic(auto)]
@@ -17,10 +16,10 @@ mod family_b;
 mod family_f;
 mod family_x;
 
+pub use family_b::FamilyB;
 pub use family_b::rows::ROWS as ROWS_B;
-pub use family_b::{decode_b, encode_b, is_listed_b, one_instruction_b, one_word_b, word_b};
+pub use family_f::FamilyF;
 pub use family_f::rows::ROWS as ROWS_F;
-pub use family_f::{decode_f, encode_f, is_listed_f, one_instruction_f, one_word_f, word_f};
 pub use family_x::rows::ROWS as ROWS_X;
 pub use family_x::{
     LongWord, decode_x, encode_x, is_listed_x, one_instruction_x, one_long_word, word_x,

@@ -1,12 +1,11 @@
--- The rows are a table, and each stands at the place of its opcode.
+-- The rows are a family's: a table, and each stands at the place of its opcode.
 use Rattle.std.proofs.Common.{◌≡◌, refl, true, arith}
-use Rattle.std.specs.List.{list_all}
 use Rattle.insn_rows.specs.declared.opcode.Opcode.{Opcode}
 use Rattle.insn_rows.specs.Rows.{listed}
 use Rattle.insn_rows.specs.WellMade.{is_well_made, is_table}
 use Rattle.insn_rows.specs.Codes.{IsPlaceOf}
+use Rattle.insn_rows.specs.Families.{IsFamily}
 use Rattle.insn_rows.proofs.Places.{stand_from, Stands, is_place}
-use Rattle.insn_rows.proofs.Laws.{stays_below}
 use Rattle.formats_i.specs.Listed.{rows}
 use Rattle.formats_i.specs.Places.{place_of}
 
@@ -25,7 +24,6 @@ stands c = grind arith
 pub is_place_of : (c : Opcode) → IsPlaceOf rows (place_of c) c
 is_place_of = is_place rows place_of stand stands
 
--- the major opcode is below 8
-pub are_low : list_all (stays_below 40) rows ≡ true
+pub is_family : IsFamily rows place_of 0 40
 unfolding rows listed
-are_low = refl
+is_family = record { table = are_table; reach = refl; stay = refl; places = is_place_of }

@@ -1,10 +1,5 @@
 //! The rows of the I instructions (volume 3, chapter 4, instruction formats, I5 to I29, and the tables of opcodes).
 
-ghost use Rattle.std.specs.Prelude.{◌≡◌, IsTrue, map};
-ghost use Rattle.formats_i.specs.Listed.{rows};
-ghost use Rattle.insn_rows.specs.WellMade.{is_table};
-ghost use Rattle.insn_rows.specs.Indexes.{is_index};
-
 use ia_insn::{Ar, ShiftFn, Unit};
 use insn_rows::{Opcode, Row, row};
 
@@ -88,18 +83,3 @@ pub static BY_MAJOR: [&[u8]; 16] = [
     &[],
     &[],
 ];
-
-/// The rows, which are a table.
-pub(crate) fn rows() -> &'static [Row]
-    ensures value { result.now ≡ rows }
-    ensures table { IsTrue (is_table result.now) }
-{
-    &ROWS
-}
-
-/// Places of rows by major opcode: that of each row is among those of its own.
-pub(crate) fn by_major() -> &'static [&'static [u8]; 16]
-    ensures { IsTrue (is_index rows (map (λ places. places.now) result.now)) }
-{
-    &BY_MAJOR
-}

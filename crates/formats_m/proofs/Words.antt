@@ -1,29 +1,14 @@
--- The words of the M instructions.
-use Rattle.std.proofs.Common.{ℕ, ◌^◌, ◌<◌}
+-- The row of an M instruction, by its opcode: it has a word for its values.
 use Rattle.ia_insn.specs.declared.insn.Insn.{Insn}
 use Rattle.insn_rows.specs.Arms.{opcode_of}
-use Rattle.insn_rows.specs.Laws.{OneInstruction, OneWord, OpcodeIsLow}
-use Rattle.insn_rows.proofs.RowBack.{no_row, code_below, only_insn}
-use Rattle.insn_rows.proofs.Laws.{only_word, word_under, AsRow, as_row, from_row}
-use Rattle.formats_m.specs.Listed.{rows, CodeM, IsListedM}
+use Rattle.insn_rows.proofs.Laws.{AsRow}
+use Rattle.insn_rows.proofs.Families.{row, of_row}
+use Rattle.formats_m.specs.Listed.{rows, IsListedM}
 use Rattle.formats_m.specs.Places.{place_of}
-use Rattle.formats_m.proofs.Table.{are_table, is_place_of, are_low}
+use Rattle.formats_m.proofs.Table.{is_family}
 
-pub one_insn : OneInstruction CodeM
-one_insn w i j of-i of-j = only_insn rows i j w no_row are_table of-i of-j
-
-pub one_word : OneWord CodeM
-one_word i v w of-v of-w = only_word rows (place_of (opcode_of i.op)) i v w (is_place_of (opcode_of i.op)) of-v of-w
-
-pub below : (i : Insn) (w : ℕ) → CodeM i w → w < 2 ^ 41
-below i w code = code_below rows i w no_row are_table code
-
-pub low : OpcodeIsLow CodeM
-low w i code = word_under rows 40 i w are_table are_low code
-
--- The row of an instruction, by its opcode: it has a word for its values.
 pub row_m : (i : Insn) → IsListedM i → AsRow rows (place_of (opcode_of i.op)) i
-row_m i l = as_row rows (place_of (opcode_of i.op)) i l.0 (is_place_of (opcode_of i.op)) l.1
+row_m i l = row is_family i l
 
 pub of_row_m : (i : Insn) → AsRow rows (place_of (opcode_of i.op)) i → IsListedM i
-of_row_m i h = from_row rows (place_of (opcode_of i.op)) i (is_place_of (opcode_of i.op)) h
+of_row_m i h = of_row is_family i h

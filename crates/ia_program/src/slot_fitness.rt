@@ -3,11 +3,12 @@
 ghost use Rattle.std.specs.Prelude.{◌↔◌, IsTrue};
 ghost use Rattle.ia_program.specs.Fits.{IsBranchSlot, Fits};
 
-use formats_a::is_listed_a;
-use formats_b::{is_listed_b, is_listed_f, is_listed_x};
-use formats_i::is_listed_i;
-use formats_m::is_listed_m;
+use formats_a::FamilyA;
+use formats_b::{FamilyB, FamilyF, is_listed_x};
+use formats_i::FamilyI;
+use formats_m::FamilyM;
 use ia_insn::{BranchKind, Insn, Op, Unit};
+use insn_rows::Family;
 
 /// Whether the operation may stand in this slot of its bundle, in a slot of its own unit: the loop
 /// branches stand in slot 2 alone (volume 3, chapter 2, `br`).
@@ -28,10 +29,10 @@ pub fn fits(insn: &Insn, unit: Unit, slot: u8) -> bool
 {
     slot < 3
         && match unit {
-            Unit::M => is_listed_a(insn) || is_listed_m(insn),
-            Unit::I => is_listed_a(insn) || is_listed_i(insn),
-            Unit::F => is_listed_f(insn),
-            Unit::B => is_listed_b(insn) && is_branch_slot(insn.op, slot),
+            Unit::M => FamilyA::is_listed(insn) || FamilyM::is_listed(insn),
+            Unit::I => FamilyA::is_listed(insn) || FamilyI::is_listed(insn),
+            Unit::F => FamilyF::is_listed(insn),
+            Unit::B => FamilyB::is_listed(insn) && is_branch_slot(insn.op, slot),
             Unit::L | Unit::X => is_listed_x(insn) && slot == 1,
         }
 }

@@ -1,5 +1,5 @@
 -- Words and the instructions of a unit correspond one to one.
-use Rattle.std.proofs.Common.{◌≡◌, ℕ, ◌⊎◌, inl, inr, arith}
+use Rattle.std.proofs.Common.{◌≡◌, ℕ, ◌^◌, ◌⊎◌, inl, inr, arith}
 use Rattle.ia_insn.specs.declared.insn.Insn.{Insn}
 use Rattle.ia_insn.specs.declared.choices.Unit.TheVariants.{M, I, F, B}
 use Rattle.formats_a.specs.Listed.{CodeA}
@@ -7,15 +7,15 @@ use Rattle.formats_i.specs.Listed.{CodeI}
 use Rattle.formats_m.specs.Listed.{CodeM}
 use Rattle.formats_b.specs.ListedB.{CodeB}
 use Rattle.formats_b.specs.ListedF.{CodeF}
-use Rattle.insn_rows.specs.Laws.{OneInstruction, OneWord, OpcodeIsHigh, OpcodeIsLow}
+use Rattle.insn_rows.specs.Laws.{OneInstruction, OneWord, IsFrom, IsBelow}
 use Rattle.insn_codec.specs.Laws.{OneInstructionOfUnit, OneWordOfUnit}
 use Rattle.insn_codec.proofs.Families.{not_a_and_m, not_a_and_i}
 
 -- the word of an A instruction is that of no M and of no I instruction
-word_a_or_m : OpcodeIsHigh CodeA → OpcodeIsLow CodeM → (w : ℕ) (x y : Insn) → CodeA x w → CodeM y w → ⊥
+word_a_or_m : IsFrom CodeA (2 ^ 40) → IsBelow CodeM (2 ^ 40) → (w : ℕ) (x y : Insn) → CodeA x w → CodeM y w → ⊥
 word_a_or_m high low w x y of_a of_m = omega (arith, high w x of_a, low w y of_m)
 
-word_a_or_i : OpcodeIsHigh CodeA → OpcodeIsLow CodeI → (w : ℕ) (x y : Insn) → CodeA x w → CodeI y w → ⊥
+word_a_or_i : IsFrom CodeA (2 ^ 40) → IsBelow CodeI (2 ^ 40) → (w : ℕ) (x y : Insn) → CodeA x w → CodeI y w → ⊥
 word_a_or_i high low w x y of_a of_i = omega (arith, high w x of_a, low w y of_i)
 
 -- at most one is of two kinds together, where at most one is of each and no two are of one each
@@ -26,7 +26,7 @@ one_of_two P Q one other apart x y (inr p) (inl r) = absurd (apart y x r p)
 one_of_two P Q one other apart x y (inr p) (inr r) = other x y p r
 
 -- a word is that of at most one instruction of a unit
-pub one_instruction : OpcodeIsHigh CodeA → OpcodeIsLow CodeM → OpcodeIsLow CodeI → OneInstruction CodeA → OneInstruction CodeM → OneInstruction CodeI → OneInstruction CodeF → OneInstruction CodeB → OneInstructionOfUnit
+pub one_instruction : IsFrom CodeA (2 ^ 40) → IsBelow CodeM (2 ^ 40) → IsBelow CodeI (2 ^ 40) → OneInstruction CodeA → OneInstruction CodeM → OneInstruction CodeI → OneInstruction CodeF → OneInstruction CodeB → OneInstructionOfUnit
 one_instruction high low_m low_i one_a one_m one_i one_f one_b M word = one_of_two (λ x. CodeA x word) (λ x. CodeM x word) (one_a word) (one_m word) (word_a_or_m high low_m word)
 one_instruction high low_m low_i one_a one_m one_i one_f one_b I word = one_of_two (λ x. CodeA x word) (λ x. CodeI x word) (one_a word) (one_i word) (word_a_or_i high low_i word)
 one_instruction high low_m low_i one_a one_m one_i one_f one_b F word = one_f word

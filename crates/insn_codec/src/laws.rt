@@ -4,34 +4,35 @@ ghost use Rattle.insn_codec.specs.Laws.{OneInstructionOfUnit, OneWordOfUnit, One
 
 use crate::bundle::decode_bundle;
 use bundle_bits::{one_bytes, one_raw, some_raw};
-use formats_a::opcode_is_high;
-use formats_b::{
-    one_instruction_b, one_instruction_f, one_instruction_x, one_long_word, one_word_b, one_word_f,
-};
+use formats_a::FamilyA;
+use formats_b::{FamilyB, FamilyF, one_instruction_x, one_long_word};
+use formats_i::FamilyI;
+use formats_m::FamilyM;
+use insn_rows::Family;
 
 /// The law that a word is that of at most one instruction of a unit. It does nothing.
 fn one_instruction()
     ensures { OneInstructionOfUnit }
 {
-    opcode_is_high();
-    formats_m::opcode_is_low();
-    formats_i::opcode_is_low();
-    formats_a::one_instruction();
-    formats_m::one_instruction();
-    formats_i::one_instruction();
-    one_instruction_f();
-    one_instruction_b();
+    FamilyA::words_are_from();
+    FamilyM::words_are_below();
+    FamilyI::words_are_below();
+    FamilyA::one_instruction();
+    FamilyM::one_instruction();
+    FamilyI::one_instruction();
+    FamilyF::one_instruction();
+    FamilyB::one_instruction();
 }
 
 /// The law that an instruction has at most one word of a unit. It does nothing.
 fn one_word()
     ensures { OneWordOfUnit }
 {
-    formats_a::one_word();
-    formats_m::one_word();
-    formats_i::one_word();
-    one_word_f();
-    one_word_b();
+    FamilyA::one_word();
+    FamilyM::one_word();
+    FamilyI::one_word();
+    FamilyF::one_word();
+    FamilyB::one_word();
 }
 
 /// The law that bytes are those of at most one bundle. It does nothing.

@@ -5,12 +5,13 @@ ghost use Rattle.ia_insn.specs.declared.insn.Insn.{Insn};
 ghost use Rattle.ia_insn.specs.declared.choices.Unit.TheVariants.{B};
 ghost use Rattle.insn_codec.specs.Slots.{UnitCode, IsOfUnit, IsInSlot};
 
-use formats_a::{decode_a, has_opcode_a, opcode_is_high, word_a};
-use formats_b::{decode_b, decode_f, word_b, word_f};
-use formats_i::{decode_i, word_i};
-use formats_m::{decode_m, word_m};
+use formats_a::FamilyA;
+use formats_b::{FamilyB, FamilyF};
+use formats_i::FamilyI;
+use formats_m::FamilyM;
 use ia_insn::{Insn, Unit};
 use ia_program::is_branch_slot;
+use insn_rows::Family;
 
 /// The least word whose major opcode, the top four of its 41 bits, is 8: in M and I slots the A
 /// instructions have the words from here on, and the unit's own those below (volume 3, chapter 4,
@@ -23,7 +24,7 @@ fn read_branch(slot: u8, word: u64) -> Option<Insn>
     ensures found { IfSome result (λ i. IsInSlot B slot i word) }
     ensures only { (i : Insn) → IsInSlot B slot i word → result ≡ Some i }
 {
-    match decode_b(word) {
+    match FamilyB::decode(word) {
         Some(insn) => {
             if is_branch_slot(insn.op, slot) {
                 Some(insn)
@@ -41,14 +42,14 @@ pub(crate) fn read_unit(unit: Unit, slot: u8, word: u64) -> Option<Insn>
     ensures found { IfSome result (λ i. IsInSlot unit slot i word) }
     ensures only { (i : Insn) → IsInSlot unit slot i word → result ≡ Some i }
 {
-    opcode_is_high();
-    formats_m::opcode_is_low();
-    formats_i::opcode_is_low();
+    FamilyA::words_are_from();
+    FamilyM::words_are_below();
+    FamilyI::words_are_below();
     match unit {
-        Unit::M if word < FIRST_A_WORD => decode_m(word),
-        Unit::I if word < FIRST_A_WORD => decode_i(word),
-        Unit::M | Unit::I => decode_a(word),
-        Unit::F => decode_f(word),
+        Unit::M if word < FIRST_A_WORD => FamilyM::decode(word),
+        Unit::I if word < FIRST_A_WORD => FamilyI::decode(word),
+        Unit::M | Unit::I => FamilyA::decode(word),
+        Unit::F => FamilyF::decode(word),
         Unit::B => read_branch(slot, word),
         Unit::L | Unit::X => None,
     }
@@ -62,11 +63,11 @@ pub(crate) fn write_unit(unit: Unit, insn: &Insn) -> u64
     ensures width { result < 2 ^ 41 }
 {
     match unit {
-        Unit::M | Unit::I if has_opcode_a(insn) => word_a(insn),
-        Unit::M => word_m(insn),
-        Unit::I => word_i(insn),
-        Unit::F => word_f(insn),
-        Unit::B => word_b(insn),
+        Unit::M | Unit::I if FamilyA::has_opcode(insn) => FamilyA::word(insn),
+        Unit::M => FamilyM::word(insn),
+        Unit::I => FamilyI::word(insn),
+        Unit::F => FamilyF::word(insn),
+        Unit::B => FamilyB::word(insn),
         Unit::L | Unit::X => unreachable!(),
     }
 }

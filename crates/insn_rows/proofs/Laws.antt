@@ -13,6 +13,7 @@ use Rattle.insn_rows.specs.declared.value.Value.{Value}
 use Rattle.insn_rows.specs.Rows.{operands, parts, row_word, HasWord}
 use Rattle.insn_rows.specs.WellMade.{are_apart_fields, is_clear, fields, is_table}
 use Rattle.insn_rows.specs.Arms.{opcode_of, values_of}
+use Rattle.insn_rows.specs.Families.{reaches, is_below, stays_below}
 use Rattle.insn_rows.specs.Codes.{HasRow, IsListedBy, IsPlaceOf}
 use Rattle.insn_rows.proofs.Spread.{field_of, put}
 use Rattle.insn_rows.proofs.Parts.{parts_fit, parts_fields}
@@ -28,21 +29,12 @@ pub only_word : (rows : List Row) (p : Option ℕ) (i : Insn) (v w : ℕ) → Is
 only_word rows p i v w here of-v of-w = word_at rows p i v w here of-v of-w
 
 -- Its word is at least a number that the fixed bits of each row come to.
-abbrev pub reaches : ℕ → Row → Bool
-reaches least r = nat_le least r.fixed
-
 pub word_above : (rows : List Row) (least : ℕ) (i : Insn) (w : ℕ) → list_all (reaches least) rows ≡ true → HasRow rows i w → least ≤ w
 word_above rows least i w h code =
     let a : least ≤ (get_or rows code.place no_row).fixed = leb-true _ _ (all_get (reaches least) rows code.place no_row code.inside h) in
     omega (arith, a, (code.row no_row).sum)
 
 -- And it has only the bits below the highest that a row has.
-abbrev pub is_below : ℕ → BitField → Bool
-is_below k f = nat_le (f.low + f.width) k
-
-abbrev pub stays_below : ℕ → Row → Bool
-stays_below k r = nat_lt r.fixed (2 ^ k) && list_all (is_below k) (fields (operands r))
-
 sum_below : (k b : ℕ) (ps : List Part) → b < 2 ^ k → AllFit ps → are_apart_fields (map field_of ps) ≡ true → list_all (is_clear b) (map field_of ps) ≡ true → list_all (is_below k) (map field_of ps) ≡ true → b + word_of ps < 2 ^ k
 sum_below k b [] h fit s cl below = omega arith
 sum_below k b (p ∷ ps) h fit s cl below =

@@ -11,5 +11,6 @@ pub mod RowBack
 pub mod Places
 pub mod Indexed
 pub mod Laws
+pub mod Families
 pub mod Decided
 pub mod DecidedRows

@@ -9,3 +9,4 @@ pub mod WellMade
 pub mod Codes
 pub mod Indexes
 pub mod Laws
+pub mod Families

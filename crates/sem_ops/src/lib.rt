@@ -15,8 +15,9 @@ ghost use Rattle.sem_ops.specs.Semaphores.{IsSemaphore, CodeOfSemaphore};
 
 mod values;
 
-use formats_m::{decode_m, encode_m};
+use formats_m::FamilyM;
 use ia_insn::{Insn, Op};
+use insn_rows::Family;
 pub use values::{exchanged, new_value};
 
 /// Whether this is an exchange or a fetch-and-add.
@@ -35,7 +36,7 @@ pub fn decode_sem(word: u64) -> Option<Insn>
     // An instruction that has this word is answered, so None comes only where none has it.
     ensures only { (i : Insn) → CodeOfSemaphore i word → result ≡ Some i }
 {
-    match decode_m(word) {
+    match FamilyM::decode(word) {
         Some(insn) => {
             if is_semaphore(&insn.op) {
                 Some(insn)
@@ -60,7 +61,7 @@ pub fn encode_sem(insn: &Insn) -> Option<u64>
     ensures within { IfSome result (λ w. w < 2 ^ 41) }
 {
     if is_semaphore(&insn.op) {
-        encode_m(insn)
+        FamilyM::encode(insn)
     } else {
         None
     }

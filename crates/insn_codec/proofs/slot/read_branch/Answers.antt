@@ -4,11 +4,11 @@ use Rattle.ia_program.specs.Fits.{IsBranchSlot}
 use Rattle.insn_codec.proofs.slot.read_branch.Goals as goal
 
 pub returns-then-is_branch_slot-clause-only : goal.returns-then-is_branch_slot-clause-only
-returns-then-is_branch_slot-clause-only c = λ i s. sym c.in-Some.is ∙ c.decode_b.ensures.only i s.code
+returns-then-is_branch_slot-clause-only c = λ i s. sym c.in-Some.is ∙ c.decode.ensures.only i s.code
 
 pub returns-else-is_branch_slot-clause-only : goal.returns-else-is_branch_slot-clause-only
 returns-else-is_branch_slot-clause-only c = λ i s.
-    let e = sym c.in-Some.is ∙ c.decode_b.ensures.only i s.code in
+    let e = sym c.in-Some.is ∙ c.decode.ensures.only i s.code in
     let same : i ≡ c.in-Some.insn = cc in
     let P : Insn → Type 0 = λ j. IsBranchSlot j.op c.args.slot in
     let t = c.is_branch_slot.ensures.1 (subst P same s.fits.kind.1) in
@@ -16,4 +16,4 @@ returns-else-is_branch_slot-clause-only c = λ i s.
     absurd (cc)
 
 pub returns-in-None-clause-only : goal.returns-in-None-clause-only
-returns-in-None-clause-only c = λ i s. sym c.in-None.is ∙ c.decode_b.ensures.only i s.code
+returns-in-None-clause-only c = λ i s. sym c.in-None.is ∙ c.decode.ensures.only i s.code

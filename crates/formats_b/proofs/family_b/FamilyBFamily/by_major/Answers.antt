@@ -1,0 +1,8 @@
+use Rattle.std.proofs.Common.{refl}
+use Rattle.insn_rows.specs.Indexes.{is_index}
+use Rattle.formats_b.specs.ListedB.{rows}
+use Rattle.formats_b.proofs.family_b.FamilyBFamily.by_major.Goals as goal
+
+pub returns : goal.returns
+unfolding rows is_index
+returns c = refl

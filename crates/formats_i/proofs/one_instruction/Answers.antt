@@ -1,5 +1,0 @@
-use Rattle.formats_i.proofs.Words.{one_insn}
-use Rattle.formats_i.proofs.one_instruction.Goals as goal
-
-pub returns : goal.returns
-returns c = one_insn

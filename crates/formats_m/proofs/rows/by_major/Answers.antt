@@ -1,8 +1,0 @@
-use Rattle.std.proofs.Common.{refl}
-use Rattle.insn_rows.specs.Indexes.{is_index}
-use Rattle.formats_m.specs.Listed.{rows}
-use Rattle.formats_m.proofs.rows.by_major.Goals as goal
-
-pub returns : goal.returns
-unfolding rows is_index
-returns c = refl
