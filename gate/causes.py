@@ -21,7 +21,7 @@ import sys
 
 ROOT = pathlib.Path(__file__).resolve().parent.parent
 HEADING = "## Answers and their causes"
-ITEM = re.compile(r"^(?:(?:pub )?(?:impl|trait)\b[^{]*|\}|[ ]*(?:pub )?fn (?:.|\n)*?(?=\{$|\{\}$|;$|^ *\{))", re.M)
+ITEM = re.compile(r"^(?:(?:pub )?(?:impl|trait)\b[^{]*|\}|[ ]*(?:pub |final )?fn (?:.|\n)*?(?=\{$|\{\}$|;$|^ *\{))", re.M)
 OWNER = re.compile(r"(?:pub )?(?:impl|trait)(?:<[^ ]*(?: [^ >]*)*?>)? (?:[\w:<>]+ for )?(\w+)")
 
 
@@ -29,7 +29,7 @@ def functions(text):
     """Each function of a file: the `impl` or trait that it stands in, its head, and the names of its clauses."""
     place = ""
     for item in ITEM.findall(re.sub(r"[ \t]*//.*", "", text)):
-        if re.match(r"\s*(pub )?fn ", item):
+        if re.match(r"\s*(pub |final )?fn ", item):
             clauses = re.findall(r"\bensures (\w*) ?\{", item)
             yield place, re.split(r"\b(?:requires|ensures) ", item.strip())[0], {name or "the clause" for name in clauses}
         else:
