@@ -1,5 +1,5 @@
 -- What the rows of a family say of its words.
-use Rattle.std.proofs.Common.{◌≡◌, ℕ, ◌^◌, ◌<◌, ◌≤◌, List, refl, arith, subst, sym}
+use Rattle.std.proofs.Common.{ℕ, ◌^◌, List, refl}
 use Rattle.std.specs.Prelude.{Option, Some, None, IfSome, IsNone}
 use Rattle.insn_rows.specs.declared.opcode.Opcode.{Opcode}
 use Rattle.insn_rows.specs.declared.row.Row.{Row}

@@ -1,6 +1,6 @@
 -- What a table says of its words.
 use Rattle.std.proofs.Common.{◌≡◌, ℕ, ◌+◌, ◌^◌, ◌<◌, ◌≤◌, List, [], ◌∷◌, map, get_or, Bool, true, sym, ◌∙◌, refl, arith, subst}
-use Rattle.std.specs.Prelude.{◌&&◌, ◌↔◌, nat_le, nat_lt, Option, Some, None, IsTrue}
+use Rattle.std.specs.Prelude.{◌↔◌, Option, Some, None, IsTrue}
 use Rattle.std.specs.List.{list_all}
 use Rattle.std.proofs.lemmas.Bool.{leb-true, ltb-true}
 use Rattle.bundle_bits.specs.Words.{Part, word_of, AllFit}
@@ -11,7 +11,7 @@ use Rattle.insn_rows.specs.declared.bits.BitField.{BitField}
 use Rattle.insn_rows.specs.declared.row.Row.{Row}
 use Rattle.insn_rows.specs.declared.value.Value.{Value}
 use Rattle.insn_rows.specs.Rows.{operands, parts, row_word, HasWord}
-use Rattle.insn_rows.specs.WellMade.{are_apart_fields, is_clear, fields, is_table}
+use Rattle.insn_rows.specs.WellMade.{are_apart_fields, is_clear, is_table}
 use Rattle.insn_rows.specs.Arms.{opcode_of, values_of}
 use Rattle.insn_rows.specs.Families.{reaches, is_below, stays_below}
 use Rattle.insn_rows.specs.Codes.{HasRow, IsListedBy, IsPlaceOf}

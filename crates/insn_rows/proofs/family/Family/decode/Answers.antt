@@ -1,6 +1,4 @@
-use Rattle.std.proofs.Common.{List, Option, arith, subst, sym}
-use Rattle.std.specs.Prelude.{IfSome}
-use Rattle.ia_insn.specs.declared.insn.Insn.{Insn}
+use Rattle.std.proofs.Common.{List, arith, subst, sym}
 use Rattle.insn_rows.specs.declared.row.Row.{Row}
 use Rattle.insn_rows.specs.Codes.{HasRow}
 use Rattle.insn_rows.proofs.Families.{is_from, is_below, none_found}
