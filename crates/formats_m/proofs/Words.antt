@@ -1,9 +1,8 @@
 -- The words of the M instructions.
-use Rattle.std.proofs.Common.{ℕ, ◌^◌, ◌<◌}
 use Rattle.ia_insn.specs.declared.insn.Insn.{Insn}
 use Rattle.insn_rows.specs.Arms.{opcode_of}
 use Rattle.insn_rows.specs.Laws.{OneInstruction, OneWord, OpcodeIsLow}
-use Rattle.insn_rows.proofs.RowBack.{no_row, code_below, only_insn}
+use Rattle.insn_rows.proofs.RowBack.{no_row, only_insn}
 use Rattle.insn_rows.proofs.Laws.{only_word, word_under, AsRow, as_row, from_row}
 use Rattle.formats_m.specs.Listed.{rows, CodeM, IsListedM}
 use Rattle.formats_m.specs.Places.{place_of}
@@ -14,9 +13,6 @@ one_insn w i j of-i of-j = only_insn rows i j w no_row are_table of-i of-j
 
 pub one_word : OneWord CodeM
 one_word i v w of-v of-w = only_word rows (place_of (opcode_of i.op)) i v w (is_place_of (opcode_of i.op)) of-v of-w
-
-pub below : (i : Insn) (w : ℕ) → CodeM i w → w < 2 ^ 41
-below i w code = code_below rows i w no_row are_table code
 
 pub low : OpcodeIsLow CodeM
 low w i code = word_under rows 40 i w are_table are_low code
