@@ -6,8 +6,7 @@ use Rattle.asm_lexemes.specs.declared.lexeme.Lexeme.{Lexeme}
 use Rattle.asm_lexemes.specs.declared.lexeme.LexemeKind.{LexemeKind}
 use Rattle.asm_lexemes.specs.Bytes.{is_blank}
 use Rattle.asm_lexemes.specs.Lexemes.{begins_comment, kind_at, more_at, sharp_at, lexemes_from}
-use Rattle.asm_lexemes.specs.Tokens.{token_of}
-use Rattle.asm_lexemes.proofs.Lexed.{lexed, token_in}
+use Rattle.asm_lexemes.proofs.Lexed.{lexed}
 
 abbrev pair_in : List ℕ → Lexeme → LexemeKind × List ℕ
 pair_in line w = (w.kind, slice_range line w.start w.end)
@@ -36,7 +35,3 @@ cut_same line front zero at (c ∷ cs) e a =
 -- the lexemes of a line by place have these kinds and texts
 pub lexemes_lexed : (line : List ℕ) → map (λ w. (w.kind, slice_range line w.start w.end)) (lexemes_from 0 0 line) ≡ lexed 0 line
 lexemes_lexed line = cut_same line [] 0 0 line refl refl
-
-tokens_same : (line : List ℕ) (ws : List Lexeme) → map (token_in line) ws ≡ map (λ w. token_of w.0 w.1) (map (pair_in line) ws)
-tokens_same line [] = refl
-tokens_same line (w ∷ ws) = ap (λ x. token_in line w ∷ x) (tokens_same line ws)

@@ -1,11 +1,8 @@
 -- The lexemes of a line by kind and text.
-use Rattle.std.specs.Prelude.{ℕ, zero, suc, ◌+◌, Bool, true, false, ◌==◌, if◌then◌else◌, List, [], ◌∷◌, take, slice_range}
+use Rattle.std.specs.Prelude.{ℕ, zero, suc, ◌+◌, Bool, true, false, ◌==◌, if◌then◌else◌, List, [], ◌∷◌, take}
 use Rattle.asm_lexemes.specs.declared.lexeme.LexemeKind.{LexemeKind}
-use Rattle.asm_lexemes.specs.declared.lexeme.Lexeme.{Lexeme}
-use Rattle.asm_lexemes.specs.declared.tokens.Token.{Token}
 use Rattle.asm_lexemes.specs.Bytes.{is_blank, is_name_byte}
 use Rattle.asm_lexemes.specs.Lexemes.{begins_comment, kind_at, more_at, sharp_at}
-use Rattle.asm_lexemes.specs.Tokens.{token_of}
 
 -- The lexemes of the bytes by kind and text; the first `skip` bytes are done already.
 abbrev pub lexed : ℕ → List ℕ → List (LexemeKind × List ℕ)
@@ -15,10 +12,6 @@ lexed zero (c ∷ cs) =
     if is_blank c then lexed 0 cs
     else (if begins_comment c cs then []
     else (kind_at c cs, c ∷ take (more_at c cs) cs) ∷ lexed (more_at c cs + sharp_at c cs) cs)
-
--- what a lexeme of the line may be read as
-abbrev pub token_in : List ℕ → Lexeme → Token
-token_in line w = token_of w.kind (slice_range line w.start w.end)
 
 -- what may follow a name or a number
 abbrev pub is_end : List ℕ → Bool

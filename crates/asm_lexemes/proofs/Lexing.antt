@@ -76,11 +76,3 @@ minus_lexed c n cs d h e =
     let k : kind_at 45 (c ∷ n ++ cs) ≡ lexeme.Number = rw d refl in
     let a : list_all is_name_byte (c ∷ n) ≡ true = rw (digit_is_name c d) h in
     number_step 45 (c ∷ n ++ cs) refl refl k ∙ pieces 45 (c ∷ n) cs lexeme.Number (name_run (c ∷ n ++ cs)) 0 refl (run_is (c ∷ n) cs a e) refl
-
--- spaces and tabs are no lexemes
-pub blank_lexed : (c : ℕ) (cs : List ℕ) → is_blank c ≡ true → lexed 0 (c ∷ cs) ≡ lexed 0 cs
-blank_lexed c cs b = rw b refl
-
-pub blanks_lexed : (bs cs : List ℕ) → list_all is_blank bs ≡ true → lexed 0 (bs ++ cs) ≡ lexed 0 cs
-blanks_lexed [] cs h = refl
-blanks_lexed (b ∷ bs) cs h = blank_lexed b (bs ++ cs) (left (is_blank b) _ h) ∙ blanks_lexed bs cs (right (is_blank b) _ h)

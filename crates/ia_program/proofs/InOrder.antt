@@ -8,7 +8,7 @@ use Rattle.ia_program.specs.Bundles.{Bundle, slot_insn, last_slot}
 use Rattle.ia_program.specs.Places.{bundle_insn, insn_at, IsPlaceOf, IsBefore, IsNext}
 
 -- a slot has an instruction exactly up to the last
-slot_within : (slots : Slots) (slot : ℕ) → IsSome (slot_insn slots slot) → slot ≤ last_slot slots
+pub slot_within : (slots : Slots) (slot : ℕ) → IsSome (slot_insn slots slot) → slot ≤ last_slot slots
 slot_within slots slot h = grind (arith, nat_tests)
 
 within_slot : (slots : Slots) (slot : ℕ) → slot ≤ last_slot slots → IsSome (slot_insn slots slot)

@@ -62,6 +62,3 @@ all_ranges i (inr (inr (inr (inr (inr l))))) = let r = row_of_x i l in ranges_x 
 
 pub ranges_of_listed : (i : Insn) → IsListed i → HasRanges i.op
 ranges_of_listed i l = (all_ranges i l).0
-
-pub qualifier_of_listed : (i : Insn) → IsListed i → MayQualify i.qp i.op
-qualifier_of_listed i l = (all_ranges i l).1

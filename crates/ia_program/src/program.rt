@@ -1,6 +1,6 @@
 //! Programs.
 
-ghost use Rattle.std.specs.Prelude.{◌≡◌, ◌<◌, Ok, Err, IfOk, IfErr, MatchOption, IsTrue, ◌↔◌, [], length, slice_get};
+ghost use Rattle.std.specs.Prelude.{◌≡◌, ◌<◌, Ok, Err, IfOk, IfErr, MatchOption, IsTrue, ◌↔◌, length, slice_get};
 ghost use Rattle.std.specs.Option.{option_copied};
 ghost use Rattle.ia_program.specs.declared.place.Place.{Place};
 ghost use Rattle.ia_program.specs.declared.program.ProgramFault.{ProgramFault as FaultOf};
@@ -65,32 +65,6 @@ impl Model for Program {
 }
 
 impl Program {
-    /// The program of these bundles, declared entries and data bytes, without relations.
-    ///
-    /// # Errors
-    ///
-    /// The first fault of these, in the order of [`ProgramFault`].
-    pub fn new(
-        bundles: Vec<BundleOf>,
-        entries: Vec<u32>,
-        memory: Vec<u8>,
-    ) -> Result<Program, ProgramFault>
-        // The program is of these, and they are one.
-        ensures found { IfOk result (λ p. (p ≡ record { bundles = bundles.items; entries = entries.items; bytes = memory.items; relations = [] }) × IsProgram p) }
-
-        // Where they are a program it is answered, so a fault comes only where they are none.
-        ensures only { let parts : Parts = record { bundles = bundles.items; entries = entries.items; bytes = memory.items; relations = [] } in IsProgram parts → result ≡ Ok parts }
-
-        // The fault is the first one of these.
-        ensures fault { IfErr result (HasProgramFault (record { bundles = bundles.items; entries = entries.items; bytes = memory.items; relations = [] })) }
-
-        // A fault that they have is answered, so they have no other.
-        ensures only_fault { (fault : FaultOf) → HasProgramFault (record { bundles = bundles.items; entries = entries.items; bytes = memory.items; relations = [] }) fault → result ≡ Err fault }
-    {
-        let alloc = *bundles.allocator();
-        Program::with_relations(bundles, entries, memory, Vec::new(alloc))
-    }
-
     /// The program of these bundles, declared entries, data bytes and declared relations.
     ///
     /// # Errors

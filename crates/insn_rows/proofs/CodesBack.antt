@@ -17,10 +17,6 @@ use Rattle.insn_rows.specs.Reading.{increment_of_code, value}
 use Rattle.insn_rows.specs.WellMade.{suits}
 use Rattle.insn_rows.proofs.Numbers.{known_below, known_above, half_below, high_below, up_to_below, twos-signed, shifted_below}
 
--- what fits where the width is known
-at_width : (n w k : ℕ) → eqb w k ≡ true → n < 2 ^ k → n < 2 ^ w
-at_width n w k e fit = known_above n w k e fit
-
 size_code : (n : ℕ) → IsAccessSize n → code_of_size n < 2 ^ 2
 size_code n h = grind arith
 
@@ -59,19 +55,19 @@ pub code_fits : (coding : Coding) (w : ℕ) (x : Value) → Takes coding w x →
 code_fits c.Absent w v.Absent t s = pow_pos w
 code_fits c.NoPredicate w (v.Pr n) t s = let p = pow_pos w in omega arith
 code_fits c.Gr w (v.Gr n) t s = t
-code_fits c.LowGr w (v.Gr n) t s = at_width n w 2 s (omega arith)
+code_fits c.LowGr w (v.Gr n) t s = known_above n w 2 s (omega arith)
 code_fits c.Target w (v.Gr n) t s = t.1
 code_fits c.Pr w (v.Pr n) t s = t
 code_fits c.Br w (v.Br n) t s = t
-code_fits c.Flag w (v.Flag b) t s = at_width (flag b) w 1 s (elim b as (λ b. flag b < 2 ^ 1) [ true ↦ lit< tt | false ↦ lit< tt ])
+code_fits c.Flag w (v.Flag b) t s = known_above (flag b) w 1 s (elim b as (λ b. flag b < 2 ^ 1) [ true ↦ lit< tt | false ↦ lit< tt ])
 code_fits c.Small w (v.Small n) t s = t
 code_fits (c.UpTo most) w (v.Small n) t s = up_to_below n most w t s
-code_fits c.LoadHint w (v.Small n) t s = at_width n w 2 s (let a = t.0 in omega arith)
-code_fits c.StoreHint w (v.Small n) t s = at_width n w 2 s (omega arith)
+code_fits c.LoadHint w (v.Small n) t s = known_above n w 2 s (let a = t.0 in omega arith)
+code_fits c.StoreHint w (v.Small n) t s = known_above n w 2 s (omega arith)
 code_fits c.LessOne w (v.Small n) t s = let a = t.0 in let b = t.1 in omega arith
-code_fits c.From63 w (v.Small n) t s = at_width (63 - n) w 6 s (omega arith)
-code_fits (c.Size least most) w (v.Small n) t s = at_width (code_of_size n) w 2 (both-left _ _ s) (size_code n t.0)
-code_fits c.Increment w (v.Short z) t s = at_width (code c.Increment 3 (v.Short z)) w 3 s (increment_fits z)
+code_fits c.From63 w (v.Small n) t s = known_above (63 - n) w 6 s (omega arith)
+code_fits (c.Size least most) w (v.Small n) t s = known_above (code_of_size n) w 2 (both-left _ _ s) (size_code n t.0)
+code_fits c.Increment w (v.Short z) t s = known_above (code c.Increment 3 (v.Short z)) w 3 s (increment_fits z)
 code_fits c.Wide w (v.Wide n) t s = t
 code_fits c.PredicateMask w (v.Mask n) t s = half_below n w t.0
 code_fits c.Signed w (v.Signed z) t s = twos-fits w (leb-true _ _ (both-left _ _ s)) z t

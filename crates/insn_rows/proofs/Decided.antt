@@ -29,9 +29,6 @@ three p q = alike (both p q) (λ h. (h.0, h.1.0, h.1.1)) (λ h. (h.0, (h.1, h.2)
 pub four : {P Q R S : Type 0} → Dec P → Dec (Q × R × S) → Dec (P × Q × R × S)
 four p q = alike (both p q) (λ h. (h.0, h.1.0, h.1.1, h.1.2)) (λ h. (h.0, (h.1, h.2, h.3)))
 
-pub five : {P Q R S T : Type 0} → Dec P → Dec (Q × R × S × T) → Dec (P × Q × R × S × T)
-five p q = alike (both p q) (λ h. (h.0, h.1.0, h.1.1, h.1.2, h.1.3)) (λ h. (h.0, (h.1, h.2, h.3, h.4)))
-
 pub differ : (m n : ℕ) → Dec (m ≢ n)
 differ m n = opposite (ℕ_discrete m n)
 

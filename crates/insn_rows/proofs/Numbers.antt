@@ -57,22 +57,10 @@ up_to_below n most w h s = let a = ltb-true _ _ (both-right (leb w 8) _ s) in om
 pub small_below : (n w : ℕ) → leb w 8 ≡ true → n < 2 ^ w → n < 256
 small_below n w h fit = let a = fewer n w 8 (leb-true _ _ h) fit in omega arith
 
-pub seven_below : (n w : ℕ) → leb w 7 ≡ true → n < 2 ^ w → n < 128
-seven_below n w h fit = let a = fewer n w 7 (leb-true _ _ h) fit in omega arith
-
-pub six_below : (n w : ℕ) → leb w 6 ≡ true → n < 2 ^ w → n < 64
-six_below n w h fit = let a = fewer n w 6 (leb-true _ _ h) fit in omega arith
-
-pub three_below : (n w : ℕ) → leb w 3 ≡ true → n < 2 ^ w → n < 8
-three_below n w h fit = let a = fewer n w 3 (leb-true _ _ h) fit in omega arith
-
 pub mask_below : (n w : ℕ) → leb w 31 ≡ true → n < 2 ^ w → 2 * n < 4294967296
 mask_below n w h fit = let a = fewer n w 31 (leb-true _ _ h) fit in omega arith
 
 -- the limit of a width that is known
-pub one_below : (n w : ℕ) → eqb w 1 ≡ true → n < 2 ^ w → n < 2
-one_below n w e fit = let P : ℕ → Type 0 = λ k. n < 2 ^ k in let a : n < 2 ^ 1 = subst P (eqb-true w 1 e) fit in omega arith
-
 pub known_below : (n w k : ℕ) → eqb w k ≡ true → n < 2 ^ w → n < 2 ^ k
 known_below n w k e fit = let P : ℕ → Type 0 = λ m. n < 2 ^ m in subst P (eqb-true w k e) fit
 

@@ -1,5 +1,5 @@
 -- What is read of an instruction's word by its row is the instruction.
-use Rattle.std.proofs.Common.{◌≡◌, ℕ, zero, suc, ◌<◌, ◌^◌, arith, List, [], ◌∷◌, length, get_or, true, false, sym, ap, ◌∙◌, refl, subst}
+use Rattle.std.proofs.Common.{◌≡◌, ℕ, zero, suc, ◌<◌, ◌^◌, arith, List, [], ◌∷◌, length, get_or, true, sym, ap, ◌∙◌, refl, subst}
 use Rattle.std.specs.Prelude.{Option, Some, None, IsSome}
 use Rattle.bundle_bits.proofs.Words.{both-left, both-right}
 use Rattle.ia_insn.specs.declared.insn.Insn.{Insn}
@@ -84,13 +84,6 @@ row_found rows i w n d h code l m =
     let same : code.place ≡ n = one_match rows code.place n d d w code.inside l (table_other rows h) (row_matches (get_or rows code.place d) i w made (code.row d)) m in
     let P : ℕ → Type 0 = λ k. IsOfRow (get_or rows k d) i w in
     subst P same (code.row d)
-
--- A word that has the bits of none is that of no instruction.
-pub none_found : (rows : List Row) (i : Insn) (w : ℕ) (d : Row) → is_table rows ≡ true → HasRow rows i w → ((n : ℕ) (r : Row) → n < length rows → matches (get_or rows n r) w ≡ false) → ⊥
-none_found rows i w d h code none =
-    let a = row_matches (get_or rows code.place d) i w (table_made rows code.place d h code.inside) (code.row d) in
-    let b = none code.place d code.inside in
-    cc
 
 -- what stands in a list stands there whatever is outside
 pub same_default : {A : Type 0} (xs : List A) (n : ℕ) (d e : A) → n < length xs → get_or xs n d ≡ get_or xs n e

@@ -27,7 +27,7 @@ pub trait Family {
     /// The least that a word may be.
     ghost least: { ℕ };
 
-    /// So many bits has a word.
+    /// How many bits a word has.
     ghost width: { ℕ };
 
     /// The rows.
