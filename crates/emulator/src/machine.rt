@@ -181,7 +181,7 @@ impl<'a> Machine<'a> {
         ensures finished { IfSome self.old.progress.end (λ end. (self.new ≡ self.old) × (result ≡ end)) }
     {
         if self.run.end.is_none() {
-            self.run.run_groups(&self.code, groups);
+            let _last = self.run.run_groups(&self.code, groups);
         }
         self.ending()
     }

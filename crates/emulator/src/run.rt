@@ -56,6 +56,14 @@ fn how_falling(stopped: bool) -> Option<How>
     if stopped { Some(How::Falls) } else { None }
 }
 
+/// The place with a number.
+fn place_numbered(number: usize) -> Place
+    requires { number < 2 ^ 32 }
+    ensures { result ≡ place_at number }
+{
+    place_at(number as u32)
+}
+
 impl Run {
     /// The run at the start of a program with these data: at most 1,048,576 bytes, a multiple of 8.
     ///
@@ -83,7 +91,7 @@ impl Run {
         requires { self.now.number < 2 ^ 32 }
         ensures { result ≡ place_at self.now.number }
     {
-        place_at(self.number as u32)
+        place_numbered(self.number)
     }
 
     /// Begins a group where none is under way.
@@ -354,8 +362,8 @@ impl Run {
         self.run_slot(code)
     }
 
-    /// Runs one slot more; after an end nothing changes.
-    #[tactic(auto, using(ia_meaning::proofs::GroupEnds::advanced_ended))]
+    /// Runs one slot more, by what any slot does; after an end nothing changes.
+    #[tactic(auto, using(ia_meaning::proofs::WholeRuns::advanced_is, ia_meaning::proofs::GroupEnds::has_few_slots, ia_meaning::proofs::GroupEnds::advanced_ended))]
     pub fn step(&mut self, code: &Code)
         requires program { IsProgram code.now }
         requires under_way { IsUnderWay code.now (progress_of self.old) }
@@ -364,34 +372,45 @@ impl Run {
         ensures under_way { IsUnderWay code.now (progress_of self.new) }
     {
         if self.end.is_none() {
-            let _how = self.advance(code);
+            self.open_group();
+            let slot = self.slot(code);
+            let _how = self.run_any(code, slot);
         }
     }
 
-    /// Runs at most this number of groups, at least one. A group that is under way is the first of them. Each has at
-    /// most [`RUN_LIMIT`](ia_program::limits::RUN_LIMIT) slots.
-    pub fn run_groups(&mut self, code: &Code, groups: u64)
+    /// Runs at most this number of groups, at least one, and tells of the last. A group that is under way is the first of
+    /// them. Each has at most [`RUN_LIMIT`](ia_program::limits::RUN_LIMIT) slots.
+    ///
+    /// It alone calls `advance`, so that slot after slot is run in one loop.
+    pub fn run_groups(&mut self, code: &Code, groups: u64) -> GroupEvent
         requires program { IsProgram code.now }
         requires running { self.old.end ≡ None }
         requires under_way { IsUnderWay code.now (progress_of self.old) }
         requires some { 1 ≤ groups }
         requires room { self.old.groups + groups < 2 ^ 64 }
         ensures value { progress_of self.new ≡ groups_further groups code.now (progress_of self.old) }
+        ensures event { groups ≡ 1 → result ≡ event_further code.now (progress_of self.old) }
         ensures under_way { IsUnderWay code.now (progress_of self.new) }
     {
         let mut left = groups;
         loop {
-            if let Some(_how) = self.advance(code) {
+            let (last, slots) = (self.number, self.slots + 1);
+            if let Some(how) = self.advance(code) {
                 left -= 1;
                 if left == 0 || self.end.is_some() {
-                    return;
+                    return GroupEvent {
+                        number: self.groups,
+                        first: place_at(self.first),
+                        last: place_numbered(last),
+                        slots,
+                        how,
+                    };
                 }
             }
         }
     }
 
-    /// Runs the group under way to its end, or the next one, and tells of it. It has at most
-    /// [`RUN_LIMIT`](ia_program::limits::RUN_LIMIT) slots.
+    /// Runs the group under way to its end, or the next one, and tells of it.
     pub fn run_group(&mut self, code: &Code) -> GroupEvent
         requires program { IsProgram code.now }
         requires running { self.old.end ≡ None }
@@ -401,17 +420,6 @@ impl Run {
         ensures event { result ≡ event_further code.now (progress_of self.old) }
         ensures under_way { IsUnderWay code.now (progress_of self.new) }
     {
-        loop {
-            let (last, slots) = (self.place(), self.slots + 1);
-            if let Some(how) = self.advance(code) {
-                return GroupEvent {
-                    number: self.groups,
-                    first: place_at(self.first),
-                    last,
-                    slots,
-                    how,
-                };
-            }
-        }
+        self.run_groups(code, 1)
     }
 }

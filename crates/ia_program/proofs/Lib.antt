@@ -4,6 +4,7 @@ pub mod InOrder
 pub mod Stops
 pub mod Reaching
 pub mod ProgramFaults
+pub mod DeclaredEntries
 pub mod DeclaredRelations
 pub mod OperandRanges
 pub mod ListedSlots

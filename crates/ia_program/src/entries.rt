@@ -39,11 +39,12 @@ pub fn misplaced_entry(count: u32, entries: &[u32]) -> Option<u32>
     None
 }
 
-/// Whether the bundle is one of the entries.
-fn is_declared(entries: &[u32], bundle: u32) -> bool
+/// Whether the bundle is one of these entries of a program with `count` bundles.
+pub(crate) fn is_declared(count: u32, entries: &[u32], bundle: u32) -> bool
+    requires { AreEntries count entries.now }
     ensures { IsTrue result ↔ Contains entries.now bundle }
 {
-    entries.contains(&bundle)
+    entries.binary_search(&bundle).is_ok()
 }
 
 /// Whether it is a call.
@@ -76,12 +77,26 @@ fn is_after_call(bundles: &[BundleOf], bundle: u32) -> bool
     }
 }
 
-/// Whether the bundle is an entry of a program of these bundles and declared entries, where a run may
-/// start and indirect branches may land: bundle 0, a declared entry, or the bundle after one that
-/// holds a call.
-pub fn is_entry(bundles: &[BundleOf], entries: &[u32], bundle: u32) -> bool
+/// Whether the bundle is an entry of a program of these bundles and declared entries, where it is said whether it is a
+/// declared one.
+pub(crate) fn is_entry_where(
+    bundles: &[BundleOf],
+    entries: &[u32],
+    bundle: u32,
+    is_declared: bool,
+) -> bool
+    requires { IsTrue is_declared ↔ Contains entries.now bundle }
     ensures { IsTrue result ↔ IsEntryOf bundles.now entries.now bundle }
 {
     (bundle as usize) < bundles.len()
-        && (bundle == 0 || is_declared(entries, bundle) || is_after_call(bundles, bundle))
+        && (bundle == 0 || is_declared || is_after_call(bundles, bundle))
+}
+
+/// Whether the bundle is an entry of a program of these bundles and declared entries, where a run may
+/// start and indirect branches may land: bundle 0, a declared entry, or the bundle after one that
+/// holds a call. The entries may stand in any order.
+pub fn is_entry(bundles: &[BundleOf], entries: &[u32], bundle: u32) -> bool
+    ensures { IsTrue result ↔ IsEntryOf bundles.now entries.now bundle }
+{
+    is_entry_where(bundles, entries, bundle, entries.contains(&bundle))
 }

@@ -8,7 +8,7 @@ ghost use Rattle.ia_program.specs.Places.{insn_at, IsPlaceOf, IsBefore, IsNext, 
 ghost use Rattle.ia_program.specs.Programs.{Program as Parts, AreInRange, AreEntries, IsProgram, HasProgramFault, IsEntry, relations_at};
 
 use crate::bundle::BundleOf;
-use crate::entries::{are_in_range, is_entry, misplaced_entry};
+use crate::entries::{are_in_range, is_declared, is_entry_where, misplaced_entry};
 use crate::place::Place;
 use crate::places::{bundle_at, insn_at, is_stopped, next};
 use crate::relations::{Relation, misdeclared_relation, relations_at};
@@ -210,7 +210,8 @@ impl Program {
     pub fn is_entry(&self, bundle: u32) -> bool
         ensures { IsTrue result ↔ IsEntry self.now bundle }
     {
-        is_entry(self.bundles(), self.entries(), bundle)
+        let is_declared = is_declared(self.bundle_count(), self.entries(), bundle);
+        is_entry_where(self.bundles(), self.entries(), bundle, is_declared)
     }
 
     /// The data bytes.
