@@ -5,6 +5,7 @@ use Rattle.std.proofs.lemmas.Grind.{common_steps}
 use Rattle.std.proofs.lemmas.List.Folds.{list_any-append}
 use Rattle.std.proofs.lemmas.List.{append_assoc, append-nil, take_more}
 use Rattle.std.proofs.Math.Bool.{or_assoc}
+use Rattle.std.proofs.Math.Nat.{zero-add}
 use Rattle.std.specs.Prelude.{slice_index_or, Contains, ◌↔◌, IsTrue}
 use Rattle.std.proofs.lemmas.Bool.{or_right}
 use Rattle.ia_insn.specs.declared.insn.Insn.{Insn}
@@ -90,14 +91,11 @@ targets_of_both n (b ∷ xs) bs =
     let same : (n + 1) + length xs ≡ n + length (b ∷ xs) = omega arith in
     rw (targets_of_both (n + 1) xs bs, same) (sym (append_assoc (bundle_targets n b.slots) (targets_from (n + 1) xs) (targets_from (n + length (b ∷ xs)) bs)))
 
-zero_more : (n : ℕ) → 0 + n ≡ n
-zero_more n = omega arith
-
 next_targets : (bs : List Bundle) (at : ℕ) (b : Bundle) → at < length bs → b ≡ get_or bs at b → targets_from 0 (take (at + 1) bs) ≡ targets_from 0 (take at bs) ++ bundle_targets at b.slots
 next_targets bs at b less is =
     let before : take (at + 1) bs ≡ take at bs ++ b ∷ [] = take_more bs at b less ∙ ap (λ x. take at bs ++ x ∷ []) (sym is) in
     let count : length (take at bs) ≡ at = grind (arith, common_steps) in
-    ap (targets_from 0) before ∙ targets_of_both 0 (take at bs) (b ∷ []) ∙ rw (count, zero_more at) (ap (λ x. targets_from 0 (take at bs) ++ x) (append-nil (bundle_targets at b.slots)))
+    ap (targets_from 0) before ∙ targets_of_both 0 (take at bs) (b ∷ []) ∙ rw (count, zero-add at) (ap (λ x. targets_from 0 (take at bs) ++ x) (append-nil (bundle_targets at b.slots)))
 
 -- one bundle more
 pub next_bundle : (count : ℕ) (bs : List Bundle) (at : ℕ) (bundle : Bundle) (slots : Slots) (a b : List Bool) → at < length bs → bundle ≡ get_or bs at bundle → slots ≡ bundle.slots → AreMarks count (targets_from 0 (take at bs)) a

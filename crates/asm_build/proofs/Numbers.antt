@@ -4,11 +4,7 @@ use Rattle.std.specs.Int.{w64, to_le_bytes}
 use Rattle.std.proofs.lemmas.List.{length-append, length-take-le, take_min}
 use Rattle.asm_build.specs.TextParts.{numbers_bytes}
 
--- a number has eight bytes
-eight : (v : ℕ) → length (to_le_bytes w64 v) ≡ 8
-eight v = refl
-
--- so no more than eight are taken
+-- of a number's eight bytes no more than eight are taken
 pub most_bytes : (size : ℕ) (v : ℕ) → take (min size 8) (to_le_bytes w64 v) ≡ take size (to_le_bytes w64 v)
 most_bytes size v = take_min size (to_le_bytes w64 v)
 

@@ -1,13 +1,11 @@
 -- The faults of what a line says, each where those that are looked for before it are not there.
-use Rattle.std.proofs.Common.{◌≡◌, refl, ap, inl, inr, ℕ, ◌+◌, ◌*◌, ◌<◌, min, arith, length, List, Option, Some, None, Bool, true}
-use Rattle.std.specs.Prelude.{is_some, IsSome}
+use Rattle.std.proofs.Common.{◌≡◌, refl, ap, inl, inr, ℕ, ◌+◌, ◌*◌, ◌<◌, min, arith, length, List, Option, Some, None, true}
+use Rattle.std.specs.Prelude.{is_some}
 use Rattle.first_fault.specs.Stages.{IsFirstFault}
 use Rattle.ia_program.specs.declared.limits.TheConstants.{DATA_LIMIT}
 use Rattle.asm_reading.specs.declared.line.Line.TheVariants as line
-use Rattle.asm_reading.specs.declared.line.Draft.{Draft}
-use Rattle.asm_build.specs.declared.reason.Reason.TheVariants.{Twice, Template, Limit}
+use Rattle.asm_build.specs.declared.reason.Reason.TheVariants.{Twice, Limit}
 use Rattle.asm_build.specs.declared.text_parts.Section.TheVariants as section
-use Rattle.asm_build.specs.Drafts.{OpenBundle, HasSlotRoom}
 use Rattle.asm_build.specs.TextParts.{TextParts, address_of, value_stages, MayStand, IsIn, numbers_bytes}
 use Rattle.asm_build.proofs.Numbers.{most_numbers, length_numbers}
 
@@ -26,9 +24,3 @@ data_full s size values count most stands counted is more =
     let over : DATA_LIMIT < length s.bytes + length values * min size 8 = rw (counted, is) at more in
     let all : length (numbers_bytes (min size 8) values) ≡ length values * min size 8 = length_numbers (min size 8) values (omega arith) in
     inr (stands, inr (tt, inr (tt, inr (tt, inl (tt, refl, λ room. omega (arith, room, over, all, ap length (most_numbers size values)))))))
-
--- a slot line past the last of its bundle
-pub no_slot_room : (s : TextParts) (draft : Draft) (stop : Bool) (o : OpenBundle) → s.current ≡ Some o → ¬ HasSlotRoom o → IsFirstFault (value_stages s (line.Slot draft stop)) Template
-no_slot_room s draft stop o is none =
-    let stands : IsSome s.current = rw is refl in
-    inr (stands, inr (tt, inl (tt, refl, λ room. none (rw is at room))))

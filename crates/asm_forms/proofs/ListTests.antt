@@ -1,15 +1,9 @@
 -- Tests of each element of a list.
-use Rattle.std.proofs.Common.{◌≡◌, refl, ℕ, zero, suc, ◌<◌, Bool, true, false, cond, List, [], ◌∷◌, ◌++◌, length, take, map, get_or, Some, arith}
+use Rattle.std.proofs.Common.{◌≡◌, refl, ℕ, zero, suc, Bool, true, false, cond, List, [], ◌∷◌, ◌++◌, take, map, Some}
 use Rattle.std.specs.Prelude.{flat_map}
 use Rattle.std.specs.List.{find, list_all}
 use Rattle.std.proofs.lemmas.Bool.{and_from}
 use Rattle.ia_program.proofs.Tests.{left, right}
-
--- of what holds of all, it holds of the one at a place
-pub all_at : {A : Type 0} (p : A → Bool) (xs : List A) (i : ℕ) (d : A) → i < length xs → list_all p xs ≡ true → p (get_or xs i d) ≡ true
-all_at p [] i d l h = absurd (omega (arith, l))
-all_at p (x ∷ xs) zero d l h = left _ _ h
-all_at p (x ∷ xs) (suc i) d l h = all_at p xs i d (omega (arith, l)) (right _ _ h)
 
 -- of those at the front
 pub all_take : {A : Type 0} (p : A → Bool) (i : ℕ) (xs : List A) → list_all p xs ≡ true → list_all p (take i xs) ≡ true

@@ -4,7 +4,7 @@ use Rattle.std.specs.Prelude.{flat_map, filter, is_some, nat_eq}
 use Rattle.std.specs.List.{find, list_all}
 use Rattle.std.specs.Str.{bytes_eq}
 use Rattle.std.specs.Cmp.Lexicographic.{pointwise, same_text}
-use Rattle.std.proofs.lemmas.Bool.{eqb-true, eq-eqb, not-true, and_from, or_right}
+use Rattle.std.proofs.lemmas.Bool.{eqb-true, eq-eqb, not-true, and_from}
 use Rattle.std.proofs.Math.Seq.{drop-append_seam}
 use Rattle.std.proofs.lemmas.Option.{same_Some}
 use Rattle.asm_lexemes.specs.declared.tokens.Token.{Token}
@@ -196,11 +196,3 @@ row_back f cs xs e h =
     (spelled (row_of f).items xs h) (named_own (row_of f) cs e)
     (all_both (is_clear (row_of f)) (is_other rest (row_of f)) _ (λ q c o. unread (row_of f) q cs xs h e c o) (take (place f) rows) clear other) in
     found_form (is_read (filled (row_of f).items xs)) (is_named ((row_of f).stem ++ rest)) row_of rows (row_of f) rows_back first ∙ ap Some (form_back f)
-
--- all rows that the name of a row names have the row's stem
-alike : (r q : FormRow) (rest : List ℕ) → is_other rest r q ≡ true → (not (is_named (r.stem ++ rest) q) || bytes_eq r.stem q.stem) ≡ true
-alike r q rest o = by_stem (bytes_eq r.stem q.stem) o
-  where
-    by_stem : (b : Bool) → (b || not (begins (r.stem ++ rest) q.stem)) ≡ true → (not (is_named (r.stem ++ rest) q) || b) ≡ true
-    by_stem true h = or_right (not (is_named (r.stem ++ rest) q)) true refl
-    by_stem false h = rw (not-true (begins (r.stem ++ rest) q.stem) h) refl

@@ -2,11 +2,7 @@
 use Rattle.std.proofs.Common.{◌≡◌, ◌∙◌, ℕ, List, ◌++◌, length, take, drop, ap, sym, append_assoc}
 use Rattle.std.specs.Io.{StartsWith}
 use Rattle.std.proofs.lemmas.List.{take-append-drop}
-use Rattle.std.proofs.Math.Seq.{take-append_seam, take-length}
-
--- a text starts with what it is
-pub kept_same : (after before : List ℕ) → after ≡ before → StartsWith after before
-kept_same after before h = ap (take (length before)) h ∙ take-length before
+use Rattle.std.proofs.Math.Seq.{take-append_seam}
 
 -- what starts with a longer text starts with its beginning
 pub kept_before : (after between before end : List ℕ) → between ≡ before ++ end → StartsWith after between → StartsWith after before

@@ -431,12 +431,3 @@ gap_there (d ∷ cs) (suc k) j c there inside =
     ap (slice_get (gaps_in d.wanted d.end ++ gaps_of cs)) (let number : length d.wanted + held cs k + j ≡ length (gaps_in d.wanted d.end) + (held cs k + j) = omega arith in number)
     ∙ slice_get-append_right (gaps_in d.wanted d.end) (gaps_of cs) (held cs k + j)
     ∙ gap_there cs k j c there inside
-
-pub length-gaps : (cs : List Chunk) (items : List Item) → AreChunks cs items → length (gaps_of cs) ≡ length items
-length-gaps [] [] are = refl
-length-gaps [] (item ∷ items) are = absurd are
-length-gaps (c ∷ cs) items (is, are) =
-    let count = length-gaps_in c.wanted c.end in
-    let rest = length-gaps cs (drop (length c.wanted) items) are in
-    let room = fits c items is in
-    omega (arith, length-append (gaps_in c.wanted c.end) (gaps_of cs), length-drop (length c.wanted) items)

@@ -1,7 +1,7 @@
 -- A group to its end, one slot at a time.
-use Rattle.std.proofs.Common.{◌≡◌, ℕ, zero, suc, ◌+◌, ◌-◌, ◌^◌, ◌<◌, ◌≤◌, ◌⊎◌, inl, inr, Bool, true, false, refl, sym, ap, ◌∙◌, arith}
+use Rattle.std.proofs.Common.{◌≡◌, ℕ, zero, suc, ◌+◌, ◌-◌, ◌^◌, ◌<◌, ◌≤◌, ◌⊎◌, inl, inr, true, false, refl, sym, ap, ◌∙◌, arith}
 use Rattle.std.specs.Option.{is_some}
-use Rattle.std.specs.Prelude.{Option, Some, None, ◌==◌, if◌then◌else◌}
+use Rattle.std.specs.Prelude.{Option, Some, None, if◌then◌else◌}
 use Rattle.ia_program.specs.declared.limits.TheConstants.{RUN_LIMIT}
 use Rattle.ia_program.specs.declared.ending.End.{End}
 use Rattle.ia_program.specs.declared.ending.How.{How}
@@ -26,16 +26,6 @@ counted p m next running is = ap (λ n. n.groups) (is ∙ advanced_is p m runnin
 -- So many groups can be counted, with the one under way or the next one as the first.
 abbrev pub CanCount : Progress → ℕ → Type 0
 CanCount m left = (opened m).groups + left ≤ 2 ^ 64
-
-pub begins_with_room : (m : Progress) (left : ℕ) → m.groups + left < 2 ^ 64 → CanCount m left
-begins_with_room m left room = of (m.slots == 0)
-  where
-    of : (b : Bool) → (if b then record m { groups = m.groups + 1; first = m.state.place } else m).groups + left ≤ 2 ^ 64
-    of true = omega (arith, room)
-    of false = omega (arith, room)
-
-pub room_for_step : (m : Progress) (left : ℕ) → 0 < left → CanCount m left → m.slots ≡ 0 → m.groups + 1 < 2 ^ 64
-room_for_step m left some room between = let opens = ap (λ n. n.groups) (opened_between m between) in omega (arith, some, room, opens)
 
 -- Where a step ends its group, the group has come to here.
 pub record IsOver (p : Program) (m next : Progress) (how : How) : Type 0 where

@@ -5,7 +5,7 @@ use Rattle.std.specs.Prelude.{bit_or}
 use Rattle.std.proofs.lemmas.Option.{same_Some}
 use Rattle.ia_insn.specs.declared.insn.Insn.{Insn}
 use Rattle.ia_program.specs.declared.place.Place.{Place}
-use Rattle.ia_program.specs.Places.{place_number, place_at, insn_at, IsBefore}
+use Rattle.ia_program.specs.Places.{place_number, place_at, insn_at}
 use Rattle.ia_program.specs.Programs.{Program, IsEntry}
 use Rattle.ia_program.proofs.InOrder.{slot_small}
 use Rattle.ia_program.proofs.Reaching.{place_at-number}
@@ -23,7 +23,7 @@ use Rattle.slot_table.proofs.SlotLaws.{pairs_by-slot}
 use Rattle.flow_facts.specs.Walks.{Known, known_at, Walk, begins, goes_on, EndsAt, known_first, facts_on}
 use Rattle.flow_facts.specs.Tables.{weight, place_count, AtMost, Joined, IsWitnessedAt, IsWitnessed, IsSameBut, HasCome, MarksChanges, MayPass, Passed, IsBetweenSteps, marked, dirty_count}
 use Rattle.flow_facts.proofs.Numbering.{number_below, cases_place, value_at-place_at, value_at-set_other}
-use Rattle.flow_facts.proofs.Marks.{no_progress, progress_marked, progress_same, progress_twice, same_trans, come_unknown, come_shrinks, dirty_count-set, dirty_count-less}
+use Rattle.flow_facts.proofs.Marks.{no_progress, progress_marked, progress_same, progress_twice, same_trans, come_shrinks, dirty_count-set, dirty_count-less}
 
 -- more before a place is more past it
 pub past_within : (p : Program) (from : Place) (e : Edge) (f g : Pairs) → IsWithin f g → IsWithin (pairs_past p from e f) (pairs_past p from e g)
@@ -159,31 +159,13 @@ may_pass p t d n rows e before u known taken = record {
   come = λ to edge. subst (λ (w : ℕ). HasCome t to (pairs_past p (place_at n) e) w (Some before)) (value_at-place_at 0 d n ∙ sym taken) (subst (HasCome t to (pairs_past p (place_at n) e) (marked d (place_at n))) known (u.come (place_at n) e to edge));
 }
 
-not_before_itself : (a : Place) → IsBefore a a → ⊥
-not_before_itself a (inl h) = omega arith
-not_before_itself a (inr h) = omega (arith, h.1)
-
 -- and does so after it has passed along a fall, which leads to another place
 pub may_pass_on : (p : Program) (from : Place) (e : Edge) (rows : ℕ) (t t' : List Known) (d d' : List ℕ) (before : Table) → MayPass p from e rows t before → Passed p from Falls (pairs_of before) t d t' d' → MayPass p from e rows t' before
 may_pass_on p from e rows t t' d d' before may passed = record {
   witnessed = passed.witnessed;
-  known = passed.others from (λ edge. let next = falls_next p from from edge in not_before_itself from next.after) ∙ may.known;
+  known = passed.others from (λ edge. let next = falls_next p from from edge in elim next.after [ inl h ↦ omega arith | inr h ↦ omega (arith, h.1) ]) ∙ may.known;
   come = λ to edge. come_shrinks t t' to (pairs_past p from e) rows (Some before) passed.progress.shrinks (may.come to edge);
 }
-
--- a place where nothing is known is gone on from
-pub none_spread : (p : Program) (t : List Known) (d : List ℕ) (n : ℕ) → IsBetweenSteps p t d → known_at t (place_at n) ≡ None → IsBetweenSteps p t (set d n 0)
-none_spread p t d n u none = record {
-  table_length = u.table_length;
-  dirty_length = length-set d n 0 ∙ u.dirty_length;
-  witnessed = u.witnessed;
-  entries = u.entries;
-  come = λ k e to edge. come k e to edge (cases_place k (place_at n));
-}
-  where
-    come : (k : Place) (e : Edge) (to : Place) → HasEdge p k e to → (k ≡ place_at n) ⊎ (k ≡ place_at n → ⊥) → HasCome t to (pairs_past p k e) (marked (set d n 0) k) (known_at t k)
-    come k e to edge (inl same) = come_unknown t to (pairs_past p k e) (marked (set d n 0) k) (known_at t k) (rw (ap (known_at t) same ∙ none) tt)
-    come k e to edge (inr apart) = rw (value_at-set_other 0 0 d n k apart) (u.come k e to edge)
 
 -- the place is no longer dirty, and what was known there has come along both sorts of edges
 pub two_passes : (p : Program) (t t1 t2 : List Known) (d d1 d2 : List ℕ) (n : ℕ) (before : Table) → IsBetweenSteps p t d → known_at t (place_at n) ≡ Some before → Passed p (place_at n) Falls (pairs_of before) t (set d n 0) t1 d1 → Passed p (place_at n) Taken (pairs_of before) t1 d1 t2 d2 → IsBetweenSteps p t2 d2

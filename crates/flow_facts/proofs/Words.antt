@@ -20,13 +20,7 @@ marked_set words n word v inside bits m = of (cases_eq (m / 64) (n / 64)) (cases
     of (inr far) (inl same) = absurd (far (ap (λ (k : ℕ). k / 64) same))
     of (inr far) (inr apart) = rw (ne_eqb m n apart) (ap (λ (w : ℕ). has_bit w (m % 64)) (get_or-set_other words (n / 64) (m / 64) word 0 far))
 
--- a smaller word makes the words smaller
-pub smaller : (words : List ℕ) (i word : ℕ) → i < length words → word ≤ get_or words i 0 → (k : ℕ) → get_or (set words i word) k 0 ≤ get_or words k 0
-smaller words i word inside less k = of (cases_eq k i)
-  where
-    of : (k ≡ i) ⊎ (k ≡ i → ⊥) → get_or (set words i word) k 0 ≤ get_or words k 0
-    of (inl e) = rw e (omega (arith, get_or-set_same words i word 0 inside))
-    of (inr far) = omega (arith, get_or-set_other words i k word 0 far)
+-- a smaller word makes the words' sum smaller
 
 pub sum_less : (words : List ℕ) (i word : ℕ) → i < length words → word < get_or words i 0 → sum_of (set words i word) < sum_of words
 sum_less words i word inside less = omega (arith, sum_by-set (λ (w : ℕ). w) words i word 0 inside)

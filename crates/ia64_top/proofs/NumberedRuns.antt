@@ -1,6 +1,7 @@
 -- What is stated of `groups`.
 use Rattle.std.proofs.Common.{◌≡◌, ℕ, ◌<◌, ◌≤◌, inl, inr, List, length, Option, Some, refl, sym, ap, ◌∙◌, subst, arith}
-use Rattle.std.specs.Prelude.{◌+◌, IfNone, IfSome, decimal}
+use Rattle.std.proofs.Math.Nat.{zero-add}
+use Rattle.std.specs.Prelude.{IfNone, IfSome, decimal}
 use Rattle.std.specs.Io.KnownBytes.{Appends}
 use Rattle.ia_program.specs.declared.ending.End.{End}
 use Rattle.ia_program.specs.declared.ending.End.TheVariants as end
@@ -117,9 +118,6 @@ same_as_run_within law zero parallel one none words c ws left old new input byte
     let run = run_given law zero parallel groups number p bytes status (numbered_run_given one none c ws input bytes status o groups number is p g) free in
     (bytes, output_of (run_words groups) (Run groups) ws input input bytes status (run_command groups range.0 range.1) refl within (run_is state_after groups as_either input p bytes status g run), appended))
 
-without_start : (groups : ℕ) → 0 + groups ≡ groups
-without_start groups = omega arith
-
 -- What the engine prints after a run from the start of a program is what is printed of the run.
 pub record PrintsRun (p : Program) (groups number : ℕ) (text : List ℕ) (end : End) : Type 0 where
   pub printed : text ≡ run_text (numbered_run_of p groups number)
@@ -127,7 +125,7 @@ pub record PrintsRun (p : Program) (groups number : ℕ) (text : List ℕ) (end 
 
 from_start : (p : Program) (groups number : ℕ) (after : Engine) (text : List ℕ) (end : End) → after ≡ after_run (numbered_run_of p groups number) (begun p) → end ≡ (numbered_run_of p groups number).end → text ≡ state_text end after.groups after.range after.state → PrintsRun p groups number text end
 from_start p groups number after text end is ends printed =
-    record { printed = printed ∙ rw (is, ends, without_start (length (numbered_run_of p groups number).events)) refl; ended = ends }
+    record { printed = printed ∙ rw (is, ends, zero-add (length (numbered_run_of p groups number).events)) refl; ended = ends }
 
 pub prints_run : (p : Program) (groups number : ℕ) (m after : Engine) (text : List ℕ) (end : End) → m ≡ begun p
     → IfNone m.end (after ≡ after_run (numbered_run m.program groups number m.state) m) → IfNone m.end (end ≡ (numbered_run m.program groups number m.state).end)

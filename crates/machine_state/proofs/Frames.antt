@@ -1,5 +1,5 @@
 -- Frames that are written: renamed ones, and those of previous function states.
-use Rattle.std.proofs.Common.{ℕ, zero, suc, List, [], ◌∷◌, ◌+◌, ◌-◌, ◌/◌, ◌%◌, ◌^◌, ◌≡◌, ◌≤◌, length, arith, refl, ◌∙◌, ap}
+use Rattle.std.proofs.Common.{ℕ, zero, suc, List, [], ◌∷◌, ◌+◌, ◌/◌, ◌%◌, ◌^◌, ◌≡◌, length, arith, refl, ◌∙◌, ap}
 use Rattle.std.proofs.lemmas.Nat.{field_of}
 use Rattle.std.proofs.Math.Pow.{mod-mod-pow}
 use Rattle.std.specs.Option.{option_map}
@@ -23,22 +23,15 @@ resized-whole (suc n) (c ∷ cells) h = ap (λ x. c ∷ x) (resized-whole n cell
 pub renamed : (r : Registers) (f : FrameShape) → length r.cells ≡ f.base + f.sof → put (SetFrame Renamed f) r ≡ record r { frame = f }
 renamed r f h = rw (resized-whole (f.base + f.sof) r.cells h) refl
 
--- the low bits of a number's low bits
-low_low : (n j k : ℕ) → k ≤ j → n % 2 ^ j % 2 ^ k ≡ n % 2 ^ k
-low_low n j k h =
-    let e : j ≡ (j - k) + k = omega arith in
-    ap (λ i. n % 2 ^ i % 2 ^ k) e ∙ mod-mod-pow n (j - k) k
-
-low_field : (n j low width : ℕ) → low + width ≤ j → n % 2 ^ j / 2 ^ low % 2 ^ width ≡ n / 2 ^ low % 2 ^ width
-low_field n j low width h =
-    let e : j ≡ (j - low) + low = omega arith in
-    ap (λ i. n % 2 ^ i / 2 ^ low % 2 ^ width) e ∙ ap (λ q. q % 2 ^ width) (field_of n (j - low) low) ∙ low_low (n / 2 ^ low) (j - low) width (omega arith)
+-- a field in a number's low bits
+low_field : (n above width low : ℕ) → n % 2 ^ (above + width + low) / 2 ^ low % 2 ^ width ≡ n / 2 ^ low % 2 ^ width
+low_field n above width low = ap (λ q. q % 2 ^ width) (field_of n (above + width) low) ∙ mod-mod-pow (n / 2 ^ low) above width
 
 -- a frame's marker is in the low bits
 marked_low : (base pfs : ℕ) → marked_frame base (pfs % 2 ^ 38) ≡ marked_frame base pfs
 unfolding marked_frame
 marked_low base pfs =
-    rw (low_low pfs 38 7 (omega arith), low_field pfs 38 7 7 (omega arith), low_field pfs 38 14 4 (omega arith), low_field pfs 38 18 7 (omega arith), low_field pfs 38 25 7 (omega arith), low_field pfs 38 32 6 (omega arith)) refl
+    rw (mod-mod-pow pfs 31 7, low_field pfs 24 7 7, low_field pfs 20 4 14, low_field pfs 13 7 18, low_field pfs 6 7 25, low_field pfs 0 6 32) refl
 
 pub return_fault_low : ReturnFaultIsThat → (limit base pfs : ℕ) → limit ≡ STACK_LIMIT → option_map kind_of (return_fault_within limit base (marked_frame base (pfs % 2 ^ 38))) ≡ return_fault base (marked_frame base pfs)
 return_fault_low same limit base pfs e = rw (e, marked_low base pfs) (same base (marked_frame base pfs))

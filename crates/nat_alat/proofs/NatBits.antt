@@ -1,16 +1,14 @@
 -- A word with one bit changed.
-use Rattle.std.proofs.Common.{◌≡◌, ℕ, suc, ◌+◌, ◌-◌, ◌*◌, ◌/◌, ◌%◌, ◌^◌, ◌<◌, ◌≤◌, Bool, true, false, sym, ap, ◌∙◌, arith, subst, pow-add}
+use Rattle.std.proofs.Common.{◌≡◌, ℕ, ◌+◌, ◌-◌, ◌*◌, ◌/◌, ◌%◌, ◌^◌, ◌<◌, ◌≤◌, Bool, true, false, sym, ap, ◌∙◌, arith, subst, pow-add}
 use mathlib.Core.Bool.{beq}
 use Rattle.std.specs.Prelude.{◌==◌}
 use Rattle.std.proofs.lemmas.Bool.Decides.{nat_tests}
+use Rattle.std.proofs.lemmas.Grind.{pow_more}
 use Rattle.std.proofs.lemmas.Nat.{pow_pos, shr_split, shr-shr, shr_below, mod_below}
-use Rattle.std.proofs.Math.Nat.{add-mul, mul_comm, mul_assoc, mul-le-mul_right, mod-eq_of_lt, pow-succ'}
+use Rattle.std.proofs.Math.Nat.{add-mul, mul_comm, mul_assoc, mul-le-mul_right, mod-eq_of_lt}
 use Rattle.std.proofs.Math.Pow.{pow-lt}
 use Rattle.ia_meaning.specs.Arithmetic.{bit}
 use Rattle.ia_meaning.specs.Steps.{with_bit}
-
-next_power : (k : ℕ) → 2 ^ (k + 1) ≡ 2 * 2 ^ k
-next_power k = ap (λ j. 2 ^ j) (let e : k + 1 ≡ suc k = omega arith in e) ∙ pow-succ' 2 k
 
 -- a word by the bits below one, this one and those above it
 parts : (n k : ℕ) → n ≡ n % 2 ^ k + n / 2 ^ k % 2 * 2 ^ k + 2 ^ (k + 1) * (n / 2 ^ (k + 1))
@@ -21,7 +19,7 @@ parts n k =
     ap (λ q. q * 2 ^ k) halves ∙ add-mul (n / 2 ^ k / 2 * 2) (n / 2 ^ k % 2) (2 ^ k) in
     let above : n / 2 ^ k / 2 * 2 * 2 ^ k ≡ 2 ^ (k + 1) * (n / 2 ^ (k + 1)) =
     mul_assoc (n / 2 ^ k / 2) 2 (2 ^ k)
-    ∙ ap (λ w. n / 2 ^ k / 2 * w) (sym (next_power k))
+    ∙ ap (λ w. n / 2 ^ k / 2 * w) (mul_comm 2 (2 ^ k) ∙ sym (pow_more 2 k))
     ∙ ap (λ h. h * 2 ^ (k + 1)) half
     ∙ mul_comm (n / 2 ^ (k + 1)) (2 ^ (k + 1)) in
     let whole = shr_split n k in
@@ -103,6 +101,6 @@ sum_fits n k word h e =
     let spread : (n / 2 ^ (k + 1) + 1) * 2 ^ (k + 1) ≡ n / 2 ^ (k + 1) * 2 ^ (k + 1) + 1 * 2 ^ (k + 1) = add-mul (n / 2 ^ (k + 1)) 1 (2 ^ (k + 1)) in
     let whole_word : 2 ^ j * 2 ^ (k + 1) ≡ 2 ^ 64 = sym (pow-add 2 j (k + 1)) ∙ ap (λ i. 2 ^ i) all in
     let swap : n / 2 ^ (k + 1) * 2 ^ (k + 1) ≡ 2 ^ (k + 1) * (n / 2 ^ (k + 1)) = mul_comm (n / 2 ^ (k + 1)) (2 ^ (k + 1)) in
-    let double = next_power k in
+    let double = pow_more 2 k in
     let low : n % 2 ^ k < 2 ^ k = mod_below n (2 ^ k) (pow_pos k) in
     omega arith

@@ -1,9 +1,9 @@
 -- A table of one row, many times.
-use Rattle.std.proofs.Common.{◌≡◌, ℕ, zero, suc, ◌<◌, Bool, true, [], ◌∷◌, length, get_or, eqb, eqb-true, ◌&&◌, refl, sym, ◌∙◌, ap, arith}
+use Rattle.std.proofs.Common.{◌≡◌, ℕ, zero, suc, ◌<◌, Bool, true, [], ◌∷◌, length, get_or, eqb, eqb-true, ◌&&◌, refl, ◌∙◌, ap, arith}
 use Rattle.std.proofs.lemmas.Bool.{and_parts}
-use Rattle.predicate_rel.specs.Pairs.{Table, pairs_of, no_pairs, all_pairs, has_bit}
-use Rattle.predicate_rel.proofs.PairLemmas.{shows, in_range_from}
-use Rattle.predicate_rel.proofs.BitLemmas.{has_bit_all, has_bit_none}
+use Rattle.predicate_rel.specs.Pairs.{Table, pairs_of, no_pairs, has_bit}
+use Rattle.predicate_rel.proofs.PairLemmas.{shows}
+use Rattle.predicate_rel.proofs.BitLemmas.{has_bit_none}
 
 abbrev pub rows_are : ℕ → Table → Bool
 rows_are n [] = true
@@ -17,7 +17,3 @@ row_at n (r ∷ rs) h (suc x) l = row_at n rs (and_parts (eqb r n) (rows_are n r
 pub shows_none : (rows : Table) → rows_are 0 rows ≡ true → length rows ≡ 64 → pairs_of rows ≡ no_pairs
 unfolding no_pairs
 shows_none rows h e = shows rows _ (λ x y a b. ap (λ (r : ℕ). has_bit r y) (row_at 0 rows h x (omega arith)) ∙ has_bit_none y) (λ x y n. refl)
-
-pub shows_each : (rows : Table) → rows_are 18446744073709551615 rows ≡ true → length rows ≡ 64 → pairs_of rows ≡ all_pairs
-unfolding all_pairs
-shows_each rows h e = shows rows _ (λ x y a b. ap (λ (r : ℕ). has_bit r y) (row_at 18446744073709551615 rows h x (omega arith)) ∙ has_bit_all y b ∙ sym (in_range_from x y a b)) (λ x y n. n)

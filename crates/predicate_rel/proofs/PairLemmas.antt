@@ -3,7 +3,7 @@ use Rattle.std.proofs.Common.{◌≡◌, ℕ, ◌<◌, Bool, true, false, ◌&&�
 use mathlib.Core.Path.{fun_ext}
 use Rattle.std.proofs.lemmas.Bool.{cases_Bool, ltb-true, lt-ltb, and_parts, and_from, and_left}
 use Rattle.std.proofs.lemmas.Bool.Decides.{nat_tests}
-use Rattle.predicate_rel.specs.Pairs.{Pairs, Table, in_range, common, other_of, is_same_pair, with_pair, pairs_of, truth, IsWithin, HasMore}
+use Rattle.predicate_rel.specs.Pairs.{Pairs, Table, in_range, other_of, is_same_pair, with_pair, pairs_of, truth}
 use Rattle.predicate_rel.specs.Rules.{PairRule, one, is_met, pairs_by}
 
 pub in_range_from : (x y : ℕ) → x < 64 → y < 64 → in_range x y ≡ true
@@ -32,14 +32,6 @@ pub pairs_of_in : (rows : Table) (x y : ℕ) → x < 64 → y < 64 → pairs_of 
 unfolding pairs_of
 pairs_of_in rows x y a b = rw (in_range_from x y a b)
 
-pub common_out : (f g : Pairs) → ((x y : ℕ) → in_range x y ≡ false → f x y ≡ false) → (x y : ℕ) → in_range x y ≡ false → common f g x y ≡ false
-unfolding common
-common_out f g out x y n = and_left (f x y) (g x y) (out x y n)
-
-pub common_in : (a b : Table) (x y : ℕ) → x < 64 → y < 64 → (truth a x y && truth b x y) ≡ common (pairs_of a) (pairs_of b) x y
-unfolding common
-common_in a b x y p q = rw (pairs_of_in a x y p q, pairs_of_in b x y p q)
-
 -- where each pair stays, the set does
 pub pairs_kept : (rows : Table) (rules : ℕ → ℕ → PairRule) → ((x y : ℕ) → rules x y ≡ one x y) → pairs_of rows ≡ pairs_by (pairs_of rows) rules
 pairs_kept rows rules stay = shows rows (pairs_by (pairs_of rows) rules)
@@ -59,20 +51,3 @@ with_pair_out rows a b p q x y n = rw (pairs_of_out rows x y n) (same_pair_out a
 pub pair_bits : (a b x y : ℕ) (f : Bool) → (((f || (eqb x a && eqb y (other_of a b))) || (eqb x (other_of a b) && eqb y a)) || (is_same_pair a (other_of a b) x 0 && eqb y x)) ≡ (f || is_same_pair a (other_of a b) x (other_of x y))
 pair_bits a b x y true = refl
 pair_bits a b x y false = grind (arith, nat_tests)
-
-pub within_tables : (a b : Table) → ((x y : ℕ) → x < 64 → y < 64 → truth a x y ≡ true → truth b x y ≡ true) → IsWithin (pairs_of a) (pairs_of b)
-unfolding pairs_of
-within_tables a b each = record {
-  each = λ x y h. let both = and_parts (in_range x y) (truth a x y) h in let p = in_range_parts x y both.0 in
-      and_from (in_range x y) (truth b x y) both.0 (each x y p.0 p.1 both.1);
-}
-
-pub more_in_tables : (a b : Table) (x y : ℕ) → x < 64 → y < 64 → truth a x y ≡ true → truth b x y ≡ false → HasMore (pairs_of a) (pairs_of b)
-more_in_tables a b x y p q t n = record {
-  first = x;
-  second = y;
-  first_below = p;
-  second_below = q;
-  there = pairs_of_in a x y p q ∙ t;
-  missing = pairs_of_in b x y p q ∙ n;
-}

@@ -15,7 +15,7 @@ use Rattle.predicate_rel.specs.declared.edge.Edge.{Edge}
 use Rattle.predicate_rel.specs.declared.edge.Edge.TheVariants.{Falls, Taken}
 use Rattle.predicate_rel.specs.declared.rows.Kept.{Kept}
 use Rattle.predicate_rel.specs.declared.rows.Kept.TheVariants.{Own, Guard, Both}
-use Rattle.predicate_rel.specs.Pairs.{Pairs, in_range, no_pairs, all_pairs, common, other_of, is_same_pair, with_pair, IsUnordered}
+use Rattle.predicate_rel.specs.Pairs.{Pairs, in_range, no_pairs, common, other_of, is_same_pair, with_pair, IsUnordered}
 use Rattle.predicate_rel.specs.Rules.{PairRule, always, never, one, two, is_met, kept_rule, by_written, partner, written_rule, is_target, normal_targets, or_andcm_kept, test_rule, raised_rule, is_moved, falls_rule, static_rule, name_before, rotated_rule, loop_rule, action_rule, rule_of, pairs_after}
 
 -- Rules that are met for a pair in one order where they are in the other, and for (x, x) where they are for (x, p0).
@@ -180,14 +180,10 @@ after_unordered f i e un = let k = action_keeps (action_of i.op) e i.qp f un in 
   alone = λ x. ap (λ (b : Bool). (nat_lt x 64 && nat_lt x 64) && b) (k.alone x) ∙ ap (λ (b : Bool). b && is_met (rule_of i e x 0) f) (twice (nat_lt x 64));
 }
 
--- the sets without a pair and with all pairs, a meet, and a set with one pair more
+-- the set without a pair, a meet, and a set with one pair more
 pub none_unordered : IsUnordered no_pairs
 unfolding no_pairs
 none_unordered = record { swaps = λ x y. refl; alone = λ x. refl }
-
-pub all_unordered : IsUnordered all_pairs
-unfolding all_pairs in_range
-all_unordered = record { swaps = λ x y. and_comm (nat_lt x 64) (nat_lt y 64); alone = λ x. twice (nat_lt x 64) }
 
 pub common_unordered : (f g : Pairs) → IsUnordered f → IsUnordered g → IsUnordered (common f g)
 unfolding common

@@ -18,10 +18,6 @@ in_range x y = nat_lt x 64 && nat_lt y 64
 unfoldable pub no_pairs : Pairs
 no_pairs = λ x y. false
 
--- each pair of predicates
-unfoldable pub all_pairs : Pairs
-all_pairs = λ x y. in_range x y
-
 -- the pairs that both have
 unfoldable pub common : Pairs → Pairs → Pairs
 common f g = λ x y. f x y && g x y

@@ -2,7 +2,7 @@
 
 ghost use Rattle.std.specs.Prelude.{◌≡◌, ◌≢◌, ℕ, ◌<◌, ◌&&◌, ◌||◌, ◌==◌, not, true};
 ghost use Rattle.std.specs.Bool.{OnTrue, OnFalse};
-ghost use Rattle.predicate_rel.specs.Pairs.{Table, has_bit, pairs_of, no_pairs, all_pairs, common, other_of, is_same_pair, with_pair, IsWithin, HasMore};
+ghost use Rattle.predicate_rel.specs.Pairs.{Table, has_bit, pairs_of, no_pairs, other_of, is_same_pair, with_pair, HasMore};
 ghost use Rattle.predicate_rel.specs.Changes.{AgreeOutside};
 ghost use Rattle.predicate_rel.specs.Rules.{action_rule, pairs_by, pairs_after};
 
@@ -53,31 +53,11 @@ impl Facts {
         Facts { rows: [0; 64] }
     }
 
-    /// The set of all pairs of the 64 predicates.
-    pub fn all() -> Self
-        ensures { pairs_of result ≡ all_pairs }
-    {
-        Facts {
-            rows: [u64::MAX; 64],
-        }
-    }
-
     /// Whether the pair is in the set.
     pub fn has(&self, x: Pr, y: Pr) -> bool
         ensures { result ≡ pairs_of self.now x y }
     {
         self.at(x.number(), y.number())
-    }
-
-    /// The pairs that are in both sets.
-    pub fn meet(&self, other: &Facts) -> Facts
-        ensures { pairs_of result ≡ common (pairs_of self.now) (pairs_of other.now) }
-    {
-        let mut rows = [0; 64];
-        for x in 0..64 {
-            rows[x] = both(self.rows[x], other.rows[x]);
-        }
-        Facts { rows }
     }
 
     /// The same set and this pair, in both orders; (x, x) is also (x, p0).
@@ -123,19 +103,6 @@ impl Facts {
         ensures { result ≡ true → pairs_of self.now ≡ pairs_of other.now }
     {
         self.rows == other.rows
-    }
-
-    /// Whether each pair of the set is in the other; where it isn't, one that is missing there.
-    pub fn is_subset(&self, other: &Facts) -> bool
-        ensures within { OnTrue result (IsWithin (pairs_of self.now) (pairs_of other.now)) }
-        ensures more { OnFalse result (HasMore (pairs_of self.now) (pairs_of other.now)) }
-    {
-        for x in 0..64 {
-            if !is_within(self.rows[x], other.rows[x]) {
-                return false;
-            }
-        }
-        true
     }
 
     /// Whether the pair of the x-th and the y-th predicate is in the set, each below 64.

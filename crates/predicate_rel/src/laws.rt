@@ -3,18 +3,17 @@
 ghost use Rattle.std.specs.Prelude.{ℕ};
 ghost use Rattle.ia_insn.specs.declared.insn.Insn.{Insn};
 ghost use Rattle.predicate_rel.specs.declared.edge.Edge.{Edge};
-ghost use Rattle.predicate_rel.specs.Pairs.{Pairs, no_pairs, all_pairs, common, with_pair, IsUnordered};
+ghost use Rattle.predicate_rel.specs.Pairs.{Pairs, no_pairs, common, with_pair, IsUnordered};
 ghost use Rattle.predicate_rel.specs.Rules.{pairs_after};
 ghost use Rattle.predicate_rel.specs.Steps.{GoesAlong, KeepsFacts};
 
 use state_laws::steps_keep_states;
 
-/// The order of a pair says nothing, and (x, x) stands for (x, p0): so it is of the empty set and of that of
-/// all pairs, and so it stays in a meet, with one pair more, and after an instruction.
-#[tactic(auto, using(crate::proofs::Unordered::none_unordered, crate::proofs::Unordered::all_unordered, crate::proofs::Unordered::common_unordered, crate::proofs::Unordered::plus_unordered, crate::proofs::Unordered::after_unordered))]
+/// The order of a pair says nothing, and (x, x) stands for (x, p0): so it is of the empty set, and so it stays in
+/// a meet, with one pair more, and after an instruction.
+#[tactic(auto, using(crate::proofs::Unordered::none_unordered, crate::proofs::Unordered::common_unordered, crate::proofs::Unordered::plus_unordered, crate::proofs::Unordered::after_unordered))]
 pub fn law_unordered()
     ensures empty { IsUnordered no_pairs }
-    ensures all { IsUnordered all_pairs }
     ensures meet { (f g : Pairs) → IsUnordered f → IsUnordered g → IsUnordered (common f g) }
     ensures plus { (f : Pairs) (x y : ℕ) → IsUnordered f → IsUnordered (with_pair f x y) }
     ensures after { (f : Pairs) (insn : Insn) (edge : Edge) → IsUnordered f → IsUnordered (pairs_after f insn edge) }

@@ -1,5 +1,5 @@
 -- Ring and region go on holding a register stack.
-use Rattle.std.proofs.Common.{◌≡◌, ℕ, ◌+◌, ◌%◌, ◌<◌, ◌≤◌, List, [], length, set, refl, inr, sym, ap, ◌∙◌, arith}
+use Rattle.std.proofs.Common.{◌≡◌, ℕ, ◌+◌, ◌%◌, ◌<◌, ◌≤◌, List, [], length, set, refl, sym, ap, ◌∙◌, arith}
 use Rattle.std.proofs.lemmas.List.{length-set, length-replicate}
 use Rattle.std.proofs.lemmas.List.Elements.{All-nil, All-set}
 use Rattle.ia_meaning.specs.declared.state.Cell.{Cell}
@@ -9,6 +9,7 @@ use Rattle.ia_meaning.specs.declared.limits.TheConstants.{STACK_LIMIT}
 use Rattle.ia_meaning.specs.State.{zero_frame, IsWord, IsFrame}
 use Rattle.ia_meaning.specs.Writes.{resized}
 use Rattle.ia_meaning.proofs.Resizing.{length-resized, words-resized}
+use Rattle.ia_meaning.proofs.Starts.{zero_registers_are}
 use Rattle.ia_meaning.specs.ResidentRange.{zero_range, range_after}
 use Rattle.reg_stack.specs.Layout.{cells_of, region_words, IsFreeFrom}
 use Rattle.reg_stack.specs.Stacks.{IsHeld}
@@ -67,9 +68,6 @@ held_entered {ring} {new_ring} {region} {seen} {new_region} {shape} {new} {rse} 
     }
 
 -- at the start
-pub zero_is_frame : IsFrame zero_frame
-zero_is_frame = record { size = omega arith; locals = omega arith; rotating = omega arith; general = inr refl; floating = omega arith; predicates = omega arith }
-
 pub no_cells : (ring : List Cell) (region : List ℕ) → cells_of ring region 0 0 ≡ []
 unfolding cells_of
 no_cells ring region = refl
@@ -79,7 +77,7 @@ held_zeros ring region limit is least most =
     let none = no_cells ring region in
     record {
       stack = record {
-        frame = zero_is_frame;
+        frame = zero_registers_are.frame;
         count = rw none refl;
         within = omega arith;
         least = least;

@@ -106,10 +106,6 @@ none_met s t r p b u f l e c q = sym (has_both s t q) ∙ of q
     of Ec = e
     of Cfm = c
 
--- a set to which nothing is added
-pub none_added : (x y : Bool) → x ≡ (x || (false && y))
-none_added x y = sym (or_false x)
-
 -- one more resource of a sort
 pub number_more : (h : Resource → Bool) (sort : ℕ → Resource) (old : List Resource) (limit n : ℕ) → n < limit
     → old ++ filter h (numbered sort (limit - n) n) ≡ (old ++ filter h (sort n ∷ [])) ++ filter h (numbered sort (limit - (n + 1)) (n + 1))

@@ -2,7 +2,6 @@
 use Rattle.std.proofs.Common.{arith, ◌≡◌, ℕ, zero, suc, ◌<◌, ◌≤◌, inr, refl, sym, subst, Bool, true, false, ◌&&◌, ◌||◌, eqb, is_none, ◌/◌, List, [], ◌∷◌, Option, Some, None, slice_get, lit<, if◌then◌else◌, IsSome}
 use Rattle.std.specs.Prelude.{◌≢◌}
 use Rattle.std.proofs.lemmas.Bool.{eqb-true, eq-eqb, ltb-true}
-use Rattle.std.proofs.lemmas.Bool.Decides.{nat_tests}
 use Rattle.std.proofs.lemmas.Option.{same_Some}
 use Rattle.ia_insn.specs.declared.insn.Insn.{Insn}
 use Rattle.ia_insn.specs.declared.choices.Unit.{Unit as ExecutionUnit}
@@ -18,7 +17,6 @@ use Rattle.formats_b.specs.ListedF.{rows as rows_f}
 use Rattle.formats_b.proofs.WordsF.{of_row_f}
 use Rattle.formats_b.specs.ListedX.{rows as rows_x}
 use Rattle.formats_b.proofs.WordsX.{of_row_x}
-use Rattle.ia_program.specs.declared.bundle.Slots.{Slots}
 use Rattle.ia_program.specs.Templates.{IsTemplate, Shape, shape_of, units_of}
 use Rattle.ia_program.specs.Fits.{Fits}
 use Rattle.ia_program.specs.Bundles.{IsBundle, FitUnits, slot_insn, last_slot}
@@ -81,10 +79,6 @@ put_at (u ∷ v ∷ w ∷ []) ks is (suc (suc zero)) shape less = record { unit 
 put_at (u ∷ v ∷ w ∷ []) ks is (suc (suc (suc slot))) shape less = absurd (omega arith)
 put_at (u ∷ units.L ∷ w ∷ x ∷ us) ks is slot shape less = absurd (cc)
 put_at (u ∷ v ∷ w ∷ x ∷ us) ks is slot shape less = absurd (cc)
-
--- a slot with an instruction is up to the last place
-pub within_last : (slots : Slots) (slot : ℕ) → IsSome (slot_insn slots slot) → slot ≤ last_slot slots
-within_last slots slot h = grind (arith, nat_tests)
 
 -- rising slots
 pub rising_pair : (k l : ℕ) (ks : List ℕ) → are_rising (k ∷ l ∷ ks) ≡ true → (k < l) × (are_rising (l ∷ ks) ≡ true)

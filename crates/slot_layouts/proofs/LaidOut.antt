@@ -7,6 +7,7 @@ use Rattle.std.proofs.lemmas.Option.{same_Some}
 use Rattle.ia_insn.specs.declared.insn.Insn.{Insn}
 use Rattle.ia_program.specs.Templates.{units_of}
 use Rattle.ia_program.specs.Bundles.{slot_insn, last_slot}
+use Rattle.ia_program.proofs.InOrder.{slot_within}
 use Rattle.ia_program.proofs.Tests.{left, right, below}
 use Rattle.slot_layouts.specs.declared.classes.SlotClass.TheVariants.{A, M, B}
 use Rattle.slot_layouts.specs.declared.layout.Wanted.{Wanted}
@@ -15,7 +16,7 @@ use Rattle.slot_layouts.specs.Filled.{nop_of, filled}
 use Rattle.slot_layouts.specs.Laws.{HoldsInOrder, has_stop, HasNoStop, HasOneStop, HasStopWhere, HasStopsAsWanted}
 use Rattle.slot_layouts.proofs.Tables.{some_below, entailed}
 use Rattle.slot_layouts.proofs.Facts.{is_m, is_m_or_a, is_b, blank, last_place, is_no_stop, no_stop_in, is_only_stop, one_stop_in, stop_in_where, stop_right_before, is_as, each_pair, at_last, at_first, each_slot, pair_holds, last_holds, first_holds, AreFacts, facts_at}
-use Rattle.slot_layouts.proofs.Fillings.{has_stop-filled, last_slot-filled, IsPut, put_at, within_last, rising_pair, rest_rises, content-listed, content-other}
+use Rattle.slot_layouts.proofs.Fillings.{has_stop-filled, last_slot-filled, IsPut, put_at, rising_pair, rest_rises, content-listed, content-other}
 
 -- A test holds of the neighbours at n and n + 1.
 pub record IsPairAt (p : Wanted → Wanted → ℕ → ℕ → Bool) (ws : List Wanted) (ks : List ℕ) (n : ℕ) (x : Wanted) (l : ℕ) : Type 0 where
@@ -112,7 +113,7 @@ holds_in_order ws end code ks is laid = record {
     nop_at : (slot : ℕ) (i : Insn) → slot_insn (filled code ks is).slots slot ≡ Some i → ((n : ℕ) → slice_get ks n ≢ Some slot)
         → option_map nop_of (slice_get (units_of code) slot) ≡ Some i
     nop_at slot i at none =
-        let inside : slot ≤ last_slot (filled code ks is).slots = within_last (filled code ks is).slots slot (subst IsSome (sym at) refl) in
+        let inside : slot ≤ last_slot (filled code ks is).slots = slot_within (filled code ks is).slots slot (subst IsSome (sym at) refl) in
         let last : last_slot (filled code ks is).slots ≡ last_place code = last_slot-filled code ks is in
         let put : IsPut (units_of code) ks is slot = put_at (units_of code) ks is slot known.shape (subst (λ m. slot ≤ m) last inside) in
         ap (option_map nop_of) put.at ∙ ap (λ (i : Insn). Some i) (sym (content-other put.unit slot ks is none)) ∙ sym put.here ∙ at

@@ -22,9 +22,6 @@ use Rattle.stop_placer.specs.declared.packed.Why.TheVariants as why
 use Rattle.stop_placer.specs.declared.packed.StopWhy.{StopWhy}
 use Rattle.stop_placer.specs.Placing.{without_stop, IsReason, IsExplained, NamesStops}
 
-total : IsTotalOrder compare
-total = laws.total-law
-
 -- there is one first violation
 pub one_first : (g : Graph) (has_stop : Place → Bool) (v w : Violation) → IsFirst g has_stop v → IsFirst g has_stop w → v ≡ w
 one_first g has_stop v w a b = of (a.first w b.violates) (b.first v a.violates)
@@ -32,7 +29,7 @@ one_first g has_stop v w a b = of (a.first w b.violates) (b.first v a.violates)
     of : (v ≡ w) ⊎ Precedes v w → (w ≡ v) ⊎ Precedes w v → v ≡ w
     of (inl e) _ = e
     of (inr h) (inl e) = sym e
-    of (inr h) (inr k) = absurd (not_preceding_itself v (total.trans v w v h k))
+    of (inr h) (inr k) = let total : IsTotalOrder compare = laws.total-law in absurd (not_preceding_itself v (total.trans v w v h k))
 
 written_is : (p : Program) (after : Place) (w : Why) → IsReason p after cause.Written w → w ≡ why.Written
 written_is p after why.Written r = refl

@@ -1,5 +1,5 @@
-use Rattle.std.proofs.Common.{◌≡◌, ◌∙◌, ap, ℕ, List, ◌++◌, codes, length, Result, Ok, Err, append_assoc, arith}
-use Rattle.std.specs.Prelude.{OnOk}
+use Rattle.std.proofs.Common.{◌≡◌, ◌∙◌, ap, ℕ, List, ◌++◌, codes, length, append_assoc, arith}
+use Rattle.std.proofs.lemmas.Result.{on_ok_weaker}
 use Rattle.asm_forms.specs.declared.form.Form.{Form}
 use Rattle.asm_forms.specs.declared.completer.Completer.{Completer}
 use Rattle.asm_forms.specs.declared.items.FormItem.{FormItem}
@@ -18,10 +18,6 @@ appended : (old a b c d one two three new : List ℕ) → one ≡ old ++ a → t
 appended old a b c d one two three new f g h i =
     further old (a ++ b ++ c) d three new (further old (a ++ b) c two three (further old a b one two f g) h) i
 
-where_ok : {E A B : Type 0} (r : Result (Unit {0}) E) → (A → B) → OnOk r A → OnOk r B
-where_ok (Ok u) f h = f h
-where_ok (Err e) f h = tt
-
 of_mnemonic : (old new : List ℕ) (f g : Form) (cs ds : List Completer) → f ≡ g → cs ≡ ds → new ≡ old ++ mnemonic_text f cs → new ≡ old ++ mnemonic_text g ds
 of_mnemonic old new f g cs ds d e h = h ∙ ap (λ k. old ++ mnemonic_text k cs) d ∙ ap (λ k. old ++ mnemonic_text g k) e
 
@@ -36,7 +32,7 @@ returns-clause-ok c =
     let form = c.args.syntax.now.form in
     let completers = c.args.syntax.now.completers in
     let operands = c.args.syntax.now.operands in
-    where_ok c.push_stop.result
+    on_ok_weaker c.push_stop.result
     (appended c.args.out.now.items (codes "  " ++ predicate_text c.args.qp) (mnemonic_text form completers) (spaced (operands_text c.args.target (row_of form).items operands)) (stop_text c.args.stop)
     c.push_start.new.out.items c.push_mnemonic.new.out.items c.push_operands.new.out.items c.push_stop.new.out.items
     c.in_ok-push_start.ensures.ok
