@@ -3,8 +3,8 @@ pub mod PairLemmas
 pub mod Literals
 pub mod Reached
 pub mod Narrowing
+pub mod Changing
 pub mod OrAndcm
-pub mod Untouched
 mod Examples
 pub mod EdgeEnds
 pub mod RuleLaws

@@ -1,14 +1,14 @@
 //! Sets of pairs of predicates that are known not to be both 1.
 
-ghost use Rattle.std.specs.Prelude.{◌≡◌, ◌≢◌, ℕ, ◌<◌, ◌&&◌, ◌||◌, ◌==◌, not, true};
+ghost use Rattle.std.specs.Prelude.{◌≡◌, ◌≢◌, ℕ, ◌<◌, ◌&&◌, ◌||◌, ◌==◌, if◌then◌else◌, not, true};
 ghost use Rattle.std.specs.Bool.{OnTrue, OnFalse};
 ghost use Rattle.predicate_rel.specs.Pairs.{Table, has_bit, pairs_of, no_pairs, other_of, is_same_pair, with_pair, HasMore};
 ghost use Rattle.predicate_rel.specs.Changes.{AgreeOutside};
 ghost use Rattle.predicate_rel.specs.Rules.{action_rule, pairs_by, pairs_after};
 
-use crate::bits::{both, either, has_bit, is_within, lowest, with_bit, with_bit_where, without};
+use crate::bits::{both, has_bit, is_within, lowest, with_bit, with_bit_where, without};
 use crate::edge::Edge;
-use crate::rows::{keeps_pairs, written_by};
+use crate::rows::keeps_pairs;
 use ia_insn::{Insn, Pr};
 use ia_meaning::{Action, action_of};
 use std::marker::Model;
@@ -86,16 +86,42 @@ impl Facts {
     pub fn after_action(&self, action: &Action, qp: Pr, edge: Edge) -> Facts
         ensures { pairs_of result ≡ pairs_by (pairs_of self.now) (action_rule action.now edge qp) }
     {
-        if keeps_pairs(action, edge) {
-            return *self;
+        let mut after = *self;
+        after.go_past(action, qp, edge);
+        after
+    }
+
+    /// Takes the set past an instruction of this action under this qualifying predicate, as [`Facts::after_action`] has it.
+    #[inline(always)]
+    pub fn go_past(&mut self, action: &Action, qp: Pr, edge: Edge)
+        ensures { pairs_of self.new ≡ pairs_by (pairs_of self.old) (action_rule action.now edge qp) }
+    {
+        if !keeps_pairs(action, edge) {
+            self.change(action, qp, edge);
         }
-        let written = written_by(action, edge);
-        let asked = either(written, self.row(qp.number()));
-        let mut rows = [0; 64];
-        for x in 0..64u8 {
-            rows[x as usize] = self.row_past(written, asked, action, edge, qp, x);
+    }
+
+    /// The same, row by row. It stands apart, so that no room is set aside for another set where what is known stays.
+    #[inline(never)]
+    fn change(&mut self, action: &Action, qp: Pr, edge: Edge)
+        ensures { pairs_of self.new ≡ pairs_by (pairs_of self.old) (action_rule action.now edge qp) }
+    {
+        let before = *self;
+        let mut rest = before.may_change(action, qp, edge);
+        'changing: while rest != 0 {
+            let x = lowest(rest);
+            rest = without(rest, x);
+            self.set_row(x, before.action_row(action, edge, qp, x));
         }
-        Facts { rows }
+    }
+
+    /// Sets the pairs of the x-th predicate.
+    #[inline(always)]
+    fn set_row(&mut self, x: u8, row: u64)
+        requires { x < 64 }
+        ensures { (k y : ℕ) → k < 64 → y < 64 → pairs_of self.new k y ≡ (if k == x then has_bit row y else pairs_of self.old k y) }
+    {
+        self.rows[x as usize] = row;
     }
 
     /// Whether both are seen to be one set.

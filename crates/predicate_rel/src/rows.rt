@@ -7,7 +7,8 @@ ghost use Rattle.predicate_rel.specs.Rules.{PairRule, one, always, never, is_met
 ghost use Rattle.predicate_rel.specs.Rows.{HasBits, IsRow, LeavesOthers};
 
 use crate::bits::{
-    all_if, both, chosen, has_bit, is_apart, joined, kept_if, moved_up, with_bit, with_bit_where,
+    all_if, both, chosen, either, has_bit, is_apart, joined, kept_if, moved_up, with_bit,
+    with_bit_where,
 };
 use crate::edge::Edge;
 use crate::facts::Facts;
@@ -242,29 +243,20 @@ impl Facts {
         }
     }
 
-    /// The pairs of the x-th predicate, below 64, after an instruction of this action, which writes these predicates. They
-    /// stay where it isn't one of them, and neither one of them nor the qualifying predicate has a pair with it: `asked` are
-    /// those that are written or have one with the qualifying predicate.
+    /// The rows that may be others after an instruction of this action: bit x is that of the pairs of the x-th predicate. They
+    /// stay where it isn't written, and neither a predicate that is nor the qualifying predicate has a pair with it.
     #[inline(always)]
-    pub(crate) fn row_past(
-        &self,
-        written: u64,
-        asked: u64,
-        action: &Action,
-        edge: Edge,
-        g: Pr,
-        x: u8,
-    ) -> u64
-        requires range { x < 64 }
-        requires written { LeavesOthers action.now edge written }
-        requires asked { (y : ℕ) → y < 64 → has_bit asked y ≡ (has_bit written y || pairs_of self.now g y) }
-        ensures { IsRow result (action_rule action.now edge g x) (pairs_of self.now) }
+    pub(crate) fn may_change(&self, action: &Action, g: Pr, edge: Edge) -> u64
+        ensures { (x : ℕ) → x < 64 → has_bit result x ≡ false → (y : ℕ) → y < 64 → is_met (action_rule action.now edge g x y) (pairs_of self.now) ≡ pairs_of self.now x y }
     {
-        let row = self.row(x);
-        if is_apart(row, written) && !has_bit(asked, x) {
-            return row;
+        let written = written_by(action, edge);
+        let mut rows = either(written, self.row(g.number()));
+        for x in 0..64u8 {
+            if !is_apart(self.row(x), written) {
+                rows = with_bit(rows, x, true);
+            }
         }
-        self.action_row(action, edge, g, x)
+        rows
     }
 
     /// The pairs of the x-th predicate, below 64, after an instruction of this action.
