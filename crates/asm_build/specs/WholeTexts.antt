@@ -119,7 +119,7 @@ IsBundleSaid lines n (x ∷ y ∷ z ∷ []) name b =
     × IsInsnSaid lines n x first × IsInsnSaid lines n y second × IsInsnSaid lines n z third
 IsBundleSaid lines n slots name b = ⊥
 
--- so is each of bundles, the first of which is the n-th
+-- Each bundle, from the n-th on, is the one that its slots and its template's name say.
 abbrev pub AreBundlesSaid : List Line → ℕ → List (List SlotSaid × TemplateName) → List Bundle → Type 0
 AreBundlesSaid lines n [] [] = ⊤
 AreBundlesSaid lines n (said ∷ more) (b ∷ bs) = IsBundleSaid lines n said.0 said.1 b × AreBundlesSaid lines (n + 1) more bs

@@ -11,11 +11,11 @@ use Rattle.asm_forms.specs.declared.items.FormItem.{FormItem}
 use Rattle.asm_forms.specs.declared.rows.RowOf.{RowOf}
 use Rattle.asm_forms.specs.declared.rows.TheConstants.{ROWS_TO_B, ROWS_C_TO_I, ROWS_L_TO_N, ROWS_O_TO_R, ROWS_FROM_S}
 
--- a row with its lists,
+-- A row of the table of forms, with its parts as lists.
 abbrev pub FormRow : Type 0
 FormRow = RowOf (List ℕ) (List (CompleterSet × ℕ)) (List FormItem) (List (Said × ℕ))
 
--- as a function has it, and as it stands in the table
+-- A row as a function sees it, which has only borrowed the parts, and as it stands in the table.
 abbrev pub Seen : Type 0
 Seen = RowOf (Bor (List ℕ)) (Bor (List (CompleterSet × ℕ))) (Bor (List FormItem)) (Bor (List (Said × ℕ)))
 

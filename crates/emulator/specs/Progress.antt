@@ -32,7 +32,7 @@ progress_of r = record { state = state_of r; end = r.end; groups = r.groups; fir
 abbrev pub settled_step : Program → State → Option Place → Outcome → Step
 settled_step p s next o = let settled = settled next s.memory o.next o in step_by p s settled settled.next
 
--- a run that has come to a place by an outcome, with so many slots of the group before it
+-- A run that has come to a place by an outcome, with `slots` slots of the group before it.
 abbrev pub arrived : Progress → Outcome → Place → ℕ → Progress
 arrived m o place slots = record m {
   state = record { registers = registers_after o m.state.registers; memory = o.memory; place = place };

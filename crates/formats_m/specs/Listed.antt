@@ -8,10 +8,10 @@ use Rattle.formats_m.specs.declared.rows.TheConstants.{ROWS}
 unfoldable pub rows : List Row
 rows = ROWS
 
--- The word is that of the instruction, an M instruction,
+-- The word is that of an M instruction.
 abbrev pub CodeM : Insn → ℕ → Type 0
 CodeM = HasRow rows
 
--- and the instruction is an M instruction: it has a word.
+-- The instruction is an M instruction: it has a word.
 abbrev pub IsListedM : Insn → Type 0
 IsListedM = IsListedBy rows

@@ -40,12 +40,12 @@ after_run run e = record e {
 abbrev pub after_group : Group → Engine → Engine
 after_group g e = record e { state = g.state; end = g.end; groups = e.groups + 1; range = range_of e.range g.frames }
 
--- as it is after an end, and else what is further
+-- The engine as it is where it has come to an end, and else as it is further on.
 abbrev pub unless_ended : Option End → Engine → Engine → Engine
 unless_ended (Some end) e further = e
 unless_ended None e further = further
 
--- so many groups further, each in the order with this number, or up to an end
+-- The engine n groups further, or up to an end, each group in the order with this number.
 abbrev pub groups_further : ℕ → ℕ → Engine → Engine
 groups_further zero number e = e
 groups_further (suc n) number e =

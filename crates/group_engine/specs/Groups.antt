@@ -75,7 +75,7 @@ is_executed slot g = holds (seen_by g.base (if is_branch slot.action then branch
 abbrev pub done : Bool → Site → Action → Registers → Memory → ℕ → Outcome
 done executed s f r m unat = if executed then act s f r m unat else skip s f r m
 
--- the rest of a group, of at most so many slots, where the group begins there or not
+-- The rest of a group, of at most `most` slots. `begins` says whether the group begins there.
 unfoldable pub rest_of : ℕ → Program → Bool → Gathered → GatheredGroup
 rest_of most p begins g = gathered_within most p begins g
 

@@ -60,7 +60,7 @@ IsZeroRelation rels.Lt = Unit {0}
 IsZeroRelation rels.Le = Unit {0}
 IsZeroRelation rel = ⊥
 
--- the position and the length of a field of a register, of at most so many bits
+-- The position and the length of a field of a register, of at most `most` bits.
 pub record IsBitField (pos len most : ℕ) : Type 0 where
   pub position : pos ≤ 63
   pub some : 1 ≤ len
@@ -83,12 +83,12 @@ abbrev pub IsIncrement : ℤ → Type 0
 IsIncrement inc =
     (unsigned_abs inc ≡ 1) ⊎ ((unsigned_abs inc ≡ 4) ⊎ ((unsigned_abs inc ≡ 8) ⊎ (unsigned_abs inc ≡ 16)))
 
--- a fill is of 8 bytes
+-- The size of a load: 8 bytes for a fill, and else that of any access.
 abbrev pub IsLoadSize : LoadKind → ℕ → Type 0
 IsLoadSize loads.Fill size = size ≡ 8
 IsLoadSize kind size = IsAccessSize size
 
--- and so is a spill
+-- The size of a store: 8 bytes for a spill, and else that of any access.
 abbrev pub IsStoreSize : StoreKind → ℕ → Type 0
 IsStoreSize stores.Spill size = size ≡ 8
 IsStoreSize kind size = IsAccessSize size

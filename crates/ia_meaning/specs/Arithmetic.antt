@@ -63,7 +63,7 @@ shift Shl a count = shift_left a count
 abbrev pub shift_pair : ℕ → ℕ → ℕ → ℕ
 shift_pair count a b = word ((2 ^ 64 * a + b) / 2 ^ count)
 
--- A number of so many bits, 1 to 64, sign-extended to a word.
+-- A number of `width` bits, 1 to 64, sign-extended to a word.
 abbrev pub extended : ℕ → ℕ → ℕ
 extended width n = if nat_lt n (2 ^ (width - 1)) then n else n + 2 ^ 64 - 2 ^ width
 
@@ -71,7 +71,7 @@ extended width n = if nat_lt n (2 ^ (width - 1)) then n else n + 2 ^ 64 - 2 ^ wi
 abbrev pub cut : ℕ → ℕ → ℕ
 cut pos len = min len (64 - pos)
 
--- so many bits from a position on
+-- The `len` bits of a number from bit `pos` on.
 abbrev pub field : ℕ → ℕ → ℕ → ℕ
 field a pos len = (a / 2 ^ pos) % 2 ^ len
 
@@ -85,11 +85,11 @@ abbrev pub deposit : ℕ → ℕ → ℕ → ℕ → ℕ
 deposit pos len x a =
     a % 2 ^ pos + 2 ^ pos * (x % 2 ^ cut pos len) + 2 ^ (pos + cut pos len) * (a / 2 ^ (pos + cut pos len))
 
--- `sxt` and `zxt` from so many bytes
+-- What `sxt` and `zxt` give for the low `size` bytes.
 abbrev pub extend : Bool → ℕ → ℕ → ℕ
 extend signed size a = if signed then extended (8 * size) (a % 2 ^ (8 * size)) else a % 2 ^ (8 * size)
 
--- the relation of two numbers of so many bits
+-- Whether the relation holds of two numbers of `width` bits.
 abbrev pub related : ℕ → Rel → ℕ → ℕ → Bool
 related width Eq a b = a == b
 related width Ne a b = not (a == b)

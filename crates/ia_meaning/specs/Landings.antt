@@ -13,7 +13,7 @@ use Rattle.ia_program.specs.Bundles.{Bundle}
 use Rattle.ia_program.specs.Programs.{Program, IsEntry, relation_at, relations_at}
 use Rattle.ia_program.specs.Addresses.{bundle_address}
 
--- The bundle that is so many from this one. A program's targets are its bundles, so the sum isn't negative; of a negative
+-- The bundle that is `disp` bundles from this one. A program's targets are its bundles, so the sum isn't negative; of a negative
 -- one it is the distance.
 abbrev pub target_of : ℕ → ℤ → ℕ
 target_of bundle disp = nat_abs (pos bundle +ℤ disp)

@@ -23,13 +23,13 @@ use Rattle.ia_meaning.specs.Names.{set_spot}
 use Rattle.ia_meaning.specs.Arithmetic.{word, immediate, bit}
 use Rattle.ia_meaning.specs.Outcomes.{Outcome, falls, goes, faults, faults_or}
 
--- The fault of an access to so many bytes: an address that isn't a multiple of the size, and then bytes that aren't data.
+-- The fault of an access to `size` bytes: an address that isn't a multiple of the size, and then bytes that aren't data.
 unfoldable pub access_fault : List ℕ → ℕ → ℕ → Option FaultKind
 access_fault bytes address size =
     if not (address % size == 0) then Some Unaligned
     else if nat_le data_base address && nat_le (address + size) (data_base + length bytes) then None else Some BadAddress
 
--- the number that so many bytes spell, the lowest first
+-- The number that n bytes from position `at` on spell, the lowest first.
 abbrev pub bytes_at : List ℕ → ℕ → ℕ → ℕ
 bytes_at bytes at zero = 0
 bytes_at bytes at (suc n) = get_or bytes at 0 + 256 * bytes_at bytes (suc at) n

@@ -75,7 +75,7 @@ test_skipped _ p q m = falls [] m
 abbrev pub is_masked : ℕ → ℕ → Bool
 is_masked mask n = if nat_lt n 16 then bit mask n else bit mask 16
 
--- the writes of so many places, from the n-th on, that the mask has
+-- The writes of those of the predicates from the n-th on, as many as the first number says, that the mask has.
 abbrev pub masked_writes : ℕ → ℕ → ℕ → ℕ → List Write
 masked_writes zero n mask x = []
 masked_writes (suc left) n mask x =

@@ -116,7 +116,7 @@ gathered_by p first g o (Goes bundle) rest = ends_with (gathers first g o (first
 gathered_by p first g o (Breaks imm) rest = ends_with g g.place how.Ends (Some (end.Break imm g.place))
 gathered_by p first g o (Faults kind) rest = ends_with g g.place how.Ends (Some (end.Fault kind g.place))
 
--- The rest of a group, of at most so many slots, where the group begins there or not. One that isn't over by then has no
+-- The rest of a group, of at most `most` slots. `begins` says whether the group begins there. One that isn't over by then has no
 -- ending.
 abbrev pub gathered_within : ℕ → Program → Bool → Gathered → GatheredGroup
 gathered_within zero p begins g = record { all = g; last = g.place; slots = 0; how = None; end = None }
@@ -153,6 +153,6 @@ par_group p code s = let g = gathered p s in made g (arranged code g.all.writes)
 abbrev pub code_of : List (List ℕ) → ℕ → List ℕ
 code_of codes number = get_or codes (number - 1) []
 
--- One run of at most so many groups, each all at once with its code.
+-- One run of at most n groups, each all at once with its code.
 abbrev pub par_run : Program → ℕ → List (List ℕ) → State → Run
 par_run p n codes s = run_from (λ number s. par_group p (code_of codes number) s) 1 n s

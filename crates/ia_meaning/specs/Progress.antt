@@ -54,7 +54,7 @@ abbrev pub rest_by : ℕ → Progress → Progress → Progress
 rest_by zero m rest = m
 rest_by (suc slots) m rest = rest
 
--- At most so many steps further, until the group is over.
+-- At most `most` steps further, until the group is over.
 abbrev pub to_group_end : ℕ → Program → Progress → Progress
 to_group_end zero p m = m
 to_group_end (suc most) p m = let next = advanced p m in rest_by next.slots next (to_group_end most p next)
@@ -63,7 +63,7 @@ to_group_end (suc most) p m = let next = advanced p m in rest_by next.slots next
 unfoldable pub group_further : Program → Progress → Progress
 group_further p m = to_group_end RUN_LIMIT p m
 
--- So many groups further, or up to an end.
+-- Up to n groups further: fewer where the run comes to an end.
 abbrev pub groups_further : ℕ → Program → Progress → Progress
 groups_further zero p m = m
 groups_further (suc n) p m = groups_further n p (group_further p m)

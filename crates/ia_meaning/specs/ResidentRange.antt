@@ -6,7 +6,7 @@ use Rattle.ia_meaning.specs.declared.state.Rse.{Rse}
 abbrev pub zero_range : Rse
 zero_range = record { low = 0; high = 0; spilled = 0; filled = 0 }
 
--- the first resident cell after a change to a frame at this base, with so many cells
+-- The first resident cell after a change to a frame that begins at `base` and ends at `high`.
 abbrev pub low_after : ℕ → ℕ → ℕ → ℕ
 low_after low base high = max (min low base) (high - 96)
 

@@ -105,7 +105,7 @@ abbrev pub IsKey : Spot → Type 0
 IsKey (Static n) = (1 ≤ n) × (n ≤ 31)
 IsKey (Stacked n) = n < STACK_LIMIT
 
--- An entry of an access to so many bytes of data.
+-- An entry of the ALAT where there are `count` bytes of data: its key, and an access that lies within them.
 pub record IsAlatEntry (count : ℕ) (e : AlatEntry) : Type 0 where
   pub key : IsKey e.key
   pub size : IsAccessSize e.size

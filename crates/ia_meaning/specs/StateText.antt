@@ -38,7 +38,7 @@ abbrev pub range_text : Rse → List ℕ
 range_text r =
     codes "rse " ++ decimal r.low ++ codes " " ++ decimal r.high ++ codes " " ++ decimal r.spilled ++ codes " " ++ decimal r.filled
 
--- the first number and so many after it
+-- The numbers from n up, as many as the second number says.
 abbrev pub count_up : ℕ → ℕ → List ℕ
 count_up n zero = []
 count_up n (suc more) = n ∷ count_up (suc n) more

@@ -102,7 +102,7 @@ abbrev pub group_by : Program → State → Step → Option How → Group → Gr
 group_by p s step (Some how) rest = record { state = step.state; last = s.place; slots = 1; how = Some how; end = step.end; frames = step.frames }
 group_by p s step None rest = and_then step rest
 
--- A group of at most so many slots. One that isn't over by then has no ending.
+-- A group of at most `most` slots. One that isn't over by then has no ending.
 abbrev pub group_within : ℕ → Program → State → Group
 group_within zero p s = record { state = s; last = s.place; slots = 0; how = None; end = None; frames = [] }
 group_within (suc most) p s =
@@ -131,13 +131,13 @@ abbrev pub run_by : Group → GroupEvent → Option End → Run → Run
 run_by group event (Some e) rest = record { state = group.state; end = e; events = event ∷ []; frames = group.frames }
 run_by group event None rest = record rest { events = event ∷ rest.events; frames = group.frames ++ rest.frames }
 
--- So many groups, the first with this number, or fewer up to an end. What a group leaves may depend on its number.
+-- A run of n groups, or of fewer up to an end; the first group has this number. What a group leaves may depend on its number.
 abbrev pub run_from : (ℕ → State → Group) → ℕ → ℕ → State → Run
 run_from group number zero s = record { state = s; end = end.Limit s.place; events = []; frames = [] }
 run_from group number (suc n) s =
     let g = group number s
     in run_by g (event_of number s.place g) g.end (run_from group (suc number) n g.state)
 
--- One sequential run of at most so many groups.
+-- One sequential run of at most n groups.
 abbrev pub seq_run : Program → ℕ → State → Run
 seq_run p n s = run_from (λ number s. seq_group p s) 1 n s

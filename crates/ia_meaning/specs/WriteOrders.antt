@@ -24,7 +24,7 @@ abbrev pub tail_of : List ℕ → List ℕ
 tail_of [] = []
 tail_of (c ∷ code) = code
 
--- the order under a code of the first so many items
+-- The list with its first n items chosen by a code.
 abbrev pub arranged_within : {X : Type 0} → ℕ → List ℕ → List X → List X
 arranged_within zero code xs = xs
 arranged_within (suc n) code [] = []

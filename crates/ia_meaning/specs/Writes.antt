@@ -6,7 +6,7 @@ use Rattle.ia_meaning.specs.declared.write.Write.TheVariants.{SetStatic, SetCell
 use Rattle.ia_meaning.specs.declared.write.FrameCause.TheVariants.{Resized}
 use Rattle.ia_meaning.specs.State.{zero_cell, Registers}
 
--- so many cells: those of the list, cut, or filled up with zeros
+-- A list of n cells: the given ones, cut at the end or filled up with zeros.
 abbrev pub resized : ℕ → List Cell → List Cell
 resized zero cells = []
 resized (suc n) [] = zero_cell ∷ resized n []

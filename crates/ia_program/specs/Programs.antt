@@ -115,7 +115,7 @@ pub record IsFirstMisdeclared (bundles : List Bundle) (entries : List ℕ) (rela
   pub misdeclared : ¬ IsRelationAt bundles entries relations n
   pub first : (k : ℕ) → k < n → IsRelationAt bundles entries relations k
 
--- So many relations, the first ones, are of bundles below this one.
+-- The first `count` relations are those of bundles below this one.
 pub record IsCountBelow (relations : List Relation) (bundle count : ℕ) : Type 0 where
   pub bound : count ≤ length relations
   pub below : (k : ℕ) → k < count → (relation_at relations k).bundle < bundle

@@ -76,7 +76,7 @@ pub record Agrees (p : Program) (g : Gathered) (s : State) : Type 0 where
   -- the UNAT that goes from slot to slot is another one only after a move to UNAT
   pub unat : (g.unat ≡ s.registers.unat) ⊎ ((w : Write) × Contains g.writes w × (location w ≡ TheUnat))
 
--- So it is in each group of a program without violations.
+-- Each group under way of a program without violations agrees with the state that its slots leave one by one.
 abbrev pub ViewsAgree : Type 0
 ViewsAgree =
     (n : ℕ) (p : Program) (s : State) (w : Walk) (g : Gathered) → IsProgram p → HasNoViolation p → IsKnown p s w

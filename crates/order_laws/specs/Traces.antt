@@ -68,12 +68,12 @@ pub record IsKnown (p : Program) (s : State) (w : Walk) : Type 0 where
   pub ends : EndsAt p s.place w
   pub apart : AreNeverBothOne (facts_on p w) s.registers
 
--- So it is all along each run from a start state.
+-- All along each run from a start state, what its walk knows is true of the state.
 abbrev pub KnownOnRuns : Type 0
 KnownOnRuns =
     (n : ℕ) (p : Program) (s : State) → IsProgram p → IsStart p s → IsKnown p (traced n p s).state (traced n p s).walk
 
--- A step keeps it so.
+-- A step keeps what the walk knows true of the state.
 abbrev pub StepsKnown : Type 0
 StepsKnown =
     (p : Program) (s : State) (w : Walk) → IsProgram p → IsKnown p s w → (seq_step p s).end ≡ None

@@ -29,7 +29,7 @@ pub record Clashes (g : Graph) (i j : Place) (rule : Rule) (q : Resource) : Type
   pub second_on : second.resource ≡ q
   pub clash : clash first second ≡ Some rule
 
--- So they do with the walk's last slot, and are not excused on the walk.
+-- Slot i and the walk's last slot clash by the rule on the resource, and nothing excuses that on the walk.
 pub record ClashesUnexcused (g : Graph) (has_stop : Place → Bool) (w : Walk) (i : Place) (rule : Rule) (q : Resource) : Type 0 where
   pub clashes : Clashes g i (end_of w) rule q
   pub stays : ¬ IsExcused g has_stop w i clashes.first.guard clashes.second.guard
@@ -61,7 +61,7 @@ Breaks g has_stop w i War63 q = Clashes g i (end_of w) War63 q
 Breaks g has_stop w i AllocFirst q = (allocates_at g (end_of w) ≡ true) × IsLatest (group_since has_stop w) i × (q ≡ Cfm)
 Breaks g has_stop w i ClearLast q = (clears_at g i ≡ true) × IsLatest (group_since has_stop w) i × (q ≡ Cfm)
 
--- On some walk to the second slot, with the first earlier in its group, the two break the rule. A stop follows the places
+-- On some walk to the second slot, with the first one earlier in its group, the two break the rule. A stop follows the places
 -- that have one.
 pub record ViolatesIn (g : Graph) (has_stop : Place → Bool) (v : Violation) : Type 0 where
   pub walk : Walk
@@ -69,7 +69,7 @@ pub record ViolatesIn (g : Graph) (has_stop : Place → Bool) (v : Violation) : 
   pub inside : Contains (group_since has_stop walk) v.first
   pub breaks : Breaks g has_stop walk v.first v.rule v.resource
 
--- So they do in a program with its stops.
+-- The two slots break the rule in a program with its own stops.
 abbrev pub Violates : Program → Violation → Type 0
 Violates p v = ViolatesIn (over_program p) (is_stopped p.bundles) v
 

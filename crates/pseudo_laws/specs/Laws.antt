@@ -46,7 +46,8 @@ Compares unc four_bytes relation machine first second =
     (p q a b : ℕ) → reads (compare_text four_bytes ++ relation ++ unc_text unc) (t.Pr p ∷ t.Comma ∷ t.Pr q ∷ t.Equals ∷ t.Gr a ∷ t.Comma ∷ t.Gr b ∷ [])
     ≡ Some (op.Cmp four_bytes machine (unc_kind unc) (first p q) (first q p) (second a b) (second b a))
 
--- And the line `cmp.relation p,q=n,b` of a number that has room in the field is one with these targets and this number.
+-- The line `cmp.relation p,q=n,b`, or `cmp4`, of a number that has room in the field, is a compare of the machine with these
+-- targets and this number.
 abbrev ComparesNumber : Bool → Bool → List ℕ → NumberField → Rel → (ℕ → ℕ → ℕ) → (ℤ → ℤ) → Type 0
 ComparesNumber unc four_bytes relation field machine first lowered =
     (p q : ℕ) (negative : Bool) (n b : ℕ) → has_room field negative n ≡ true
@@ -149,11 +150,11 @@ pub record PseudoOperations : Type 0 where
   pub mov_from_ar : (a : Ar) (r1 : ℕ) → reads (codes "mov") (t.Gr r1 ∷ t.Equals ∷ t.Ar a ∷ []) ≡ Some (op.MovFromAr r1 a)
   -- movl r1=label, whose number is 0 until the name is put in
   pub movl : (r1 : ℕ) → reads (codes "movl") (t.Gr r1 ∷ t.Equals ∷ t.Name ∷ []) ≡ Some (op.Movl r1 0)
-  -- break, nop and hint without a number
+  -- `break`, `nop` and `hint` with a unit letter and without a number
   pub break : (u : ExecutionUnit) → HasLetter u → reads (codes "break" ++ letter u) [] ≡ Some (op.Break u 0)
   pub nop : (u : ExecutionUnit) → HasLetter u → reads (codes "nop" ++ letter u) [] ≡ Some (op.Nop u 0)
   pub hint : (u : ExecutionUnit) → IsHintOf u 0 → reads (codes "hint" ++ letter u) [] ≡ Some (op.Hint u 0)
-  -- and without a letter, whose unit is that of an X slot, or of an I slot, until the slot is known
+  -- `break`, `nop`, `hint` and `chk.s` without a letter: until the slot is known their unit is X, or I of `hint` and `chk.s`
   pub bare_break : reads (codes "break") [] ≡ Some (op.Break unit.X 0)
   pub bare_nop : reads (codes "nop") [] ≡ Some (op.Nop unit.X 0)
   pub bare_hint : reads (codes "hint") [] ≡ Some (op.Hint unit.I 0)

@@ -6,7 +6,7 @@ use Rattle.std.specs.Int.{bit_at}
 use Rattle.ia_meaning.specs.declared.state.Cell.{Cell}
 use Rattle.ia_meaning.specs.State.{zero_cell, IsWord}
 
--- the number of words in the region of a stack of at most so many cells
+-- The number of words in the region of a stack of at most `limit` cells.
 abbrev pub region_words : ℕ → ℕ
 region_words limit = 64 * ((limit - 1) / 63 + 1)
 

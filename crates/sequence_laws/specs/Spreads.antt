@@ -41,11 +41,11 @@ pub record IsSpread (sequence : InsnSequence) (p : Program) (at : ℕ → Place)
   pub rises : (n m : ℕ) → n < m → m < length sequence.insns → IsBefore (at n) (at m)
   -- every other place has a nop
   pub fillers : (place : Place) (j : Insn) → insn_at p.bundles place ≡ Some j → ((n : ℕ) × (n < length sequence.insns) × (place ≡ at n)) ⊎ IsFiller j
-  -- the entries are the bundles of the sequence's entries, which are first there, and declare the same
+  -- the entries are the bundles of the sequence's entries, which are first there and declare the same
   pub entries : (bundle : ℕ) → IsEntry p bundle → (n : ℕ) × IsSequenceEntry sequence n × ((at n).bundle ≡ bundle) × IsHead at n
   pub sequence_entries : (n : ℕ) → IsSequenceEntry sequence n → IsEntry p (at n).bundle × IsHead at n
   pub known : (n : ℕ) → IsSequenceEntry sequence n → known_at_entry sequence.relations n ≡ known_at_entry p.relations (at n).bundle
-  -- and so with targets
+  -- the targets of branches are the bundles of the sequence's targets, which are first there
   pub targets : (bundle : ℕ) (n : ℕ) → n < length sequence.insns → HasEdge p (at n) Taken (first_of bundle)
       → (m : ℕ) × HasSequenceEdge sequence (first_of n) Taken (first_of m) × ((at m).bundle ≡ bundle) × IsHead at m
   pub sequence_targets : (n m : ℕ) → HasSequenceEdge sequence (first_of n) Taken (first_of m) → HasEdge p (at n) Taken (first_of (at m).bundle) × IsHead at m

@@ -3,11 +3,11 @@ use Rattle.std.specs.Prelude.{ℕ, zero, suc, ◌+◌, ◌*◌, ◌/◌, ◌%◌
 use Rattle.trial_maker.specs.declared.draws.TheConstants.{MULTIPLIER, INCREMENT}
 use Rattle.trial_maker.specs.declared.draws.Trio.{Trio}
 
--- A draw takes the state to the next, modulo 2 to the power of 64,
+-- The state after a draw, modulo 2 to the power of 64.
 abbrev pub next_state : ℕ → ℕ
 next_state x = (x * MULTIPLIER + INCREMENT) % 2 ^ 64
 
--- and is the high bits of the state that it reaches.
+-- The number that is drawn: the high bits of the state.
 abbrev pub drawn : ℕ → ℕ
 drawn x = x / 2 ^ 33
 

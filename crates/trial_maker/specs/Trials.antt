@@ -75,7 +75,7 @@ last_bundle = mii (nop M) (nop I) (always (Break I 0))
 unfoldable pub first_bundles : ℕ → ℕ → List Bundle
 first_bundles seed count = map (λ number. bundle_of number (draws_of seed number)) (range_with_len 0 count)
 
--- the program of a seed with so many bundles
+-- The program of a seed with this many bundles.
 abbrev pub trial_program : ℕ → ℕ → Program
 trial_program seed bundles = record {
   bundles = first_bundles seed (bundles - 1) ++ last_bundle ∷ [];

@@ -61,8 +61,8 @@ is_full_after events w = is_full (after_all events w)
 abbrev pub staying : List GroupEvent → List WatchState → List WatchState
 staying events ws = filter (λ w. not (is_full w)) (map (after_all events) ws)
 
--- The watchers that are there in the course of the group after so many of a run, in the order of the list. Each has
--- seen these groups, or that group too; each that isn't there is full after that group.
+-- The watchers that are there in the course of a group, the one after the first `count`, in the order of the list. Each has seen
+-- these groups, or that group too. Each that isn't there is full after that group.
 abbrev pub IsAmidGroup : List GroupEvent → ℕ → List WatchState → List WatchState → Type 0
 IsAmidGroup events count [] now = now ≡ []
 IsAmidGroup events count (w ∷ ws) now =
