@@ -178,6 +178,6 @@ text_short most within p h =
 pub text_fits : AreSlotLinesWithin SLOT_LINE_LIMIT → (p : Program) → CanonicalTextFits p
 text_fits within p h = omega (arith, text_short SLOT_LINE_LIMIT within p h, few_words p.bytes, h.counts.bundles, h.counts.relations, h.counts.bytes)
 
--- And so it is short enough to be read.
+-- The canonical text of a program is short enough to be read.
 pub text_is_short : AreSlotLinesWithin SLOT_LINE_LIMIT → (p : Program) → CanonicalTextIsShort p
 text_is_short within p h = omega (arith, text_fits within p h)

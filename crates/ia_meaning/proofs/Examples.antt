@@ -306,7 +306,7 @@ six_bits :
 unfolding look spot holds
 six_bits = (refl, refl)
 
--- A NaT source is a fault, and comes before a reserved field.
+-- A NaT source is a fault, and that fault comes before one of a reserved field.
 nat_moved :
     (run 0 (op.MovToAr Pfs 4) (with_r4 (nat_cell (2 ^ 38))) ≡ faults NatConsumed memory)
     × (run 0 (op.MovToBr 6 3 false false 0 (pos 0)) registers ≡ faults NatConsumed memory)
@@ -314,7 +314,7 @@ nat_moved :
 unfolding look spot holds has_reserved_zeros predicate_writes
 nat_moved = (refl, refl, refl)
 
--- so many predicates become 0, from the n-th place on
+-- The writes that make the predicates from the n-th on 0, as many as the first number says.
 abbrev zeros : ℕ → ℕ → List Write → List Write
 zeros zero n ws = ws
 zeros (suc left) n ws = SetPredicate n false ∷ zeros left (suc n) ws
@@ -470,7 +470,7 @@ cleared_bases = (refl, refl)
 abbrev entry : Spot → ℕ → ℕ → AlatEntry
 entry key address size = record { key = key; address = address; size = size }
 
--- so many entries, of the cells from the n-th on
+-- The entries of the cells from the n-th on, as many as the first number says.
 abbrev many : ℕ → ℕ → List AlatEntry
 many zero n = []
 many (suc left) n = entry (Stacked n) 0x100000 8 ∷ many left (suc n)

@@ -122,7 +122,7 @@ run_step m next after group event rest has ended goes None is =
       range = h.range ∙ ap (λ (r : Rse). range_of r rest.frames) has.range ∙ range_appended m.range group.frames rest.frames;
     }
 
--- So many groups further is the run of so many groups, from between two groups.
+-- Going n groups further, from between two groups, comes to the run of n groups.
 pub rest_is : (n number : ℕ) (p : Program) (m : Progress) → IsProgram p → IsUnderWay p m → m.end ≡ None → m.slots ≡ 0 → HasRest m (groups_further n p m) (run_from (λ k s. seq_group p s) number n m.state)
 rest_is zero number p m program u none slots = record { state = refl; end = rw none refl; groups = omega arith; range = refl }
 rest_is (suc n) number p m program u none slots =

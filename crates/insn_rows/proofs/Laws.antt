@@ -36,7 +36,7 @@ word_above rows least i w h code =
     let a : least ≤ (get_or rows code.place no_row).fixed = leb-true _ _ (all_get (reaches least) rows code.place no_row code.inside h) in
     omega (arith, a, (code.row no_row).sum)
 
--- And it has only the bits below the highest that a row has.
+-- A word has only the bits below the highest that a row has.
 abbrev pub is_below : ℕ → BitField → Bool
 is_below k f = nat_le (f.low + f.width) k
 
