@@ -163,7 +163,7 @@ not_before_itself : (a : Place) → IsBefore a a → ⊥
 not_before_itself a (inl h) = omega arith
 not_before_itself a (inr h) = omega (arith, h.1)
 
--- What is known at a place may still pass along its taken edge when it has passed along a fall.
+-- What may pass along an edge may still do so after it has passed along a fall.
 pub may_pass_on : (p : Program) (from : Place) (e : Edge) (rows : ℕ) (t t' : List Known) (d d' : List ℕ) (before : Table) → MayPass p from e rows t before → Passed p from Falls (pairs_of before) t d t' d' → MayPass p from e rows t' before
 may_pass_on p from e rows t t' d d' before may passed = record {
   witnessed = passed.witnessed;

@@ -30,7 +30,7 @@ impl Model for DirtyPlaces {
 }
 
 impl DirtyPlaces {
-    /// None of so many places.
+    /// A list of `count` places none of which is dirty.
     ///
     /// # Errors
     ///

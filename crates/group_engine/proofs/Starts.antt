@@ -66,7 +66,7 @@ guard_seen insn now base branch same =
     holds_by_place (seen_by base (branch_inputs_of now)) (view insn now base) insn.qp
     (λ _. sym (seen_at (sees_predicate insn base.frame) 0 place base.predicates now.predicates false same ∙ ap (λ (b : Bool). if b then get_or now.predicates place false else get_or base.predicates place false) sees))
 
--- An instruction is executed exactly where the view of it says that its predicate is 1.
+-- A slot is executed exactly where its predicate is 1 in the view of its instruction.
 executed_is : (insn : Insn) (g : Gathered) (slot : Slot) → insn_action insn ≡ slot.action → insn.qp ≡ slot.qp → is_executed slot g ≡ holds (view insn (now_of g) g.base) insn.qp
 executed_is insn g slot action qp = of (is_branch slot.action) refl
   where

@@ -28,7 +28,7 @@ pub enum FetchSource {
 /// Where an [`Action::Call`] goes.
 #[derive(Clone, Copy)]
 pub enum CallTarget {
-    /// So many bundles from its own.
+    /// A number of bundles from the instruction's own.
     Direct(i32),
     /// The address in a branch register.
     Indirect(Br),

@@ -30,7 +30,7 @@ impl Schedule {
         }
     }
 
-    // Counts a call, and answers whether it is one that is to fail.
+    // Counts a call, and returns whether it is one that is to fail.
     fn next_fails(&mut self) -> bool
         ensures fails { IsTrue result ↔ Contains self.old.failing.items self.old.calls }
         ensures counts { self.new ≡ record self.old { calls = counted self.old.calls } }

@@ -39,7 +39,7 @@ three_join_none h a b c before item gap is = rw is (full_joins_none (a ∷ b ∷
 pub one_packed : (item : Item) → IsPacked (item ∷ []) (wanted_as item false ∷ []) item 1
 one_packed item = record { closed = []; count = omega arith; few = omega arith; rest = λ more. refl }
 
--- One item more is packed where it joins the last bundle.
+-- The packing of items and one more, by whether the one more joins the last bundle.
 next_if : (b c : Bool) (items more : List Item) (item : Item) (closed joined begun : List (List Wanted)) → b ≡ c → plain_of (items ++ item ∷ more) ≡ closed ++ (if b then joined else begun)
     → plain_of ((items ++ item ∷ []) ++ more) ≡ closed ++ (if c then joined else begun)
 next_if b c items more item closed joined begun is h =

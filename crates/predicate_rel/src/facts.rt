@@ -170,7 +170,7 @@ impl Facts {
         true
     }
 
-    /// Leaves of the set, in the rows of the word, the pairs that are also in the other. Answers a word of the rows that
+    /// Leaves of the set, in the rows of the word, the pairs that are also in the other. Returns a word of the rows that
     /// lost something, bit x that of the pairs of the x-th predicate.
     #[inline(always)]
     pub(crate) fn intersect(&mut self, other: &Facts, rows: u64) -> u64
