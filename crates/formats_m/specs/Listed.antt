@@ -1,4 +1,5 @@
--- Which M instructions there are, and their words: those of the rows (volume 3, chapter 4, instruction formats, M1 to M5, M16, M17 and M20 to M48).
+-- Which M instructions there are, and their words: those of the rows (volume 3, chapter 4, instruction formats, M1 to M5, M16,
+-- M17 and M20 to M48).
 use Rattle.std.specs.Prelude.{ℕ, List}
 use Rattle.ia_insn.specs.declared.insn.Insn.{Insn}
 use Rattle.insn_rows.specs.declared.row.Row.{Row}

@@ -54,8 +54,8 @@ traced_groups runs groups (suc more) =
     flat_map (λ event. line (event_text event) ++ run_text (runs (suc groups))) (further_events runs groups)
     ++ traced_groups runs (suc groups) more
 
--- `trace` prints the state after its first number of groups, and then the groups behind them up to its second number, or fewer where the
--- run ends.
+-- `trace` prints the state after its first number of groups, and then the groups behind them up to its second number, or fewer
+-- where the run ends.
 abbrev pub trace_text : (first count : ℕ) → Printing
 trace_text first count runs groups = run_text (runs first) ++ traced_groups runs first count
 

@@ -5,7 +5,8 @@ use Rattle.ia64_top.specs.declared.words.Command.{Command}
 use Rattle.ia64_top.specs.declared.words.Command.TheVariants.{Build, Stops, Show, List as Listing, Wrap, Lift, Check, Run, Watch, Trace, Groups, Trial}
 use Rattle.ia64_top.specs.Numbers.{number_between}
 
--- A run has at least one group, and at most the limit; the same holds of the groups that a trace shows, and of the bundles of a trial.
+-- A run has at least one group, and at most the limit; the same holds of the groups that a trace shows, and of the bundles of a
+-- trial.
 abbrev pub HasNumbersInRange : Command → Type 0
 HasNumbersInRange (Run groups) = (1 ≤ groups) × (groups ≤ GROUP_LIMIT)
 HasNumbersInRange (Watch groups) = (1 ≤ groups) × (groups ≤ GROUP_LIMIT)

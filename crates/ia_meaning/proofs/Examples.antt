@@ -337,7 +337,8 @@ address_fetched : run 0 (op.MovFromIp 4) registers ≡ falls (SetStatic 4 (cell 
 unfolding look spot holds
 address_fetched = refl
 
--- Loop branches, two bundles on, in a frame with eight rotating registers and a predicate base of 1. p63 stands at place 16 in it.
+-- Loop branches, two bundles on, in a frame with eight rotating registers and a predicate base of 1. p63 stands at place 16 in
+-- it.
 
 abbrev loop_frame : FrameShape
 loop_frame = record zero_frame { sof = 8; sor = 1; rrbs = record { gr = 0; fr = 0; pr = 1 } }
@@ -446,7 +447,8 @@ returned_to : return_from 25 0xc090_0001_040c_4288 32 ≡ goes (SetFrame Resized
 unfolding look spot holds marked_frame is_frame return_fault
 returned_to = refl
 
--- sof 97, sol above sof, 8 * sor above sof, a base of general registers past the rotating part, one of predicates of 48, a base below sol, and another address than that of an entry
+-- sof 97, sol above sof, 8 * sor above sof, a base of general registers past the rotating part, one of predicates of 48, a base
+-- below sol, and another address than that of an entry
 return_faults :
     (return_from 25 97 32 ≡ faults BadFrame memory)
     × (return_from 25 (2 ^ 7) 32 ≡ faults BadFrame memory)
@@ -573,7 +575,8 @@ filled = (refl, refl)
 abbrev defers : List Write → Memory → Outcome
 defers ws m = falls (SetStatic 2 (nat_cell 0) ∷ ws) m
 
--- A NaT address, an address that is not a multiple of 8, and bytes that are not data. A deferred `sa` invalidates its target, and `s` does not.
+-- A NaT address, an address that is not a multiple of 8, and bytes that are not data. A deferred `sa` invalidates its target, and
+-- `s` does not.
 deferred_loads :
     (load_at load.S (nat_cell 0x100000) memory 0 ≡ defers [] memory)
     × (load_at load.S (cell 0x100001) memory 0 ≡ defers [] memory)

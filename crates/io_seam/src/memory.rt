@@ -186,7 +186,8 @@ impl MemSink {
     ///
     /// # Errors
     ///
-    /// `AllocError`, where there is no memory for the room, may come in place of the sink. No other call on the sink needs memory.
+    /// `AllocError`, where there is no memory for the room, may come in place of the sink. No other call on the sink needs
+    /// memory.
     pub fn new(
         alloc: Global,
         capacity: usize,

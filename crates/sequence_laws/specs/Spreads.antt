@@ -56,8 +56,8 @@ pub record IsBetween (p : Program) (at : ℕ → Place) (n : ℕ) (place : Place
   pub from : ¬ IsBefore place (at n)
   pub below : IsBefore place (at (n + 1))
 
--- The stops of the program are those of the sequence: one follows a place between two neighbours exactly where the sequence has one
--- behind the first of them.
+-- The stops of the program are those of the sequence: one follows a place between two neighbours exactly where the sequence has
+-- one behind the first of them.
 pub record AreStops (sequence : InsnSequence) (p : Program) (at : ℕ → Place) (sequence_stop has_stop : Place → Bool) : Type 0 where
   pub stopped : (n : ℕ) → n + 1 < length sequence.insns → sequence_stop (first_of n) ≡ true → (place : Place) × IsBetween p at n place × (has_stop place ≡ true)
   pub unstopped : (n : ℕ) → n + 1 < length sequence.insns → sequence_stop (first_of n) ≡ false → (place : Place) → IsBetween p at n place → has_stop place ≡ false
