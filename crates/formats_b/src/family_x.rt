@@ -16,9 +16,9 @@ use parts::{is_within, low_of, slot_part, whole};
 /// The words of a long instruction, 41 bits each (volume 1, chapter 3, instruction encoding).
 #[derive(Clone, Copy, Debug, PartialEq, Eq)]
 pub struct LongWord {
-    /// That of the L slot, slot 1: bits of the immediate.
+    /// The word of the L slot, slot 1: bits of the immediate.
     pub l: u64,
-    /// That of the X slot, slot 2.
+    /// The word of the X slot, slot 2.
     pub word: u64,
 }
 

@@ -16,13 +16,13 @@ pub enum Keep {
     Full,
 }
 
-/// StateView the groups that a run executes, one after the other, and reports what it has seen.
+/// Sees the groups that a run executes, one after the other, and reports what it has seen.
 pub trait Watch: Drop {
     /// What the watcher has seen.
     ghost state: { Self → WatchState };
 
-    /// StateView a group. The answer is `Full` exactly where the watcher has then seen as many groups as
-    /// it is to see. It then sees no more: this is for a watcher that isn't full.
+    /// Sees a group. It returns `Full` exactly where the watcher has then seen as many groups as it is to see. It is for a
+    /// watcher that isn't full.
     ///
     /// # Errors
     ///
