@@ -80,7 +80,7 @@ pub entries_are : (s : TextParts) → AreLabelsInside s → name_fault s ≡ Non
 entries_are s inside none =
     rw (length_named s.labels 0 s.bundles) (entries_of_rising (length s.bundles) (program_of s).entries (entries_good s inside none).0)
 
--- the target of an operation, where it has one, is one of so many bundles
+-- The target of an operation, where it has one, is one of `count` bundles.
 abbrev HasTargetInside : ℕ → ℕ → Op → Type 0
 HasTargetInside count n x = IfSome (displacement x) (IsBundleAt count n)
 

@@ -1,4 +1,4 @@
--- Cells cut to so many, or filled up to so many.
+-- A list of cells cut at a count, or filled up to it.
 use Rattle.std.proofs.Common.{◌≡◌, ◌<◌, ℕ, zero, suc, List, [], ◌∷◌, ◌++◌, length, take, refl, ap, arith}
 use Rattle.ia_meaning.specs.declared.state.Cell.{Cell}
 use Rattle.ia_meaning.specs.State.{zero_cell}

@@ -60,7 +60,7 @@ pub record HasGroup (m after : Progress) (group : Group) : Type 0 where
   pub groups : after.groups ≡ m.groups
   pub range : after.range ≡ range_of m.range group.frames
 
--- what a lemma says of a group under way and at most so many slots
+-- What a lemma says of a group under way and a bound on its slots.
 abbrev pub ComesToEnd : ℕ → Program → Type 0
 ComesToEnd most p =
     (m : Progress) → m.end ≡ None → (k : ℕ) → m.slots ≡ suc k → HasGroup m (to_group_end most p m) (group_within most p m.state)

@@ -1,4 +1,4 @@
--- Numbers of so many bits.
+-- Numbers with a bound on their bits.
 use Rattle.std.proofs.Common.{◌≡◌, ℕ, ◌+◌, ◌-◌, ◌*◌, ◌/◌, ◌%◌, ◌^◌, ◌<◌, ◌≤◌, suc, true, false, cond, leb, ltb, eqb, sym, ap, ◌∙◌, arith, lit<, pow-add, subst, refl}
 use Rattle.std.proofs.lemmas.Nat.{mod_below, pow_pos, shr_split, one_shl}
 use Rattle.std.proofs.Math.Nat.{div-eq_of_lt, pow-le-pow_right, pow-suc}
@@ -9,7 +9,7 @@ use Rattle.ia_insn.proofs.Numbers.{half}
 use Rattle.std.specs.Prelude.{◌&&◌}
 use Rattle.bundle_bits.proofs.Words.{both-right}
 
--- A number has so many bits where nothing is above them.
+-- A number has at most w bits where nothing is above them.
 pub shifted : (n w : ℕ) → n / 2 ^ w ≡ 0 → n < 2 ^ w
 shifted n w h =
     let e : n / 2 ^ w * 2 ^ w + n % 2 ^ w ≡ n = shr_split n w in
