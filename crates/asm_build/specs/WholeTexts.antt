@@ -145,10 +145,10 @@ pub record IsRelationSaid (lines : List Line) (r : Relation) : Type 0 where
 abbrev pub RelationsRise : List Relation → Type 0
 RelationsRise relations = (n : ℕ) → n < length relations → IsRelationBefore (relation_before relations n) (relation_at relations n)
 
--- The lines say the program: its bundles are those on the lines, in order; its declared entries, which rise, are the
--- bundles that lines `.entry` name; its data are those on the lines, in order, with zeros up to a multiple of eight; and
--- its relations, which rise and are of its entries, are those between each two predicates of the lines that declare
--- them. What labels with one name are names one place, which in code is a bundle of the program.
+-- The lines say the program. Its bundles are those on the lines, in order. Its declared entries, which rise, are the bundles that
+-- lines `.entry` name. Its data are those on the lines, in order, with zeros up to a multiple of eight. Its relations, which rise
+-- and are of its entries, are those between each two predicates of the lines that declare them. Labels with one name name one
+-- place, which in code is a bundle of the program.
 pub record IsProgramSaid (lines : List Line) (p : Program) : Type 0 where
   pub bundles : AreBundlesSaid lines 0 (bundles_in lines) p.bundles
   pub rising : AreEntries (length p.bundles) p.entries

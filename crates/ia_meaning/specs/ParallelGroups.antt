@@ -1,6 +1,6 @@
--- A group all at once: every slot reads the registers of the group's start, but for what its view has besides, and the
--- writes of registers come at the end, in some order (volume 1, chapter 3, instruction groups and instruction
--- dependencies). A group is gathered first, and then its writes are made.
+-- A group all at once (volume 1, chapter 3, instruction groups and instruction dependencies): every slot reads the registers of
+-- the group's start, and the writes of registers come at the end, in some order. Views says what a slot sees besides. A group is
+-- gathered first, and then its writes are made.
 use Rattle.std.specs.Prelude.{ℕ, zero, suc, ◌-◌, Bool, true, false, ◌&&◌, if◌then◌else◌, List, [], ◌∷◌, ◌++◌, get_or, Option, Some, None}
 use Rattle.ia_insn.specs.declared.insn.Insn.{Insn}
 use Rattle.ia_program.specs.declared.limits.TheConstants.{RUN_LIMIT}

@@ -1,6 +1,6 @@
--- What a slot reads where its group runs all at once: the registers of the group's start, and of what earlier slots of the
--- group wrote no more than three exceptions let a branch see (volume 1, chapter 3, instruction dependencies). A fourth, on
--- `alloc`, is made by the start itself (ParallelGroups).
+-- What a slot reads where its group runs all at once (volume 1, chapter 3, instruction dependencies): the registers of the
+-- group's start. Three exceptions let a branch see what earlier slots of the group wrote. A fourth, on `alloc`, is made by the
+-- start itself (ParallelGroups).
 use Rattle.std.specs.Prelude.{ℕ, suc, Bool, true, false, ◌==◌, ◌&&◌, ◌||◌, nat_le, nat_lt, if◌then◌else◌, List, [], ◌∷◌}
 use Rattle.ia_insn.specs.declared.insn.Insn.{Insn}
 use Rattle.ia_meaning.specs.declared.state.FrameShape.{FrameShape}

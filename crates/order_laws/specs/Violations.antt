@@ -51,9 +51,9 @@ allocates_at g place = allocates (insn_in g place)
 unfoldable pub clears_at : Graph → Place → Bool
 clears_at g place = clears_in (insn_in g place)
 
--- Slot i, of the walk's group, and the walk's last slot break the rule. Only reads and writes after writes may be excused.
--- An `alloc` may have no slot before it in its group, and a `clrrrb` none after it; of `alloc` only the slot just before it,
--- and of `clrrrb` only the slot just after it, makes the pair that is reported.
+-- Slot i of the walk's group and the walk's last slot break the rule. Only reads and writes after writes may be excused. An
+-- `alloc` has to be first in its group, and a `clrrrb` last. The pair that is reported is an `alloc` with the slot just before
+-- it, or a `clrrrb` with the slot just after it.
 abbrev pub Breaks : Graph → (Place → Bool) → Walk → Place → Rule → Resource → Type 0
 Breaks g has_stop w i Raw q = ClashesUnexcused g has_stop w i Raw q
 Breaks g has_stop w i Waw q = ClashesUnexcused g has_stop w i Waw q

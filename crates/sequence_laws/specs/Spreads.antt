@@ -62,9 +62,9 @@ pub record AreStops (sequence : InsnSequence) (p : Program) (at : ℕ → Place)
   pub stopped : (n : ℕ) → n + 1 < length sequence.insns → sequence_stop (first_of n) ≡ true → (place : Place) × IsBetween p at n place × (has_stop place ≡ true)
   pub unstopped : (n : ℕ) → n + 1 < length sequence.insns → sequence_stop (first_of n) ≡ false → (place : Place) → IsBetween p at n place → has_stop place ≡ false
 
--- An `alloc` that is first in its bundle stands in slot 0, and a stop between it and the instruction before it follows the
--- place right before it. A stop behind a `clrrrb` follows it right away, and after the last instruction of the sequence it has
--- no place behind it.
+-- Where `alloc` and `clrrrb` stand, for the rules on slots. An `alloc` that is first in its bundle stands in slot 0. A stop
+-- between it and the instruction before it follows the place right before it. A stop behind a `clrrrb` follows it right away.
+-- After the last instruction of the sequence a `clrrrb` has no place behind it.
 pub record KeepsSlotRules (sequence : InsnSequence) (p : Program) (at : ℕ → Place) (has_stop : Place → Bool) : Type 0 where
   pub alloc_head : (n : ℕ) → allocates_at (over_sequence sequence) (first_of n) ≡ true → IsHead at n → (at n).slot ≡ 0
   pub alloc_stop : (n : ℕ) → n + 1 < length sequence.insns → allocates_at (over_sequence sequence) (first_of (n + 1)) ≡ true
