@@ -14,16 +14,16 @@ use Rattle.emulator.specs.declared.code.Code.TheInside.{Inside}
 use Rattle.emulator.specs.declared.work.Work.TheVariants.{Act}
 use Rattle.emulator.specs.Works.{action_of, HasTarget}
 
--- the number of a place, where there is one
+-- The number of a place, where there is one.
 abbrev pub number_of : Option Place → ℕ
 number_of None = NO_PLACE
 number_of (Some place) = place_number place
 
--- the place with a number, where it is one
+-- The place with a number, where it is one.
 abbrev pub numbered : ℕ → Option Place
 numbered number = if number == NO_PLACE then None else Some (place_at number)
 
--- what stands for a place that there isn't
+-- What stands for a place that there isn't.
 abbrev pub no_slot : CodeSlot
 no_slot = record { work = Act (Idle unit.M); next = NO_PLACE; qp = 0; stop = false }
 

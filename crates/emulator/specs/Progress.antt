@@ -18,7 +18,7 @@ use Rattle.emulator.specs.declared.run.Run.{Run}
 use Rattle.emulator.specs.Works.{action_of, HasTarget}
 use Rattle.emulator.specs.Codes.{numbered}
 
--- the state of a machine that stands at a place
+-- The state of a machine that stands at a place.
 abbrev pub state_at : Contents → Place → State
 state_at c place = record { registers = c.registers; memory = c.memory; place = place }
 
@@ -28,7 +28,7 @@ state_of r = state_at r.state (place_at r.number)
 abbrev pub progress_of : Run → Progress
 progress_of r = record { state = state_of r; end = r.end; groups = r.groups; first = place_at r.first; slots = r.slots; range = r.state.range }
 
--- the step of an outcome with this next place
+-- The step of an outcome with this next place.
 abbrev pub settled_step : Program → State → Option Place → Outcome → Step
 settled_step p s next o = let settled = settled next s.memory o.next o in step_by p s settled settled.next
 

@@ -103,7 +103,7 @@ IsProgramOf command input program = as_either.Gives input program
 abbrev pub IsUnreadable : Command → List ℕ → Type 0
 IsUnreadable command input = (program : Program) → ¬ IsProgramOf command input program
 
--- a status that prints nothing
+-- A status that prints nothing.
 abbrev pub IsSilent : Status → List ℕ → Status → Type 0
 IsSilent status bytes answer = (bytes ≡ []) × (answer ≡ status)
 

@@ -9,7 +9,7 @@ abbrev pub exchanged : ℕ → Option ℤ → ℕ → ℕ → ℕ
 exchanged size None old x = x % 2 ^ (8 * size)
 exchanged size (Some inc) old x = (old + twos 64 inc) % 2 ^ (8 * size)
 
--- the value that memory gets for what was there and for that of r2
+-- The value that memory gets for what was there and for that of r2.
 abbrev pub new_value : Op → ℕ → ℕ → ℕ
 new_value (Xchg size hint r1 r3 r2) old x = exchanged size None old x
 new_value (FetchAdd size release hint r1 r3 inc) old x = exchanged size (Some inc) old x

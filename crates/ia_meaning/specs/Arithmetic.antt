@@ -9,15 +9,15 @@ use Rattle.ia_insn.specs.declared.choices.Rel.{Rel}
 use Rattle.ia_insn.specs.declared.choices.Rel.TheVariants.{Eq, Ne, Lt, Ltu, Gt, Ge, Le}
 use Rattle.ia_meaning.specs.declared.state.Cell.{Cell}
 
--- 64 bits
+-- 64 bits.
 abbrev pub word : ℕ → ℕ
 word n = n % 2 ^ 64
 
--- the word with each bit turned
+-- The word with each bit turned.
 abbrev pub complement : ℕ → ℕ
 complement a = 2 ^ 64 - 1 - a
 
--- an immediate as a word: sign-extended
+-- An immediate as a word: sign-extended.
 abbrev pub immediate : ℤ → ℕ
 immediate imm = twos 64 imm
 
@@ -67,7 +67,7 @@ shift_pair count a b = word ((2 ^ 64 * a + b) / 2 ^ count)
 abbrev pub extended : ℕ → ℕ → ℕ
 extended width n = if nat_lt n (2 ^ (width - 1)) then n else n + 2 ^ 64 - 2 ^ width
 
--- the length of a field, cut at bit 63
+-- The length of a field, cut at bit 63.
 abbrev pub cut : ℕ → ℕ → ℕ
 cut pos len = min len (64 - pos)
 
@@ -103,7 +103,7 @@ related width Le a b = int_le (signed_of width a) (signed_of width b)
 abbrev pub compared : Bool → Rel → ℕ → ℕ → Bool
 compared four_bytes rel a b = if four_bytes then related 32 rel (a % 2 ^ 32) (b % 2 ^ 32) else related 64 rel a b
 
--- bit n of a number
+-- Bit n of a number.
 abbrev pub bit : ℕ → ℕ → Bool
 bit a n = (a / 2 ^ n) % 2 == 1
 

@@ -13,11 +13,11 @@ unfoldable pub order : ℕ → ℕ → List ℕ
 order number zero = []
 order number (suc left) = number % suc left ∷ order (number / suc left) left
 
--- the code with a number, of the writes of a group that begins at a state
+-- The code with a number, of the writes of a group that begins at a state.
 abbrev pub numbered_code : ℕ → Program → State → List ℕ
 numbered_code number p s = order number (length (gathered p s).all.writes)
 
--- the group with its writes made in the order with a number
+-- The group with its writes made in the order with a number.
 abbrev pub made_in_order : ℕ → GatheredGroup → Group
 made_in_order number g = made g (arranged (order number (length g.all.writes)) g.all.writes)
 

@@ -21,15 +21,15 @@ pub record Progress : Type 0 where
   pub slots : ℕ
   pub range : Rse
 
--- a run that begins
+-- A run that begins.
 abbrev pub begun : State → Progress
 begun s = record { state = s; end = None; groups = 0; first = s.place; slots = 0; range = zero_range }
 
--- where no group is under way one begins
+-- Where no group is under way one begins.
 abbrev pub opened : Progress → Progress
 opened m = if m.slots == 0 then record m { groups = m.groups + 1; first = m.state.place } else m
 
--- the slots of the group after one more, which may be its last
+-- The slots of the group after one more, which may be its last.
 abbrev pub slots_after : ℕ → Option How → ℕ
 slots_after slots None = slots + 1
 slots_after slots (Some how) = 0
@@ -68,11 +68,11 @@ abbrev pub groups_further : ℕ → Program → Progress → Progress
 groups_further zero p m = m
 groups_further (suc n) p m = groups_further n p (group_further p m)
 
--- how a run ends that has come to this end, or that stands at this place without one
+-- How a run ends that has come to this end, or that stands at this place without one.
 abbrev pub end_or : Option End → Place → End
 end_or None place = Limit place
 end_or (Some e) place = e
 
--- how a run that stands so ends
+-- How a run that stands so ends.
 abbrev pub end_of : Progress → End
 end_of m = end_or m.end m.state.place

@@ -17,7 +17,7 @@ range_by r low high = record { low = low; high = high; spilled = (r.spilled + (l
 abbrev pub range_after : Rse → ℕ × ℕ → Rse
 range_after r change = range_by r (low_after r.low change.0 change.1) change.1
 
--- the range after the frame changes, in order
+-- The range after the frame changes, in order.
 abbrev pub range_of : Rse → List (ℕ × ℕ) → Rse
 range_of r [] = r
 range_of r (change ∷ changes) = range_of (range_after r change) changes

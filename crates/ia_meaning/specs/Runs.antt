@@ -98,7 +98,7 @@ EventIsOfGroup =
     (p : Program) (m : Progress) → m.end ≡ None → m.slots ≡ 0
     → event_further p m ≡ event_of (m.groups + 1) m.state.place (seq_group p m.state)
 
--- the frame changes of a group from one slot on: those of the slot, and then those of the rest, where it doesn't end there
+-- The frame changes of a group from one slot on: those of the slot, and then those of the rest, where it doesn't end there.
 abbrev pub frames_by : Option How → (frames rest : List (ℕ × ℕ)) → List (ℕ × ℕ)
 frames_by (Some how) frames rest = frames
 frames_by None frames rest = frames ++ rest
@@ -122,7 +122,7 @@ RestOfGroup =
     × (event_further p (advanced p m) ≡ event_further p m)
     × ((seq_step p m.state).frames ++ group_frames p (advanced p m) ≡ group_frames p m)
 
--- nothing more after an end
+-- Nothing more after an end.
 abbrev pub unless_ended : {X : Type 0} → Option End → List X → List X
 unless_ended (Some e) xs = []
 unless_ended None xs = xs
@@ -149,11 +149,11 @@ FramesAreOfRun =
     (n : ℕ) (p : Program) (s : State) → IsProgram p → IsPlaceOf p.bundles s.place
     → frames_further n p (begun s) ≡ (seq_run p n s).frames
 
--- what is printed of a whole run
+-- What is printed of a whole run.
 abbrev pub run_text : Run → List ℕ
 run_text run = state_text run.end (length run.events) (range_of zero_range run.frames) run.state
 
--- what is printed of a run under way
+-- What is printed of a run under way.
 abbrev pub progress_text : Progress → List ℕ
 progress_text m = state_text (end_of m) m.groups m.range m.state
 

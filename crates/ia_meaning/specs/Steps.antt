@@ -24,22 +24,22 @@ abbrev pub settled : Option Place → Memory → Next → Outcome → Outcome
 settled None m Falls o = faults FellOff m
 settled next m way o = o
 
--- what the instruction at a place does, by the state itself
+-- What the instruction at a place does, by the state itself.
 abbrev pub outcome_of : Program → State → Insn → Outcome
 outcome_of p s insn =
     let o = effect (site p s.place.bundle) insn s.registers s.memory s.registers.unat
     in settled (next_of p.bundles s.place) s.memory o.next o
 
--- the number with this bit as given
+-- The number with this bit as given.
 abbrev pub with_bit : ℕ → ℕ → Bool → ℕ
 with_bit n k b = n % 2 ^ k + (if b then 2 ^ k else 0) + 2 ^ (k + 1) * (n / 2 ^ (k + 1))
 
--- UNAT after a spill
+-- UNAT after a spill.
 abbrev pub spilled : Option (ℕ × Bool) → Registers → Registers
 spilled None r = r
 spilled (Some b) r = record r { unat = with_bit r.unat b.0 b.1 }
 
--- the spill comes first, then the writes in order
+-- The spill comes first, then the writes in order.
 abbrev pub registers_after : Outcome → Registers → Registers
 registers_after o r = apply o.writes (spilled o.spills r)
 
@@ -51,11 +51,11 @@ pub record Step : Type 0 where
   pub end : Option End
   pub frames : List (ℕ × ℕ)
 
--- the group goes on, or ends at a stop
+-- The group goes on, or ends at a stop.
 abbrev pub how_falling : Bool → Option How
 how_falling stopped = if stopped then Some how.Falls else None
 
--- the place after a slot that falls through; where there is none it ended the run
+-- The place after a slot that falls through; where there is none it ended the run.
 abbrev pub place_after : Place → Option Place → Place
 place_after place None = place
 place_after place (Some next) = next
@@ -94,7 +94,7 @@ pub record Group : Type 0 where
   pub end : Option End
   pub frames : List (ℕ × ℕ)
 
--- the group so far, and the rest of it
+-- The group so far, and the rest of it.
 abbrev pub and_then : Step → Group → Group
 and_then step rest = record rest { slots = suc rest.slots; frames = step.frames ++ rest.frames }
 

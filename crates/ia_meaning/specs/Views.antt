@@ -20,7 +20,7 @@ sees_guard insn frame place = is_branch (insn_action insn) && (place == predicat
 abbrev pub sees_static : Action → ℕ → Bool
 sees_static action place = is_indirect action && (nat_le 1 place && nat_lt place 16)
 
--- the predicates that a slot sees as earlier slots wrote them
+-- The predicates that a slot sees as earlier slots wrote them.
 abbrev pub sees_predicate : Insn → FrameShape → ℕ → Bool
 sees_predicate insn frame place = sees_guard insn frame place || sees_static (insn_action insn) place
 
@@ -39,7 +39,7 @@ abbrev pub sees_pfs : Action → Bool
 sees_pfs (Return b2) = true
 sees_pfs f = false
 
--- the list with the items of another one at the places, from the n-th on, that are seen
+-- The list with the items of another one at the places, from the n-th on, that are seen.
 abbrev pub seen_in : {X : Type 0} → (ℕ → Bool) → ℕ → List X → List X → List X
 seen_in sees n [] now = []
 seen_in sees n (x ∷ base) [] = x ∷ base

@@ -25,12 +25,12 @@ put (SetLc v) r = record r { lc = v }
 put (SetEc v) r = record r { ec = v }
 put (SetFrame cause f) r = record r { frame = f; cells = resized (f.base + f.sof) r.cells }
 
--- the writes, in order
+-- The writes, in order.
 abbrev pub apply : List Write → Registers → Registers
 apply [] r = r
 apply (w ∷ ws) r = apply ws (put w r)
 
--- the base of each frame that a write resizes, and the number of cells with it
+-- The base of each frame that a write resizes, and the number of cells with it.
 abbrev pub frame_changes : List Write → List (ℕ × ℕ)
 frame_changes [] = []
 frame_changes (SetFrame Resized f ∷ ws) = (f.base, f.base + f.sof) ∷ frame_changes ws

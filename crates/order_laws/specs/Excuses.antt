@@ -14,11 +14,11 @@ abbrev pub accesses_in : Option Insn → List Access
 accesses_in None = []
 accesses_in (Some insn) = accesses insn
 
--- the accesses of the instruction at a place
+-- The accesses of the instruction at a place.
 unfoldable pub accesses_at : Graph → Place → List Access
 accesses_at g place = accesses_in (insn_in g place)
 
--- the place is the latest of a group that is listed with the latest first
+-- The place is the latest of a group that is listed with the latest first.
 abbrev pub IsLatest : List Place → Place → Type 0
 IsLatest [] place = ⊥
 IsLatest (latest ∷ earlier) place = latest ≡ place

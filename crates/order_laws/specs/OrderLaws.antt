@@ -24,7 +24,7 @@ abbrev pub FitTogether : List Write → Type 0
 FitTogether [] = Unit {0}
 FitTogether (w ∷ ws) = Each (FitsBeside w) ws × FitTogether ws
 
--- a cell that is written is below a count
+-- A cell that is written is below a count.
 abbrev pub IsCellBelow : ℕ → Write → Type 0
 IsCellBelow n (SetCell c x) = c < n
 IsCellBelow n w = Unit {0}
@@ -32,7 +32,7 @@ IsCellBelow n w = Unit {0}
 abbrev pub IsNoFrame : Write → Type 0
 IsNoFrame w = location w ≢ TheFrame
 
--- no cell is written past the end, or no frame is written
+-- No cell is written past the end, or no frame is written.
 abbrev pub IsReady : Registers → List Write → Type 0
 IsReady r ws = Each (IsCellBelow (length r.cells)) ws ⊎ Each IsNoFrame ws
 

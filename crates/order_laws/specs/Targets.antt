@@ -14,7 +14,7 @@ use Rattle.order_laws.specs.Violations.{HasNoViolation}
 use Rattle.order_laws.specs.Traces.{IsKnown}
 use Rattle.order_laws.specs.GroupSlots.{GatheredSlot, slots_of, done_by}
 
--- what a write of a general register gives it is there, if it is in the frame
+-- What a write of a general register gives it is there, if it is in the frame.
 abbrev pub Stands : Registers → Write → Type 0
 Stands r (SetStatic n c) = get_or r.statics n zero_cell ≡ c
 Stands r (SetCell n c) = n < r.frame.base + r.frame.sof → get_or r.cells n zero_cell ≡ c

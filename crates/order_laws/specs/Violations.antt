@@ -43,11 +43,11 @@ abbrev pub clears_in : Option Insn → Bool
 clears_in None = false
 clears_in (Some insn) = clears (insn_action insn)
 
--- the place holds an `alloc`
+-- The place holds an `alloc`.
 unfoldable pub allocates_at : Graph → Place → Bool
 allocates_at g place = allocates (insn_in g place)
 
--- the place holds a `clrrrb` or `clrrrb.pr`
+-- The place holds a `clrrrb` or `clrrrb.pr`.
 unfoldable pub clears_at : Graph → Place → Bool
 clears_at g place = clears_in (insn_in g place)
 

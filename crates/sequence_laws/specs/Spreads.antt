@@ -26,7 +26,7 @@ pub record DoesLike (i j : Insn) : Type 0 where
   pub allocates : is_alloc (insn_action i) ≡ is_alloc (insn_action j)
   pub clears : clears (insn_action i) ≡ clears (insn_action j)
 
--- a `nop` with immediate 0 under p0
+-- A `nop` with immediate 0 under p0.
 abbrev pub IsFiller : Insn → Type 0
 IsFiller i = (unit : ExecutionUnit) × (i ≡ record { qp = 0; op = Nop unit 0 })
 
@@ -36,16 +36,16 @@ IsHead at n = (k : ℕ) → k < n → (at k).bundle < (at n).bundle
 
 -- The program has the instructions of the sequence at these places.
 pub record IsSpread (sequence : InsnSequence) (p : Program) (at : ℕ → Place) : Type 0 where
-  -- each does the same there, and they are in order
+  -- Each does the same there, and they are in order.
   pub there : (n : ℕ) (i : Insn) → slice_get sequence.insns n ≡ Some i → (j : Insn) × (insn_at p.bundles (at n) ≡ Some j) × DoesLike i j
   pub rises : (n m : ℕ) → n < m → m < length sequence.insns → IsBefore (at n) (at m)
-  -- every other place has a nop
+  -- Every other place has a nop.
   pub fillers : (place : Place) (j : Insn) → insn_at p.bundles place ≡ Some j → ((n : ℕ) × (n < length sequence.insns) × (place ≡ at n)) ⊎ IsFiller j
-  -- the entries are the bundles of the sequence's entries, which are first there and declare the same
+  -- The entries are the bundles of the sequence's entries, which are first there and declare the same.
   pub entries : (bundle : ℕ) → IsEntry p bundle → (n : ℕ) × IsSequenceEntry sequence n × ((at n).bundle ≡ bundle) × IsHead at n
   pub sequence_entries : (n : ℕ) → IsSequenceEntry sequence n → IsEntry p (at n).bundle × IsHead at n
   pub known : (n : ℕ) → IsSequenceEntry sequence n → known_at_entry sequence.relations n ≡ known_at_entry p.relations (at n).bundle
-  -- the targets of branches are the bundles of the sequence's targets, which are first there
+  -- The targets of branches are the bundles of the sequence's targets, which are first there.
   pub targets : (bundle : ℕ) (n : ℕ) → n < length sequence.insns → HasEdge p (at n) Taken (first_of bundle)
       → (m : ℕ) × HasSequenceEdge sequence (first_of n) Taken (first_of m) × ((at m).bundle ≡ bundle) × IsHead at m
   pub sequence_targets : (n m : ℕ) → HasSequenceEdge sequence (first_of n) Taken (first_of m) → HasEdge p (at n) Taken (first_of (at m).bundle) × IsHead at m
