@@ -22,7 +22,7 @@ relations_above bundle p [] = []
 relations_above bundle p (q ∷ qs) =
     if nat_lt p q then record { bundle = bundle; p = p; q = q } ∷ relations_above bundle p qs else relations_above bundle p qs
 
--- those between each two of these predicates, the lower one first
+-- The relations of a bundle between each two of these predicates, the lower one first.
 abbrev pub relations_among : ℕ → List ℕ → List Relation
 relations_among bundle ps = flat_map (λ p. relations_above bundle p ps) ps
 

@@ -58,7 +58,7 @@ address_of labels name = lookup (is_at (slice_cmp nat_cmp name)) labels
 abbrev pub numbers_bytes : ℕ → List ℕ → List ℕ
 numbers_bytes size values = flat_map (λ v. take size (to_le_bytes w64 v)) values
 
--- the same with another section, open bundle, labels or data
+-- What lines say, with another section.
 abbrev pub turned : TextParts → Section → TextParts
 turned s section = record { section = section; current = s.current; bundles = s.bundles; entries = s.entries; relations = s.relations; labels = s.labels; bytes = s.bytes }
 

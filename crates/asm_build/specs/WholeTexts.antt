@@ -22,7 +22,7 @@ use Rattle.asm_build.specs.TemplateNames.{template_of}
 use Rattle.asm_build.specs.TextParts.{numbers_bytes}
 use Rattle.asm_build.specs.TextReading.{text_lines, Says, Reads}
 
--- Each line says its own of these, by itself.
+-- Each line of a text says its own value, by itself.
 abbrev pub AreSaid : List (List ℕ) → List Line → Type 0
 AreSaid [] [] = ⊤
 AreSaid (bytes ∷ lines) (value ∷ values) = Says bytes value × AreSaid lines values
@@ -43,7 +43,7 @@ abbrev pub line_entry : Line → List (List ℕ)
 line_entry (line.Entry name) = name ∷ []
 line_entry value = []
 
--- those on lines, in order
+-- The names of the labels that lines `.entry` have, in order.
 abbrev pub entries_in : List Line → List (List ℕ)
 entries_in lines = flat_map line_entry lines
 
@@ -141,7 +141,7 @@ pub record IsRelationSaid (lines : List Line) (r : Relation) : Type 0 where
   pub higher : Contains predicates r.q
   pub apart : r.p < r.q
 
--- Each relation comes before the next.
+-- Each relation comes before the next one.
 abbrev pub RelationsRise : List Relation → Type 0
 RelationsRise relations = (n : ℕ) → n < length relations → IsRelationBefore (relation_before relations n) (relation_at relations n)
 

@@ -27,7 +27,7 @@ numbered number = if number == NO_PLACE then None else Some (place_at number)
 abbrev pub no_slot : CodeSlot
 no_slot = record { work = Act (Idle unit.M); next = NO_PLACE; qp = 0; stop = false }
 
--- It says what the slot of a place in a bundle says.
+-- The code of a slot says what the slot of a place in a bundle says.
 pub record IsCodeSlotOf (bundle : ℕ) (slot : Slot) (d : CodeSlot) : Type 0 where
   pub action : action_of d.work ≡ slot.action
   pub target : HasTarget bundle d.work
@@ -35,7 +35,7 @@ pub record IsCodeSlotOf (bundle : ℕ) (slot : Slot) (d : CodeSlot) : Type 0 whe
   pub qp : d.qp ≡ slot.qp
   pub stop : d.stop ≡ slot.stop
 
--- It says what the slot at the place with this number says, where there is one.
+-- The code of a slot says what the slot at the place with this number says, where there is one.
 abbrev pub IsCodeSlot : List Bundle → ℕ → CodeSlot → Type 0
 IsCodeSlot bundles number d = (slot : Slot) → slot_at bundles (place_at number) ≡ Some slot → IsCodeSlotOf (place_at number).bundle slot d
 

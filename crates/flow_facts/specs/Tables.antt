@@ -117,7 +117,7 @@ dirty_count dirty = sum_by (λ (rows : ℕ). if rows == 0 then 0 else 1) dirty
 abbrev pub is_marked : List ℕ → ℕ → Bool
 is_marked words n = has_bit (slice_index_or words (n / BLOCK) 0) (n % BLOCK)
 
--- all words as one number
+-- The sum of all words, which is 0 exactly where no word has a mark.
 abbrev pub sum_of : List ℕ → ℕ
 sum_of words = sum_by (λ (w : ℕ). w) words
 

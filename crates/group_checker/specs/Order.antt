@@ -51,7 +51,7 @@ compare v w =
 abbrev pub Precedes : Violation → Violation → Type 0
 Precedes v w = compare v w ≡ Less
 
--- each is before all later ones
+-- Each violation is reported before all later ones.
 abbrev pub Rises : List Violation → Type 0
 Rises all = IsStrictlySortedBy compare all
 

@@ -50,7 +50,7 @@ gathered_of g = record {
 abbrev pub state_of : Gathering → State
 state_of g = record { registers = g.registers; memory = memory_of g.in_order; place = g.place }
 
--- With the write of a frame that comes first made before all other writes.
+-- What is gathered, with the write of a frame that comes first made before all other writes.
 abbrev pub with_frame_ahead : Gathered → Gathered
 with_frame_ahead g = record g { base = apply (frame_ahead g.writes) g.base; frames = frame_changes (frame_ahead g.writes); writes = after_frame g.writes }
 

@@ -40,7 +40,7 @@ pub record Kept : Type 0 where
   pub writes : List Write
   pub latest : BranchInputs
 
--- With more writes.
+-- What is kept, with more writes.
 abbrev pub keeping : List Write → Kept → Kept
 keeping ws k = record { writes = k.writes ++ ws; latest = branch_inputs_after ws k.latest }
 

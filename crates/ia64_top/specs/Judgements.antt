@@ -29,6 +29,6 @@ pub record PrintsClashes (p : Program) (bytes : List ℕ) : Type 0 where
   pub exact : IsReport p report
   pub printed : bytes ≡ verdict_text (Violations report)
 
--- Those of a verdict with violations.
+-- The bytes and the status are those of a verdict with violations.
 abbrev pub IsJudgedViolated : Program → List ℕ → Status → Type 0
 IsJudgedViolated p bytes status = IsJudgement p bytes status × (status ≡ Violated)

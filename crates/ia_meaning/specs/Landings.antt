@@ -49,7 +49,7 @@ landing p x =
     if nat_le (bundle_address 0) x && is_entry p ((x - bundle_address 0) / 16) then Some ((x - bundle_address 0) / 16)
     else None
 
--- Both predicates of a relation are 1 in the first sixteen.
+-- Both predicates of a relation are 1 among the first sixteen predicates.
 abbrev pub are_both_one : List Bool → Relation → Bool
 are_both_one low r = get_or low r.p false && get_or low r.q false
 

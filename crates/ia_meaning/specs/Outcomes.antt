@@ -14,11 +14,11 @@ pub record Outcome : Type 0 where
   pub spills : Option (ℕ × Bool)
   pub next : Next
 
--- It writes and falls through.
+-- The slot writes and falls through.
 abbrev pub falls : List Write → Memory → Outcome
 falls ws m = record { writes = ws; memory = m; spills = None; next = Falls }
 
--- It writes and takes a branch to a bundle.
+-- The slot writes and takes a branch to a bundle.
 abbrev pub goes : List Write → Memory → ℕ → Outcome
 goes ws m bundle = record { writes = ws; memory = m; spills = None; next = Goes bundle }
 

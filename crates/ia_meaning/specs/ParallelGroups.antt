@@ -101,7 +101,7 @@ pub record GatheredGroup : Type 0 where
 abbrev pub ends_with : Gathered → Place → How → Option End → GatheredGroup
 ends_with g last h e = record { all = g; last = last; slots = 1; how = Some h; end = e }
 
--- With one slot more at its front.
+-- A group with one slot more at its front.
 abbrev pub one_more : GatheredGroup → GatheredGroup
 one_more rest = record rest { slots = suc rest.slots }
 

@@ -132,7 +132,7 @@ abbrev pub events_further : ℕ → Program → Progress → List GroupEvent
 events_further zero p m = []
 events_further (suc n) p m = unless_ended m.end (event_further p m ∷ events_further n p (group_further p m))
 
--- Those of a run from its beginning are those of the whole run.
+-- The events of a run from its beginning are those of the whole run.
 abbrev pub EventsAreOfRun : Type 0
 EventsAreOfRun =
     (n : ℕ) (p : Program) (s : State) → IsProgram p → IsPlaceOf p.bundles s.place
@@ -143,7 +143,7 @@ abbrev pub frames_further : ℕ → Program → Progress → List (ℕ × ℕ)
 frames_further zero p m = []
 frames_further (suc n) p m = unless_ended m.end (group_frames p m ++ frames_further n p (group_further p m))
 
--- Those of a run from its beginning are those of the whole run.
+-- The frame changes of a run from its beginning are those of the whole run.
 abbrev pub FramesAreOfRun : Type 0
 FramesAreOfRun =
     (n : ℕ) (p : Program) (s : State) → IsProgram p → IsPlaceOf p.bundles s.place
@@ -157,7 +157,7 @@ run_text run = state_text run.end (length run.events) (range_of zero_range run.f
 abbrev pub progress_text : Progress → List ℕ
 progress_text m = state_text (end_of m) m.groups m.range m.state
 
--- Both print the same.
+-- A run under way, from its beginning, prints the same as the whole run.
 abbrev pub ProgressTextIsRunText : Type 0
 ProgressTextIsRunText =
     (n : ℕ) (p : Program) (s : State) → IsProgram p → IsPlaceOf p.bundles s.place

@@ -42,7 +42,7 @@ pub record Memory : Type 0 where
   pub bytes : List ℕ
   pub alat : List AlatEntry
 
--- With the place of the next slot.
+-- A state: registers, memory, and the place of the next slot.
 pub record State : Type 0 where
   pub registers : Registers
   pub memory : Memory

@@ -75,7 +75,7 @@ application_lines r =
 abbrev pub data_line : List ℕ → ℕ → List ℕ
 data_line bytes n = word_line (codes "m " ++ word_text (data_base + 8 * n)) (loaded bytes (data_base + 8 * n) 8)
 
--- Each word of the data that isn't 0.
+-- The lines of the words of the data that aren't 0.
 abbrev pub data_lines : List ℕ → List ℕ
 data_lines bytes = flat_map (data_line bytes) (count_up 0 (length bytes / 8))
 
@@ -99,6 +99,6 @@ parts_text end groups range r m =
     ++ br_lines r ++ application_lines r
     ++ data_lines m.bytes ++ entry_lines m.alat
 
--- That of a state, whose place isn't printed.
+-- The printed state: its end, its number of groups and its parts. The place of the next slot isn't printed.
 abbrev pub state_text : End → ℕ → Rse → State → List ℕ
 state_text end groups range s = parts_text end groups range s.registers s.memory

@@ -24,7 +24,7 @@ pub record Bundle : Type 0 where
 abbrev pub IsBundle : Bundle → Type 0
 IsBundle b = FitUnits (units_of b.template) b.slots
 
--- Each of them is one.
+-- Each of the bundles has instructions that fit its template.
 abbrev pub AreBundles : List Bundle → Type 0
 AreBundles bundles = (n : ℕ) → IfSome (slice_get bundles n) IsBundle
 

@@ -125,7 +125,7 @@ pub record IsCountBelow (relations : List Relation) (bundle count : ℕ) : Type 
 abbrev pub relations_at : List Relation → ℕ → List Relation
 relations_at relations bundle = filter (λ r. r.bundle == bundle) relations
 
--- Each of them is a byte.
+-- Each of the numbers is a byte.
 abbrev pub AreBytes : List ℕ → Type 0
 AreBytes bytes = (i : ℕ) → slice_index bytes i < 256
 

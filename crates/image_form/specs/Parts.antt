@@ -110,7 +110,7 @@ pub record HasHead (v : Version) (bytes : List ℕ) : Type 0 where
   pub counts : AreCountsOf v bytes
   pub size : length bytes ≡ image_length bytes
 
--- That head, as it was read.
+-- The head that the bytes have, as it was read.
 pub record IsHeadOf (bytes : List ℕ) (head : Head) : Type 0 where
   pub right : HasHead head.version bytes
   pub bundles : head.bundle_count ≡ bundle_count bytes

@@ -19,7 +19,7 @@ pub record Contents : Type 0 where
 abbrev pub zero_contents : List ℕ → Contents
 zero_contents bytes = record { registers = zero_registers; memory = record { bytes = bytes; alat = [] }; range = zero_range }
 
--- Its register stack.
+-- What the machine's register stack holds.
 abbrev pub stack_of : Contents → StackState
 stack_of c = record { cells = c.registers.cells; frame = c.registers.frame; range = c.range; limit = STACK_LIMIT }
 

@@ -194,7 +194,8 @@ jump = plain (op.BrInd 1 0 false false)
 abbrev pub moved_branch : Program
 moved_branch = mib (plain (op.Nop M 0)) (plain (op.MovToBr 1 1 false false 0 (pos 0))) jump
 
--- It lands on bundle 0; by the group's start, where b1 is 0, it would land nowhere.
+-- A branch by b1, which becomes the address in r1 in its group, lands on bundle 0. By the group's start, where b1 is 0, it would
+-- land nowhere.
 abbrev pub BranchRegister : Type 0
 BranchRegister =
     ((par_group moved_branch [] (start moved_branch (cell 0x10000))).how ≡ Some Taken)

@@ -38,7 +38,7 @@ resident_cell ring c = get_or ring (c % 96) zero_cell
 unfoldable pub held_cell : List Cell → List ℕ → ℕ → ℕ → Cell
 held_cell ring region low c = if nat_lt c low then spilled_cell region c else resident_cell ring c
 
--- All of its cells.
+-- All cells of a stack whose first resident one is `low`.
 unfoldable pub cells_of : List Cell → List ℕ → ℕ → ℕ → List Cell
 cells_of ring region low high = map (held_cell ring region low) (range_with_len 0 high)
 

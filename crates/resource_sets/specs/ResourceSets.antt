@@ -21,7 +21,7 @@ unfoldable pub numbered : (ℕ → Resource) → (left n : ℕ) → List Resourc
 numbered sort zero n = []
 numbered sort (suc left) n = sort n ∷ numbered sort left (suc n)
 
--- those that have no number
+-- The resources that have no number.
 abbrev pub others : List Resource
 others = Unat ∷ Pfs ∷ Lc ∷ Ec ∷ Cfm ∷ []
 

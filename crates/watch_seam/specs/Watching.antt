@@ -8,7 +8,7 @@ use Rattle.watch_seam.specs.Watchers.{WatchState, after, is_full, line, report_t
 abbrev pub AwaitsGroups : WatchState → Type 0
 AwaitsGroups w = w.groups < w.fill
 
--- All of them are still to see groups.
+-- All of the watchers are still to see groups.
 abbrev pub AwaitGroups : List WatchState → Type 0
 AwaitGroups ws = All AwaitsGroups ws
 
@@ -41,7 +41,7 @@ numbered_report w = line (codes "watch " ++ decimal w.0) ++ report_text w.1
 abbrev pub reports_after : GroupEvent → List Numbered → List ℕ
 reports_after e ws = flat_map numbered_report (filter has_seen_all (map (sees e) ws))
 
--- Those that see the next group too.
+-- The watchers that see the next group too.
 abbrev pub left_after : GroupEvent → List Numbered → List Numbered
 left_after e ws = filter sees_more (map (sees e) ws)
 
