@@ -161,7 +161,7 @@ pub fn ia64<S: Source, K: Sink>(
     ensures not_run { RanNothing result → watchers.new ≡ watchers.old }
     ensures not_run_in_part { result ≡ Status.WriteFault → IfSome (S.left source.old) (λ input. IsNotRun input → watchers.new ≡ watchers.old) }
 
-    // Those that stay are still to see groups, so the list may be handed in again.
+    // The watchers that stay are still to see groups, so the list may be handed in again.
     ensures still_room { result ≢ Status.NoMemory → AwaitGroups (map (λ b. state b) watchers.new.items) }
 
     // Where memory ran out in the run, one number tells what all watchers have seen: that many groups, or one more.

@@ -72,7 +72,7 @@ pub enum Condition {
         four_bytes: bool,
         rel: Rel,
     },
-    /// The same of an immediate and the second.
+    /// The relation of an immediate and the second register or, where `four_bytes` is set, of their low four bytes.
     CompareImmediate {
         four_bytes: bool,
         rel: Rel,

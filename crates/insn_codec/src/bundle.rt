@@ -140,7 +140,7 @@ pub fn encode_bundle(bundle: &BundleOf) -> [u8; 16]
     // The bundle has these bytes.
     ensures spelled { IsSpelled bundle.now result }
 
-    // It has no others, so what was decoded comes back.
+    // The bundle has no other bytes, so what was decoded comes back.
     ensures only { (bytes : List ℕ) → IsSpelled bundle.now bytes → bytes ≡ result }
 {
     one_spelling();

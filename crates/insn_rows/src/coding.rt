@@ -79,7 +79,7 @@ fn signed_within(number: u64, width: u32) -> i64
     }
 }
 
-/// The same, of at most 16 bits.
+/// The signed number whose two's complement of `width` bits this is, at most 16.
 #[tactic(auto, using(crate::proofs::Numbers::wider))]
 fn short_within(number: u64, width: u32) -> i16
     requires some { 1 ≤ width }
@@ -90,7 +90,7 @@ fn short_within(number: u64, width: u32) -> i16
     signed_within(number, width) as i16
 }
 
-/// The same, of at most 32 bits.
+/// The signed number whose two's complement of `width` bits this is, at most 32.
 #[tactic(auto, using(crate::proofs::Numbers::wider))]
 fn displacement_within(number: u64, width: u32) -> i32
     requires some { 1 ≤ width }

@@ -45,7 +45,7 @@ pub enum Coding {
     PredicateMask,
     /// A signed number in two's complement.
     Signed,
-    /// The same, of which the 16 low bits are zeros and left out.
+    /// A signed number in two's complement, of which the 16 low bits are zeros and left out.
     RotatingMask,
     /// A signed number of up to 16 bits, in two's complement.
     Short,

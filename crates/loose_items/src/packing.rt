@@ -101,7 +101,7 @@ impl PlainPacking {
         }
     }
 
-    /// That with one instruction more.
+    /// The packing with one instruction more.
     pub fn with(&self, item: &Item) -> Self
         requires { self.now.bundles ≤ BUNDLE_LIMIT }
         ensures { (items : List ItemOf) → IsPacked items (held self.now.held) self.now.before self.now.bundles → IsPacked (items ++ item.now ∷ []) (held result.held) result.before result.bundles }

@@ -80,7 +80,7 @@ impl Facts {
         Facts { rows }
     }
 
-    /// The same set and this pair, in both orders; (x, x) is also (x, p0).
+    /// The set with this pair too, in both orders; (x, x) is also (x, p0).
     pub fn plus(&self, x: Pr, y: Pr) -> Facts
         ensures { pairs_of result ≡ with_pair (pairs_of self.now) x y }
     {
@@ -101,7 +101,8 @@ impl Facts {
         self.after_action(&action_of(&insn.op), insn.qp, edge)
     }
 
-    /// The same after an instruction of this action under this qualifying predicate.
+    /// What is known after an instruction of this action under this qualifying predicate, from what is known before it, where
+    /// control goes on along the edge.
     #[inline(never)]
     pub fn after_action(&self, action: &Action, qp: Pr, edge: Edge) -> Facts
         ensures { pairs_of result ≡ pairs_by (pairs_of self.now) (action_rule action.now edge qp) }

@@ -82,7 +82,7 @@ pub fn place_stops(alloc: Global, text: &[u8]) -> Result<Packed, TextError>
     // The program has no violation.
     ensures accepted { IfOk result (λ k. HasNoViolation k.program) }
 
-    // It has the text's instructions, in order, with their targets put in, and nops beside them.
+    // The program has the text's instructions, in order, with their targets put in, and nops beside them.
     ensures keeps { IfOk result (KeepsText text.now) }
 {
     one_placed();

@@ -10,9 +10,9 @@ use std::alloc::AllocError;
 /// Whether a watcher sees the next group too.
 #[derive(Clone, Copy, Debug, PartialEq, Eq)]
 pub enum Keep {
-    /// It does.
+    /// The watcher sees the next group too.
     Stay,
-    /// It has seen as many groups as it is to see.
+    /// The watcher has seen as many groups as it is to see.
     Full,
 }
 
