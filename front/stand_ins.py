@@ -1,7 +1,7 @@
 """Stand-ins: in the place of an instruction outside the profile one of the profile, of which a verdict is the same.
 
 A violation rests on the registers that two slots read and write, on the ways that a walk may go, and on what compares and
-branches tell of predicates (docs/use/formats.md, "Violations"). A stand-in has all of this from the instruction that it stands in
+branches tell of predicates (docs/use/commands.md, "Violations"). A stand-in has all of this from the instruction that it stands in
 for: the guard, the ways on, the kind of a compare, and the reads and writes of general registers, predicates, branch registers
 and the application registers that the profile has. So the verdict on a function with stand-ins is right in all that it speaks
 of. What the profile has no registers for, a stand-in doesn't look at, and its row says what that is (`Row.unseen`).

@@ -15,7 +15,7 @@ TEXT, DATA = re.compile(r"\.text#?$"), re.compile(r"\.data#?$")
 # Directives and lines of data begin so; an instruction is any other line that is no label.
 OUTSIDE = re.compile(r"\.|data[1248]\b")
 
-# What the reasons of a refused text mean, in few words; docs/use/formats.md, "Faults of a text", has them whole.
+# What the reasons of a refused text mean, in few words; docs/use/text.md, "Faults of a text", has them whole.
 REASONS = {
     "char": "a byte that isn't a tab or one of 0x20 to 0x7e",
     "name": "the leading word begins no line",

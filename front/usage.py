@@ -55,7 +55,7 @@ Programs, texts or images, from a FILE or from standard input:
   build, wrap, lift and draw into a file
 
 What is asked of standard input alone is answered by the proved program as it is. Files are read by the part that isn't proved,
-which asks that program. docs/use/README.md says where to begin, and docs/use/formats.md what each answer and status means.
+which asks that program. docs/use/README.md says where to begin, and docs/use/commands.md what each answer and status means.
 """
 
 # The commands that take a file in place of standard input, with the numbers that their calls show.

@@ -1,4 +1,4 @@
-"""Calls the program, and compares its answers with docs/use/formats.md and with each other. It is imported, and not called."""
+"""Calls the program, and compares its answers with docs/use/commands.md and with each other. It is imported, and not called."""
 
 import collections
 import os

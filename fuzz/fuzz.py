@@ -1,5 +1,5 @@
 #!/usr/bin/env python3
-"""Looks for inputs on which the built program doesn't keep docs/use/formats.md.
+"""Looks for inputs on which the built program doesn't keep docs/use/commands.md.
 
   fuzz/fuzz.py [--program FILE] [--seed S] [--cases N] [--processes P]
   fuzz/fuzz.py --only N [--keep FOLDER]    runs one case, prints each call, and keeps each input in the folder

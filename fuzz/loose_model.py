@@ -1,6 +1,6 @@
 """A model of `ia64 stops`: what it prints of a right loose text. It is imported, and not called.
 
-It is written apart and slow, and follows "How instructions are packed" of docs/use/formats.md word by word. Of the rest it asks the
+It is written apart and slow, and follows "How instructions are packed" of docs/use/text.md word by word. Of the rest it asks the
 built program, by other commands than `stops`: which slots an instruction fits (`build`), the canonical text (`show`), and whether
 a rule is broken (`check`).
 

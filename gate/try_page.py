@@ -38,7 +38,7 @@ FENCED = re.compile(r"^```.*?^```$", re.S | re.M)
 HEADING = re.compile(r"^(?P<marks>#+) (?P<words>.*)$", re.M)
 REFUSAL = re.compile(r"ia64: '\w+' refused its input; the reason went to standard output\n")
 
-# The statuses of answers, as docs/use/formats.md has them under "Exit statuses", but for those of refusals.
+# The statuses of answers, as docs/use/commands.md has them under "Exit statuses", but for those of refusals.
 ANSWERS = (0, 1, 8, 9)
 
 

@@ -13,7 +13,7 @@ use=$root/docs/use
 try "$use/check.md" "$use/stops.md" "$use/wrong_groups.md" "$root/examples/lessons/README.md"
 try --section 'Running a program' --section 'Following a run' --section 'Where does a program spend its groups?' "$use/run.md"
 try --section 'See it' "$use/teach.md"
-try --section 'Exit statuses' "$use/formats.md"
+try --section 'Exit statuses' "$use/commands.md"
 try --answers --section 'Programs of a stated size' "$use/run.md"
 try --answers --section 'A tour of the examples' "$use/teach.md"
 if type -P ia64-linux-gnu-objcopy > /dev/null; then

@@ -649,7 +649,7 @@ refused 'counts' check "$(front 40 39 4097)$entries$all$first$second$code"
 refused 'relation 4095' check "$(front 40 39 4096)$entries$all$(relation 38 1 2)$code"
 
 # NAME TEXT WANTED: `stops` packs the loose text, given as printf takes it, into just these bytes, given so too; and what it
-# prints keeps what docs/use/formats.md says: `check` accepts it, `build` takes it, and `show` of that is the text without the
+# prints keeps what docs/use/text.md says: `check` accepts it, `build` takes it, and `show` of that is the text without the
 # lines of stops.
 try_stops() {
   printf "$2" > "$dir/loose"

@@ -3,7 +3,7 @@
 
   gate/try_streams.py [PROGRAM]    PROGRAM is the built one of this repository where none is named
 
-What is wanted is what docs/use/formats.md says: "Words and statuses", "Streams, signals and memory".
+What is wanted is what docs/use/commands.md says: "Words and statuses", "Streams, signals and memory".
 
 What this machine gives no leave for, as a mount, is skipped, and the closing line says so.
 """

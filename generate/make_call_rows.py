@@ -10,7 +10,7 @@ It runs in any folder, and needs nothing but Python 3.8 and the files of this re
 The head of `crates/vectors/src/main.rt` says what a row is; here, a `Row`. An input or an output is pieces: a text, bytes, or so
 many times one.
 
-What is wanted is never the program's own output. The cases that are written here are worked by hand from docs/use/formats.md. It
+What is wanted is never the program's own output. The cases that are written here are worked by hand from docs/use/commands.md. It
 says how a bundle, an image and a text are made, which status comes, and how much of the input is read then. The others are of
 files of this repository. The comment of an example says what `run` or `check` prints, and a text of tests/check/ has its verdict
 beside it, both worked by hand. A text of tests/run/ has its state beside it. A model gave that which was written apart, as it

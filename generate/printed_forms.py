@@ -1,4 +1,4 @@
-"""The forms of what the program prints, each once, as docs/use/formats.md has them. It is imported, and not called.
+"""The forms of what the program prints, each once, as docs/use/commands.md has them. It is imported, and not called.
 
 A form is a regular expression of the whole output (`FORMS`). Beside it stands what a text of such a form has to keep besides:
 what rises in it, and which of its numbers go together.

@@ -1,7 +1,7 @@
 """The slots that one group of a run reaches, and the writes that they have, in program order.
 
 Both are told by the texts of the slots, which `ia64 list` prints, by the states before the group and behind it, which
-`ia64 groups G-1 0` and `ia64 groups G 0` print, and by the table of docs/use/formats.md, "Groups all at once". What these don't
+`ia64 groups G-1 0` and `ia64 groups G 0` print, and by the table of docs/use/commands.md, "Groups all at once". What these don't
 tell isn't guessed: a fault says what it is.
 
 An order of m writes is a list of their numbers, from 0 and in program order, as they are made. The number K stands for one:

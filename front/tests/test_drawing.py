@@ -409,9 +409,9 @@ class WhatIsAccessed(unittest.TestCase):
             self.assertEqual(found, {"RAW": (said.reads - said.seen) & set(names), "WAW": said.writes & set(names)}, text)
 
     def test_the_examples_have_every_mnemonic(self):
-        """Those of the tables of docs/use/formats.md, but for pseudo-operations."""
-        formats = (ROOT / "docs" / "use" / "formats.md").read_text()
-        tables = formats.split("### Mnemonics and operands")[1].split("**Without a unit letter**")[0]
+        """Those of the tables of docs/use/text.md, but for pseudo-operations."""
+        page = (ROOT / "docs" / "use" / "text.md").read_text()
+        tables = page.split("## Mnemonics and operands")[1].split("**Without a unit letter**")[0]
         wanted = {re.match(r"[a-z]+", word)[0] for row in re.findall(r"^\| (`.*?) \|", tables, re.M)
                   for word in re.findall(r"`([a-z][^`]*)`", row)} - {"r"}                    # of `with r1=r3`
         known = {re.match(r"[a-z]+", re.sub(r"^\(p\d+\) ", "", text))[0] for _, text in probes.examples()}

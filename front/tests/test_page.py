@@ -452,9 +452,9 @@ class Scripts(unittest.TestCase):
             self.assertIn(said, said_of_it)
 
     def test_rows_of_a_state(self):
-        """So many rows of a state are shown as docs/use/formats.md says."""
+        """So many rows of a state are shown as docs/use/files.md says."""
         most = re.search(r"MOST_ROWS = (\d+)", (ROOT / "front" / "page" / "stepping.js").read_text())[1]
-        self.assertIn(f"Of a state at most {most} rows are shown", (ROOT / "docs" / "use" / "formats.md").read_text())
+        self.assertIn(f"Of a state at most {most} rows are shown", (ROOT / "docs" / "use" / "files.md").read_text())
 
     def test_addresses_slot_by_slot(self):
         """A bundle that was taken apart has its address by its first slot; what is in another place than a branch register is

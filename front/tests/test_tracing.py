@@ -187,8 +187,8 @@ class Groups(Traced):
                                        "    r9 (ret1)   0x0 -> 0xffffffffffffffff (-1)", "    r10 (ret2)  0x0 -> 0x2"])
 
     def test_faults(self):
-        """Each kind of fault is told with what it means, and docs/use/formats.md has the same kinds."""
-        page = (ROOT / "docs/use/formats.md").read_text()
+        """Each kind of fault is told with what it means, and docs/use/commands.md has the same kinds."""
+        page = (ROOT / "docs/use/commands.md").read_text()
         table = re.search(r"(?s)\nThe kinds of faults\..*?\n\n(\|.*?)\n\n", page)[1]
         self.assertEqual(list(lines.FAULTS), re.findall(r"(?m)^\| `(\w+)` \|", table))
         for path in sorted((ROOT / "tests" / "run").glob("fault_*.s")):

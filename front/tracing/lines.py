@@ -19,7 +19,7 @@ from front.usage import GROUP_LIMIT
 # What a branch or a check is called that was taken, by how its word begins.
 TURNS = (("br.call", "a call of"), ("br.ret", "a return to"), ("chk", "a check to"), ("br", "a branch to"))
 
-# What the kinds of faults mean; docs/use/formats.md, "The printed state", has them whole.
+# What the kinds of faults mean; docs/use/commands.md, "The printed state", has them whole.
 FAULTS = {
     "OutOfFrame": "a general register outside the frame is named",
     "NatConsumed": "a register with NaT is used where none may be",

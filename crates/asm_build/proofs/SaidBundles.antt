@@ -20,11 +20,11 @@ use Rattle.asm_build.specs.TextParts.{TextParts, after, value_stages, closed_of,
 use Rattle.asm_build.specs.WholeTexts.{SlotSaid, is_stopped, slots_in, bundles_in}
 use Rattle.asm_build.proofs.SaidLines.{Follow}
 
--- a slot line as it is said
+-- A slot line as it is said.
 abbrev said : SlotLine → SlotSaid
 said l = record { insn = l.insn; target = l.target; stop = l.stop }
 
--- and where a stop may follow it on the next lines
+-- A slot line as it is said where a stop may follow it on the next lines.
 abbrev said_before : SlotLine → List Line → SlotSaid
 said_before l rest = record { insn = l.insn; target = l.target; stop = is_stopped rest || l.stop }
 

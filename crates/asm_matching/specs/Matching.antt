@@ -18,13 +18,13 @@ abbrev pub is_stop_next : List Token → Bool
 is_stop_next [] = false
 is_stop_next (x ∷ xs) = is_stop x
 
--- on how many tokens at the front the items agree
+-- How many tokens at the front the items agree on.
 abbrev pub agreed_items : List FormItem → List Token → ℕ
 agreed_items [] tokens = 0
 agreed_items (i ∷ is) [] = 0
 agreed_items (i ∷ is) (x ∷ xs) = if accepts i x then agreed_items is xs + 1 else 0
 
--- and on a stop too where it stands after all of them
+-- How many tokens a form's items agree on, and one more where all of them agree and a stop follows.
 unfoldable pub agreed : List FormItem → List Token → ℕ
 agreed items tokens =
     let at = agreed_items items tokens in

@@ -50,7 +50,7 @@ label_missing line [] [] few = refl
 label_missing line (i ∷ is) [] few = refl
 label_missing line is (w ∷ ws) few = absurd (omega (arith, few))
 
--- and is among the lexemes after one at another item
+-- The name of the label is among the lexemes behind one that is another item's.
 pub label_later : (line : List ℕ) (is : List FormItem) (ws rest : List Lexeme) (k : ℕ) (d : FormItem) → k < length is → 1 ≤ length ws → is_label_item (get_or is k d) ≡ false → rest ≡ drop 1 ws
     → label_name (drop (k + 1) is) (texts line rest) ≡ label_name (drop k is) (texts line ws)
 label_later line is [] rest k d there some other e = absurd (omega (arith, some))

@@ -121,7 +121,7 @@ pub record IsBetweenSlots (k slot upto : ℕ) (x : Place) : Type 0 where
   pub above : slot ≤ x.slot
   pub below : x.slot < upto
 
--- those from the one on and before the other
+-- The places of a bundle from one slot on and before another one.
 pub within_one : (k slot other : ℕ) (x : Place) → ¬ IsBefore x (in_bundle k slot) → IsBefore x (in_bundle k other) → IsBetweenSlots k slot other x
 within_one k slot other x from below =
     let bundle : x.bundle ≡ k = grind arith in
@@ -129,7 +129,8 @@ within_one k slot other x from below =
     let less : x.slot < other = grind arith in
     record { bundle = bundle; above = above; below = less }
 
--- or in the next bundle before the first
+-- The places from a slot on and before a slot of the next bundle: behind the first in its bundle, or in the next one before the
+-- second.
 within_two : (k slot other : ℕ) (x : Place) → ¬ IsBefore x (in_bundle k slot) → IsBefore x (in_bundle (suc k) other)
     → ((x.bundle ≡ k) × (slot ≤ x.slot)) ⊎ ((x.bundle ≡ suc k) × (x.slot < other))
 within_two k slot other x from (inl less) =

@@ -1,4 +1,5 @@
-//! The rows of the M instructions (volume 3, chapter 4, instruction formats, M1 to M5, M16, M17 and M20 to M48, and the tables of opcodes).
+//! The rows of the M instructions (volume 3, chapter 4, instruction formats, M1 to M5, M16, M17 and M20 to M48, and the tables of
+//! opcodes).
 
 use ia_insn::{Ar, LoadKind, StoreKind, Unit};
 use insn_rows::{Opcode, Row, UpdateKind, row};

@@ -54,7 +54,7 @@ take_room n xs ys zs l e =
 pub shown_more : {A : Type 0} (n : ℕ) (xs zs : List A) (x : A) → length xs < n → zs ≡ xs ++ x ∷ [] → zs ≡ take n (xs ++ x ∷ [])
 shown_more n xs zs x l e = e ∙ sym (take_all n (xs ++ x ∷ []) (omega (arith, length-append xs (x ∷ []))))
 
--- and none where there is none
+-- No violation more is shown where there is no room.
 pub shown_full : {A : Type 0} (n : ℕ) (xs : List A) (x : A) → length xs ≤ n → n ≤ length xs → xs ≡ take n (xs ++ x ∷ [])
 shown_full n xs x l m = take_room n xs (x ∷ []) xs l (let none : n - length xs ≡ 0 = omega arith in rw none (sym (append-nil xs)))
 
@@ -200,7 +200,7 @@ pair_listed g has_stop es j n e b at all =
     nth : (v : Violation) → IsPair e.place j v → IsNthPair es n j v
     nth v pair = record { slot = e; at = at; pair = pair }
 
--- and of one that breaks no rule
+-- What is reported stays with a pair of slots that breaks no rule.
 pub pair_apart : (p : Program) (r : Report) (es : List EarlierSlot) (j : Place) (n bound : ℕ) → ((v : Violation) → IsNthPair es n j v → ¬ Violates p v) → HasReported p r (IsEarlierPair es j n) bound → HasReported p r (IsEarlierPair es j (n + 1)) (bound + pair_bound)
 pair_apart p r es j n bound none u = retold p r (IsEarlierPair es j n) (IsEarlierPair es j (n + 1)) bound (bound + pair_bound) (omega arith) wider less u
   where
@@ -223,7 +223,7 @@ none_of_second p r es j bound u = retold p r (IsEarlier j) (IsEarlierPair es j 0
     of v (inl h) = h
     of v (inr h) = absurd (omega (arith, h.1.below))
 
--- and past the last
+-- Past the last slot of the window all violations with one second slot are reported.
 pub second_reported : (p : Program) (r : Report) (es : List EarlierSlot) (j : Place) (bound : ℕ) → IsWindow (over_program p) (is_stopped p.bundles) es j → HasReported p r (IsEarlierPair es j (length es)) bound → HasReported p r (IsUpTo j) bound
 second_reported p r es j bound win u = retold p r (IsEarlierPair es j (length es)) (IsUpTo j) bound bound (omega arith) (λ v x h. less v h) more u
   where

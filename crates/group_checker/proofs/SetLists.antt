@@ -144,7 +144,7 @@ resources_rise s =
       | inr k ↦ last p Br 8 (λ m. (refl, (refl, (refl, (refl, (refl, tt)))))) x y k d
     ])
 
--- it has what the set has
+-- The list has what the set has.
 module _ (s : ResourceSet) where
   abbrev of : List Resource → List Resource
   of all = filter (has_resource s) all
@@ -175,7 +175,7 @@ module _ (s : ResourceSet) where
   in_resources Ec h = in_last Ec (3, omega arith, refl) h
   in_resources Cfm h = in_last Cfm (4, omega arith, refl) h
 
--- and nothing else
+-- The list has nothing but what the set has.
 pub from_resources : (s : ResourceSet) (q : Resource) → Contains (resources_in s) q → has_resource s q ≡ true
 unfolding resources_in
 from_resources s q c =

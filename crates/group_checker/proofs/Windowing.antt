@@ -83,12 +83,12 @@ pub record Joins (g : Graph) (has_stop : Place → Bool) (j next : Place) : Type
 goes_there : (g : Graph) (has_stop : Place → Bool) (j next : Place) (w : Walk) → Joins g has_stop j next → EndsIn g j w → EndsIn g next (goes_on w Falls next)
 goes_there g has_stop j next w join there = record { walks = (there.walks, subst (λ (k : Place). IsEdgeIn g k Falls next) (sym there.ends) join.edge); ends = refl }
 
--- then its group has the place too
+-- The group of a walk that goes on within it has the place that it comes from.
 goes_group : (g : Graph) (has_stop : Place → Bool) (j next : Place) (w : Walk) → Joins g has_stop j next → EndsIn g j w → group_since has_stop (goes_on w Falls next) ≡ j ∷ group_since has_stop w
 goes_group g has_stop j next w join there =
     falls_group has_stop w next (ap (λ (k : Place). has_stop k) there.ends ∙ join.unstopped) ∙ ap (λ (k : Place). k ∷ group_since has_stop w) there.ends
 
--- and it knows what is known past the instruction
+-- A walk that goes on along a fall knows what is known past the instruction.
 goes_facts : (g : Graph) (j next : Place) (w : Walk) → EndsIn g j w → facts_in g (goes_on w Falls next) ≡ pairs_past_in g j Falls (facts_in g w)
 goes_facts g j next w there = ap (λ (k : Place). pairs_past_in g k Falls (facts_in g w)) there.ends
 
@@ -96,7 +96,7 @@ goes_facts g j next w there = ap (λ (k : Place). pairs_past_in g k Falls (facts
 passed_before : (g : Graph) (has_stop : Place → Bool) (j next i : Place) (w : Walk) (b : Came g has_stop j next w) → Contains (group_since has_stop w) i → (j ≡ i) ⊎ Contains (group_since has_stop b.before) i
 passed_before g has_stop j next i w b c = cases_in j i (group_since has_stop b.before) (subst (λ (l : List Place). Contains l i) b.group c)
 
--- so it is of a walk through an earlier slot, which passes that slot before
+-- A walk through an earlier slot that goes on passed that slot before.
 through_before : (g : Graph) (has_stop : Place → Bool) (j next i : Place) (w : Walk) → Joins g has_stop j next → IsBefore i j → IsThrough g has_stop i next w → (b : Came g has_stop j next w) × IsThrough g has_stop i j b.before
 through_before g has_stop j next i w join low h =
     let b = came g has_stop j next w i join.is (falls_next g j next join.edge) h.there h.inside in (
@@ -124,7 +124,7 @@ old_walks g has_stop j next i join low = record {
   back = λ w h. let (b, t) = through_before g has_stop j next i w join low h in (b.before, t, b.facts);
 }
 
--- and so do those that end at the slot itself
+-- The walks that end at the slot itself go on.
 new_walks : (g : Graph) (has_stop : Place → Bool) (j next : Place) → Joins g has_stop j next → GoOn g j (EndsIn g j) (IsThrough g has_stop j next)
 new_walks g has_stop j next join = record {
   on = λ w h. (
@@ -261,7 +261,7 @@ written_old g j mask old new e m a b is masks adv low win on = subst (IsWritten 
   ];
 })
 
--- and from the slot that is left on
+-- What may be written from the slot that is left on.
 written_new : (g : Graph) (j : Place) (mask : ℕ) (old new : List EarlierSlot) (e : EarlierSlot) → e.place ≡ j → IsGuardMask mask (accesses_at g j) → HasAdvanced g j mask old new (length old) → IsWritten g (new ++ e ∷ []) (length new) mask
 written_new g j mask old new e is masks adv = record {
   has = λ guard l h. elim (writer_on g j mask old new e (length new) guard is adv h) [

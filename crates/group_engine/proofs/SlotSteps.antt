@@ -66,13 +66,13 @@ module _ (p : Program) (begins first : Bool) (g next : Gathered) (slot : Slot) (
   fell_off falls none most =
       fell p begins g h.of.insn does h.of.here (sym h.does.value) most falls (ap (λ (s : Slot). s.next) h.of.is ∙ none)
 
-  -- It falls through to a stop,
+  -- A slot that falls through to a stop ends the group.
   pub ends_group : (place : Place) → Takes place → e.next ≡ Falls → slot.next ≡ Some place → slot.stop ≡ true → (most : ℕ) → HasGathered (rest_of (suc most) p begins g) next None
   ends_group place took falls to stop most =
       subst (λ all. HasGathered (rest_of (suc most) p begins g) all None) (takes_in place took)
       (stops p begins g h.of.insn does h.of.here (sym h.does.value) most place falls (ap (λ (s : Slot). s.next) h.of.is ∙ to) (ap (λ (s : Slot). s.stop) h.of.is ∙ stop))
 
-  -- or within its group.
+  -- A slot that falls through without a stop stays within its group.
   pub stays : (place : Place) → Takes place → e.next ≡ Falls → slot.next ≡ Some place → slot.stop ≡ false → (most : ℕ) → HasRestOf (rest_of (suc most) p begins g) (rest_of most p false next)
   stays place took falls to stop most =
       subst (λ all. HasRestOf (rest_of (suc most) p begins g) (rest_of most p false all)) (takes_in place took)

@@ -2,11 +2,11 @@
 use Rattle.std.specs.Prelude.{◌≡◌, ℕ, ◌<◌, ◌≤◌}
 use Rattle.ia_insn.specs.declared.insn.Insn.{Insn}
 
--- A word is that of at most one instruction,
+-- A word is that of at most one instruction.
 abbrev pub OneInstruction : (Insn → ℕ → Type 0) → Type 0
 OneInstruction Code = (word : ℕ) (i j : Insn) → Code i word → Code j word → i ≡ j
 
--- which has at most one word.
+-- An instruction has at most one word.
 abbrev pub OneWord : (Insn → ℕ → Type 0) → Type 0
 OneWord Code = (i : Insn) (v w : ℕ) → Code i v → Code i w → v ≡ w
 

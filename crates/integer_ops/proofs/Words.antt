@@ -130,7 +130,7 @@ turned_right width number within fits =
     let turned : 2 ^ 64 - 1 - number * 2 ^ unused ≡ rest * 2 ^ unused + (2 ^ unused - 1) = omega arith in
     ap (λ x. x / 2 ^ unused) turned ∙ shr_high rest unused (2 ^ unused - 1) low
 
--- and where its top bit is 1
+-- A number whose top bit is 1, moved to the top and back, is extended with ones.
 extended_large : (width number : ℕ) → 1 ≤ width → width ≤ 64 → 2 ^ (width - 1) ≤ number → number < 2 ^ width → shift_right_signed (number * 2 ^ (64 - width)) (64 - width) ≡ extended width number
 extended_large width number some within large fits =
     let unused = 64 - width in

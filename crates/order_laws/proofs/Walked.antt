@@ -40,7 +40,7 @@ no_target (Call b1 (Indirect b2)) bundle to h e = cc
 no_target (Return b2) bundle to h e = cc
 no_target f bundle to h e = cc
 
--- so a step that lands follows no edge
+-- A step that lands follows no edge.
 landed : (p : Program) (from to : Place) (o : Option Insn) (h : Option How) → insn_at p.bundles from ≡ o → is_landing o h ≡ true → HasEdge p from (edge_by h) to → ⊥
 unfolding edge_end
 landed p from to None h here l edge = cc
@@ -231,7 +231,7 @@ runs_keep_state n p s program start =
     let known = known_on_runs k.0 p s program start in
     subst (IsState p) k.1 known.state
 
--- and what is known on a walk to it is true
+-- What is known on a walk to a state of a run is true of the state.
 pub runs_are_known : RunsAreKnown
 runs_are_known n p s program start =
     let k = run_is_traced n p s in

@@ -10,7 +10,7 @@ Pairs = ℕ → ℕ → Bool
 abbrev pub Table : Type 0
 Table = List ℕ
 
--- both are predicates
+-- Both numbers are those of predicates.
 unfoldable pub in_range : ℕ → ℕ → Bool
 in_range x y = nat_lt x 64 && nat_lt y 64
 
@@ -46,7 +46,7 @@ truth rows x y = has_bit (slice_index rows x) y
 unfoldable pub pairs_of : Table → Pairs
 pairs_of rows = λ x y. in_range x y && truth rows x y
 
--- each pair of f is in g
+-- Each pair of f is in g.
 pub record IsWithin (f g : Pairs) : Type 0 where
   pub each : (x y : ℕ) → f x y ≡ true → g x y ≡ true
 

@@ -81,7 +81,8 @@ impl Facts {
         self.after_action(&action_of(&insn.op), insn.qp, edge)
     }
 
-    /// The same after an instruction of this action under this qualifying predicate.
+    /// What is known after an instruction of this action under this qualifying predicate, from what is known before it, where
+    /// control goes on along the edge.
     #[inline(never)]
     pub fn after_action(&self, action: &Action, qp: Pr, edge: Edge) -> Facts
         ensures { pairs_of result ≡ pairs_by (pairs_of self.now) (action_rule action.now edge qp) }
@@ -163,7 +164,7 @@ impl Facts {
         true
     }
 
-    /// Leaves of the set, in the rows of the word, the pairs that are also in the other. Answers a word of the rows that
+    /// Leaves of the set, in the rows of the word, the pairs that are also in the other. Returns a word of the rows that
     /// lost something, bit x that of the pairs of the x-th predicate.
     #[inline(always)]
     pub(crate) fn intersect(&mut self, other: &Facts, rows: u64) -> u64

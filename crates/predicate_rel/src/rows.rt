@@ -61,7 +61,7 @@ fn renamed(row: u64) -> u64
 }
 
 /// Whether the action is one whose instructions leave what is known as it is, where control goes on along the edge. Some
-/// for which it answers false do so too.
+/// for which it returns false do so too.
 pub fn keeps_pairs(action: &Action, edge: Edge) -> bool
     ensures { result ≡ true → (g x y : ℕ) → action_rule action.now edge g x y ≡ one x y }
 {

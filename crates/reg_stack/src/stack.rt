@@ -169,7 +169,7 @@ impl Stack {
         Ok(())
     }
 
-    /// What `alloc_frame` would answer.
+    /// What `alloc_frame` would return. Nothing changes.
     ///
     /// # Errors
     ///
@@ -223,7 +223,7 @@ impl Stack {
         Ok(())
     }
 
-    /// What `ret` would answer.
+    /// What `ret` would return. Nothing changes.
     ///
     /// # Errors
     ///

@@ -118,7 +118,7 @@ number_more h sort old limit n l =
     of true rest = sym (append_assoc old (sort n ∷ []) rest)
     of false rest = sym (append_assoc old [] rest)
 
--- and none
+-- At the limit no resource more is added.
 pub number_none : (h : Resource → Bool) (sort : ℕ → Resource) (old : List Resource) (limit n : ℕ) → n ≡ limit
     → old ++ filter h (numbered sort (limit - n) n) ≡ old
 unfolding numbered

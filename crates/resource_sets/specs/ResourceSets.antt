@@ -16,12 +16,12 @@ has_resource s Lc = s.lc
 has_resource s Ec = s.ec
 has_resource s Cfm = s.cfm
 
--- so many resources of a sort, from the n-th on
+-- The resources of a sort from the n-th on, `left` of them.
 unfoldable pub numbered : (ℕ → Resource) → (left n : ℕ) → List Resource
 numbered sort zero n = []
 numbered sort (suc left) n = sort n ∷ numbered sort left (suc n)
 
--- those that have no number
+-- The resources that have no number.
 abbrev pub others : List Resource
 others = Unat ∷ Pfs ∷ Lc ∷ Ec ∷ Cfm ∷ []
 

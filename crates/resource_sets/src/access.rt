@@ -41,11 +41,11 @@ impl Default for Resource {
 /// How a resource is accessed.
 #[derive(Clone, Copy, Debug, PartialEq, Eq)]
 pub enum Kind {
-    /// It is read.
+    /// The resource is read.
     Read,
-    /// It is read by an instruction of a B slot: a branch sees what earlier slots of its group wrote.
+    /// The resource is read by an instruction of a B slot: a branch sees what earlier slots of its group wrote.
     BranchRead,
-    /// It is written.
+    /// The resource is written.
     Write,
     /// The frame is written by `alloc`, which is first in its group.
     AllocWrite,

@@ -27,19 +27,19 @@ pub filler_accesses : (i : Insn) → IsFiller i → accesses i ≡ []
 unfolding rows
 filler_accesses i (unit, is) = rw is refl
 
--- Control falls through,
+-- Control falls through a `nop`.
 pub filler_falls : (i : Insn) → IsFiller i → may_fall i ≡ true
 filler_falls i (unit, is) = rw is refl
 
--- and goes nowhere else.
+-- Control goes nowhere else from a `nop`.
 pub filler_stays : (i : Insn) → IsFiller i → displacement_of (insn_action i) ≡ None
 filler_stays i (unit, is) = rw is refl
 
--- It is no `alloc`,
+-- A `nop` is no `alloc`.
 pub filler_no_alloc : (i : Insn) → IsFiller i → is_alloc (insn_action i) ≡ false
 filler_no_alloc i (unit, is) = rw is refl
 
--- and no `clrrrb`.
+-- A `nop` is no `clrrrb`.
 pub filler_no_clear : (i : Insn) → IsFiller i → clears (insn_action i) ≡ false
 filler_no_clear i (unit, is) = rw is refl
 
@@ -66,7 +66,7 @@ none_bounded : IsBounded no_pairs
 unfolding no_pairs
 none_bounded = record { each = λ x y h. absurd cc }
 
--- and so is one pair more of two predicates
+-- One pair more of two predicates keeps what is known within the predicates.
 pair_bounded : (f : Pairs) (a b : ℕ) → a < b → b < 64 → IsBounded f → IsBounded (with_pair f a b)
 unfolding with_pair in_range
 pair_bounded f a b apart below bounded = record { each = λ x y h. of x y (f x y) refl h }

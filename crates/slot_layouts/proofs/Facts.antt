@@ -185,7 +185,7 @@ all_up_to_three : HoldsUpToThree holds_all
 unfolding laid_out first_below
 all_up_to_three = record { none = refl; one = λ g. refl; two = λ g. refl; three = λ g. refl }
 
--- and of each list, as a longer one has no layout
+-- All of it holds of each list, as a longer one has no layout.
 all_hold : (ws : List Wanted) → (facts_hold ws ≡ true) × ((front_holds ws ≡ true) × (end_takes_next ws ≡ true))
 all_hold ws =
     let all = for_every holds_all all_up_to_three (λ w x y z ws. rw (too_long w x y z ws true, too_long w x y z ws false) refl) ws in

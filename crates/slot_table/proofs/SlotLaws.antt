@@ -59,7 +59,7 @@ not_place bundles place none is = of (insn_at bundles place) refl none
     of None here n = let there = rw here at is in cc
     of (Some insn) here n = cc
 
--- and where there is no place there is no slot
+-- Where there is no place there is no slot.
 pub no_slot : (bundles : List Bundle) (place : Place) → (IsPlaceOf bundles place → ⊥) → slot_at bundles place ≡ None
 unfolding slot_at
 no_slot bundles place none = of (insn_at bundles place) refl

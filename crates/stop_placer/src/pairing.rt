@@ -46,7 +46,7 @@ pub(crate) struct SequenceFacts {
 }
 
 impl SequenceFacts {
-    /// That of a text's sequence.
+    /// What is known at each instruction of a text's sequence.
     ///
     /// # Errors
     ///

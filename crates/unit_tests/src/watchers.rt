@@ -30,7 +30,7 @@ fn watch(
     Ok((status, Vec::from_slice(alloc, sink.bytes())?))
 }
 
-/// So many watchers are left, and each reports this.
+/// There are `count` watchers left, and each reports the wanted text.
 fn report(
     rt: &impl Abort,
     alloc: Global,

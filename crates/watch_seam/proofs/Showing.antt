@@ -310,7 +310,7 @@ reported_one seen all text numbers list at n w text_1 r below is_n is_w is =
 pub of_ok : {T E : Type 0} (r : Result T E) (v : T) (P : T → Type 0) → r ≡ Ok v → IfOk r P → P v
 of_ok r v P is o = subst (λ x. IfOk x P) is o
 
--- and where it went well
+-- What holds in any case holds where the result is Ok.
 pub if_ok_always : {X E : Type 0} {P : Type 0} (r : Result X E) → P → OnOk r P
 if_ok_always (Ok x) p = p
 if_ok_always (Err e) p = tt

@@ -10,19 +10,19 @@ use std::alloc::AllocError;
 /// Whether a watcher sees the next group too.
 #[derive(Clone, Copy, Debug, PartialEq, Eq)]
 pub enum Keep {
-    /// It does.
+    /// The watcher sees the next group too.
     Stay,
-    /// It has seen as many groups as it is to see.
+    /// The watcher has seen as many groups as it is to see.
     Full,
 }
 
-/// StateView the groups that a run executes, one after the other, and reports what it has seen.
+/// Sees the groups that a run executes, one after the other, and reports what it has seen.
 pub trait Watch: Drop {
     /// What the watcher has seen.
     ghost state: { Self → WatchState };
 
-    /// StateView a group. The answer is `Full` exactly where the watcher has then seen as many groups as
-    /// it is to see. It then sees no more: this is for a watcher that isn't full.
+    /// Sees a group. It returns `Full` exactly where the watcher has then seen as many groups as it is to see. It is for a
+    /// watcher that isn't full.
     ///
     /// # Errors
     ///
