@@ -19,7 +19,7 @@ use Rattle.formats_m.proofs.Words.{row_m}
 use Rattle.formats_b.proofs.WordsB.{row_b}
 use Rattle.formats_b.proofs.WordsF.{row_f}
 use Rattle.formats_b.specs.ListedX.{rows, IsListedX}
-use Rattle.formats_b.specs.PlacesX.{place_of}
+use Rattle.formats_b.specs.RowIndexesX.{row_index_of}
 use Rattle.formats_b.specs.PartsX.{slot_op}
 use Rattle.formats_b.proofs.WordsX.{row_of_x, of_row_x}
 use Rattle.ia_program.specs.Fits.{Fits, FitsUnit}
@@ -42,8 +42,8 @@ at_bundle : (count m n : ℕ) → m < count → IsBundleAt count n (pos m -ℤ p
 at_bundle count m n h = (subst (λ z. pos 0 ≤ℤ z) (sym (back m n)) (record { le = le→leb 0 m (omega arith) }), subst (λ z. z <ℤ pos count) (sym (back m n)) (record { lt = lt→ltb m count h }))
 
 -- a long move of another number
-row_moved : (qp r1 imm other : ℕ) → AsRow rows (place_of (opcode_of (slot_op (op.Movl r1 imm)))) (record { qp = qp; op = slot_op (op.Movl r1 imm) })
-    → AsRow rows (place_of (opcode_of (slot_op (op.Movl r1 other)))) (record { qp = qp; op = slot_op (op.Movl r1 other) })
+row_moved : (qp r1 imm other : ℕ) → AsRow rows (row_index_of (opcode_of (slot_op (op.Movl r1 imm)))) (record { qp = qp; op = slot_op (op.Movl r1 imm) })
+    → AsRow rows (row_index_of (opcode_of (slot_op (op.Movl r1 other)))) (record { qp = qp; op = slot_op (op.Movl r1 other) })
 unfolding rows listed
 row_moved qp r1 imm other h = grind arith
 

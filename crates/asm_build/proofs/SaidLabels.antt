@@ -17,8 +17,8 @@ use Rattle.asm_build.specs.declared.draft.BundleLines.{BundleLines}
 use Rattle.asm_build.specs.declared.text_parts.Section.{Section}
 use Rattle.asm_build.specs.declared.text_parts.Section.TheVariants as section
 use Rattle.asm_build.specs.Drafts.{OpenBundle, IsWhole, stopped, added}
-use Rattle.asm_build.specs.TextParts.{TextParts, Labels, start, address_of, after, value_stages, closed_of, with_bundle, place_in, here}
-use Rattle.asm_build.specs.WholeTexts.{bundles_in, data_in, section_after, place_of, place_after, IsLabel}
+use Rattle.asm_build.specs.TextParts.{TextParts, Labels, start, address_of, after, value_stages, closed_of, with_bundle, address_in, here}
+use Rattle.asm_build.specs.WholeTexts.{bundles_in, data_in, section_after, section_address, address_after, IsLabel}
 use Rattle.asm_build.proofs.PutIn.{put_here, put_elsewhere}
 use Rattle.asm_build.proofs.SaidLines.{Follow}
 
@@ -76,11 +76,11 @@ abbrev pub begun : TextParts → ℕ
 begun s = length s.bundles + open_count s.current
 
 -- what a label names after these lines more
-abbrev place_from : TextParts → List Line → Address
-place_from s before = place_of (section_after s.section before) (begun s + length (bundles_in before)) (length s.bytes + length (data_in before))
+abbrev address_from : TextParts → List Line → Address
+address_from s before = section_address (section_after s.section before) (begun s + length (bundles_in before)) (length s.bytes + length (data_in before))
 
-same_place : (where_ : Section) (a b m n : ℕ) → a ≡ b → m ≡ n → place_of where_ a m ≡ place_of where_ b n
-same_place where_ a b m n h k = ap (λ x. place_of where_ x m) h ∙ ap (λ y. place_of where_ b y) k
+same_section_address : (where_ : Section) (a b m n : ℕ) → a ≡ b → m ≡ n → section_address where_ a m ≡ section_address where_ b n
+same_section_address where_ a b m n h k = ap (λ x. section_address where_ x m) h ∙ ap (λ y. section_address where_ b y) k
 
 open_mapped : (f : OpenBundle → OpenBundle) (o : Option OpenBundle) → open_count o ≡ open_count (option_map f o)
 open_mapped f None = refl
@@ -98,25 +98,25 @@ close_begun : (s : TextParts) (o : Option OpenBundle) → IsSome o → IfSome o 
 close_begun s None some whole = absurd cc
 close_begun s (Some o) some whole = closed_begun s (closed_of (Some o)) whole
 
-closed_places : (s : TextParts) (o : Option BundleLines) (before : List Line) → begun (with_bundle s o) ≡ begun s → place_from s before ≡ place_from (with_bundle s o) before
-closed_places s None before h = refl
-closed_places s (Some b) before h = same_place (section_after s.section before) _ _ _ _ (ap (λ n. n + length (bundles_in before)) (sym h)) refl
+closed_addresses : (s : TextParts) (o : Option BundleLines) (before : List Line) → begun (with_bundle s o) ≡ begun s → address_from s before ≡ address_from (with_bundle s o) before
+closed_addresses s None before h = refl
+closed_addresses s (Some b) before h = same_section_address (section_after s.section before) _ _ _ _ (ap (λ n. n + length (bundles_in before)) (sym h)) refl
 
-data_places : (where_ : Section) (a : ℕ) (bytes more rest : List ℕ) → place_of where_ a (length bytes + length (more ++ rest)) ≡ place_of where_ a (length (bytes ++ more) + length rest)
-data_places where_ a bytes more rest = same_place where_ a a _ _ refl (omega (arith, length-append more rest, length-append bytes more))
+data_addresses : (where_ : Section) (a : ℕ) (bytes more rest : List ℕ) → section_address where_ a (length bytes + length (more ++ rest)) ≡ section_address where_ a (length (bytes ++ more) + length rest)
+data_addresses where_ a bytes more rest = same_section_address where_ a a _ _ refl (omega (arith, length-append more rest, length-append bytes more))
 
 -- a line more or less
-one_place : (s : TextParts) (n : ℕ) (v : Line) (before : List Line) → ArePassed (value_stages s v) → place_from s (v ∷ before) ≡ place_from (after s n v) before
-one_place s n (line.Numbers size values) before passed = data_places (section_after s.section before) (begun s + length (bundles_in before)) s.bytes _ (data_in before)
-one_place s n (line.Skip count) before passed = data_places (section_after s.section before) (begun s + length (bundles_in before)) s.bytes _ (data_in before)
-one_place s n (line.Open name) before passed =
-    same_place (section_after s.section before) _ _ _ _ (omega (arith, none_open s.current passed.0.closed)) refl
-one_place s n (line.Slot d stop) before passed =
-    same_place (section_after s.section before) _ _ _ _ (ap (λ c. length s.bundles + c + length (bundles_in before)) (open_mapped (λ o. added o n d stop) s.current)) refl
-one_place s n line.Stop before passed =
-    same_place (section_after s.section before) _ _ _ _ (ap (λ c. length s.bundles + c + length (bundles_in before)) (open_mapped stopped s.current)) refl
-one_place s n line.Close before passed = closed_places s (closed_of s.current) before (close_begun s s.current passed.0 passed.1.1.0)
-one_place s n v before passed = refl
+one_address : (s : TextParts) (n : ℕ) (v : Line) (before : List Line) → ArePassed (value_stages s v) → address_from s (v ∷ before) ≡ address_from (after s n v) before
+one_address s n (line.Numbers size values) before passed = data_addresses (section_after s.section before) (begun s + length (bundles_in before)) s.bytes _ (data_in before)
+one_address s n (line.Skip count) before passed = data_addresses (section_after s.section before) (begun s + length (bundles_in before)) s.bytes _ (data_in before)
+one_address s n (line.Open name) before passed =
+    same_section_address (section_after s.section before) _ _ _ _ (omega (arith, none_open s.current passed.0.closed)) refl
+one_address s n (line.Slot d stop) before passed =
+    same_section_address (section_after s.section before) _ _ _ _ (ap (λ c. length s.bundles + c + length (bundles_in before)) (open_mapped (λ o. added o n d stop) s.current)) refl
+one_address s n line.Stop before passed =
+    same_section_address (section_after s.section before) _ _ _ _ (ap (λ c. length s.bundles + c + length (bundles_in before)) (open_mapped stopped s.current)) refl
+one_address s n line.Close before passed = closed_addresses s (closed_of s.current) before (close_begun s s.current passed.0 passed.1.1.0)
+one_address s n v before passed = refl
 
 -- how many bundles have begun with those on these lines, a line more or less
 pub one_begun : (s : TextParts) (n : ℕ) (v : Line) (before : List Line) → ArePassed (value_stages s v) → begun s + length (bundles_in (v ∷ before)) ≡ begun (after s n v) + length (bundles_in before)
@@ -126,23 +126,23 @@ one_begun s n line.Stop before passed = ap (λ c. length s.bundles + c + length 
 one_begun s n line.Close before passed = ap (λ c. c + length (bundles_in before)) (sym (close_begun s s.current passed.0 passed.1.1.0))
 one_begun s n v before passed = refl
 
-here_is : (s : TextParts) → s.current ≡ None → here s ≡ place_from s []
+here_is : (s : TextParts) → s.current ≡ None → here s ≡ address_from s []
 here_is s none = by s.section
   where
-    by : (where_ : Section) → place_in where_ (address.Bundle (length s.bundles)) s.bytes ≡ place_of where_ (begun s + 0) (length s.bytes + 0)
+    by : (where_ : Section) → address_in where_ (address.Bundle (length s.bundles)) s.bytes ≡ section_address where_ (begun s + 0) (length s.bytes + 0)
     by section.Text = ap (λ n. address.Bundle n) (omega (arith, none_open s.current none))
     by section.Data = ap (λ n. address.Byte n) (omega arith)
 
 -- A label on a line is found.
-found_after : (s : TextParts) (n : ℕ) (before after_ : List Line) (t : TextParts) (name : List ℕ) → Follow s n (before ++ line.Label name ∷ after_) t → address_of t.labels name ≡ Some (place_from s before)
+found_after : (s : TextParts) (n : ℕ) (before after_ : List Line) (t : TextParts) (name : List ℕ) → Follow s n (before ++ line.Label name ∷ after_) t → address_of t.labels name ≡ Some (address_from s before)
 found_after s n [] after_ t name h =
-    all_kept (after s n (line.Label name)) (n + 1) after_ t name (place_from s []) h.1 (there s.labels name (here s) ∙ ap (λ a. Some a) (here_is s h.0.0))
+    all_kept (after s n (line.Label name)) (n + 1) after_ t name (address_from s []) h.1 (there s.labels name (here s) ∙ ap (λ a. Some a) (here_is s h.0.0))
 found_after s n (v ∷ before) after_ t name h =
-    found_after (after s n v) (n + 1) before after_ t name h.1 ∙ ap (λ a. Some a) (sym (one_place s n v before h.0))
+    found_after (after s n v) (n + 1) before after_ t name h.1 ∙ ap (λ a. Some a) (sym (one_address s n v before h.0))
 
 -- a label on lines after these
 abbrev LabelFrom : TextParts → List Line → List ℕ → Address → Type 0
-LabelFrom s values name a = (before : List Line) × (after_ : List Line) × (values ≡ before ++ line.Label name ∷ after_) × (a ≡ place_from s before)
+LabelFrom s values name a = (before : List Line) × (after_ : List Line) × (values ≡ before ++ line.Label name ∷ after_) × (a ≡ address_from s before)
 
 -- What is found is a label from before or on a line.
 abbrev Stands : TextParts → List Line → List ℕ → Address → Type 0
@@ -168,20 +168,20 @@ all_stand s n (v ∷ vs) t name a h is = by (all_stand (after s n v) (n + 1) vs 
   where
     by : Stands (after s n v) vs name a → Stands s (v ∷ vs) name a
     by (inl before) = one_stands s n v vs name a h.0 before
-    by (inr (before, after_, are, place)) = inr (v ∷ before, after_, ap (λ xs. v ∷ xs) are, place ∙ sym (one_place s n v before h.0))
+    by (inr (before, after_, are, there)) = inr (v ∷ before, after_, ap (λ xs. v ∷ xs) are, there ∙ sym (one_address s n v before h.0))
 
-from_start : (before : List Line) → place_from start before ≡ place_after before
-from_start before = same_place (section_after section.Text before) _ _ _ _ (omega arith) (omega arith)
+from_start : (before : List Line) → address_from start before ≡ address_after before
+from_start before = same_section_address (section_after section.Text before) _ _ _ _ (omega arith) (omega arith)
 
 -- The labels that are found are those on lines.
 pub label_found : (values : List Line) (t : TextParts) (name : List ℕ) (a : Address) → Follow start 1 values t → IsLabel values name a → address_of t.labels name ≡ Some a
-label_found values t name a h (before, after_, are, place) =
+label_found values t name a h (before, after_, are, there) =
     let follow : Follow start 1 (before ++ line.Label name ∷ after_) t = rw are at h in
-    found_after start 1 before after_ t name follow ∙ ap (λ a. Some a) (from_start before ∙ sym place)
+    found_after start 1 before after_ t name follow ∙ ap (λ a. Some a) (from_start before ∙ sym there)
 
 pub label_said : (values : List Line) (t : TextParts) (name : List ℕ) (a : Address) → Follow start 1 values t → address_of t.labels name ≡ Some a → IsLabel values name a
 label_said values t name a h is = by (all_stand start 1 values t name a h is)
   where
     by : Stands start values name a → IsLabel values name a
     by (inl before) = absurd (not_new a None (sym (sym before)) refl)
-    by (inr (before, after_, are, place)) = (before, after_, are, place ∙ from_start before)
+    by (inr (before, after_, are, there)) = (before, after_, are, there ∙ from_start before)

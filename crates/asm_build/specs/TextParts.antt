@@ -86,20 +86,20 @@ closed_of None = None
 closed_of (Some o) = closed o
 
 -- What a label in a section names: in text the address of what comes next, and in data the next byte.
-abbrev pub place_in : Section → Address → List ℕ → Address
-place_in section.Text next bytes = next
-place_in section.Data next bytes = Byte (length bytes)
+abbrev pub address_in : Section → Address → List ℕ → Address
+address_in section.Text next bytes = next
+address_in section.Data next bytes = Byte (length bytes)
 
-abbrev pub place_before : TextParts → Address → Address
-place_before s next = place_in s.section next s.bytes
+abbrev pub address_before : TextParts → Address → Address
+address_before s next = address_in s.section next s.bytes
 
 -- What a label that stands here names, where the next thing in text is a bundle.
 abbrev pub here : TextParts → Address
-here s = place_before s (Bundle (length s.bundles))
+here s = address_before s (Bundle (length s.bundles))
 
 -- What the lines say after one more outside bundles, the n-th, where what comes next in text has this number.
 abbrev pub after_outside : TextParts → ℕ → ℕ → Line → TextParts
-after_outside s next n (line.Label name) = with_label s name (place_before s (Bundle next))
+after_outside s next n (line.Label name) = with_label s name (address_before s (Bundle next))
 after_outside s next n line.Text = turned s section.Text
 after_outside s next n line.Data = turned s section.Data
 after_outside s next n (line.Entry name) = with_entry s (record { line = n; name = name })

@@ -83,19 +83,19 @@ section_after before (line.Text ∷ rest) = section_after section.Text rest
 section_after before (line.Data ∷ rest) = section_after section.Data rest
 section_after before (value ∷ rest) = section_after before rest
 
-abbrev pub place_of : Section → ℕ → ℕ → Address
-place_of section.Text bundle_count byte_count = address.Bundle bundle_count
-place_of section.Data bundle_count byte_count = address.Byte byte_count
+abbrev pub section_address : Section → ℕ → ℕ → Address
+section_address section.Text bundle_count byte_count = address.Bundle bundle_count
+section_address section.Data bundle_count byte_count = address.Byte byte_count
 
 -- What a label behind these lines of a text names: in code the bundle that as many bundles stand before, and in data
 -- the byte that as many bytes stand before, as stand on these lines.
-abbrev pub place_after : List Line → Address
-place_after before = place_of (section_after section.Text before) (length (bundles_in before)) (length (data_in before))
+abbrev pub address_after : List Line → Address
+address_after before = section_address (section_after section.Text before) (length (bundles_in before)) (length (data_in before))
 
 -- A line of the text is the label with this name, and names this.
 abbrev pub IsLabel : List Line → List ℕ → Address → Type 0
 IsLabel lines name a =
-    (before : List Line) × (after : List Line) × (lines ≡ before ++ line.Label name ∷ after) × (a ≡ place_after before)
+    (before : List Line) × (after : List Line) × (lines ≡ before ++ line.Label name ∷ after) × (a ≡ address_after before)
 
 -- the operation of a slot of the n-th bundle, with what the label names whose name it has
 abbrev pub IsOpSaid : List Line → ℕ → Op → Option (List ℕ) → Op → Type 0

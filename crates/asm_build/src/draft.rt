@@ -107,7 +107,7 @@ fn completed(draft: &Draft, unit: Unit) -> Insn
 }
 
 impl SlotLine {
-    /// A place for one.
+    /// Room for one.
     fn blank() -> Self {
         SlotLine {
             line: 0,
@@ -143,7 +143,7 @@ impl SlotLine {
 }
 
 impl Open {
-    /// Places for a bundle, with no slots yet.
+    /// Room for a bundle, with no slots yet.
     pub fn new() -> Self {
         Open {
             name: TemplateName::Mii,

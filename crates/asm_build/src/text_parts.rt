@@ -7,7 +7,7 @@ ghost use Rattle.asm_reading.specs.declared.line.Line.TheVariants as line;
 ghost use Rattle.asm_reading.specs.Lines.{IsListedLine};
 ghost use Rattle.asm_build.specs.declared.reason.Reason.TheVariants as reason;
 ghost use Rattle.asm_build.specs.declared.reason.TextError.TheVariants as error;
-ghost use Rattle.asm_build.specs.TextParts.{TextParts as PartsOf, current_of, start, IsWithinLimits, after, value_stages, IsValueError, AreLabelsBelow, AreLabelsInside, here, place_before, turned, with_label, with_relation, IsIn, numbers_bytes};
+ghost use Rattle.asm_build.specs.TextParts.{TextParts as PartsOf, current_of, start, IsWithinLimits, after, value_stages, IsValueError, AreLabelsBelow, AreLabelsInside, here, address_before, turned, with_label, with_relation, IsIn, numbers_bytes};
 ghost use Rattle.asm_build.specs.declared.text_parts.Section.TheVariants as section;
 ghost use Rattle.asm_build.specs.Addresses.{IsReachable};
 ghost use Rattle.asm_build.specs.Names.{padded};
@@ -159,13 +159,13 @@ impl TextParts {
         let next = Address::Bundle {
             n: self.bundles.len() as u32,
         };
-        self.place(next)
+        self.address_before(next)
     }
 
     /// What a label names that stands here: in text this, which comes next, and in data the next byte.
-    pub fn place(&self, next: Address) -> Address
+    pub fn address_before(&self, next: Address) -> Address
         requires { IsReachable next }
-        ensures value { result ≡ place_before self.now next }
+        ensures value { result ≡ address_before self.now next }
         ensures within { IsReachable result }
     {
         match self.section {

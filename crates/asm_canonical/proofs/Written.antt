@@ -26,11 +26,11 @@ operands_of x = (syntax_of x).operands
 abbrev pub items_of : Op → List FormItem
 items_of x = (row_of (form_of x)).items
 
--- marks and operands
+-- fixed tokens and operands
 abbrev pub tokens_of : Op → List Token
 tokens_of x = filled (items_of x) (operands_of x)
 
--- a token that can be printed: an operand whose registers and numbers are in their ranges, or a mark
+-- a token that can be printed: an operand whose registers and numbers are in their ranges, or a fixed one
 abbrev pub IsPrinted : Token → Type 0
 IsPrinted (t.Gr n) = n < 128
 IsPrinted (t.Pr n) = n < 64

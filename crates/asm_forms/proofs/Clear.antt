@@ -8,15 +8,15 @@ use Rattle.asm_forms.specs.declared.completer.CompleterSet.{CompleterSet}
 use Rattle.asm_forms.specs.declared.items.FormItem.{FormItem}
 use Rattle.asm_forms.specs.declared.items.FormItem.TheVariants.{Is, Takes}
 use Rattle.asm_forms.specs.Completers.{text_of, members}
-use Rattle.asm_forms.specs.Items.{mark_token, accepts, prints}
+use Rattle.asm_forms.specs.Items.{fixed_token, accepts, prints}
 use Rattle.asm_forms.specs.Naming.{begins, completers_in}
-use Rattle.asm_forms.specs.Rows.{FormRow, rows, place}
+use Rattle.asm_forms.specs.Rows.{FormRow, rows, row_index}
 use Rattle.asm_forms.proofs.Fits.{are_told}
 
 -- what is printed for the item is never read for the other one
 abbrev pub tells : FormItem → FormItem → Bool
-tells (Is mark) j = not (accepts j (mark_token mark))
-tells (Takes kind n) (Is mark) = not (prints kind (mark_token mark))
+tells (Is fixed) j = not (accepts j (fixed_token fixed))
+tells (Takes kind n) (Is fixed) = not (prints kind (fixed_token fixed))
 tells (Takes kind n) (Takes other m) = are_told kind other
 
 -- the items of two rows tell them apart
@@ -38,7 +38,7 @@ never_named sets others = list_all (λ cs. not (is_some (completers_in others (f
 abbrev pub is_clear : FormRow → FormRow → Bool
 is_clear r q = not (bytes_eq r.stem q.stem) || (differ r.items q.items || never_named r.sets q.sets)
 
-pub all_clear : list_all (λ r. list_all (is_clear r) (take (place r.form) rows)) rows ≡ true
+pub all_clear : list_all (λ r. list_all (is_clear r) (take (row_index r.form) rows)) rows ≡ true
 all_clear = refl
 
 -- The stem of the second row doesn't begin with that of the first and this rest, or the two have the same stem.

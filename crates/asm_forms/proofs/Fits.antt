@@ -7,15 +7,15 @@ use Rattle.asm_lexemes.specs.declared.tokens.Token.{Token}
 use Rattle.asm_lexemes.specs.declared.tokens.Token.TheVariants as t
 use Rattle.asm_forms.specs.declared.items.FormItem.{FormItem}
 use Rattle.asm_forms.specs.declared.items.FormItem.TheVariants.{Is, Takes}
-use Rattle.asm_forms.specs.declared.items.Mark.{Mark}
-use Rattle.asm_forms.specs.declared.items.Mark.TheVariants as m
+use Rattle.asm_forms.specs.declared.items.Fixed.{Fixed}
+use Rattle.asm_forms.specs.declared.items.Fixed.TheVariants as m
 use Rattle.asm_forms.specs.declared.items.Kind.{Kind}
 use Rattle.asm_forms.specs.declared.items.Kind.TheVariants as k
-use Rattle.asm_forms.specs.Items.{mark_token, is_mark, takes, accepts, taken, filled, prints, fits}
+use Rattle.asm_forms.specs.Items.{fixed_token, is_fixed, takes, accepts, taken, filled, prints, fits}
 
-mark_is : (x : Mark) → is_mark x (mark_token x) ≡ true
-mark_is m.Equals = refl
-mark_is x = refl
+fixed_is : (x : Fixed) → is_fixed x (fixed_token x) ≡ true
+fixed_is m.Equals = refl
+fixed_is x = refl
 
 takes_printed : (kind : Kind) (x : Token) → prints kind x ≡ true → takes kind x ≡ true
 takes_printed k.Label t.Name h = refl
@@ -26,7 +26,7 @@ takes_printed kind x h = h
 pub spelled : (is : List FormItem) (xs : List Token) → fits is xs ≡ true → pointwise accepts is (filled is xs) ≡ true
 spelled [] [] h = refl
 spelled [] (x ∷ xs) h = cc
-spelled (Is mark ∷ is) xs h = rw (mark_is mark) (spelled is xs h)
+spelled (Is fixed ∷ is) xs h = rw (fixed_is fixed) (spelled is xs h)
 spelled (Takes kind n ∷ is) [] h = cc
 spelled (Takes kind n ∷ is) (x ∷ xs) h = rw (takes_printed kind x (left _ _ h)) (spelled is xs (right _ _ h))
 
@@ -34,7 +34,7 @@ spelled (Takes kind n ∷ is) (x ∷ xs) h = rw (takes_printed kind x (left _ _ 
 pub taken_back : (is : List FormItem) (xs : List Token) → fits is xs ≡ true → taken is (filled is xs) ≡ xs
 taken_back [] [] h = refl
 taken_back [] (x ∷ xs) h = cc
-taken_back (Is mark ∷ is) xs h = taken_back is xs h
+taken_back (Is fixed ∷ is) xs h = taken_back is xs h
 taken_back (Takes kind n ∷ is) [] h = cc
 taken_back (Takes kind n ∷ is) (x ∷ xs) h = ap (λ ys. x ∷ ys) (taken_back is xs (right _ _ h))
 

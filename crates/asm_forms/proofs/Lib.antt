@@ -3,7 +3,7 @@ pub mod Clear
 pub mod Fits
 mod Letters
 mod NameEnds
-mod Places
+mod RowIndexes
 mod Pushed
 pub mod ReadChoice
 pub mod RowBack

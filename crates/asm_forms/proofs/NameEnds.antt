@@ -1,4 +1,4 @@
--- A name that has another byte than a text at a place of both doesn't begin with the text.
+-- A name that has another byte than a text at a position of both doesn't begin with the text.
 use Rattle.std.proofs.Common.{◌≡◌, ◌<◌, refl, sym, ℕ, zero, suc, true, false, not, nat_eq, List, [], ◌∷◌, length, get_or, arith}
 use Rattle.std.specs.List.{starts_with}
 use Rattle.std.proofs.lemmas.Bool.{eqb-true, eq-eqb, false_from_ne_true, and_right}

@@ -7,7 +7,7 @@ use Rattle.asm_forms.specs.declared.completer.CompleterSet.{CompleterSet}
 use Rattle.asm_forms.specs.declared.form.Form.{Form}
 use Rattle.asm_forms.specs.Completers.{text_of, members}
 use Rattle.asm_forms.specs.Naming.{completers_in, AreChosen}
-use Rattle.asm_forms.specs.Rows.{rows, first_row, row_of, place}
+use Rattle.asm_forms.specs.Rows.{rows, first_row, row_of, row_index}
 use Rattle.asm_forms.proofs.Clear.{products}
 use Rattle.asm_forms.proofs.RowFacts.{in_table}
 
@@ -68,5 +68,5 @@ all_read = refl
 pub read_choice : (f : Form) (cs : List Completer) → AreChosen (row_of f).sets cs → completers_in (row_of f).sets (flat_map text_of cs) ≡ Some cs
 read_choice f cs h =
     same_of (λ ds. completers_in (row_of f).sets (flat_map text_of ds)) (λ ds. Some ds) (products (row_of f).sets) cs
-    (same_at (λ r. map (λ ds. completers_in r.sets (flat_map text_of ds)) (products r.sets)) (λ r. map (λ ds. Some ds) (products r.sets)) rows (place f) first_row all_read (in_table f))
+    (same_at (λ r. map (λ ds. completers_in r.sets (flat_map text_of ds)) (products r.sets)) (λ r. map (λ ds. Some ds) (products r.sets)) rows (row_index f) first_row all_read (in_table f))
     (chosen (row_of f).sets cs h)

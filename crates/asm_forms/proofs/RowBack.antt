@@ -18,14 +18,14 @@ use Rattle.asm_forms.specs.declared.completer.CompleterSet.{CompleterSet}
 use Rattle.asm_forms.specs.declared.form.Form.{Form}
 use Rattle.asm_forms.specs.declared.items.FormItem.{FormItem}
 use Rattle.asm_forms.specs.declared.items.FormItem.TheVariants.{Is, Takes}
-use Rattle.asm_forms.specs.declared.items.Mark.{Mark}
-use Rattle.asm_forms.specs.declared.items.Mark.TheVariants as m
+use Rattle.asm_forms.specs.declared.items.Fixed.{Fixed}
+use Rattle.asm_forms.specs.declared.items.Fixed.TheVariants as m
 use Rattle.asm_forms.specs.declared.items.Kind.{Kind}
 use Rattle.asm_forms.specs.Completers.{suffix_text, text_of, members}
-use Rattle.asm_forms.specs.Items.{mark_token, is_mark, accepts, filled, prints, fits}
+use Rattle.asm_forms.specs.Items.{fixed_token, is_fixed, accepts, filled, prints, fits}
 use Rattle.asm_forms.specs.Spelled.{is_spelled}
 use Rattle.asm_forms.specs.Naming.{begins, ends_part, and_more, completers_in, has_completers_if, is_named, named_forms}
-use Rattle.asm_forms.specs.Rows.{FormRow, rows, first_row, row_of, place}
+use Rattle.asm_forms.specs.Rows.{FormRow, rows, first_row, row_of, row_index}
 use Rattle.asm_forms.proofs.ListTests.{all_take, all_both, all_found, all_flat, all_map}
 use Rattle.asm_forms.proofs.Clear.{tells, differ, products, never_named, is_clear, all_clear, is_other, stems_alone, stems_dotted}
 use Rattle.asm_forms.proofs.Fits.{spelled, told}
@@ -35,8 +35,8 @@ use Rattle.asm_forms.proofs.RowFacts.{form_back, in_table, of_row}
 abbrev is_read : List Token → FormRow → Bool
 is_read operands r = pointwise accepts r.items operands
 
--- a token that is a mark is the mark's
-marked : (n : Mark) (x : Token) → is_mark n x ≡ true → x ≡ mark_token n
+-- a token that is a fixed one is that one's
+marked : (n : Fixed) (x : Token) → is_fixed n x ≡ true → x ≡ fixed_token n
 marked m.Equals t.Equals h = refl
 marked m.Comma t.Comma h = refl
 marked m.OpenBracket t.OpenBracket h = refl
@@ -51,14 +51,14 @@ marked m.One (t.Number false n) h = ap (t.Number false) (eqb-true n 1 h)
 marked n x h = cc
 
 -- what is printed for an item that tells another one is not read for it
-not_the_mark : (k : Kind) (n : Mark) (x : Token) (b : Bool) → b ≡ is_mark n x → prints k x ≡ true → not (prints k (mark_token n)) ≡ true → b ≡ false
-not_the_mark k n x true e p h =
-    let s : prints k (mark_token n) ≡ true = subst (λ y. prints k y ≡ true) (marked n x (sym e)) p in
+not_the_fixed : (k : Kind) (n : Fixed) (x : Token) (b : Bool) → b ≡ is_fixed n x → prints k x ≡ true → not (prints k (fixed_token n)) ≡ true → b ≡ false
+not_the_fixed k n x true e p h =
+    let s : prints k (fixed_token n) ≡ true = subst (λ y. prints k y ≡ true) (marked n x (sym e)) p in
     sym s ∙ not-true _ h
-not_the_mark k n x false e p h = refl
+not_the_fixed k n x false e p h = refl
 
 not_read : (k : Kind) (at : ℕ) (j : FormItem) (x : Token) → prints k x ≡ true → tells (Takes k at) j ≡ true → accepts j x ≡ false
-not_read k at (Is n) x p h = not_the_mark k n x (is_mark n x) refl p h
+not_read k at (Is n) x p h = not_the_fixed k n x (is_fixed n x) refl p h
 not_read k at (Takes o to) x p h = told k o x p h
 
 either : (t a b c : Bool) → (t ≡ true → a ≡ false) → (c ≡ true → b ≡ false) → (t || c) ≡ true → (a && b) ≡ false
@@ -72,7 +72,7 @@ not_spelled [] [] xs h e = cc
 not_spelled [] (j ∷ js) xs h e = refl
 not_spelled (Is n ∷ is) [] xs h e = refl
 not_spelled (Is n ∷ is) (j ∷ js) xs h e =
-    either (not (accepts j (mark_token n))) (accepts j (mark_token n)) (pointwise accepts js (filled is xs)) (differ is js) (λ q. not-true _ q) (λ q. not_spelled is js xs h q) e
+    either (not (accepts j (fixed_token n))) (accepts j (fixed_token n)) (pointwise accepts js (filled is xs)) (differ is js) (λ q. not-true _ q) (λ q. not_spelled is js xs h q) e
 not_spelled (Takes k at ∷ is) js [] h e = cc
 not_spelled (Takes k at ∷ is) [] (x ∷ xs) h e = refl
 not_spelled (Takes k at ∷ is) (j ∷ js) (x ∷ xs) h e =
@@ -187,12 +187,12 @@ pub row_back : (f : Form) (cs : List Completer) (xs : List Token) → completers
     → find (is_spelled (filled (row_of f).items xs)) (named_forms ((row_of f).stem ++ flat_map text_of cs)) ≡ Some f
 row_back f cs xs e h =
     let rest = flat_map text_of cs in
-    let clear : list_all (is_clear (row_of f)) (take (place f) rows) ≡ true =
-    subst (λ g. list_all (is_clear (row_of f)) (take (place g) rows) ≡ true) (form_back f) (of_row (λ r. list_all (is_clear r) (take (place r.form) rows)) f all_clear) in
-    let other : list_all (is_other rest (row_of f)) (take (place f) rows) ≡ true =
-    all_take (is_other rest (row_of f)) (place f) rows (of_row (λ r. list_all (is_other rest r) rows) f (others rest (ends rest (dots cs)))) in
+    let clear : list_all (is_clear (row_of f)) (take (row_index f) rows) ≡ true =
+    subst (λ g. list_all (is_clear (row_of f)) (take (row_index g) rows) ≡ true) (form_back f) (of_row (λ r. list_all (is_clear r) (take (row_index r.form) rows)) f all_clear) in
+    let other : list_all (is_other rest (row_of f)) (take (row_index f) rows) ≡ true =
+    all_take (is_other rest (row_of f)) (row_index f) rows (of_row (λ r. list_all (is_other rest r) rows) f (others rest (ends rest (dots cs)))) in
     let first : find (is_read (filled (row_of f).items xs)) (filter (is_named ((row_of f).stem ++ rest)) rows) ≡ Some (row_of f) =
-    found_at (is_read (filled (row_of f).items xs)) (is_named ((row_of f).stem ++ rest)) rows (place f) first_row (in_table f)
+    found_at (is_read (filled (row_of f).items xs)) (is_named ((row_of f).stem ++ rest)) rows (row_index f) first_row (in_table f)
     (spelled (row_of f).items xs h) (named_own (row_of f) cs e)
-    (all_both (is_clear (row_of f)) (is_other rest (row_of f)) _ (λ q c o. unread (row_of f) q cs xs h e c o) (take (place f) rows) clear other) in
+    (all_both (is_clear (row_of f)) (is_other rest (row_of f)) _ (λ q c o. unread (row_of f) q cs xs h e c o) (take (row_index f) rows) clear other) in
     found_form (is_read (filled (row_of f).items xs)) (is_named ((row_of f).stem ++ rest)) row_of rows (row_of f) rows_back first ∙ ap Some (form_back f)

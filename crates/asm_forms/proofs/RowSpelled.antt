@@ -47,22 +47,22 @@ nothing = record { ref_ptr = (0, 0); now = [] }
 abbrev pub no_row : Seen
 no_row = record { form = form.Data; stem = nothing; sets = nothing; items = nothing; opcode = None; fixed = nothing }
 
--- the row at a place of a table, and those that follow it
-at_place : (rs : List Seen) (i : ℕ) (d : Seen) → i < length rs → map seen (drop i rs) ≡ seen (get_or rs i d) ∷ map seen (drop (i + 1) rs)
-at_place rs i d h = ap (map seen) (drop_more rs i d h)
+-- the row at an index of a table, and those that follow it
+at_row_index : (rs : List Seen) (i : ℕ) (d : Seen) → i < length rs → map seen (drop i rs) ≡ seen (get_or rs i d) ∷ map seen (drop (i + 1) rs)
+at_row_index rs i d h = ap (map seen) (drop_more rs i d h)
 
 pub own_at : (rs : List Seen) (i : ℕ) (d : Seen) → i < length rs → map (λ r. row_of r.form) (map seen (drop i rs)) ≡ map seen (drop i rs) → row_of (get_or rs i d).form ≡ seen (get_or rs i d)
-own_at rs i d h own = first_own (seen (get_or rs i d)) (map seen (drop (i + 1) rs)) (subst (λ qs. map (λ q. row_of q.form) qs ≡ qs) (at_place rs i d h) own)
+own_at rs i d h own = first_own (seen (get_or rs i d)) (map seen (drop (i + 1) rs)) (subst (λ qs. map (λ q. row_of q.form) qs ≡ qs) (at_row_index rs i d h) own)
 
 pub own_after : (rs : List Seen) (i : ℕ) (d : Seen) → i < length rs → map (λ r. row_of r.form) (map seen (drop i rs)) ≡ map seen (drop i rs) → map (λ r. row_of r.form) (map seen (drop (i + 1) rs)) ≡ map seen (drop (i + 1) rs)
-own_after rs i d h own = others_own (seen (get_or rs i d)) (map seen (drop (i + 1) rs)) (subst (λ qs. map (λ q. row_of q.form) qs ≡ qs) (at_place rs i d h) own)
+own_after rs i d h own = others_own (seen (get_or rs i d)) (map seen (drop (i + 1) rs)) (subst (λ qs. map (λ q. row_of q.form) qs ≡ qs) (at_row_index rs i d h) own)
 
 pub here_at : (name : List ℕ) (operands : List Token) (rs : List Seen) (i : ℕ) (d : Seen) → i < length rs → map (λ r. row_of r.form) (map seen (drop i rs)) ≡ map seen (drop i rs)
     → (is_named name (seen (get_or rs i d)) && pointwise accepts (seen (get_or rs i d)).items operands) ≡ true → spelled name operands (map seen (drop i rs)) ≡ Some (get_or rs i d).form
 here_at name operands rs i d h own is =
-    ap (spelled name operands) (at_place rs i d h) ∙ here name operands (seen (get_or rs i d)) (map seen (drop (i + 1) rs)) (own_at rs i d h own) is
+    ap (spelled name operands) (at_row_index rs i d h) ∙ here name operands (seen (get_or rs i d)) (map seen (drop (i + 1) rs)) (own_at rs i d h own) is
 
 pub past_at : (name : List ℕ) (operands : List Token) (rs : List Seen) (i : ℕ) (d : Seen) → i < length rs → map (λ r. row_of r.form) (map seen (drop i rs)) ≡ map seen (drop i rs)
     → (is_named name (seen (get_or rs i d)) && pointwise accepts (seen (get_or rs i d)).items operands) ≡ false → spelled name operands (map seen (drop (i + 1) rs)) ≡ spelled name operands (map seen (drop i rs))
 past_at name operands rs i d h own is =
-    sym (ap (spelled name operands) (at_place rs i d h) ∙ past name operands (seen (get_or rs i d)) (map seen (drop (i + 1) rs)) (own_at rs i d h own) is)
+    sym (ap (spelled name operands) (at_row_index rs i d h) ∙ past name operands (seen (get_or rs i d)) (map seen (drop (i + 1) rs)) (own_at rs i d h own) is)

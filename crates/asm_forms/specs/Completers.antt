@@ -1,4 +1,4 @@
--- The completers of a mnemonic: how they are written, what they say, and which may stand at one place (volume 3, chapter 2,
+-- The completers of a mnemonic: how they are written, what they say, and which may stand at one position (volume 3, chapter 2,
 -- the completers of each instruction).
 use Rattle.std.specs.Prelude.{ℕ, true, false, List, [], ◌∷◌, codes}
 use Rattle.asm_forms.specs.declared.completer.Suffix.{Suffix}
@@ -82,7 +82,7 @@ text_of completer = suffix_text completer.suffix
 abbrev pub says : Suffix → Said → Completer
 says suffix said = record { suffix = suffix; says = said }
 
--- The completers that may stand at a place: the first with which the name goes on is read, and the first that says it is
+-- The completers that may stand at a position: the first with which the name goes on is read, and the first that says it is
 -- printed.
 abbrev pub members : CompleterSet → List Completer
 members (set.Only completer) = completer ∷ []

@@ -1,11 +1,11 @@
--- What a form wants at one place of its operands, and from which tokens that is read.
+-- What a form wants at one position of its operands, and from which tokens that is read.
 use Rattle.std.specs.Prelude.{ℕ, ◌%◌, Bool, true, false, ◌&&◌, ◌||◌, nat_le, ◌==◌, if◌then◌else◌, List, [], ◌∷◌}
 use Rattle.asm_lexemes.specs.declared.tokens.Token.{Token}
 use Rattle.asm_lexemes.specs.declared.tokens.Token.TheVariants as t
 use Rattle.asm_forms.specs.declared.items.FormItem.{FormItem}
 use Rattle.asm_forms.specs.declared.items.FormItem.TheVariants.{Is, Takes}
-use Rattle.asm_forms.specs.declared.items.Mark.{Mark}
-use Rattle.asm_forms.specs.declared.items.Mark.TheVariants as m
+use Rattle.asm_forms.specs.declared.items.Fixed.{Fixed}
+use Rattle.asm_forms.specs.declared.items.Fixed.TheVariants as m
 use Rattle.asm_forms.specs.declared.items.Kind.{Kind}
 use Rattle.asm_forms.specs.declared.items.Kind.TheVariants as k
 use Rattle.asm_forms.specs.declared.items.NumberField.{NumberField}
@@ -43,34 +43,34 @@ has_room Data1 s m = within s m 128 255
 has_room Data2 s m = within s m 32768 65535
 has_room Data4 s m = within s m 2147483648 4294967295
 
--- The token that a mark is.
-abbrev pub mark_token : Mark → Token
-mark_token m.Equals = t.Equals
-mark_token m.Comma = t.Comma
-mark_token m.OpenBracket = t.OpenBracket
-mark_token m.CloseBracket = t.CloseBracket
-mark_token m.Unat = t.Ar ar.Unat
-mark_token m.Pfs = t.Ar ar.Pfs
-mark_token m.R0 = t.Gr 0
-mark_token m.Predicates = t.Predicates
-mark_token m.RotatingPredicates = t.RotatingPredicates
-mark_token m.Ip = t.Ip
-mark_token m.One = t.Number false 1
+-- The token that is fixed.
+abbrev pub fixed_token : Fixed → Token
+fixed_token m.Equals = t.Equals
+fixed_token m.Comma = t.Comma
+fixed_token m.OpenBracket = t.OpenBracket
+fixed_token m.CloseBracket = t.CloseBracket
+fixed_token m.Unat = t.Ar ar.Unat
+fixed_token m.Pfs = t.Ar ar.Pfs
+fixed_token m.R0 = t.Gr 0
+fixed_token m.Predicates = t.Predicates
+fixed_token m.RotatingPredicates = t.RotatingPredicates
+fixed_token m.Ip = t.Ip
+fixed_token m.One = t.Number false 1
 
 -- The token is the mark.
-abbrev pub is_mark : Mark → Token → Bool
-is_mark m.Equals t.Equals = true
-is_mark m.Comma t.Comma = true
-is_mark m.OpenBracket t.OpenBracket = true
-is_mark m.CloseBracket t.CloseBracket = true
-is_mark m.Unat (t.Ar ar.Unat) = true
-is_mark m.Pfs (t.Ar ar.Pfs) = true
-is_mark m.R0 (t.Gr n) = n == 0
-is_mark m.Predicates t.Predicates = true
-is_mark m.RotatingPredicates t.RotatingPredicates = true
-is_mark m.Ip t.Ip = true
-is_mark m.One (t.Number false n) = n == 1
-is_mark _ _ = false
+abbrev pub is_fixed : Fixed → Token → Bool
+is_fixed m.Equals t.Equals = true
+is_fixed m.Comma t.Comma = true
+is_fixed m.OpenBracket t.OpenBracket = true
+is_fixed m.CloseBracket t.CloseBracket = true
+is_fixed m.Unat (t.Ar ar.Unat) = true
+is_fixed m.Pfs (t.Ar ar.Pfs) = true
+is_fixed m.R0 (t.Gr n) = n == 0
+is_fixed m.Predicates t.Predicates = true
+is_fixed m.RotatingPredicates t.RotatingPredicates = true
+is_fixed m.Ip t.Ip = true
+is_fixed m.One (t.Number false n) = n == 1
+is_fixed _ _ = false
 
 -- A label has any spelling of at most 63 bytes.
 abbrev pub is_label : Token → Bool
@@ -97,26 +97,26 @@ takes _ _ = false
 
 -- An item is read from the token.
 abbrev pub accepts : FormItem → Token → Bool
-accepts (Is mark) x = is_mark mark x
+accepts (Is fixed) x = is_fixed fixed x
 accepts (Takes kind n) x = takes kind x
 
 -- The operands that the items take: their kinds, each with the number of its value.
 abbrev pub operands : List FormItem → List (Kind × ℕ)
 operands [] = []
-operands (Is mark ∷ is) = operands is
+operands (Is fixed ∷ is) = operands is
 operands (Takes kind n ∷ is) = (kind, n) ∷ operands is
 
 -- The operands among the tokens of the items.
 abbrev pub taken : List FormItem → List Token → List Token
 taken [] xs = []
 taken (i ∷ is) [] = []
-taken (Is mark ∷ is) (x ∷ xs) = taken is xs
+taken (Is fixed ∷ is) (x ∷ xs) = taken is xs
 taken (Takes kind n ∷ is) (x ∷ xs) = x ∷ taken is xs
 
 -- The tokens of the items with these operands.
 abbrev pub filled : List FormItem → List Token → List Token
 filled [] xs = []
-filled (Is mark ∷ is) xs = mark_token mark ∷ filled is xs
+filled (Is fixed ∷ is) xs = fixed_token fixed ∷ filled is xs
 filled (Takes kind n ∷ is) [] = []
 filled (Takes kind n ∷ is) (x ∷ xs) = x ∷ filled is xs
 
@@ -130,7 +130,7 @@ prints kind x = takes kind x
 abbrev pub fits : List FormItem → List Token → Bool
 fits [] [] = true
 fits [] (x ∷ xs) = false
-fits (Is mark ∷ is) xs = fits is xs
+fits (Is fixed ∷ is) xs = fits is xs
 fits (Takes kind n ∷ is) [] = false
 fits (Takes kind n ∷ is) (x ∷ xs) = prints kind x && fits is xs
 

@@ -57,11 +57,11 @@ abbrev pub first_row : FormRow
 first_row = record { form = form.Data; stem = []; sets = []; items = []; opcode = None; fixed = [] }
 
 -- A form's place among the forms is that of its row among the rows.
-abbrev pub place : Form → ℕ
-place f = tag_of the_type f
+abbrev pub row_index : Form → ℕ
+row_index f = tag_of the_type f
 
 abbrev pub row_of : Form → FormRow
-row_of f = slice_index_or rows (place f) first_row
+row_of f = slice_index_or rows (row_index f) first_row
 
 -- The form is an instruction's, and no directive's.
 abbrev pub is_instruction : Form → Bool

@@ -1,5 +1,5 @@
 //! The completers of a mnemonic: how each is written (`Suffix`), what it says where it stands (`Said`), and which may stand
-//! at one place (`CompleterSet`). One that isn't written can say something too: a compare without `.unc` is a normal one.
+//! at one position (`CompleterSet`). One that isn't written can say something too: a compare without `.unc` is a normal one.
 
 ghost use Rattle.std.specs.Prelude.{◌≡◌};
 ghost use Rattle.asm_forms.specs.declared.completer.Suffix.TheVariants as suffix;
@@ -176,7 +176,7 @@ impl Default for Completer {
     }
 }
 
-/// A place for a completer: which may stand there.
+/// A position of a completer: which may stand there.
 #[derive(Clone, Copy)]
 pub enum CompleterSet {
     /// This completer alone.
@@ -329,7 +329,7 @@ macro_rules! completers {
     ($($suffix:ident => $said:expr),*) => { &[$(Completer { suffix: Suffix::$suffix, says: $said }),*] };
 }
 
-/// The completers that may stand at this place: the first that fits is read, and the first that says it is printed.
+/// The completers that may stand at this position: the first that fits is read, and the first that says it is printed.
 pub fn members(set: &CompleterSet) -> &[Completer]
     ensures { result.now ≡ members set.now }
 {

@@ -1,8 +1,8 @@
-//! What a form wants at one place of its operands.
+//! What a form wants at one position of its operands.
 
 ghost use Rattle.std.specs.Prelude.{◌≡◌};
 ghost use Rattle.std.specs.Cmp.Lexicographic.{pointwise};
-ghost use Rattle.asm_forms.specs.Items.{mark_token, is_mark, takes, accepts, has_room, within, is_label, is_register, is_number, is_label_item, begins_with_letter, is_long_name, is_stop};
+ghost use Rattle.asm_forms.specs.Items.{fixed_token, is_fixed, takes, accepts, has_room, within, is_label, is_register, is_number, is_label_item, begins_with_letter, is_long_name, is_stop};
 
 use asm_lexemes::Token;
 use ia_insn::{Ar, Gr};
@@ -59,9 +59,9 @@ pub enum NumberField {
     Data4,
 }
 
-/// What stands at one place and is the same in each line.
+/// What stands at one position and is the same in each line.
 #[derive(Clone, Copy)]
-pub enum Mark {
+pub enum Fixed {
     /// `=`
     Equals,
     /// `,`
@@ -103,11 +103,11 @@ pub enum Kind {
     Label,
 }
 
-/// What a form wants at one place.
+/// What a form wants at one position.
 #[derive(Clone, Copy)]
 pub enum FormItem {
-    /// This mark.
-    Is(Mark),
+    /// This token.
+    Is(Fixed),
     /// An operand of this kind, with the number of its value, 0 for none.
     Takes(Kind, u8),
 }
@@ -180,48 +180,48 @@ fn is_label(token: Token) -> bool
     )
 }
 
-/// The token that a mark is.
-pub fn mark_token(mark: Mark) -> Token
-    ensures { result ≡ mark_token mark }
+/// The token that is fixed.
+pub fn fixed_token(fixed: Fixed) -> Token
+    ensures { result ≡ fixed_token fixed }
 {
-    match mark {
-        Mark::Equals => Token::Equals,
-        Mark::Comma => Token::Comma,
-        Mark::OpenBracket => Token::OpenBracket,
-        Mark::CloseBracket => Token::CloseBracket,
-        Mark::Unat => Token::Ar(Ar::Unat),
-        Mark::Pfs => Token::Ar(Ar::Pfs),
-        Mark::R0 => Token::Gr(Gr::default()),
-        Mark::Predicates => Token::Predicates,
-        Mark::RotatingPredicates => Token::RotatingPredicates,
-        Mark::Ip => Token::Ip,
-        Mark::One => Token::Number {
+    match fixed {
+        Fixed::Equals => Token::Equals,
+        Fixed::Comma => Token::Comma,
+        Fixed::OpenBracket => Token::OpenBracket,
+        Fixed::CloseBracket => Token::CloseBracket,
+        Fixed::Unat => Token::Ar(Ar::Unat),
+        Fixed::Pfs => Token::Ar(Ar::Pfs),
+        Fixed::R0 => Token::Gr(Gr::default()),
+        Fixed::Predicates => Token::Predicates,
+        Fixed::RotatingPredicates => Token::RotatingPredicates,
+        Fixed::Ip => Token::Ip,
+        Fixed::One => Token::Number {
             negative: false,
             magnitude: 1,
         },
     }
 }
 
-/// Whether the token is the mark.
+/// Whether the token is the fixed one.
 #[inline(always)]
-fn is_mark(mark: Mark, token: Token) -> bool
-    ensures { result ≡ is_mark mark token }
+fn is_fixed(fixed: Fixed, token: Token) -> bool
+    ensures { result ≡ is_fixed fixed token }
 {
-    match mark {
-        Mark::Equals => matches!(token, Token::Equals),
-        Mark::Comma => matches!(token, Token::Comma),
-        Mark::OpenBracket => matches!(token, Token::OpenBracket),
-        Mark::CloseBracket => matches!(token, Token::CloseBracket),
-        Mark::Unat => matches!(token, Token::Ar(Ar::Unat)),
-        Mark::Pfs => matches!(token, Token::Ar(Ar::Pfs)),
-        Mark::R0 => match token {
+    match fixed {
+        Fixed::Equals => matches!(token, Token::Equals),
+        Fixed::Comma => matches!(token, Token::Comma),
+        Fixed::OpenBracket => matches!(token, Token::OpenBracket),
+        Fixed::CloseBracket => matches!(token, Token::CloseBracket),
+        Fixed::Unat => matches!(token, Token::Ar(Ar::Unat)),
+        Fixed::Pfs => matches!(token, Token::Ar(Ar::Pfs)),
+        Fixed::R0 => match token {
             Token::Gr(register) => register.is_zero(),
             _ => false,
         },
-        Mark::Predicates => matches!(token, Token::Predicates),
-        Mark::RotatingPredicates => matches!(token, Token::RotatingPredicates),
-        Mark::Ip => matches!(token, Token::Ip),
-        Mark::One => matches!(
+        Fixed::Predicates => matches!(token, Token::Predicates),
+        Fixed::RotatingPredicates => matches!(token, Token::RotatingPredicates),
+        Fixed::Ip => matches!(token, Token::Ip),
+        Fixed::One => matches!(
             token,
             Token::Number {
                 negative: false,
@@ -258,7 +258,7 @@ pub fn accepts(item: FormItem, token: Token) -> bool
     ensures { result ≡ accepts item token }
 {
     match item {
-        FormItem::Is(mark) => is_mark(mark, token),
+        FormItem::Is(fixed) => is_fixed(fixed, token),
         FormItem::Takes(kind, _) => takes(kind, token),
     }
 }
@@ -286,12 +286,12 @@ pub fn is_register(item: FormItem) -> bool
         item,
         FormItem::Takes(Kind::Gr | Kind::Pr | Kind::Br | Kind::Ar, _)
             | FormItem::Is(
-                Mark::Unat
-                    | Mark::Pfs
-                    | Mark::R0
-                    | Mark::Predicates
-                    | Mark::RotatingPredicates
-                    | Mark::Ip
+                Fixed::Unat
+                    | Fixed::Pfs
+                    | Fixed::R0
+                    | Fixed::Predicates
+                    | Fixed::RotatingPredicates
+                    | Fixed::Ip
             )
     )
 }
@@ -302,7 +302,7 @@ pub fn is_number(item: FormItem) -> bool
 {
     matches!(
         item,
-        FormItem::Takes(Kind::Number(_), _) | FormItem::Is(Mark::One)
+        FormItem::Takes(Kind::Number(_), _) | FormItem::Is(Fixed::One)
     )
 }
 

@@ -12,7 +12,7 @@ ghost use Rattle.asm_forms.specs.Naming.{completers, named_forms, AreChosen};
 ghost use Rattle.asm_forms.specs.Rows.{row_of};
 
 /// The law that what a row prints is read as its form: of the forms that the row's stem names with one
-/// completer of each set, the form is the first whose items are the row's marks with operands that fit it,
+/// completer of each set, the form is the first whose items are the row's fixed tokens with operands that fit it,
 /// and the completers and the operands are those that were printed. It does nothing.
 pub fn forms_are_read_back()
     ensures form { (f : Form) (cs : List Completer) (xs : List Token) → AreChosen (row_of f).sets cs → fits (row_of f).items xs ≡ true

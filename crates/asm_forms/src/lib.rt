@@ -4,7 +4,7 @@
 //! instruction). What there is is data: `rows` has a row a form, with the stem that leads a line of the form, the sets of its
 //! completers, what stands after it, its opcode and which value stands where, and `completer` has the completers of each set and
 //! what each says. Everything else goes by the rows: `naming` reads a mnemonic, `items` says from which tokens an item is read,
-//! `spelling` finds the form of a mnemonic and operands at once, and `operands` takes the operands from between a form's marks.
+//! `spelling` finds the form of a mnemonic and operands at once, and `operands` takes the operands from between a form's fixed tokens.
 //! Where a line's first fault is, is said one crate above (`asm_matching`).
 #![tactic(auto)]
 
@@ -22,8 +22,8 @@ pub use choices::AccessSize;
 pub use completer::{Completer, CompleterSet, Said, Suffix, members, text};
 pub use form::Form;
 pub use items::{
-    FormItem, Kind, Mark, NumberField, accepts, are_accepted, begins_with_letter, has_room,
-    is_label_item, is_long_name, is_number, is_register, is_stop, mark_token,
+    Fixed, FormItem, Kind, NumberField, accepts, are_accepted, begins_with_letter, fixed_token,
+    has_room, is_label_item, is_long_name, is_number, is_register, is_stop,
 };
 pub use laws::forms_are_read_back;
 pub use naming::{Completers, Named, completers, named};

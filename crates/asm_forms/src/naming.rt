@@ -11,7 +11,7 @@ use crate::form::Form;
 use crate::rows::{TableRow, rows_c_to_i, rows_from_s, rows_l_to_n, rows_o_to_r, rows_to_b};
 use arrayvec::ArrayVec;
 
-/// The completers of a form, place by place.
+/// The completers of a form, in order.
 pub type Completers = ArrayVec<Completer, 4>;
 
 /// The forms that a mnemonic names, in their order.
@@ -159,7 +159,7 @@ pub fn completers(form: Form, name: &[u8]) -> Option<Completers>
     }
 }
 
-/// Puts one completer of each set, one after the other, into the list, in the place of what it held. False where the
+/// Puts one completer of each set, one after the other, into the list, instead of what it held. False where the
 /// name has others.
 pub(crate) fn completers_into(
     sets: &[(CompleterSet, u8)],
@@ -185,7 +185,7 @@ pub(crate) fn completers_into(
     true
 }
 
-/// What stands from the place on.
+/// What stands from the position on.
 fn rest_of(name: &[u8], at: usize) -> &[u8]
     requires { at ≤ length name.now }
     ensures { result.now ≡ drop at name.now }

@@ -1,4 +1,4 @@
-//! The operands between a form's marks.
+//! The operands between a form's fixed tokens.
 
 ghost use Rattle.std.specs.Prelude.{◌≡◌, ◌≤◌, ◌+◌, ◌++◌, length};
 ghost use Rattle.arrayvec.specs.ArrayVec.{array_vec_len};

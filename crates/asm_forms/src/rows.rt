@@ -7,7 +7,7 @@ ghost use Rattle.asm_forms.specs.Rows.{rows_to_b, rows_c_to_i, rows_l_to_n, rows
 use crate::completer::{Completer, CompleterSet, Said, Suffix};
 use crate::form::Form;
 use crate::items::FormItem::{Is, Takes};
-use crate::items::{FormItem, Kind, Mark, NumberField};
+use crate::items::{Fixed, FormItem, Kind, NumberField};
 use ia_insn::{AluFn, Ar, BranchKind, CmpKind, LaneFn, LoadKind, Rel, ShiftFn, StoreKind, Unit};
 use insn_rows::{Opcode, UpdateKind};
 use std::marker::Model;
@@ -22,9 +22,9 @@ pub struct RowOf<Stem, Sets, Items, Fixed> {
     pub form: Form,
     /// What leads a line: the part of a mnemonic before its completers, or a directive.
     pub stem: Stem,
-    /// The sets of the completers, place by place, each with the number of the value that its completer says.
+    /// The sets of the completers, in order, each with the number of the value that its completer says.
     pub sets: Sets,
-    /// What stands after the mnemonic: marks, and operands.
+    /// What stands after the mnemonic: fixed tokens, and operands.
     pub items: Items,
     /// The opcode, of which completers and operands say parts. Only where a unit's letter may be missing, the unit
     /// here is that of a line without it. A directive has none.
@@ -60,14 +60,14 @@ macro_rules! sets {
     };
 }
 
-macro_rules! mark {
-    (=) => { Mark::Equals };
-    (,) => { Mark::Comma };
-    (CloseBracket) => { Mark::CloseBracket };
-    (r0) => { Mark::R0 };
-    (pr) => { Mark::Predicates };
-    (ip) => { Mark::Ip };
-    (1) => { Mark::One };
+macro_rules! fixed {
+    (=) => { Fixed::Equals };
+    (,) => { Fixed::Comma };
+    (CloseBracket) => { Fixed::CloseBracket };
+    (r0) => { Fixed::R0 };
+    (pr) => { Fixed::Predicates };
+    (ip) => { Fixed::Ip };
+    (1) => { Fixed::One };
 }
 
 // The kind of an operand by the manual's name. A number that is lowered by one is `less8`.
@@ -106,19 +106,19 @@ macro_rules! kind {
     (size) => { Kind::Number(NumberField::Skip) };
 }
 
-// Marks as they are written, and operands by the manual's names, each with the number of its value.
+// Fixed tokens as they are written, and operands by the manual's names, each with the number of its value.
 macro_rules! items {
     (($($done:expr,)*)) => { &[$($done,)*] };
     (($($done:expr,)*) [$($base:tt)*] $($rest:tt)*) => {
-        items!(($($done,)* Is(Mark::OpenBracket),) $($base)* CloseBracket $($rest)*)
+        items!(($($done,)* Is(Fixed::OpenBracket),) $($base)* CloseBracket $($rest)*)
     };
-    (($($done:expr,)*) ar.pfs $($rest:tt)*) => { items!(($($done,)* Is(Mark::Pfs),) $($rest)*) };
-    (($($done:expr,)*) ar.unat $($rest:tt)*) => { items!(($($done,)* Is(Mark::Unat),) $($rest)*) };
-    (($($done:expr,)*) pr.rot $($rest:tt)*) => { items!(($($done,)* Is(Mark::RotatingPredicates),) $($rest)*) };
+    (($($done:expr,)*) ar.pfs $($rest:tt)*) => { items!(($($done,)* Is(Fixed::Pfs),) $($rest)*) };
+    (($($done:expr,)*) ar.unat $($rest:tt)*) => { items!(($($done,)* Is(Fixed::Unat),) $($rest)*) };
+    (($($done:expr,)*) pr.rot $($rest:tt)*) => { items!(($($done,)* Is(Fixed::RotatingPredicates),) $($rest)*) };
     (($($done:expr,)*) $name:ident($number:literal) $($rest:tt)*) => {
         items!(($($done,)* Takes(kind!($name), $number),) $($rest)*)
     };
-    (($($done:expr,)*) $mark:tt $($rest:tt)*) => { items!(($($done,)* Is(mark!($mark)),) $($rest)*) };
+    (($($done:expr,)*) $fixed:tt $($rest:tt)*) => { items!(($($done,)* Is(fixed!($fixed)),) $($rest)*) };
 }
 
 // An opcode; `_` is a part that a completer or an operand says.
@@ -371,7 +371,7 @@ pub(crate) fn rows_from_s() -> &'static [TableRow]
     &ROWS_FROM_S
 }
 
-/// The row at a place of the table.
+/// The row at an index of the table.
 fn row_at(at: usize) -> &'static TableRow
     requires { at < length rows }
     ensures { seen result.now ≡ slice_index_or rows at first_row }
@@ -436,7 +436,7 @@ impl Row {
         self.row.stem
     }
 
-    /// The sets of the completers, place by place, each with the number of the value that its completer says, 0 for none.
+    /// The sets of the completers, in order, each with the number of the value that its completer says, 0 for none.
     pub fn sets(&self) -> &'static [(CompleterSet, u8)]
         ensures value { result.now ≡ (row_of self.now).sets }
         ensures values { AreValues result.now }
@@ -445,7 +445,7 @@ impl Row {
         self.row.sets
     }
 
-    /// What stands after the mnemonic: marks, and at most 5 operands, each with the number of its value, 0 for none.
+    /// What stands after the mnemonic: fixed tokens, and at most 5 operands, each with the number of its value, 0 for none.
     pub fn items(&self) -> &'static [FormItem]
         ensures value { result.now ≡ (row_of self.now).items }
         ensures values { AreValues (operands result.now) }

@@ -17,7 +17,7 @@ fn token_at(tokens: &[Token], at: usize) -> Token
     }
 }
 
-/// The number at a place, without its sign.
+/// The number at a position, without its sign.
 pub(crate) fn magnitude_at(tokens: &[Token], at: usize) -> u64
     ensures { result ≡ magnitude_at tokens.now at }
 {
@@ -27,7 +27,7 @@ pub(crate) fn magnitude_at(tokens: &[Token], at: usize) -> u64
     }
 }
 
-/// Whether a `-` stands before the number at a place.
+/// Whether a `-` stands before the number at a position.
 pub(crate) fn is_negative_at(tokens: &[Token], at: usize) -> bool
     ensures { result ≡ is_negative_at tokens.now at }
 {
@@ -44,14 +44,14 @@ fn small(magnitude: u64) -> u8
     if magnitude < 256 { magnitude as u8 } else { 0 }
 }
 
-/// The number at a place, where it is below 256.
+/// The number at a position, where it is below 256.
 pub(crate) fn small_at(tokens: &[Token], at: usize) -> u8
     ensures { result ≡ small_at tokens.now at }
 {
     small(magnitude_at(tokens, at))
 }
 
-/// The number at a place, where it is below 2^32, and 0 otherwise.
+/// The number at a position, where it is below 2^32, and 0 otherwise.
 pub fn u32_at(tokens: &[Token], at: usize) -> u32
     ensures { result ≡ u32_at tokens.now at }
 {

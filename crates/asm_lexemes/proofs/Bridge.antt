@@ -1,4 +1,4 @@
--- The lexemes of a line, by place and by text.
+-- The lexemes of a line, by position and by text.
 use Rattle.std.proofs.Common.{◌≡◌, refl, sym, ◌∙◌, ap, ℕ, zero, suc, ◌+◌, ◌-◌, true, false, cond, List, [], ◌∷◌, ◌++◌, length, take, map, slice_range, arith}
 use Rattle.std.proofs.lemmas.List.{drop_at, length-append}
 use Rattle.std.proofs.Math.Seq.{append_snoc}
@@ -32,6 +32,6 @@ cut_same line front zero at (c ∷ cs) e a =
           ]
     ]
 
--- the lexemes of a line by place have these kinds and texts
+-- the lexemes of a line by position have these kinds and texts
 pub lexemes_lexed : (line : List ℕ) → map (λ w. (w.kind, slice_range line w.start w.end)) (lexemes_from 0 0 line) ≡ lexed 0 line
 lexemes_lexed line = cut_same line [] 0 0 line refl refl

@@ -53,7 +53,7 @@ sharp_at c cs = if has_sharp (kind_at c cs) (drop (more_at c cs) cs) then 1 else
 abbrev pub begins_comment : ℕ → List ℕ → Bool
 begins_comment c cs = (c == 47) && begins_with 47 cs
 
--- The lexemes of the bytes, the first of which stands at the place `at` of the line. The first `skip`
+-- The lexemes of the bytes, the first of which stands at the position `at` of the line. The first `skip`
 -- bytes are done already: they belong to the lexeme before, or are the `#` after it.
 abbrev pub lexemes_from : ℕ → ℕ → List ℕ → List Lexeme
 lexemes_from skip at [] = []

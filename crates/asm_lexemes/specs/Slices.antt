@@ -10,7 +10,7 @@ use Rattle.asm_lexemes.specs.Lexemes.{begins_comment, pick}
 abbrev pub IsPart : ℕ → Lexeme → Type 0
 IsPart n w = (w.start < w.end) × (w.end ≤ n)
 
--- the first lexeme begins at the place or after it, and each other at the end of the one before or after it
+-- the first lexeme begins at the position or after it, and each other at the end of the one before or after it
 abbrev pub AreInOrder : ℕ → List Lexeme → Type 0
 AreInOrder at [] = Unit {0}
 AreInOrder at (w ∷ ws) = (at ≤ w.start) × AreInOrder w.end ws
@@ -38,7 +38,7 @@ abbrev pub is_rest : List ℕ → Bool
 is_rest [] = true
 is_rest (c ∷ cs) = if is_blank c then is_rest cs else begins_comment c cs
 
--- Between the place and the first lexeme, and between two lexemes, only a gap is left out; after the last
+-- Between the position and the first lexeme, and between two lexemes, only a gap is left out; after the last
 -- lexeme a gap, and a comment where there is one.
 abbrev pub LeavesOutGaps : List ℕ → Bool → ℕ → List Lexeme → Type 0
 LeavesOutGaps line after_name at [] = is_rest (without_sharp after_name (drop at line)) ≡ true

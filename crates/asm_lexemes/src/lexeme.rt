@@ -20,9 +20,9 @@ pub enum LexemeKind {
 pub struct Lexeme {
     /// What kind of lexeme it is.
     pub kind: LexemeKind,
-    /// The place of its first byte.
+    /// The position of its first byte.
     pub start: usize,
-    /// The place after its last byte.
+    /// The position after its last byte.
     pub end: usize,
 }
 

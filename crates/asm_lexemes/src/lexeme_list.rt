@@ -11,14 +11,14 @@ use std::marker::Model;
 /// The lexemes of a line. Room for them is kept from line to line, so a count says how many there are. Contracts see these.
 #[derive(Debug, Drop)]
 pub struct LexemeList {
-    places: [Lexeme; LINE_LIMIT],
+    lexemes: [Lexeme; LINE_LIMIT],
     count: usize,
 }
 
 impl Model for LexemeList {
     ghost Value = { List LexemeOf };
 
-    ghost view = { λ w. take w.count w.places };
+    ghost view = { λ w. take w.count w.lexemes };
 
     ghost invariant = { λ w. w.count ≤ LINE_LIMIT };
 }
@@ -29,7 +29,7 @@ impl LexemeList {
         ensures { result ≡ [] }
     {
         LexemeList {
-            places: [Lexeme::default(); LINE_LIMIT],
+            lexemes: [Lexeme::default(); LINE_LIMIT],
             count: 0,
         }
     }
@@ -47,7 +47,7 @@ impl LexemeList {
         requires { length self.old < LINE_LIMIT }
         ensures { self.new ≡ self.old ++ lexeme ∷ [] }
     {
-        self.places[self.count] = lexeme;
+        self.lexemes[self.count] = lexeme;
         self.count += 1;
     }
 
@@ -55,6 +55,6 @@ impl LexemeList {
     pub fn as_slice(&self) -> &[Lexeme]
         ensures { result.now ≡ self.now }
     {
-        &self.places[..self.count]
+        &self.lexemes[..self.count]
     }
 }

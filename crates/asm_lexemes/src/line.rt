@@ -30,7 +30,7 @@ pub fn lexemes(line: &[u8]) -> Result<LexemeList, LineFault>
     Ok(list)
 }
 
-/// Puts the lexemes of a line, as [`lexemes`] has them, into a list in the place of what it held, so that
+/// Puts the lexemes of a line, as [`lexemes`] has them, into a list, instead of what it held, so that
 /// one list serves many lines. After Char it is empty.
 pub fn lexemes_into(line: &[u8], list: &mut LexemeList) -> Result<(), LineFault>
     requires { length line.now ≤ LINE_LIMIT }

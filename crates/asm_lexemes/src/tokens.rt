@@ -17,7 +17,7 @@ pub enum Token {
     Predicates,
     /// `pr.rot`, the rotating predicates.
     RotatingPredicates,
-    /// `ip`, the place of the bundle.
+    /// `ip`, the address of the bundle.
     Ip,
     /// A number below 2^64, and whether a `-` stands before it.
     Number {

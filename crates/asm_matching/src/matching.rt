@@ -42,7 +42,7 @@ fn agreed_items(items: &[FormItem], tokens: &[Token]) -> usize
     at
 }
 
-/// Whether the token at this place is a stop.
+/// Whether the token at this position is a stop.
 fn is_stop_at(tokens: &[Token], at: usize) -> bool
     ensures value { result ≡ is_stop_next (drop at tokens.now) }
     ensures room { IsTrue result → at < length tokens.now }

@@ -137,7 +137,7 @@ fn relation_fault_at(wanted: bool, token: Option<Token>) -> LineFault
     }
 }
 
-/// The fault at a place of the tokens: Range at a predicate that no relation may name and Register at another token, where
+/// The fault at a position of the tokens: Range at a predicate that no relation may name and Register at another token, where
 /// a predicate is wanted, and Form otherwise.
 pub fn relation_fault(at: usize, tokens: &[Token]) -> LineFault
     ensures { result ≡ relation_fault at tokens.now }

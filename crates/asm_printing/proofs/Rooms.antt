@@ -1,4 +1,4 @@
--- How many digits numbers of 64 bits have at most, and how many marks and operands a form has.
+-- How many digits numbers of 64 bits have at most, and how many fixed tokens and operands a form has.
 use Rattle.std.proofs.Common.{◌≡◌, refl, ap, ℕ, suc, zero, ◌*◌, ◌/◌, ◌%◌, ◌<◌, ◌≤◌, ◌^◌, Bool, true, false, leb, [], ◌∷◌, length, arith, lit<}
 use Rattle.std.specs.List.{list_all}
 use Rattle.std.specs.Fmt.{decimal, digits, digit_glyph}
@@ -38,6 +38,6 @@ hex_fits n l = hex_is_short 15 n (omega arith) l
 rows_are_short : list_all (λ r. leb (length r.items) 16) rows ≡ true
 rows_are_short = refl
 
--- A form has at most 16 marks and operands.
+-- A form has at most 16 fixed tokens and operands.
 pub items_are_few : (f : Form) → length (row_of f).items ≤ 16
 items_are_few f = leb-true _ _ (of_row (λ r. leb (length r.items) 16) f rows_are_short)

@@ -14,7 +14,7 @@ use Rattle.asm_forms.specs.declared.items.NumberField.TheVariants as field
 use Rattle.asm_forms.specs.declared.completer.Completer.{Completer}
 use Rattle.asm_forms.specs.declared.form.Form.{Form}
 use Rattle.asm_forms.specs.Completers.{text_of}
-use Rattle.asm_forms.specs.Items.{mark_token}
+use Rattle.asm_forms.specs.Items.{fixed_token}
 use Rattle.asm_forms.specs.Rows.{row_of}
 use Rattle.ia_insn.specs.declared.insn.Insn.{Insn}
 use Rattle.ia_insn.specs.declared.insn.Op.{Op}
@@ -68,10 +68,10 @@ token_text target hex t.OpenBracket = codes "["
 token_text target hex t.CloseBracket = codes "]"
 token_text target hex _ = []
 
--- The marks and the operands of a form, item by item.
+-- The fixed tokens and the operands of a form, item by item.
 abbrev pub operands_text : ℕ → List FormItem → List Token → List ℕ
 operands_text target [] xs = []
-operands_text target (Is mark ∷ is) xs = token_text target false (mark_token mark) ++ operands_text target is xs
+operands_text target (Is fixed ∷ is) xs = token_text target false (fixed_token fixed) ++ operands_text target is xs
 operands_text target (Takes kind n ∷ is) [] = []
 operands_text target (Takes kind n ∷ is) (x ∷ xs) = token_text target (is_hex kind) x ++ operands_text target is xs
 

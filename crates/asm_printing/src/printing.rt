@@ -3,23 +3,23 @@
 ghost use Rattle.std.specs.Prelude.{◌≡◌, ◌+◌, ◌*◌, ◌++◌, ◌∷◌, ◌<◌, ◌≤◌, codes, length, vec_len, vec_capacity, OnOk, OnErr, Some, false, decimal, flat_map};
 ghost use Rattle.std.specs.Io.{StartsWith};
 ghost use Rattle.asm_forms.specs.Completers.{text_of};
-ghost use Rattle.asm_forms.specs.Items.{mark_token};
+ghost use Rattle.asm_forms.specs.Items.{fixed_token};
 ghost use Rattle.ia_program.specs.Listed.{IsListed};
 ghost use Rattle.asm_canonical.specs.Canonical.{syntax_of};
 ghost use Rattle.asm_printing.specs.SlotTexts.{is_hex, ar_text, number_text, token_text, operands_text, spaced, mnemonic_text, predicate_text, stop_text, target_of, or_zero, HasTarget, line_text, slot_text};
 
 use crate::numerals::{push_bytes, put_bytes, put_decimal, put_hex};
 use asm_canonical::{Syntax, syntax_of};
-use asm_forms::{Completer, FormItem, Kind, Mark, NumberField, Row, mark_token, text};
+use asm_forms::{Completer, Fixed, FormItem, Kind, NumberField, Row, fixed_token, text};
 use asm_lexemes::Token;
 use ia_insn::{Ar, Insn, Op, Pr};
 use ia_program::Place;
 use std::alloc::AllocError;
 
-/// How many bytes an operand or a mark has at most: a sign and the digits of a number.
+/// How many bytes an operand or a fixed token has at most: a sign and the digits of a number.
 const ITEM_ROOM: usize = 21;
 
-/// How many bytes the operands and the marks of a form have at most, with the space before them.
+/// How many bytes the operands and the fixed tokens of a form have at most, with the space before them.
 const OPERANDS_ROOM: usize = 1 + 16 * ITEM_ROOM;
 
 /// How many bytes there are at most before a mnemonic.
@@ -97,17 +97,17 @@ fn put_token(out: &mut Vec<u8>, target: u64, hex: bool, token: Token)
     }
 }
 
-/// Puts a mark, where there is room for an operand.
-fn put_mark(out: &mut Vec<u8>, target: u64, mark: Mark)
+/// Puts a fixed token, where there is room for an operand.
+fn put_fixed(out: &mut Vec<u8>, target: u64, fixed: Fixed)
     requires { vec_len out.old + ITEM_ROOM ≤ vec_capacity out.old }
-    ensures items { out.new.items ≡ out.old.items ++ token_text target false (mark_token mark) }
+    ensures items { out.new.items ≡ out.old.items ++ token_text target false (fixed_token fixed) }
     ensures len { vec_len out.new ≤ vec_len out.old + ITEM_ROOM }
     ensures capacity { vec_capacity out.new ≡ vec_capacity out.old }
 {
-    match mark {
-        Mark::Comma => out.push_reserved(b','),
-        Mark::Equals => out.push_reserved(b'='),
-        _ => put_token(out, target, false, mark_token(mark)),
+    match fixed {
+        Fixed::Comma => out.push_reserved(b','),
+        Fixed::Equals => out.push_reserved(b'='),
+        _ => put_token(out, target, false, fixed_token(fixed)),
     }
 }
 
@@ -125,7 +125,7 @@ fn is_hex(kind: Kind) -> bool
     }
 }
 
-/// Puts the marks and the operands of a form, item by item, where there is room for each.
+/// Puts the fixed tokens and the operands of a form, item by item, where there is room for each.
 fn put_items(out: &mut Vec<u8>, target: u64, items: &[FormItem], operands: &[Token])
     requires { vec_len out.old + length items.now * ITEM_ROOM ≤ vec_capacity out.old }
     ensures items { out.new.items ≡ out.old.items ++ operands_text target items.now operands.now }
@@ -133,8 +133,8 @@ fn put_items(out: &mut Vec<u8>, target: u64, items: &[FormItem], operands: &[Tok
 {
     match items {
         [] => {}
-        [FormItem::Is(mark), items @ ..] => {
-            put_mark(out, target, *mark);
+        [FormItem::Is(fixed), items @ ..] => {
+            put_fixed(out, target, *fixed);
             put_items(out, target, items, operands);
         }
         [FormItem::Takes(kind, _), items @ ..] => match operands {
@@ -201,7 +201,7 @@ fn push_start(out: &mut Vec<u8>, qp: Pr) -> Result<(), AllocError>
     Ok(())
 }
 
-/// The marks and the operands after one space, where there are any.
+/// The fixed tokens and the operands after one space, where there are any.
 #[tactic(auto, using(crate::proofs::Kept::kept_before, crate::proofs::Spaced::spaced_nothing, crate::proofs::Spaced::spaced_something))]
 fn push_operands(
     out: &mut Vec<u8>,

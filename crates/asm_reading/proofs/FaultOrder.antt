@@ -9,7 +9,7 @@ use Rattle.asm_lexemes.specs.Bytes.{has_only_plain}
 use Rattle.asm_reading.specs.declared.line.Line.{Line}
 use Rattle.asm_reading.specs.Lines.{value_of, reading_of, IsListedLine, FaultOf}
 use Rattle.asm_reading.specs.FaultOrder.{lexemes_of, Beside, nothing, beside_of, fault_before, before_stage, after_stage, HasValue, line_stages}
-use Rattle.asm_reading.proofs.FaultOrderFronts.{wrong_place}
+use Rattle.asm_reading.proofs.FaultOrderFronts.{wrong_position}
 use Rattle.asm_reading.proofs.FaultOrderAnswers.{IsFound, beside_stages, Answers, value_answers}
 use Rattle.asm_reading.proofs.SomeAnswer.{line_or_fault}
 
@@ -38,8 +38,8 @@ before_sound b = record {
 
 after_sound : (b : Beside) → IsSound (after_stage b)
 after_sound b = record {
-  one = λ m n is are. (wrong_place b.forms b.after m is).0 ∙ sym (wrong_place b.forms b.after n are).0;
-  none = λ n is all. omega (arith, (wrong_place b.forms b.after n is).1, all);
+  one = λ m n is are. (wrong_position b.forms b.after m is).0 ∙ sym (wrong_position b.forms b.after n are).0;
+  none = λ n is all. omega (arith, (wrong_position b.forms b.after n is).1, all);
 }
 
 sound : (plain : Bool) (o : Option Beside) (Last : Type 0) → AreSound (stages plain o Last)

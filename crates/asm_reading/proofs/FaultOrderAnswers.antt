@@ -238,7 +238,7 @@ mark_led_answers t.OpenBrace before [] = refl
 mark_led_answers t.OpenBrace before (w ∷ after) = opened_as_answers (template_name_of w.1) before after
 mark_led_answers _ before after = refl
 
--- lines by their leading lexemes, and by the places of these
+-- lines by their leading lexemes, and by the positions of these
 led_by_answers : (w : KindAndText) (before after : List KindAndText) → Answers (beside_lexeme w before after) (led_by w before after)
 led_by_answers (kind.Name, text) before after = among_answers (named_forms text) text before after
 led_by_answers (kind.Number, text) before after = refl

@@ -199,9 +199,9 @@ fault_front Predicates forms xs = relation_fault_front _ (agreed_relation [] xs)
 fault_front (Numbers z) forms xs = data_fault_front (data_field z) _ (agreed_data (data_field z) 0 xs) xs refl (omega arith)
 
 -- The first wrong token stands where as many are right, and nowhere else.
-pub wrong_place : (forms : List Form) (xs : List Token) (at : ℕ) → IsFirstWrong forms xs at
+pub wrong_position : (forms : List Form) (xs : List Token) (at : ℕ) → IsFirstWrong forms xs at
     → (at ≡ right_count (operands_of forms) forms xs) × (right_count (operands_of forms) forms xs < length xs)
-wrong_place forms xs at is =
+wrong_position forms xs at is =
     let most : right_count (operands_of forms) forms xs ≤ length xs = right_within (operands_of forms) forms xs in
     let right : right_count (operands_of forms) forms (take at xs) ≡ length (take at xs) = is.right in
     let wrong : ¬ (right_count (operands_of forms) forms (take (at + 1) xs) ≡ length (take (at + 1) xs)) = is.wrong in

@@ -1,4 +1,4 @@
--- What the lexemes of a line say, by how many there are and by the place of the leading one.
+-- What the lexemes of a line say, by how many there are and by the position of the leading one.
 use Rattle.std.proofs.Common.{◌≡◌, ◌≤◌, ◌<◌, ◌∙◌, sym, ap, refl, ℕ, suc, ◌+◌, true, List, [], ◌∷◌, length, take, drop, get_or, slice_get, slice_range, Some, None, Err, Result, false, add-one, arith}
 use Rattle.std.proofs.Math.Seq.{drop-cons}
 use Rattle.std.proofs.lemmas.List.{take-map, drop-map}

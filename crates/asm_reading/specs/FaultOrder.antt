@@ -56,7 +56,7 @@ beside_lexeme (kind.Number, text) before after = None
 beside_lexeme (kind.Quoted, text) before after = None
 beside_lexeme (kind.Mark, text) before after = beside_mark (token_of kind.Mark text) before after
 
--- the leading lexeme is the one at this place
+-- the leading lexeme is the one at this position
 abbrev pub beside_at : List KindAndText → ℕ → Option Beside
 beside_at ws k = option_and_then (λ w. beside_lexeme w (take k ws) (drop (k + 1) ws)) (slice_get ws k)
 
@@ -116,18 +116,18 @@ right_count OfForms forms xs = reach forms xs
 abbrev pub AreRight : List Form → List Token → Type 0
 AreRight forms xs = right_count (operands_of forms) forms xs ≡ length xs
 
--- the fault of the first of the tokens that isn't right, by what is wanted in its place
+-- the fault of the first of the tokens that isn't right, by what is wanted there
 abbrev pub fault_among : Operands → List Form → List Token → LineFault
 fault_among (Numbers z) forms xs = data_fault (agreed_data (data_field z) 0 xs) xs
 fault_among Predicates forms xs = relation_fault (agreed_relation [] xs) xs
 fault_among OfForms forms xs = fault_of forms xs
 
--- The token at a place is the first that is wrong: those before it are right, and not with it.
+-- The token at a position is the first that is wrong: those before it are right, and not with it.
 pub record IsFirstWrong (forms : List Form) (xs : List Token) (at : ℕ) : Type 0 where
   pub right : AreRight forms (take at xs)
   pub wrong : ¬ AreRight forms (take (at + 1) xs)
 
--- the fault of the token at a place, by this one and those before it alone
+-- the fault of the token at a position, by this one and those before it alone
 abbrev pub fault_of_token : List Form → List Token → ℕ → LineFault
 fault_of_token forms xs at = fault_among (operands_of forms) forms (take (at + 1) xs)
 

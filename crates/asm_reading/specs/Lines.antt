@@ -26,7 +26,7 @@ use Rattle.asm_forms.specs.declared.form.Form.{Form}
 use Rattle.asm_forms.specs.declared.form.Form.TheVariants as form
 use Rattle.asm_forms.specs.declared.items.FormItem.{FormItem}
 use Rattle.asm_forms.specs.declared.items.FormItem.TheVariants.{Is, Takes}
-use Rattle.asm_forms.specs.declared.items.Mark.TheVariants as mark
+use Rattle.asm_forms.specs.declared.items.Fixed.TheVariants as fixed
 use Rattle.asm_forms.specs.declared.items.Kind.TheVariants as takes
 use Rattle.asm_forms.specs.declared.items.NumberField.{NumberField}
 use Rattle.asm_forms.specs.declared.items.NumberField.TheVariants as field
@@ -78,7 +78,7 @@ tokens ws = map (λ w. token_of w.0 w.1) ws
 abbrev pub name_of : List ℕ → Option (List ℕ)
 name_of text = if nat_le 1 (length text) && nat_le (length text) NAME_LIMIT then Some text else None
 
--- the name at the place of the label among these items
+-- the name at the position of the label among these items
 abbrev pub label_name : List FormItem → List KindAndText → Option (List ℕ)
 label_name [] ws = None
 label_name (i ∷ is) [] = None
@@ -156,9 +156,9 @@ data_field size.Four = field.Data4
 data_field size.Eight = field.Imm64
 
 abbrev pub data_item : NumberField → ℕ → FormItem
-data_item f at = if at % 2 == 0 then Takes (takes.Number f) 0 else Is mark.Comma
+data_item f at = if at % 2 == 0 then Takes (takes.Number f) 0 else Is fixed.Comma
 
--- on how many tokens from the place on there are numbers and commas in turn
+-- on how many tokens from the position on there are numbers and commas in turn
 abbrev pub agreed_data : NumberField → ℕ → List Token → ℕ
 agreed_data f at [] = 0
 agreed_data f at (x ∷ xs) = if nat_lt at NUMBER_TOKEN_LIMIT && accepts (data_item f at) x then agreed_data f (at + 1) xs + 1 else 0

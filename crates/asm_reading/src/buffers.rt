@@ -12,14 +12,14 @@ use std::marker::Model;
 /// Contracts see these.
 #[derive(Debug, Drop)]
 pub(crate) struct Tokens {
-    places: [Token; LINE_LIMIT],
+    tokens: [Token; LINE_LIMIT],
     count: usize,
 }
 
 impl Model for Tokens {
     ghost Value = { List TokenOf };
 
-    ghost view = { λ t. take t.count t.places };
+    ghost view = { λ t. take t.count t.tokens };
 
     ghost invariant = { λ t. t.count ≤ LINE_LIMIT };
 }
@@ -30,7 +30,7 @@ impl Tokens {
         ensures { result ≡ [] }
     {
         Tokens {
-            places: [Token::OtherMark; LINE_LIMIT],
+            tokens: [Token::OtherMark; LINE_LIMIT],
             count: 0,
         }
     }
@@ -48,7 +48,7 @@ impl Tokens {
         requires { length self.old < LINE_LIMIT }
         ensures { self.new ≡ self.old ++ token ∷ [] }
     {
-        self.places[self.count] = token;
+        self.tokens[self.count] = token;
         self.count += 1;
     }
 
@@ -56,7 +56,7 @@ impl Tokens {
     pub fn as_slice(&self) -> &[Token]
         ensures { result.now ≡ self.now }
     {
-        &self.places[..self.count]
+        &self.tokens[..self.count]
     }
 }
 

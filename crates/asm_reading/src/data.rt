@@ -7,7 +7,7 @@ ghost use Rattle.asm_reading.specs.Lines.{data_field, data_item, agreed_data, nu
 
 use crate::line::{Line, Values};
 use arrayvec::ArrayVec;
-use asm_forms::{AccessSize, FormItem, Kind, Mark, NumberField, accepts};
+use asm_forms::{AccessSize, Fixed, FormItem, Kind, NumberField, accepts};
 use asm_instructions::{bytes, wrapped_below};
 use asm_lexemes::limits::{NUMBER_LIMIT, NUMBER_TOKEN_LIMIT};
 use asm_lexemes::{LineFault, Token};
@@ -25,14 +25,14 @@ fn data_field(size: AccessSize) -> NumberField
     }
 }
 
-/// What is wanted at a place: numbers in turn with commas.
+/// What is wanted at a position: numbers in turn with commas.
 fn data_item(field: NumberField, at: usize) -> FormItem
     ensures { result ≡ data_item field at }
 {
     if at % 2 == 0 {
         FormItem::Takes(Kind::Number(field), 0)
     } else {
-        FormItem::Is(Mark::Comma)
+        FormItem::Is(Fixed::Comma)
     }
 }
 
@@ -96,14 +96,14 @@ fn numbers_of(size: AccessSize, tokens: &[Token]) -> ArrayVec<u64, NUMBER_LIMIT>
     numbers
 }
 
-/// Whether a number is wanted at a place.
+/// Whether a number is wanted at a position.
 fn wants_number(at: usize) -> bool
     ensures { result ≡ wants_number at }
 {
     at < NUMBER_TOKEN_LIMIT && at % 2 == 0
 }
 
-/// The fault at a place of the numbers.
+/// The fault at a position of the numbers.
 fn data_fault(at: usize, tokens: &[Token]) -> LineFault
     ensures { result ≡ data_fault at tokens.now }
 {

@@ -1,7 +1,7 @@
 //! What a line of assembly text says, or its first fault.
 //!
 //! A line is cut into lexemes, and the leading name names one or more forms. `reading` finds the form that the
-//! operands have and the line's value, or the first fault. Which marks and operands may follow a name, and the
+//! operands have and the line's value, or the first fault. Which fixed tokens and operands may follow a name, and the
 //! predicates of a relation, is said below (`asm_matching`), and so is what each form means (`asm_instructions`); `data`
 //! has the numbers in a line of data and `template_name` the names of templates, which go by no row of the forms.
 #![tactic(auto)]

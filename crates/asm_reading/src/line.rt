@@ -174,7 +174,7 @@ pub struct Draft {
 }
 
 impl Draft {
-    /// A place for one.
+    /// Room for one.
     pub(crate) fn blank() -> Self {
         Draft {
             insn: Insn {

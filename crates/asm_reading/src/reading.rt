@@ -27,7 +27,7 @@ use asm_matching::read_form;
 use ia_insn::{Insn, Pr};
 use ia_program::is_listed;
 
-/// Puts what the lexemes may be read as into the buffer, in the place of what it held.
+/// Puts what the lexemes may be read as into the buffer, instead of what it held.
 fn tokens_into(line: &[u8], lexemes: &[Lexeme], buffer: &mut Tokens)
     requires few { length lexemes.now ≤ LINE_LIMIT }
     requires parts { AreParts line.now lexemes.now }
@@ -170,7 +170,7 @@ fn name_of(text: &[u8]) -> Option<Name>
     Name::of(text)
 }
 
-/// The name at the place of the label among these items.
+/// The name at the position of the label among these items.
 fn label_name(line: &[u8], items: &[FormItem], lexemes: &[Lexeme]) -> Option<Name>
     requires { AreParts line.now lexemes.now }
     ensures { result ≡ label_name items.now (texts line.now lexemes.now) }
@@ -546,7 +546,7 @@ fn led_by(
     }
 }
 
-/// The lexemes before a place.
+/// The lexemes before a position.
 fn before(lexemes: &[Lexeme], at: usize) -> &[Lexeme]
     requires { at ≤ length lexemes.now }
     ensures { result.now ≡ take at lexemes.now }
@@ -554,7 +554,7 @@ fn before(lexemes: &[Lexeme], at: usize) -> &[Lexeme]
     &lexemes[..at]
 }
 
-/// The lexemes from a place on.
+/// The lexemes from a position on.
 fn from(lexemes: &[Lexeme], at: usize) -> &[Lexeme]
     requires { at ≤ length lexemes.now }
     ensures { result.now ≡ drop at lexemes.now }
@@ -687,7 +687,7 @@ pub fn read_line(line: &[u8]) -> Result<Line, LineFault>
     Ok(value)
 }
 
-/// Puts what a line says, as [`read_line`] has it, into `value`, in the place of what it held. The buffers are lent to it;
+/// Puts what a line says, as [`read_line`] has it, into `value`, instead of what it held. The buffers are lent to it;
 /// they and the value serve many lines, which saves making them anew for each. After a fault nothing is said of what the
 /// value holds.
 pub fn read_line_into(

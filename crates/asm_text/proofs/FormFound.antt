@@ -267,5 +267,5 @@ of_row_back r i w m apart agreed back = of_opcode (operands r) i.op (taken_under
 -- Each instruction of a table whose rows agree with their forms is read back.
 pub listed_back : (rs : List Row) (i : Insn) → list_all row_agrees rs ≡ true → OpcodesBack rs → IsListedBy rs i → is_apart (opcode_of i.op) ≡ false → ReadsBack i.op
 listed_back rs i h b l apart =
-    of_row_back (get_or rs l.1.place no_row) i l.0 (l.1.row no_row) apart (all_get row_agrees rs l.1.place no_row l.1.inside h)
-    (same_at (λ r. map (λ f. begun (row_of f) r.opcode) (forms_had (operands r) r.opcode)) (λ r. map (λ f. Some r.opcode) (forms_had (operands r) r.opcode)) rs l.1.place no_row b l.1.inside)
+    of_row_back (get_or rs l.1.row_index no_row) i l.0 (l.1.row no_row) apart (all_get row_agrees rs l.1.row_index no_row l.1.inside h)
+    (same_at (λ r. map (λ f. begun (row_of f) r.opcode) (forms_had (operands r) r.opcode)) (λ r. map (λ f. Some r.opcode) (forms_had (operands r) r.opcode)) rs l.1.row_index no_row b l.1.inside)

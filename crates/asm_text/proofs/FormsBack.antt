@@ -130,7 +130,7 @@ all_print _ _ = false
 fit_all : (is : List FormItem) (xs : List Token) → all_print (form_operands is) xs ≡ true → fits is xs ≡ true
 fit_all [] [] h = refl
 fit_all [] (x ∷ xs) h = cc
-fit_all (Is mark ∷ is) xs h = fit_all is xs h
+fit_all (Is fixed ∷ is) xs h = fit_all is xs h
 fit_all (TakesKind kind n ∷ is) [] h = cc
 fit_all (TakesKind kind n ∷ is) (x ∷ xs) h = and_from _ _ (left _ _ h) (fit_all is xs (right _ _ h))
 

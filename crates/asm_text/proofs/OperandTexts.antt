@@ -21,14 +21,14 @@ use Rattle.asm_lexemes.proofs.Lexing.{name_lexed}
 use Rattle.asm_lexemes.proofs.Readings.{gr_reads, pr_reads, br_reads, decimal_reads, minus_reads, hex_reads, minus_hex_reads, decimal_is_name_bytes, decimal_is_plain, hex_is_plain, both_plain, decimal_lexed, minus_decimal_lexed, hex_lexed, minus_hex_lexed}
 use Rattle.asm_forms.specs.declared.items.FormItem.{FormItem}
 use Rattle.asm_forms.specs.declared.items.FormItem.TheVariants.{Is, Takes}
-use Rattle.asm_forms.specs.Items.{mark_token, filled, is_label_item}
+use Rattle.asm_forms.specs.Items.{fixed_token, filled, is_label_item}
 use Rattle.asm_reading.specs.Lines.{KindAndText, tokens, name_of, label_name}
 use Rattle.asm_canonical.proofs.Written.{IsPrinted}
 use Rattle.asm_printing.specs.SlotTexts.{is_hex, label_text, token_text, operands_text}
 
--- marks and operands in turn, as they are printed
+-- fixed tokens and operands in turn, as they are printed
 abbrev pub item_hex : FormItem → Bool
-item_hex (Is mark) = false
+item_hex (Is fixed) = false
 item_hex (Takes kind n) = is_hex kind
 
 abbrev pub tokens_text : ℕ → List FormItem → List Token → List ℕ
@@ -38,7 +38,7 @@ tokens_text target (i ∷ is) (x ∷ xs) = token_text target (item_hex i) x ++ t
 
 pub filled_text : (target : ℕ) (is : List FormItem) (xs : List Token) → operands_text target is xs ≡ tokens_text target is (filled is xs)
 filled_text target [] xs = refl
-filled_text target (Is mark ∷ is) xs = ap (λ cs. token_text target false (mark_token mark) ++ cs) (filled_text target is xs)
+filled_text target (Is fixed ∷ is) xs = ap (λ cs. token_text target false (fixed_token fixed) ++ cs) (filled_text target is xs)
 filled_text target (Takes kind n ∷ is) [] = refl
 filled_text target (Takes kind n ∷ is) (x ∷ xs) = ap (λ cs. token_text target (is_hex kind) x ++ cs) (filled_text target is xs)
 
@@ -80,7 +80,7 @@ lexemes_of target [] xs = []
 lexemes_of target (i ∷ is) [] = []
 lexemes_of target (i ∷ is) (x ∷ xs) = (lexeme_kind_of x, token_text target (item_hex i) x) ∷ lexemes_of target is xs
 
--- the operand at the place of the first label
+-- the operand at the position of the first label
 abbrev pub label_token : List FormItem → List Token → Option Token
 label_token [] xs = None
 label_token (i ∷ is) [] = None
@@ -171,22 +171,22 @@ operands_plain target [] xs l p = refl
 operands_plain target (i ∷ is) [] l p = refl
 operands_plain target (i ∷ is) (x ∷ xs) l p = both_plain (token_text target (item_hex i) x) (tokens_text target is xs) (one_plain target (item_hex i) x l p.0) (operands_plain target is xs l p.1)
 
--- a mark ends what stands before it
-mark_ends : (target : ℕ) (hex : Bool) (x : Token) (cs : List ℕ) → IsPrinted x → is_lexemelike x ≡ false → is_end (token_text target hex x ++ cs) ≡ true
-mark_ends target hex t.Equals cs p w = refl
-mark_ends target hex t.Comma cs p w = refl
-mark_ends target hex t.OpenBracket cs p w = refl
-mark_ends target hex t.CloseBracket cs p w = refl
-mark_ends target hex (t.Gr n) cs p w = cc
-mark_ends target hex (t.Pr n) cs p w = cc
-mark_ends target hex (t.Br n) cs p w = cc
-mark_ends target hex (t.Ar a) cs p w = cc
-mark_ends target hex t.Predicates cs p w = cc
-mark_ends target hex t.RotatingPredicates cs p w = cc
-mark_ends target hex t.Ip cs p w = cc
-mark_ends target hex t.Name cs p w = cc
-mark_ends target hex (t.Number s m) cs p w = cc
-mark_ends target hex x cs p w = absurd p
+-- a fixed token ends what stands before it
+fixed_ends : (target : ℕ) (hex : Bool) (x : Token) (cs : List ℕ) → IsPrinted x → is_lexemelike x ≡ false → is_end (token_text target hex x ++ cs) ≡ true
+fixed_ends target hex t.Equals cs p w = refl
+fixed_ends target hex t.Comma cs p w = refl
+fixed_ends target hex t.OpenBracket cs p w = refl
+fixed_ends target hex t.CloseBracket cs p w = refl
+fixed_ends target hex (t.Gr n) cs p w = cc
+fixed_ends target hex (t.Pr n) cs p w = cc
+fixed_ends target hex (t.Br n) cs p w = cc
+fixed_ends target hex (t.Ar a) cs p w = cc
+fixed_ends target hex t.Predicates cs p w = cc
+fixed_ends target hex t.RotatingPredicates cs p w = cc
+fixed_ends target hex t.Ip cs p w = cc
+fixed_ends target hex t.Name cs p w = cc
+fixed_ends target hex (t.Number s m) cs p w = cc
+fixed_ends target hex x cs p w = absurd p
 
 second : (a b : Bool) → a ≡ true → not (a && b) ≡ true → b ≡ false
 second true true e h = sym h
@@ -199,7 +199,7 @@ end_after target [] x [] cs n p a w e = e
 end_after target [] x (y ∷ ys) cs n p a w e = cc
 end_after target (i ∷ is) x [] cs n p a w e = cc
 end_after target (i ∷ is) x (y ∷ ys) cs n p a w e =
-    rw (append_assoc (token_text target (item_hex i) y) (tokens_text target is ys) cs) (mark_ends target (item_hex i) y (tokens_text target is ys ++ cs) p.0 (second (is_lexemelike x) (is_lexemelike y) w (left _ (are_apart (y ∷ ys)) a)))
+    rw (append_assoc (token_text target (item_hex i) y) (tokens_text target is ys) cs) (fixed_ends target (item_hex i) y (tokens_text target is ys ++ cs) p.0 (second (is_lexemelike x) (is_lexemelike y) w (left _ (are_apart (y ∷ ys)) a)))
 
 apart_tail : (x : Token) (xs : List Token) → are_apart (x ∷ xs) ≡ true → are_apart xs ≡ true
 apart_tail x [] a = refl
@@ -254,12 +254,12 @@ lexemes_no_name target (i ∷ is) (x ∷ xs) ws n h =
       | false ↦ λ k. lexemes_no_name target is xs ws (same_tail _ _ n) k
     ] h
 
--- Where a name is printed at the place of the label, the name of the line is the label of the target.
+-- Where a name is printed at the position of the label, the name of the line is the label of the target.
 pub label_found : (target : ℕ) (is : List FormItem) (xs : List Token) (cs : List ℕ) → target < 2 ^ 34 → length is ≡ length xs → AllByRecursion IsPrinted xs → are_apart xs ≡ true → is_end cs ≡ true → label_token is xs ≡ Some t.Name
     → label_name is (lexed 0 (tokens_text target is xs ++ cs)) ≡ Some (label_text target)
 label_found target is xs cs l n p a e h = ap (label_name is) (operands_lexed target is xs cs l n p a e) ∙ lexemes_name target is xs (lexed 0 cs) l h
 
--- Where there is no place of a label, the line has no name.
+-- Where there is no position of a label, the line has no name.
 pub label_missing : (target : ℕ) (is : List FormItem) (xs : List Token) (cs : List ℕ) → target < 2 ^ 34 → length is ≡ length xs → AllByRecursion IsPrinted xs → are_apart xs ≡ true → is_end cs ≡ true → label_token is xs ≡ None
     → label_name is (lexed 0 (tokens_text target is xs ++ cs)) ≡ None
 label_missing target is xs cs l n p a e h = ap (label_name is) (operands_lexed target is xs cs l n p a e) ∙ lexemes_no_name target is xs (lexed 0 cs) n h

@@ -19,7 +19,7 @@ use Rattle.asm_forms.specs.declared.items.FormItem.TheVariants.{Is, Takes}
 use Rattle.asm_forms.specs.declared.items.Kind.{Kind}
 use Rattle.asm_forms.specs.declared.items.Kind.TheVariants as k
 use Rattle.asm_forms.specs.Completers.{text_of}
-use Rattle.asm_forms.specs.Items.{mark_token, filled, prints, fits}
+use Rattle.asm_forms.specs.Items.{fixed_token, filled, prints, fits}
 use Rattle.asm_forms.specs.Naming.{completers_in}
 use Rattle.asm_forms.specs.Rows.{rows, row_of}
 use Rattle.asm_forms.proofs.Clear.{products}
@@ -55,7 +55,7 @@ kind_room (k.Number field) = 21
 
 abbrev items_room : List FormItem → ℕ
 items_room [] = 0
-items_room (Is mark ∷ is) = token_room (mark_token mark) + items_room is
+items_room (Is fixed ∷ is) = token_room (fixed_token fixed) + items_room is
 items_room (Takes kind n ∷ is) = kind_room kind + items_room is
 
 kind_fits : (kind : Kind) (x : Token) → prints kind x ≡ true → token_room x ≡ kind_room kind
@@ -104,10 +104,10 @@ token_is_short target hex x l p = absurd p
 -- The text of operands fits in their room.
 operands_are_short : (target : ℕ) (is : List FormItem) (xs : List Token) → target < 2 ^ 34 → fits is xs ≡ true → AllByRecursion IsPrinted (filled is xs) → length (operands_text target is xs) ≤ items_room is
 operands_are_short target [] xs l h p = omega arith
-operands_are_short target (Is mark ∷ is) xs l h p =
-    let one = token_is_short target false (mark_token mark) l p.0 in
+operands_are_short target (Is fixed ∷ is) xs l h p =
+    let one = token_is_short target false (fixed_token fixed) l p.0 in
     let more = operands_are_short target is xs l h p.1 in
-    let both = length-append (token_text target false (mark_token mark)) (operands_text target is xs) in
+    let both = length-append (token_text target false (fixed_token fixed)) (operands_text target is xs) in
     omega (arith, one, more, both)
 operands_are_short target (Takes kind n ∷ is) [] l h p = omega arith
 operands_are_short target (Takes kind n ∷ is) (x ∷ xs) l h p =

@@ -8,22 +8,22 @@ use Rattle.insn_rows.specs.Arms.{opcode_of}
 use Rattle.insn_rows.specs.Rows.{listed}
 use Rattle.insn_rows.proofs.Laws.{AsRow}
 use Rattle.formats_a.specs.Listed.{rows as rows_a, IsListedA}
-use Rattle.formats_a.specs.Places.{place_of as place_a}
+use Rattle.formats_a.specs.RowIndexes.{row_index_of as row_index_a}
 use Rattle.formats_a.proofs.Words.{row_a, of_row_a}
 use Rattle.formats_i.specs.Listed.{rows as rows_i, IsListedI}
-use Rattle.formats_i.specs.Places.{place_of as place_i}
+use Rattle.formats_i.specs.RowIndexes.{row_index_of as row_index_i}
 use Rattle.formats_i.proofs.Words.{row_i, of_row_i}
 use Rattle.formats_m.specs.Listed.{rows as rows_m, IsListedM}
-use Rattle.formats_m.specs.Places.{place_of as place_m}
+use Rattle.formats_m.specs.RowIndexes.{row_index_of as row_index_m}
 use Rattle.formats_m.proofs.Words.{row_m, of_row_m}
 use Rattle.formats_b.specs.ListedB.{rows as rows_b, IsListedB}
-use Rattle.formats_b.specs.PlacesB.{place_of as place_b}
+use Rattle.formats_b.specs.RowIndexesB.{row_index_of as row_index_b}
 use Rattle.formats_b.proofs.WordsB.{row_b, of_row_b}
 use Rattle.formats_b.specs.ListedF.{rows as rows_f, IsListedF}
-use Rattle.formats_b.specs.PlacesF.{place_of as place_f}
+use Rattle.formats_b.specs.RowIndexesF.{row_index_of as row_index_f}
 use Rattle.formats_b.proofs.WordsF.{row_f, of_row_f}
 use Rattle.formats_b.specs.ListedX.{rows as rows_x, IsListedX}
-use Rattle.formats_b.specs.PlacesX.{place_of as place_x}
+use Rattle.formats_b.specs.RowIndexesX.{row_index_of as row_index_x}
 use Rattle.formats_b.specs.PartsX.{slot_op, IsWithin}
 use Rattle.formats_b.proofs.WordsX.{row_of_x, of_row_x}
 use Rattle.ia_program.specs.Listed.{IsListed}
@@ -37,43 +37,43 @@ aimed z (op.Br kind wh many clr disp) = op.Br kind wh many clr z
 aimed z (op.BrCall b1 wh many clr disp) = op.BrCall b1 wh many clr z
 aimed z x = x
 
-row_aimed_a : (qp : ℕ) (x : Op) (z : ℤ) → FitsSigned 21 z → AsRow rows_a (place_a (opcode_of x)) (record { qp = qp; op = x }) → AsRow rows_a (place_a (opcode_of (aimed z x))) (record { qp = qp; op = aimed z x })
+row_aimed_a : (qp : ℕ) (x : Op) (z : ℤ) → FitsSigned 21 z → AsRow rows_a (row_index_a (opcode_of x)) (record { qp = qp; op = x }) → AsRow rows_a (row_index_a (opcode_of (aimed z x))) (record { qp = qp; op = aimed z x })
 unfolding rows_a listed
 row_aimed_a qp x z near h = grind arith
 
 pub aimed_a : (qp : ℕ) (x : Op) (z : ℤ) → FitsSigned 21 z → IsListedA (record { qp = qp; op = x }) → IsListedA (record { qp = qp; op = aimed z x })
 aimed_a qp x z near l = of_row_a _ (row_aimed_a qp x z near (row_a _ l))
 
-row_aimed_i : (qp : ℕ) (x : Op) (z : ℤ) → FitsSigned 21 z → AsRow rows_i (place_i (opcode_of x)) (record { qp = qp; op = x }) → AsRow rows_i (place_i (opcode_of (aimed z x))) (record { qp = qp; op = aimed z x })
+row_aimed_i : (qp : ℕ) (x : Op) (z : ℤ) → FitsSigned 21 z → AsRow rows_i (row_index_i (opcode_of x)) (record { qp = qp; op = x }) → AsRow rows_i (row_index_i (opcode_of (aimed z x))) (record { qp = qp; op = aimed z x })
 unfolding rows_i listed
 row_aimed_i qp x z near h = grind arith
 
 pub aimed_i : (qp : ℕ) (x : Op) (z : ℤ) → FitsSigned 21 z → IsListedI (record { qp = qp; op = x }) → IsListedI (record { qp = qp; op = aimed z x })
 aimed_i qp x z near l = of_row_i _ (row_aimed_i qp x z near (row_i _ l))
 
-row_aimed_m : (qp : ℕ) (x : Op) (z : ℤ) → FitsSigned 21 z → AsRow rows_m (place_m (opcode_of x)) (record { qp = qp; op = x }) → AsRow rows_m (place_m (opcode_of (aimed z x))) (record { qp = qp; op = aimed z x })
+row_aimed_m : (qp : ℕ) (x : Op) (z : ℤ) → FitsSigned 21 z → AsRow rows_m (row_index_m (opcode_of x)) (record { qp = qp; op = x }) → AsRow rows_m (row_index_m (opcode_of (aimed z x))) (record { qp = qp; op = aimed z x })
 unfolding rows_m listed
 row_aimed_m qp x z near h = grind arith
 
 pub aimed_m : (qp : ℕ) (x : Op) (z : ℤ) → FitsSigned 21 z → IsListedM (record { qp = qp; op = x }) → IsListedM (record { qp = qp; op = aimed z x })
 aimed_m qp x z near l = of_row_m _ (row_aimed_m qp x z near (row_m _ l))
 
-row_aimed_b : (qp : ℕ) (x : Op) (z : ℤ) → FitsSigned 21 z → AsRow rows_b (place_b (opcode_of x)) (record { qp = qp; op = x }) → AsRow rows_b (place_b (opcode_of (aimed z x))) (record { qp = qp; op = aimed z x })
+row_aimed_b : (qp : ℕ) (x : Op) (z : ℤ) → FitsSigned 21 z → AsRow rows_b (row_index_b (opcode_of x)) (record { qp = qp; op = x }) → AsRow rows_b (row_index_b (opcode_of (aimed z x))) (record { qp = qp; op = aimed z x })
 unfolding rows_b listed
 row_aimed_b qp x z near h = grind arith
 
 pub aimed_b : (qp : ℕ) (x : Op) (z : ℤ) → FitsSigned 21 z → IsListedB (record { qp = qp; op = x }) → IsListedB (record { qp = qp; op = aimed z x })
 aimed_b qp x z near l = of_row_b _ (row_aimed_b qp x z near (row_b _ l))
 
-row_aimed_f : (qp : ℕ) (x : Op) (z : ℤ) → FitsSigned 21 z → AsRow rows_f (place_f (opcode_of x)) (record { qp = qp; op = x }) → AsRow rows_f (place_f (opcode_of (aimed z x))) (record { qp = qp; op = aimed z x })
+row_aimed_f : (qp : ℕ) (x : Op) (z : ℤ) → FitsSigned 21 z → AsRow rows_f (row_index_f (opcode_of x)) (record { qp = qp; op = x }) → AsRow rows_f (row_index_f (opcode_of (aimed z x))) (record { qp = qp; op = aimed z x })
 unfolding rows_f listed
 row_aimed_f qp x z near h = grind arith
 
 pub aimed_f : (qp : ℕ) (x : Op) (z : ℤ) → FitsSigned 21 z → IsListedF (record { qp = qp; op = x }) → IsListedF (record { qp = qp; op = aimed z x })
 aimed_f qp x z near l = of_row_f _ (row_aimed_f qp x z near (row_f _ l))
 
-row_aimed_x : (qp : ℕ) (x : Op) (z : ℤ) → AsRow rows_x (place_x (opcode_of (slot_op x))) (record { qp = qp; op = slot_op x }) → IsWithin x
-    → AsRow rows_x (place_x (opcode_of (slot_op (aimed z x)))) (record { qp = qp; op = slot_op (aimed z x) }) × IsWithin (aimed z x)
+row_aimed_x : (qp : ℕ) (x : Op) (z : ℤ) → AsRow rows_x (row_index_x (opcode_of (slot_op x))) (record { qp = qp; op = slot_op x }) → IsWithin x
+    → AsRow rows_x (row_index_x (opcode_of (slot_op (aimed z x)))) (record { qp = qp; op = slot_op (aimed z x) }) × IsWithin (aimed z x)
 unfolding rows_x listed
 row_aimed_x qp x z h within = grind arith
 

@@ -3,7 +3,6 @@
 ghost use Rattle.std.specs.Prelude.{◌≡◌, List, ℕ};
 ghost use Rattle.std.specs.Int.{w128, from_le_bytes};
 ghost use Rattle.bundle_bits.specs.RawBundle.{bundle_number, HasWidths, AreBytes};
-ghost use Rattle.bundle_bits.specs.Laws.{OneRaw, OneBytes, SomeRaw};
 
 /// How many templates five bits can tell apart.
 const TEMPLATES: u128 = 1 << 5;
@@ -63,18 +62,3 @@ pub fn join(raw: &RawBundle) -> [u8; 16]
         + u128::from(raw.slots[2]) * (TEMPLATES * SLOT_WORDS * SLOT_WORDS);
     number.to_le_bytes()
 }
-
-/// The law that a number is that of at most one bundle. It does nothing.
-pub fn one_raw()
-    ensures { OneRaw }
-{}
-
-/// The law that a number is that of at most one list of sixteen bytes. It does nothing.
-pub fn one_bytes()
-    ensures { OneBytes }
-{}
-
-/// The law that the number of any sixteen bytes is that of a bundle. It does nothing.
-pub fn some_raw()
-    ensures { SomeRaw }
-{}

@@ -9,6 +9,8 @@
 
 mod bundle;
 mod field;
+mod laws;
 
-pub use bundle::{RawBundle, join, one_bytes, one_raw, some_raw, split};
+pub use bundle::{RawBundle, join, split};
 pub use field::Field;
+pub use laws::{one_bytes, one_raw, some_raw};

@@ -23,7 +23,7 @@ use Rattle.bundling.specs.Chunks.{AreChunks}
 use Rattle.bundling.specs.Bundled.{sequence_of, targeted, layout_of, place_of, bundle_of, relation_moved}
 use Rattle.bundling.proofs.Lists.{element}
 use Rattle.std.proofs.lemmas.List.Elements.{Contains-get_or}
-use Rattle.bundling.proofs.Locating.{breaks_inside, AreLayouts, held, part_of, IsAt, spot, held-suc, length-bundles, bundle_at, in_bundle, placed, bundle_there, next_first, first_there, below_all, first_is_head, head_is_first, begins_first, behind_call_first, call_is_last, first_of_all}
+use Rattle.bundling.proofs.Locating.{breaks_inside, AreLayouts, held, part_of, IsAt, in_chunk, held-suc, length-bundles, bundle_at, in_bundle, placed, bundle_there, next_first, first_there, below_all, first_is_head, head_is_first, begins_first, behind_call_first, call_is_last, first_of_all}
 use Rattle.bundling.proofs.Targeting.{put, length-targeted, item_at, insn_there, has_instructions, call_put}
 use Rattle.bundling.proofs.Spreading.{itself, bundles_of, fillers}
 
@@ -101,7 +101,7 @@ ends_with_call laws s cs loose are k b is has = of (fillers laws cs s.items (tar
     of : ((n : ℕ) × (n < length s.items) × (in_bundle k found.slot ≡ place_of cs n)) ⊎ IsFiller found.insn → EndsWithCall s cs k
     of (inr nop) = absurd (nop_calls_not found.insn nop found.call)
     of (inl (n, less, same)) =
-        let one = spot cs s.items n are less in
+        let one = in_chunk cs s.items n are less in
         let bundle : k ≡ one.bundle = ap (λ (p : Place). p.bundle) same ∙ bundle_there laws cs s.items n one.bundle one.offset one.chunk are one.at in
         let there : slice_get (targeted (bundle_of cs) s) n ≡ Some found.insn =
         sym (has_instructions laws s cs (bundle_of cs) n loose are less) ∙ ap (insn_at (bundles_of s cs)) (sym same) ∙ here
@@ -137,7 +137,7 @@ entry_from laws s cs loose are bundle entry =
     declared : (bundle n : ℕ) → Contains s.entries n → bundle_of cs n ≡ bundle → Contains s.entries (held cs bundle)
     declared bundle n contains is =
         let begins = loose.entries_break n contains in
-        let one = spot cs s.items n are (breaks_inside s.items n begins) in
+        let one = in_chunk cs s.items n are (breaks_inside s.items n begins) in
         let first = begins_first cs s.items n one.bundle one.offset one.chunk laws are one.at begins in
         let same : one.bundle ≡ bundle = sym (bundle_there laws cs s.items n one.bundle one.offset one.chunk are one.at) ∙ is in
         let number = one.at.number in
@@ -167,7 +167,7 @@ behind_call : AreLayouts → (s : Loose) (cs : List Chunk) → IsLoose s → Are
     → IsSomeAnd (slice_get (targeted itself s) m) (λ i. IsCall i.op) → IsAfterCall (bundles_of s cs) (bundle_of cs (suc m))
 behind_call laws s cs loose are m more call =
     let less : m < length s.items = omega arith in
-    let one = spot cs s.items m are less in
+    let one = in_chunk cs s.items m are less in
     let item = item_at s m loose less in
     let calls = item_calls itself s m item.item loose item.there call in
     let last = call_is_last cs s.items m one.bundle one.offset one.chunk item.item laws are one.at item.there calls in
@@ -190,7 +190,7 @@ pub entry_of : AreLayouts → (s : Loose) (cs : List Chunk) → IsLoose s → Ar
     → IsEntryOf (bundles_of s cs) (map (bundle_of cs) s.entries) (bundle_of cs n) × IsHead (place_of cs) n
 entry_of laws s cs loose are n entry =
     let less : n < length s.items = subst (λ m. n < m) (length-targeted itself 0 s.items s.targets loose.targets) entry.inside in
-    let one = spot cs s.items n are less in
+    let one = in_chunk cs s.items n are less in
     let bundle = bundle_there laws cs s.items n one.bundle one.offset one.chunk are one.at in
     let known = kind n less one.bundle one.offset one.chunk one.at bundle entry.kind in
     let first : IsAt cs n one.bundle 0 one.chunk = subst (λ j. IsAt cs n one.bundle j one.chunk) known.0 one.at in (
@@ -224,8 +224,8 @@ apart laws s cs are m n begins less head =
   where
     back : bundle_of cs m ≡ bundle_of cs n → m ≡ n
     back same =
-        let one = spot cs s.items m are (breaks_inside s.items m begins) in
-        let two = spot cs s.items n are less in
+        let one = in_chunk cs s.items m are (breaks_inside s.items m begins) in
+        let two = in_chunk cs s.items n are less in
         let first = begins_first cs s.items m one.bundle one.offset one.chunk laws are one.at begins in
         let second = head_is_first cs s.items n two.bundle two.offset two.chunk laws are two.at head in
         let bundle : one.bundle ≡ two.bundle =

@@ -26,7 +26,7 @@ use Rattle.bundling.specs.Chunk.{Chunk}
 use Rattle.bundling.specs.Chunks.{Holds, AreChunksOf}
 use Rattle.bundling.specs.Bundled.{targeted, layout_of, bundle_of, program_of}
 use Rattle.bundling.proofs.Lists.{element}
-use Rattle.bundling.proofs.Locating.{AreLayouts, held, part_of, IsAt, put_at, spot, length-bundles, bundle_at, bundle_there, part_there}
+use Rattle.bundling.proofs.Locating.{AreLayouts, held, part_of, IsAt, put_at, in_chunk, length-bundles, bundle_at, bundle_there, part_there}
 use Rattle.bundling.proofs.Putting.{IsPutIn, is_put_in}
 use Rattle.bundling.proofs.Targeting.{put, item_at, within_items, length-targeted, insn_there}
 
@@ -41,7 +41,7 @@ pub record IsBundling (s : Loose) (cs : List Chunk) : Type 0 where
 -- each instruction is in one of the bundles
 pub bundle_inside : (s : Loose) (cs : List Chunk) (n : ℕ) → IsBundling s cs → n < length s.items → bundle_of cs n < length cs
 bundle_inside s cs n h less =
-    let one = spot cs s.items n h.are.chunks less in
+    let one = in_chunk cs s.items n h.are.chunks less in
     let is = bundle_there h.laws cs s.items n one.bundle one.offset one.chunk h.are.chunks one.at in
     let within = slice_get_within cs one.bundle one.chunk one.at.there in omega (arith, is, within)
 
@@ -100,9 +100,9 @@ part_is_of s cs k c h there =
         → IsListed i × (class_of i.op ≡ class_of item.insn.op)
     each j item i at put =
         let n = held cs k + j in
-        let spot = part_at cs s.items k j c item there at in
-        let one : slice_get s.items n ≡ Some item = sym (part_there cs s.items n k j c spot) ∙ at in
-        let two : slice_get (targeted (bundle_of cs) s) n ≡ Some i = sym (part_there cs (targeted (bundle_of cs) s) n k j c spot) ∙ put in
+        let in_chunk = part_at cs s.items k j c item there at in
+        let one : slice_get s.items n ≡ Some item = sym (part_there cs s.items n k j c in_chunk) ∙ at in
+        let two : slice_get (targeted (bundle_of cs) s) n ≡ Some i = sym (part_there cs (targeted (bundle_of cs) s) n k j c in_chunk) ∙ put in
         let good = in_bundle_at s cs n h (slice_get_within s.items n item one) in
         let same : good.item ≡ item = same_Some good.item item (sym good.there ∙ one) in
         let alike : good.insn ≡ i = same_Some good.insn i (sym good.put ∙ two) in (
@@ -169,11 +169,11 @@ part_inside : (s : Loose) (cs : List Chunk) (k j : ℕ) (c : Chunk) (i : Insn) �
 part_inside s cs k j c i h there at =
     let insns = targeted (bundle_of cs) s in
     let n = held cs k + j in
-    let spot = part_at cs insns k j c i there at in
-    let put : slice_get insns n ≡ Some i = sym (part_there cs insns n k j c spot) ∙ at in
+    let in_chunk = part_at cs insns k j c i there at in
+    let put : slice_get insns n ≡ Some i = sym (part_there cs insns n k j c in_chunk) ∙ at in
     let good = in_bundle_at s cs n h (within_items s (bundle_of cs) n i h.loose put) in
     let alike : good.insn ≡ i = same_Some good.insn i (sym good.put ∙ put) in
-    let own : bundle_of cs n ≡ k = bundle_there h.laws cs s.items n k j c h.are.chunks spot in
+    let own : bundle_of cs n ≡ k = bundle_there h.laws cs s.items n k j c h.are.chunks in_chunk in
     subst (λ (own : ℕ). IfSome (displacement i.op) (IsBundleAt (length cs) own)) own
     (subst (λ (i : Insn). IfSome (displacement i.op) (IsBundleAt (length cs) (bundle_of cs n))) alike good.is.target)
 

@@ -16,7 +16,7 @@ use Rattle.loose_text.specs.LooseTexts.{Loose, IsLoose, BreaksAt}
 use Rattle.bundling.specs.Chunk.{Chunk}
 use Rattle.bundling.specs.Chunks.{AreChunks, AreChunksOf}
 use Rattle.bundling.specs.Bundled.{put_in, sequence_of, targeted, place_of, bundle_of, program_of}
-use Rattle.bundling.proofs.Locating.{breaks_inside, AreLayouts, IsAt, spot, length-bundles, bundle_there, first_is_head, begins_first}
+use Rattle.bundling.proofs.Locating.{breaks_inside, AreLayouts, IsAt, in_chunk, length-bundles, bundle_there, first_is_head, begins_first}
 use Rattle.bundling.proofs.Targeting.{put, length-targeted, IsItemAt, item_at, within_items, has_instructions, leads_to}
 use Rattle.bundling.proofs.Spreading.{itself, bundles_of, there, rises, fillers}
 use Rattle.bundling.proofs.Entering.{entry_from, entry_of, knows_same}
@@ -24,7 +24,7 @@ use Rattle.bundling.proofs.Entering.{entry_from, entry_of, knows_same}
 -- an instruction that begins a bundle is the first there
 pub begins_head : AreLayouts → (s : Loose) (cs : List Chunk) → AreChunks cs s.items → (m : ℕ) → BreaksAt s.items m → IsHead (place_of cs) m
 begins_head laws s cs are m begins =
-    let one = spot cs s.items m are (breaks_inside s.items m begins) in
+    let one = in_chunk cs s.items m are (breaks_inside s.items m begins) in
     let first = begins_first cs s.items m one.bundle one.offset one.chunk laws are one.at begins in
     first_is_head cs s.items m one.bundle one.chunk laws are (subst (λ j. IsAt cs m one.bundle j one.chunk) first one.at)
 
@@ -57,7 +57,7 @@ program_leads laws s cs loose are n it less = ap (λ (o : Option Insn). edge_of 
 
 bundle_below : AreLayouts → (s : Loose) (cs : List Chunk) → AreChunks cs s.items → (n : ℕ) → n < length s.items → bundle_of cs n < length (bundles_of s cs)
 bundle_below laws s cs are n less =
-    let one = spot cs s.items n are less in
+    let one = in_chunk cs s.items n are less in
     let within = slice_get_within cs one.bundle one.chunk one.at.there in
     let bundle = bundle_there laws cs s.items n one.bundle one.offset one.chunk are one.at in
     omega (arith, length-bundles cs (targeted (bundle_of cs) s))

@@ -43,7 +43,7 @@ pub record IsAt (cs : List Chunk) (n k j : ℕ) (c : Chunk) : Type 0 where
   pub inside : j < length c.wanted
   pub number : held cs k + j ≡ n
 
-pub record Spot (cs : List Chunk) (n : ℕ) : Type 0 where
+pub record InChunk (cs : List Chunk) (n : ℕ) : Type 0 where
   pub bundle : ℕ
   pub offset : ℕ
   pub chunk : Chunk
@@ -129,13 +129,13 @@ below_or (suc a) (suc b) = elim (below_or a b) [
   | inr (m, e) ↦ inr (m, omega arith)
 ]
 
--- Each instruction has a spot.
-pub spot : (cs : List Chunk) (items : List Item) (n : ℕ) → AreChunks cs items → n < length items → Spot cs n
-spot [] [] n are less = absurd (omega arith)
-spot [] (item ∷ items) n are less = absurd are
-spot (c ∷ cs) items n (is, are) less = of (below_or n (length c.wanted)) (λ m. spot cs (drop (length c.wanted) items) m are)
+-- Each instruction is in a chunk.
+pub in_chunk : (cs : List Chunk) (items : List Item) (n : ℕ) → AreChunks cs items → n < length items → InChunk cs n
+in_chunk [] [] n are less = absurd (omega arith)
+in_chunk [] (item ∷ items) n are less = absurd are
+in_chunk (c ∷ cs) items n (is, are) less = of (below_or n (length c.wanted)) (λ m. in_chunk cs (drop (length c.wanted) items) m are)
   where
-    of : (n < length c.wanted) ⊎ ((m : ℕ) × (length c.wanted + m ≡ n)) → ((m : ℕ) → m < length (drop (length c.wanted) items) → Spot cs m) → Spot (c ∷ cs) n
+    of : (n < length c.wanted) ⊎ ((m : ℕ) × (length c.wanted + m ≡ n)) → ((m : ℕ) → m < length (drop (length c.wanted) items) → InChunk cs m) → InChunk (c ∷ cs) n
     of (inl h) later = record { bundle = 0; offset = n; chunk = c; at = record { there = refl; inside = h; number = omega arith } }
     of (inr (m, e)) later =
         let room = fits c items is in
@@ -147,9 +147,9 @@ spot (c ∷ cs) items n (is, are) less = of (below_or n (length c.wanted)) (λ m
           at = record { there = rest.at.there; inside = rest.at.inside; number = (let number = rest.at.number in omega arith) };
         }
 
--- Spots rise with the numbers.
-pub spots_rise : (cs : List Chunk) (n m k l j i : ℕ) (c d : Chunk) → IsAt cs n k j c → IsAt cs m l i d → n < m → (k < l) ⊎ ((k ≡ l) × (j < i))
-spots_rise cs n m k l j i c d one two less = of (cases_order k l)
+-- Chunks rise with the numbers.
+pub chunks_rise : (cs : List Chunk) (n m k l j i : ℕ) (c d : Chunk) → IsAt cs n k j c → IsAt cs m l i d → n < m → (k < l) ⊎ ((k ≡ l) × (j < i))
+chunks_rise cs n m k l j i c d one two less = of (cases_order k l)
   where
     of : (k ≡ l) ⊎ ((k < l) ⊎ (l < k)) → (k < l) ⊎ ((k ≡ l) × (j < i))
     of (inr (inl h)) = inl h
@@ -334,10 +334,10 @@ below_all cs items n k j c laws are at =
 pub first_is_head : (cs : List Chunk) (items : List Item) (n k : ℕ) (c : Chunk) → AreLayouts → AreChunks cs items → IsAt cs n k 0 c → IsHead (place_of cs) n
 first_is_head cs items n k c laws are at m less =
     let small = below_all cs items n k 0 c laws are at in
-    let one = spot cs items m are (omega arith) in
+    let one = in_chunk cs items m are (omega arith) in
     let bundle = bundle_there laws cs items m one.bundle one.offset one.chunk are one.at in
     let other = bundle_there laws cs items n k 0 c are at in
-    of bundle other (spots_rise cs m n one.bundle k one.offset 0 one.chunk c one.at at less)
+    of bundle other (chunks_rise cs m n one.bundle k one.offset 0 one.chunk c one.at at less)
   where
     of : {l i : ℕ} → bundle_of cs m ≡ l → bundle_of cs n ≡ k → (l < k) ⊎ ((l ≡ k) × (i < 0)) → bundle_of cs m < bundle_of cs n
     of is other (inl h) = omega arith

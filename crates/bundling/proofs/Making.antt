@@ -25,7 +25,7 @@ use Rattle.bundling.specs.Chunks.{AreChunks}
 use Rattle.bundling.specs.Bundled.{relocated, targeted, layout_of, places_of, place_of, bundle_of, bundle_in, bundles_from, relation_moved, program_of}
 use Rattle.bundling.proofs.Lists.{slice_get-append_right}
 use Rattle.bundling.proofs.Targeting.{item_at}
-use Rattle.bundling.proofs.Locating.{breaks_inside, AreLayouts, put_at, spot, bundle_there, length-places}
+use Rattle.bundling.proofs.Locating.{breaks_inside, AreLayouts, put_at, in_chunk, bundle_there, length-places}
 
 -- Each chunk has a layout.
 pub each_laid : AreLayouts → (cs : List Chunk) (items : List Item) → AreChunks cs items → (n : ℕ) → IfSome (slice_get cs n) (λ c. IsSome (laid_out c.wanted c.end))
@@ -54,7 +54,7 @@ places_small laws cs items are few n = of (cases_lt n (length items))
   where
     of : (n < length items) ⊎ (length items ≤ n) → bundle_in (places_of cs) n < BUNDLE_LIMIT
     of (inl less) =
-        let one = spot cs items n are less in
+        let one = in_chunk cs items n are less in
         let is : bundle_in (places_of cs) n ≡ one.bundle = bundle_there laws cs items n one.bundle one.offset one.chunk are one.at in
         let within = slice_get_within cs one.bundle one.chunk one.at.there in omega (arith, is, within, few)
     of (inr past) =

@@ -16,7 +16,7 @@ use Rattle.loose_items.specs.declared.item.Item.{Item}
 use Rattle.bundling.specs.Chunk.{Chunk}
 use Rattle.bundling.specs.Chunks.{AreChunks}
 use Rattle.bundling.specs.Bundled.{layout_of, place_of, bundles_from}
-use Rattle.bundling.proofs.Locating.{AreLayouts, part_of, IsAt, put_at, spot, bundle_at, in_bundle, placed, next_inside, next_first}
+use Rattle.bundling.proofs.Locating.{AreLayouts, part_of, IsAt, put_at, in_chunk, bundle_at, in_bundle, placed, next_inside, next_first}
 
 -- The laws of layouts from which it follows where stops are.
 pub record AreStopLaws : Type 0 where
@@ -92,7 +92,7 @@ in_two laws cs items n are last more =
 
 pub neighbours : AreLayouts → (cs : List Chunk) (items : List Item) (n : ℕ) → AreChunks cs items → suc n < length items → InOne cs n ⊎ InTwo cs n
 neighbours laws cs items n are more =
-    let one = spot cs items n are (omega arith) in
+    let one = in_chunk cs items n are (omega arith) in
     of one.bundle one.offset one.chunk one.at (cases_lt (suc one.offset) (length one.chunk.wanted))
   where
     of : (k j : ℕ) (c : Chunk) → IsAt cs n k j c → (suc j < length c.wanted) ⊎ (length c.wanted ≤ suc j) → InOne cs n ⊎ InTwo cs n

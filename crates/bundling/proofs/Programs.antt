@@ -17,7 +17,7 @@ use Rattle.flow_facts.specs.Graphs.{IsSequenceEntry}
 use Rattle.sequence_laws.specs.Spreads.{IsHead}
 use Rattle.bundling.specs.Chunk.{Chunk}
 use Rattle.bundling.specs.Bundled.{sequence_of, targeted, place_of, bundle_of, relation_moved, program_of}
-use Rattle.bundling.proofs.Locating.{breaks_inside, IsAt, spot, length-bundles, bundle_there, first_is_head, begins_first, first_of_all}
+use Rattle.bundling.proofs.Locating.{breaks_inside, IsAt, in_chunk, length-bundles, bundle_there, first_is_head, begins_first, first_of_all}
 use Rattle.bundling.proofs.Targeting.{length-targeted, item_at, call_put}
 use Rattle.bundling.proofs.Spreading.{itself}
 use Rattle.bundling.proofs.Entering.{entry_of}
@@ -26,14 +26,14 @@ use Rattle.bundling.proofs.Fitting.{IsBundling, bundle_inside, bundles_fit, targ
 -- the first instruction is in the first bundle
 first_bundle : (s : Loose) (cs : List Chunk) → IsBundling s cs → bundle_of cs 0 ≡ 0
 first_bundle s cs h =
-    let one = spot cs s.items 0 h.are.chunks h.loose.some in
+    let one = in_chunk cs s.items 0 h.are.chunks h.loose.some in
     bundle_there h.laws cs s.items 0 one.bundle one.offset one.chunk h.are.chunks one.at
     ∙ (first_of_all cs one.bundle one.offset one.chunk one.at h.laws s.items h.are.chunks).0
 
 -- one that begins a bundle is in a later bundle than those before it
 begins_head : (s : Loose) (cs : List Chunk) (n : ℕ) → IsBundling s cs → BreaksAt s.items n → IsHead (place_of cs) n
 begins_head s cs n h begins =
-    let one = spot cs s.items n h.are.chunks (breaks_inside s.items n begins) in
+    let one = in_chunk cs s.items n h.are.chunks (breaks_inside s.items n begins) in
     let first : one.offset ≡ 0 = begins_first cs s.items n one.bundle one.offset one.chunk h.laws h.are.chunks one.at begins in
     first_is_head cs s.items n one.bundle one.chunk h.laws h.are.chunks (subst (λ (j : ℕ). IsAt cs n one.bundle j one.chunk) first one.at)
 

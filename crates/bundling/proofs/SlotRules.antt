@@ -26,7 +26,7 @@ use Rattle.bundling.specs.Chunk.{Chunk}
 use Rattle.bundling.specs.Chunks.{AreChunks, AreChunksOf}
 use Rattle.bundling.specs.Bundled.{sequence_of, targeted, layout_of, place_of, bundle_of, program_of}
 use Rattle.bundling.proofs.Lists.{element}
-use Rattle.bundling.proofs.Locating.{part_of, IsAt, put_at, spot, length-bundles, bundle_at, in_bundle, placed, class_there, last_of_all, head_is_first}
+use Rattle.bundling.proofs.Locating.{part_of, IsAt, put_at, in_chunk, length-bundles, bundle_at, in_bundle, placed, class_there, last_of_all, head_is_first}
 use Rattle.bundling.proofs.Targeting.{length-targeted, IsItemAt, item_at, within_items}
 use Rattle.bundling.proofs.Likeness.{allocates_put, clears_put}
 use Rattle.bundling.proofs.Spreading.{itself, bundles_of}
@@ -124,7 +124,7 @@ same_stop false b from before slot other h above less stop above_too less_too st
 -- an `alloc` that is first in its bundle stands in slot 0
 alloc_head : ArePlaceLaws → (s : Loose) (cs : List Chunk) → AreChunks cs s.items → (n : ℕ) → IsOfClass s n M → IsHead (place_of cs) n → (place_of cs n).slot ≡ 0
 alloc_head laws s cs are n of head =
-    let one = spot cs s.items n are of.inside in
+    let one = in_chunk cs s.items n are of.inside in
     let first = head_is_first cs s.items n one.bundle one.offset one.chunk laws.stops.layouts are one.at head in
     let at : IsAt cs n one.bundle 0 one.chunk = subst (λ j. IsAt cs n one.bundle j one.chunk) first one.at in
     let place = placed laws.stops.layouts cs s.items n one.bundle 0 one.chunk are at in
@@ -262,7 +262,7 @@ clear_stop laws s cs are n more of x between stopped = elim (neighbours laws.sto
 -- After the last instruction of the sequence, a branch has no place behind it.
 clear_last : ArePlaceLaws → (s : Loose) (cs : List Chunk) → AreChunks cs s.items → (n : ℕ) → suc n ≡ length s.items → IsOfClass s n B → next_of (bundles_of s cs) (place_of cs n) ≡ None
 clear_last laws s cs are n end of =
-    let one = spot cs s.items n are of.inside in
+    let one = in_chunk cs s.items n are of.inside in
     let all = last_of_all cs s.items n one.bundle one.offset one.chunk laws.stops.layouts are one.at end in
     none_behind (is_last laws.stops.layouts cs s.items n one.bundle one.offset one.chunk are one.at all.0)
   where

@@ -20,7 +20,7 @@ use Rattle.bundling.specs.Chunk.{Chunk}
 use Rattle.bundling.specs.Chunks.{AreChunks}
 use Rattle.bundling.specs.Bundled.{targeted, layout_of, place_of, bundle_of, bundles_from}
 use Rattle.bundling.proofs.Lists.{element}
-use Rattle.bundling.proofs.Locating.{AreLayouts, held, part_of, IsAt, IsPut, put_at, spot, spots_rise, length-bundles, in_bundle, placed, below_all}
+use Rattle.bundling.proofs.Locating.{AreLayouts, held, part_of, IsAt, IsPut, put_at, in_chunk, chunks_rise, length-bundles, in_bundle, placed, below_all}
 use Rattle.bundling.proofs.Targeting.{put, item_at, within_items, insn_there, has_instructions}
 use Rattle.bundling.proofs.Likeness.{like_puts}
 
@@ -63,11 +63,11 @@ slots_rise ks rising j (suc i) k l less one two =
 
 pub rises : AreLayouts → (cs : List Chunk) (items : List Item) → AreChunks cs items → (n m : ℕ) → n < m → m < length items → IsBefore (place_of cs n) (place_of cs m)
 rises laws cs items are n m less small =
-    let one = spot cs items n are (omega arith) in
-    let two = spot cs items m are small in
+    let one = in_chunk cs items n are (omega arith) in
+    let two = in_chunk cs items m are small in
     let first = placed laws cs items n one.bundle one.offset one.chunk are one.at in
     let second = placed laws cs items m two.bundle two.offset two.chunk are two.at in
-    let rise = spots_rise cs n m one.bundle two.bundle one.offset two.offset one.chunk two.chunk one.at two.at less in
+    let rise = chunks_rise cs n m one.bundle two.bundle one.offset two.offset one.chunk two.chunk one.at two.at less in
     rw (first.place, second.place) (of one.bundle two.bundle one.offset two.offset first.slot second.slot one.chunk two.chunk one.at two.at first.there second.there rise)
   where
     of : (k l j i slot other : ℕ) (c d : Chunk) → IsAt cs n k j c → IsAt cs m l i d → slice_get (layout_of c).1 j ≡ Some slot → slice_get (layout_of d).1 i ≡ Some other
@@ -117,10 +117,10 @@ fillers laws cs items insns are place j here =
     of c chunk put is (inl (offset, at)) =
         let within = slice_get_within (layout_of c).1 offset place.slot at in
         let count = put.count in
-        let spot : IsAt cs (held cs place.bundle + offset) place.bundle offset c = record { there = chunk; inside = omega arith; number = refl } in
-        let other = placed laws cs items (held cs place.bundle + offset) place.bundle offset c are spot in
+        let in_chunk : IsAt cs (held cs place.bundle + offset) place.bundle offset c = record { there = chunk; inside = omega arith; number = refl } in
+        let other = placed laws cs items (held cs place.bundle + offset) place.bundle offset c are in_chunk in
         let same : other.slot ≡ place.slot = same_Some other.slot place.slot (sym other.there ∙ at) in
-        inl (held cs place.bundle + offset, below_all cs items (held cs place.bundle + offset) place.bundle offset c laws are spot, sym (other.place ∙ ap (in_bundle place.bundle) same))
+        inl (held cs place.bundle + offset, below_all cs items (held cs place.bundle + offset) place.bundle offset c laws are in_chunk, sym (other.place ∙ ap (in_bundle place.bundle) same))
     of c chunk put is (inr none) =
         let order = laws.holds c.wanted c.end (layout_of c).0 (layout_of c).1 (part_of cs place.bundle c insns) put.laid in
         inr (filler (slice_get (units_of (layout_of c).0) place.slot) j (order.nops place.slot j is none))

@@ -21,7 +21,7 @@ use Rattle.bundling.specs.Chunks.{AreChunks, AreChunksOf, gaps_of}
 use Rattle.bundling.specs.Bundled.{sequence_of, targeted, layout_of, places_of, place_of, bundle_of, bundles_from, program_of}
 use Rattle.bundling.specs.Laws.{sequence_stop, HasStopsApart, HasLastStop}
 use Rattle.bundling.proofs.Lists.{element}
-use Rattle.bundling.proofs.Locating.{AreLayouts, spot, length-places, length-bundles, bundle_at, in_bundle, placed, last_of_all, first_of_all, gap_inside, gap_last, gap_there}
+use Rattle.bundling.proofs.Locating.{AreLayouts, in_chunk, length-places, length-bundles, bundle_at, in_bundle, placed, last_of_all, first_of_all, gap_inside, gap_last, gap_there}
 use Rattle.bundling.proofs.Targeting.{length-targeted}
 use Rattle.bundling.proofs.Spreading.{itself, bundles_of}
 use Rattle.bundling.proofs.Neighbours.{AreStopLaws, filled_at, stop_there, stops_of_chunk, slot_within, InOne, IsLast, InTwo, is_last, neighbours, IsBetweenSlots, within_one, stop_at, last_within, stop_of_first, stops_to_end, stops_to_next}
@@ -141,7 +141,7 @@ pub record IsFrom (bundles : List Bundle) (from : Place) (x : Place) : Type 0 wh
 pub stops_behind : AreStopLaws → (s : Loose) (cs : List Chunk) → AreChunks cs s.items → (n : ℕ) → suc n ≡ length s.items
     → StopsAre (slice_index_or (gaps_of cs) n false) (bundles_of s cs) (IsFrom (bundles_of s cs) (place_of cs n))
 stops_behind laws s cs are n end =
-    let one = spot cs s.items n are (omega arith) in
+    let one = in_chunk cs s.items n are (omega arith) in
     let last = last_of_all cs s.items n one.bundle one.offset one.chunk laws.layouts are one.at end in
     of (is_last laws.layouts cs s.items n one.bundle one.offset one.chunk are one.at last.0)
   where
@@ -222,7 +222,7 @@ has_one_stop laws s cs loose are = record { one = one; none_before = none_before
     none_before : (x : Place) → IsPlaceOf (bundles_of s cs) x → IsBefore x (place_of cs 0) → is_stopped (bundles_of s cs) x ≡ false
     none_before x is before =
         let some = loose.some in
-        let one = spot cs s.items 0 are.chunks (omega arith) in
+        let one = in_chunk cs s.items 0 are.chunks (omega arith) in
         let first = first_of_all cs one.bundle one.offset one.chunk one.at laws.layouts s.items are.chunks in
         let place = placed laws.layouts cs s.items 0 one.bundle one.offset one.chunk are.chunks one.at in
         of one.bundle one.offset one.chunk place.slot one.at.there first.0 (subst (λ j. slice_get (layout_of one.chunk).1 j ≡ Some place.slot) first.1 place.there) (subst (IsBefore x) place.place before)

@@ -26,7 +26,7 @@ use Rattle.bundling.specs.Chunk.{Chunk}
 use Rattle.bundling.specs.Chunks.{AreChunks}
 use Rattle.bundling.specs.Bundled.{relocated, put_in, targeted_from, targeted, layout_of, place_of, bundles_from}
 use Rattle.bundling.proofs.Lists.{element}
-use Rattle.bundling.proofs.Locating.{AreLayouts, part_of, IsAt, put_at, spot, bundle_at, in_bundle, placed, part_there}
+use Rattle.bundling.proofs.Locating.{AreLayouts, part_of, IsAt, put_at, in_chunk, bundle_at, in_bundle, placed, part_there}
 
 -- the instruction of an item that counts as f n
 abbrev pub put : (ℕ → ℕ) → ℕ → Item → Option Address → Insn
@@ -102,7 +102,7 @@ stands laws cs items insns n k j c i are at there =
 pub has_instructions : AreLayouts → (s : Loose) (cs : List Chunk) (f : ℕ → ℕ) (n : ℕ) → IsLoose s → AreChunks cs s.items → n < length s.items
     → insn_at (bundles_from cs (targeted f s)) (place_of cs n) ≡ slice_get (targeted f s) n
 has_instructions laws s cs f n loose are less =
-    let one = spot cs s.items n are less in
+    let one = in_chunk cs s.items n are less in
     let there = (item_at s n loose less).put_in f in
     stands laws cs s.items (targeted f s) n one.bundle one.offset one.chunk _ are one.at there ∙ sym there
 

@@ -12,9 +12,9 @@
 
 ghost use Rattle.std.specs.Prelude.{◌^◌};
 ghost use Rattle.formats_a.specs.Listed.{rows};
-ghost use Rattle.formats_a.specs.Places.{place_of};
+ghost use Rattle.formats_a.specs.RowIndexes.{row_index_of};
 
-mod places;
+mod row_indexes;
 mod rows;
 
 use insn_rows::{Family, Opcode, Row};
@@ -26,7 +26,7 @@ pub struct FamilyA;
 impl Family for FamilyA {
     ghost rows = { rows };
 
-    ghost place_of = { place_of };
+    ghost row_index_of = { row_index_of };
 
     // The major opcode is 8 or more, where an instruction of the M or the I unit alone has less.
     ghost least = { 2 ^ 40 };
@@ -41,8 +41,8 @@ impl Family for FamilyA {
         &rows::BY_MAJOR
     }
 
-    fn place_of(opcode: Opcode) -> Option<usize> {
-        places::place_of(opcode)
+    fn row_index_of(opcode: Opcode) -> Option<usize> {
+        row_indexes::row_index_of(opcode)
     }
 
     #[tactic(auto, using(crate::proofs::Table::is_family))]

@@ -73,7 +73,7 @@ pub static ROWS: [Row; 57] = [
     row!(Opcode::Lane(LaneFn::PcmpGt), A9; MAJOR = 8, X2A = 1, X4 = 9, X2B = 1),
 ];
 
-/// The places of the rows of each major opcode, in the order in which they are tried.
+/// The indexes of the rows of each major opcode, in the order in which they are tried.
 pub static BY_MAJOR: [&[u8]; 16] = [
     &[],
     &[],

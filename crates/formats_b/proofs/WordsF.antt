@@ -4,11 +4,11 @@ use Rattle.insn_rows.specs.Arms.{opcode_of}
 use Rattle.insn_rows.proofs.Laws.{AsRow}
 use Rattle.insn_rows.proofs.Families.{row, of_row}
 use Rattle.formats_b.specs.ListedF.{rows, IsListedF}
-use Rattle.formats_b.specs.PlacesF.{place_of}
+use Rattle.formats_b.specs.RowIndexesF.{row_index_of}
 use Rattle.formats_b.proofs.TableF.{is_family}
 
-pub row_f : (i : Insn) → IsListedF i → AsRow rows (place_of (opcode_of i.op)) i
+pub row_f : (i : Insn) → IsListedF i → AsRow rows (row_index_of (opcode_of i.op)) i
 row_f i l = row is_family i l
 
-pub of_row_f : (i : Insn) → AsRow rows (place_of (opcode_of i.op)) i → IsListedF i
+pub of_row_f : (i : Insn) → AsRow rows (row_index_of (opcode_of i.op)) i → IsListedF i
 of_row_f i h = of_row is_family i h

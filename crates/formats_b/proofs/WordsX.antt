@@ -11,13 +11,13 @@ use Rattle.insn_rows.proofs.RowBack.{no_row, code_below, only_insn}
 use Rattle.insn_rows.proofs.Laws.{only_word, AsRow, as_row, from_row}
 use Rattle.formats_b.specs.PartsX.{slot_op, whole_op, IsWithin}
 use Rattle.formats_b.specs.ListedX.{rows, slot_part, CodeX, IsListedX, OneLongInstruction, OneLongWord}
-use Rattle.formats_b.specs.PlacesX.{place_of}
-use Rattle.formats_b.proofs.TableX.{are_table, is_place_of}
+use Rattle.formats_b.specs.RowIndexesX.{row_index_of}
+use Rattle.formats_b.proofs.TableX.{are_table, is_row_index_of}
 use Rattle.formats_b.proofs.PartsX.{whole_back, IsPart, slot_again, low_again, within_again, low_below}
 
 -- the row of an instruction of the X slot
-pub row_x : (i : Insn) (w : ℕ) → HasRow rows i w → AsRow rows (place_of (opcode_of i.op)) i
-row_x i w code = as_row rows (place_of (opcode_of i.op)) i w (is_place_of (opcode_of i.op)) code
+pub row_x : (i : Insn) (w : ℕ) → HasRow rows i w → AsRow rows (row_index_of (opcode_of i.op)) i
+row_x i w code = as_row rows (row_index_of (opcode_of i.op)) i w (is_row_index_of (opcode_of i.op)) code
 
 is_part : (qp : ℕ) (x : Op) (w : ℕ) → HasRow rows (record { qp = qp; op = x }) w → IsPart x
 unfolding rows listed
@@ -59,13 +59,13 @@ one_insn l w i j of-i of-j =
 
 pub one_word : OneLongWord
 one_word i l m v w of-v of-w =
-    (of-v.low ∙ sym of-w.low, only_word rows (place_of (opcode_of (slot_op i.op))) (slot_part i) v w (is_place_of (opcode_of (slot_op i.op))) of-v.code of-w.code)
+    (of-v.low ∙ sym of-w.low, only_word rows (row_index_of (opcode_of (slot_op i.op))) (slot_part i) v w (is_row_index_of (opcode_of (slot_op i.op))) of-v.code of-w.code)
 
 -- A listed instruction has a row for its part, and its immediate has its bits.
-pub row_of_x : (i : Insn) → IsListedX i → AsRow rows (place_of (opcode_of (slot_op i.op))) (slot_part i) × IsWithin i.op
+pub row_of_x : (i : Insn) → IsListedX i → AsRow rows (row_index_of (opcode_of (slot_op i.op))) (slot_part i) × IsWithin i.op
 row_of_x i l = (row_x (slot_part i) l.0 l.1.code, l.1.within)
 
-pub of_row_x : (i : Insn) → AsRow rows (place_of (opcode_of (slot_op i.op))) (slot_part i) → IsWithin i.op → IsListedX i
+pub of_row_x : (i : Insn) → AsRow rows (row_index_of (opcode_of (slot_op i.op))) (slot_part i) → IsWithin i.op → IsListedX i
 of_row_x i h within =
-    let l = from_row rows (place_of (opcode_of (slot_op i.op))) (slot_part i) (is_place_of (opcode_of (slot_op i.op))) h in
+    let l = from_row rows (row_index_of (opcode_of (slot_op i.op))) (slot_part i) (is_row_index_of (opcode_of (slot_op i.op))) h in
     (l.0, record { code = l.1; low = refl; within = within })

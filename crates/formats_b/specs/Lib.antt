@@ -1,7 +1,7 @@
 pub mod ListedB
-pub mod PlacesB
+pub mod RowIndexesB
 pub mod ListedF
-pub mod PlacesF
+pub mod RowIndexesF
 pub mod PartsX
 pub mod ListedX
-pub mod PlacesX
+pub mod RowIndexesX

@@ -1,9 +1,9 @@
 //! The F instructions, of F slots (volume 3, chapter 4, instruction formats, F15 and F16).
 
 ghost use Rattle.formats_b.specs.ListedF.{rows};
-ghost use Rattle.formats_b.specs.PlacesF.{place_of};
+ghost use Rattle.formats_b.specs.RowIndexesF.{row_index_of};
 
-mod places;
+mod row_indexes;
 pub mod rows;
 
 use insn_rows::{Family, Opcode, Row};
@@ -14,7 +14,7 @@ pub struct FamilyF;
 impl Family for FamilyF {
     ghost rows = { rows };
 
-    ghost place_of = { place_of };
+    ghost row_index_of = { row_index_of };
 
     ghost least = { 0 };
 
@@ -28,8 +28,8 @@ impl Family for FamilyF {
         &rows::BY_MAJOR
     }
 
-    fn place_of(opcode: Opcode) -> Option<usize> {
-        places::place_of(opcode)
+    fn row_index_of(opcode: Opcode) -> Option<usize> {
+        row_indexes::row_index_of(opcode)
     }
 
     #[tactic(auto, using(crate::proofs::TableF::is_family))]

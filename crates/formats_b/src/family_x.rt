@@ -2,12 +2,12 @@
 //! formats, X1, X2 and X5).
 
 ghost use Rattle.std.specs.Prelude.{◌≡◌, ℕ, ◌<◌, ◌≤◌, ◌^◌, ◌↔◌, IsTrue, IsSome, IsNone, IfSome, Some};
-ghost use Rattle.formats_b.specs.ListedX.{rows, CodeX, IsListedX, OneLongInstruction, OneLongWord};
-ghost use Rattle.formats_b.specs.PlacesX.{place_of};
+ghost use Rattle.formats_b.specs.ListedX.{rows, CodeX, IsListedX};
+ghost use Rattle.formats_b.specs.RowIndexesX.{row_index_of};
 ghost use Rattle.ia_insn.specs.declared.insn.Insn.{Insn};
 
 mod parts;
-mod places;
+mod row_indexes;
 pub mod rows;
 
 use ia_insn::Insn;
@@ -29,7 +29,7 @@ struct FamilyX;
 impl Family for FamilyX {
     ghost rows = { rows };
 
-    ghost place_of = { place_of };
+    ghost row_index_of = { row_index_of };
 
     ghost least = { 0 };
 
@@ -43,8 +43,8 @@ impl Family for FamilyX {
         &rows::BY_MAJOR
     }
 
-    fn place_of(opcode: Opcode) -> Option<usize> {
-        places::place_of(opcode)
+    fn row_index_of(opcode: Opcode) -> Option<usize> {
+        row_indexes::row_index_of(opcode)
     }
 
     #[tactic(auto, using(crate::proofs::TableX::is_family))]
@@ -121,13 +121,3 @@ pub fn is_listed_x(insn: &Insn) -> bool
 {
     is_within(&insn.op) && FamilyX::is_listed(&slot_part(insn))
 }
-
-/// The law that two words are those of at most one long instruction. It does nothing.
-pub fn one_instruction_x()
-    ensures { OneLongInstruction }
-{}
-
-/// The law that a long instruction has at most one word in each of its slots. It does nothing.
-pub fn one_long_word()
-    ensures { OneLongWord }
-{}

@@ -15,12 +15,12 @@
 mod family_b;
 mod family_f;
 mod family_x;
+mod laws;
 
 pub use family_b::FamilyB;
 pub use family_b::rows::ROWS as ROWS_B;
 pub use family_f::FamilyF;
 pub use family_f::rows::ROWS as ROWS_F;
 pub use family_x::rows::ROWS as ROWS_X;
-pub use family_x::{
-    LongWord, decode_x, encode_x, is_listed_x, one_instruction_x, one_long_word, word_x,
-};
+pub use family_x::{LongWord, decode_x, encode_x, is_listed_x, word_x};
+pub use laws::{one_instruction_x, one_long_word};

@@ -10,9 +10,9 @@
 #![tactic(auto)]
 
 ghost use Rattle.formats_i.specs.Listed.{rows};
-ghost use Rattle.formats_i.specs.Places.{place_of};
+ghost use Rattle.formats_i.specs.RowIndexes.{row_index_of};
 
-mod places;
+mod row_indexes;
 mod rows;
 
 use insn_rows::{Family, Opcode, Row};
@@ -24,7 +24,7 @@ pub struct FamilyI;
 impl Family for FamilyI {
     ghost rows = { rows };
 
-    ghost place_of = { place_of };
+    ghost row_index_of = { row_index_of };
 
     ghost least = { 0 };
 
@@ -39,8 +39,8 @@ impl Family for FamilyI {
         &rows::BY_MAJOR
     }
 
-    fn place_of(opcode: Opcode) -> Option<usize> {
-        places::place_of(opcode)
+    fn row_index_of(opcode: Opcode) -> Option<usize> {
+        row_indexes::row_index_of(opcode)
     }
 
     #[tactic(auto, using(crate::proofs::Table::is_family))]

@@ -62,7 +62,7 @@ pub static ROWS: [Row; 32] = [
     row!(Opcode::Ext, I29; MAJOR = 0, X3 = 0, X6 = 0x10),
 ];
 
-/// The places of the rows of each major opcode, in the order in which they are tried.
+/// The indexes of the rows of each major opcode, in the order in which they are tried.
 pub static BY_MAJOR: [&[u8]; 16] = [
     &[
         12, 31, 13, 14, 15, 16, 17, 18, 19, 20, 21, 22, 23, 24, 25, 26, 27, 28, 29, 30,

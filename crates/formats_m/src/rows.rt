@@ -75,7 +75,7 @@ pub static ROWS: [Row; 50] = [
     row!(Opcode::Hint(Unit::M), I18; MAJOR = 0, X3 = 0, X2_M24 = 0, X4_M24 = 1, Y = 1),
 ];
 
-/// The places of the rows of each major opcode, in the order in which they are tried.
+/// The indexes of the rows of each major opcode, in the order in which they are tried.
 pub static BY_MAJOR: [&[u8]; 16] = [
     &[48, 39, 40, 41, 42, 44, 47, 49],
     &[46, 38, 43, 45],

@@ -7,7 +7,7 @@ ghost use Rattle.ia_meaning.specs.OrderIndependence.{IsRobust};
 ghost use Rattle.ia_meaning.specs.Sequence.{is_stopped};
 ghost use Rattle.flow_facts.specs.Graphs.{over_program};
 ghost use Rattle.flow_facts.specs.Walks.{IsSolution};
-ghost use Rattle.group_checker.specs.Reports.{IsVerdict, OneVerdict};
+ghost use Rattle.group_checker.specs.Reports.{IsVerdict};
 ghost use Rattle.group_checker.specs.Windows.{HasWindow};
 ghost use Rattle.group_checker.specs.Progress.{HasReported, IsEarlier, IsEarlierPair, IsUpTo, ReportsAll, pair_bound, place_bound, second_bound};
 
@@ -131,9 +131,3 @@ pub fn check<'p>(alloc: Global, program: &'p Program) -> Result<Verdict<'p>, All
     let report = check_slots(alloc, analysis.slots(), analysis.facts())?;
     Ok(report.verdict(analysis))
 }
-
-/// The law that a program has one verdict: no other count and no other list is stated for it. It does
-/// nothing.
-pub fn one_verdict()
-    ensures { OneVerdict }
-{}

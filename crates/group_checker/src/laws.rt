@@ -2,6 +2,7 @@
 
 ghost use Rattle.group_checker.specs.Order.{PlacesInOrder, RulesInOrder, ResourcesInOrder, NumbersInOrder};
 ghost use Rattle.group_checker.specs.WindowLaws.{FirstWindow, PartedWindow, SlotsDescribe, FallsRise, GroupsRise, GroupsAgree, ViolationsAgree, WindowsAgree};
+ghost use Rattle.group_checker.specs.Reports.{OneVerdict};
 
 /// The order in which violations are shown: places by bundle and slot, rules from RAW to CLEAR, resources from general
 /// registers to the frame marker, and those of one sort by their numbers.
@@ -17,7 +18,7 @@ pub fn violations_in_order()
 ///
 /// A fall leads to a later place, so the earlier slots of a group come before the walk's end, and groups, violations and
 /// windows only look at the stops of places that come before.
-pub fn law_windows()
+pub fn windows_begin_behind_stops()
     ensures first { FirstWindow }
     ensures parted { PartedWindow }
     ensures slots { SlotsDescribe }
@@ -26,4 +27,10 @@ pub fn law_windows()
     ensures groups { GroupsAgree }
     ensures violations { ViolationsAgree }
     ensures windows { WindowsAgree }
+{}
+
+/// The law that a program has one verdict: no other count and no other list is stated for it. It does
+/// nothing.
+pub fn one_verdict()
+    ensures { OneVerdict }
 {}

@@ -24,8 +24,8 @@ mod report;
 mod window;
 
 pub use accepted::Accepted;
-pub use checker::{check, one_verdict};
-pub use laws::{law_windows, violations_in_order};
+pub use checker::check;
+pub use laws::{one_verdict, violations_in_order, windows_begin_behind_stops};
 pub use order_laws::Violation;
 pub use report::{Report, SHOWN_LIMIT, Verdict};
 pub use window::Window;

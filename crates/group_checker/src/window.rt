@@ -52,7 +52,7 @@ impl Model for Window {
 
 impl Window {
     /// No slot is earlier: the window of a first place, and of one that a stop comes before
-    /// ([`law_windows`](crate::law_windows)).
+    /// ([`windows_begin_behind_stops`](crate::windows_begin_behind_stops)).
     pub fn new(alloc: Global) -> Window
         ensures { result ≡ [] }
     {

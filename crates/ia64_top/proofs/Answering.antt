@@ -6,12 +6,12 @@ use Rattle.std.proofs.KnownBytes.{Appends-nil}
 use Rattle.std.proofs.lemmas.Bool.{lt-ltb, le-ltb}
 use Rattle.ia64_top.specs.declared.limits.TheConstants.{INPUT_LIMIT}
 use Rattle.io_seam.specs.Bytes.{LosesFirst}
-use Rattle.ia64_top.specs.declared.words.Command.{Command}
-use Rattle.ia64_top.specs.declared.words.Command.TheVariants as command
-use Rattle.ia64_top.specs.declared.words.Command.TheVariants.{Check, Run, Watch, Trace, Groups, Trial}
+use Rattle.ia64_top.specs.declared.arguments.Command.{Command}
+use Rattle.ia64_top.specs.declared.arguments.Command.TheVariants as command
+use Rattle.ia64_top.specs.declared.arguments.Command.TheVariants.{Check, Run, Watch, Trace, Groups, Trial}
 use Rattle.ia64_top.specs.declared.status.Status.{Status}
 use Rattle.ia64_top.specs.declared.status.Status.TheVariants.{Words, Done, Violated, Refused, TooLong, Limit, Faulted}
-use Rattle.ia64_top.specs.Words.{command_of, Judges, groups_of, IsTrial, IsWatch}
+use Rattle.ia64_top.specs.Arguments.{command_of, Judges, groups_of, IsTrial, IsWatch}
 use Rattle.ia64_top.specs.Inputs.{IsReadOf}
 use Rattle.ia64_top.specs.Watching.{RanNothing, IsNotRun, HaveWatched, HaveWatchedPart}
 use Rattle.watch_seam.specs.Watchers.{WatchState}
@@ -24,9 +24,9 @@ use Rattle.ia64_top.specs.Runs.{Printing, run_of, end_status, watch_text}
 use Rattle.ia64_top.specs.Readings.{as_either}
 use Rattle.ia64_top.specs.Output.{is_too_long, IsSilent, IsRunAs, IsCommandOutput, IsOutput, GivesOutput, GivesPart}
 
--- words are one command
-pub same_command : (words : List (List ℕ)) (c d : Command) → command_of words ≡ Some c → command_of words ≡ Some d → c ≡ d
-same_command words c d e f = let same : Some c ≡ Some d = sym e ∙ f in cc
+-- arguments are one command
+pub same_command : (arguments : List (List ℕ)) (c d : Command) → command_of arguments ≡ Some c → command_of arguments ≡ Some d → c ≡ d
+same_command arguments c d e f = let same : Some c ≡ Some d = sym e ∙ f in cc
 
 -- what a command writes of what it reads is the output for all that there is
 output_within : (command : Command) (ws : List WatchState) (all read bytes : List ℕ) (status : Status) → IsReadOf command read all → length read ≤ INPUT_LIMIT → IsCommandOutput command ws read bytes status
@@ -35,8 +35,8 @@ output_within (Trial seed bundles) ws all read bytes status is within o = o
 output_within command ws all read bytes status is within o =
     subst (λ i. MatchBool (is_too_long command i) (IsSilent TooLong bytes status) (IsCommandOutput command ws i bytes status)) is (rw (le-ltb INPUT_LIMIT (length read) within) o)
 
-pub output_of : (words : List (List ℕ)) (command : Command) (ws : List WatchState) (all read bytes : List ℕ) (status : Status) → command_of words ≡ Some command → IsReadOf command read all → length read ≤ INPUT_LIMIT → IsCommandOutput command ws read bytes status → IsOutput words ws all bytes status
-output_of words command ws all read bytes status e is within o = rw e (output_within command ws all read bytes status is within o)
+pub output_of : (arguments : List (List ℕ)) (command : Command) (ws : List WatchState) (all read bytes : List ℕ) (status : Status) → command_of arguments ≡ Some command → IsReadOf command read all → length read ≤ INPUT_LIMIT → IsCommandOutput command ws read bytes status → IsOutput arguments ws all bytes status
+output_of arguments command ws all read bytes status e is within o = rw e (output_within command ws all read bytes status is within o)
 
 -- A longer input is too long, where it is read.
 beyond_within : (command : Command) (ws : List WatchState) (input : List ℕ) → ¬ IsTrial (Some command) → INPUT_LIMIT < length input
@@ -44,25 +44,25 @@ beyond_within : (command : Command) (ws : List WatchState) (input : List ℕ) �
 beyond_within (Trial seed bundles) ws input reads beyond = absurd (reads tt)
 beyond_within command ws input reads beyond = rw (lt-ltb INPUT_LIMIT (length input) beyond) (refl, refl)
 
-output_beyond : (words : List (List ℕ)) (command : Command) (ws : List WatchState) (input : List ℕ) → command_of words ≡ Some command → ¬ IsTrial (Some command) → INPUT_LIMIT < length input → IsOutput words ws input [] TooLong
-output_beyond words command ws input e reads beyond = rw e (beyond_within command ws input reads beyond)
+output_beyond : (arguments : List (List ℕ)) (command : Command) (ws : List WatchState) (input : List ℕ) → command_of arguments ≡ Some command → ¬ IsTrial (Some command) → INPUT_LIMIT < length input → IsOutput arguments ws input [] TooLong
+output_beyond arguments command ws input e reads beyond = rw e (beyond_within command ws input reads beyond)
 
-pub too_long : (words : List (List ℕ)) (command : Command) (ws : List WatchState) (left given : Option (List ℕ)) → command_of words ≡ Some command → ¬ IsTrial (Some command) → IfSome left (λ l. INPUT_LIMIT < length l) → IfSome left (λ input. GivesOutput words ws input given given TooLong)
-too_long words command ws None given e reads h = tt
-too_long words command ws (Some input) given e reads h = ([], output_beyond words command ws input e reads h, Appends-nil given)
+pub too_long : (arguments : List (List ℕ)) (command : Command) (ws : List WatchState) (left given : Option (List ℕ)) → command_of arguments ≡ Some command → ¬ IsTrial (Some command) → IfSome left (λ l. INPUT_LIMIT < length l) → IfSome left (λ input. GivesOutput arguments ws input given given TooLong)
+too_long arguments command ws None given e reads h = tt
+too_long arguments command ws (Some input) given e reads h = ([], output_beyond arguments command ws input e reads h, Appends-nil given)
 
--- words that are no command write nothing
-pub no_command : (words : List (List ℕ)) (ws : List WatchState) (left given : Option (List ℕ)) → command_of words ≡ None → IfSome left (λ input. GivesOutput words ws input given given Words)
-no_command words ws None given e = tt
-no_command words ws (Some input) given e = ([], rw e (refl, refl), Appends-nil given)
+-- arguments that are no command write nothing
+pub no_command : (arguments : List (List ℕ)) (ws : List WatchState) (left given : Option (List ℕ)) → command_of arguments ≡ None → IfSome left (λ input. GivesOutput arguments ws input given given Words)
+no_command arguments ws None given e = tt
+no_command arguments ws (Some input) given e = ([], rw e (refl, refl), Appends-nil given)
 
-pub answered : (words : List (List ℕ)) (command : Command) (ws : List WatchState) (left given new : Option (List ℕ)) (input bytes : List ℕ) (status : Status) → command_of words ≡ Some command → IfSome left (IsReadOf command input) → length input ≤ INPUT_LIMIT → IsCommandOutput command ws input bytes status → Appends given new bytes → IfSome left (λ i. GivesOutput words ws i given new status)
-answered words command ws None given new input bytes status e whole within o appended = tt
-answered words command ws (Some l) given new input bytes status e whole within o appended = (bytes, output_of words command ws l input bytes status e whole within o, appended)
+pub answered : (arguments : List (List ℕ)) (command : Command) (ws : List WatchState) (left given new : Option (List ℕ)) (input bytes : List ℕ) (status : Status) → command_of arguments ≡ Some command → IfSome left (IsReadOf command input) → length input ≤ INPUT_LIMIT → IsCommandOutput command ws input bytes status → Appends given new bytes → IfSome left (λ i. GivesOutput arguments ws i given new status)
+answered arguments command ws None given new input bytes status e whole within o appended = tt
+answered arguments command ws (Some l) given new input bytes status e whole within o appended = (bytes, output_of arguments command ws l input bytes status e whole within o, appended)
 
-pub given_in_part : (words : List (List ℕ)) (command : Command) (ws : List WatchState) (left given new : Option (List ℕ)) (input bytes : List ℕ) (status : Status) → command_of words ≡ Some command → IfSome left (IsReadOf command input) → length input ≤ INPUT_LIMIT → IsCommandOutput command ws input bytes status → ((count : ℕ) × (count < length bytes) × Appends given new (take count bytes)) → IfSome left (λ i. GivesPart words ws i given new)
-given_in_part words command ws None given new input bytes status e whole within o part = tt
-given_in_part words command ws (Some l) given new input bytes status e whole within o part = (bytes, status, output_of words command ws l input bytes status e whole within o, part)
+pub given_in_part : (arguments : List (List ℕ)) (command : Command) (ws : List WatchState) (left given new : Option (List ℕ)) (input bytes : List ℕ) (status : Status) → command_of arguments ≡ Some command → IfSome left (IsReadOf command input) → length input ≤ INPUT_LIMIT → IsCommandOutput command ws input bytes status → ((count : ℕ) × (count < length bytes) × Appends given new (take count bytes)) → IfSome left (λ i. GivesPart arguments ws i given new)
+given_in_part arguments command ws None given new input bytes status e whole within o part = tt
+given_in_part arguments command ws (Some l) given new input bytes status e whole within o part = (bytes, status, output_of arguments command ws l input bytes status e whole within o, part)
 
 -- a slice of what was read is what was read
 pub same_read : (command : Command) (left : Option (List ℕ)) (slice input : List ℕ) → slice ≡ input → IfSome left (IsReadOf command input) → IfSome left (IsReadOf command slice)
@@ -89,26 +89,26 @@ of_whole P l input whole h within p g = h p (subst (λ i. as_either.Gives i p) (
 
 -- What is accepted.
 abbrev AcceptsFree : List (List ℕ) → Status → List ℕ → Type 0
-AcceptsFree words status input = command_of words ≡ Some Check → OfProgram (λ p. (status ≡ Done) ↔ HasNoViolation p) input
+AcceptsFree arguments status input = command_of arguments ≡ Some Check → OfProgram (λ p. (status ≡ Done) ↔ HasNoViolation p) input
 
-pub accepted_beyond : ImageSize → (words : List (List ℕ)) (left : Option (List ℕ)) → IfSome left (λ l. INPUT_LIMIT < length l) → IfSome left (AcceptsFree words TooLong)
-accepted_beyond size words None h = tt
-accepted_beyond size words (Some input) h = λ e. none_beyond size (λ p. (TooLong ≡ Done) ↔ HasNoViolation p) input h
+pub accepted_beyond : ImageSize → (arguments : List (List ℕ)) (left : Option (List ℕ)) → IfSome left (λ l. INPUT_LIMIT < length l) → IfSome left (AcceptsFree arguments TooLong)
+accepted_beyond size arguments None h = tt
+accepted_beyond size arguments (Some input) h = λ e. none_beyond size (λ p. (TooLong ≡ Done) ↔ HasNoViolation p) input h
 
-pub accepted_within : (words : List (List ℕ)) (command : Command) (left : Option (List ℕ)) (input : List ℕ) (status : Status) → command_of words ≡ Some command → IfSome left (IsReadOf command input)
-    → (command ≡ Check → (p : Program) → as_either.Gives input p → ((status ≡ Done) ↔ HasNoViolation p)) → IfSome left (AcceptsFree words status)
-accepted_within words command None input status e whole h = tt
-accepted_within words command (Some l) input status e whole h =
-    λ f. let is = same_command words command Check e f in of_whole (λ p. (status ≡ Done) ↔ HasNoViolation p) l input (subst (λ k. IsReadOf k input l) is whole) (h is)
+pub accepted_within : (arguments : List (List ℕ)) (command : Command) (left : Option (List ℕ)) (input : List ℕ) (status : Status) → command_of arguments ≡ Some command → IfSome left (IsReadOf command input)
+    → (command ≡ Check → (p : Program) → as_either.Gives input p → ((status ≡ Done) ↔ HasNoViolation p)) → IfSome left (AcceptsFree arguments status)
+accepted_within arguments command None input status e whole h = tt
+accepted_within arguments command (Some l) input status e whole h =
+    λ f. let is = same_command arguments command Check e f in of_whole (λ p. (status ≡ Done) ↔ HasNoViolation p) l input (subst (λ k. IsReadOf k input l) is whole) (h is)
 
 -- What has violations.
 abbrev JudgesProgram : List (List ℕ) → Status → List ℕ → Type 0
-JudgesProgram words status input =
-    (command : Command) → command_of words ≡ Some command → Judges command → OfProgram (λ p. (status ≡ Violated) ↔ (¬ HasNoViolation p)) input
+JudgesProgram arguments status input =
+    (command : Command) → command_of arguments ≡ Some command → Judges command → OfProgram (λ p. (status ≡ Violated) ↔ (¬ HasNoViolation p)) input
 
-pub judged_beyond : ImageSize → (words : List (List ℕ)) (left : Option (List ℕ)) → IfSome left (λ l. INPUT_LIMIT < length l) → IfSome left (JudgesProgram words TooLong)
-judged_beyond size words None h = tt
-judged_beyond size words (Some input) h = λ command e judges. none_beyond size (λ p. (TooLong ≡ Violated) ↔ (¬ HasNoViolation p)) input h
+pub judged_beyond : ImageSize → (arguments : List (List ℕ)) (left : Option (List ℕ)) → IfSome left (λ l. INPUT_LIMIT < length l) → IfSome left (JudgesProgram arguments TooLong)
+judged_beyond size arguments None h = tt
+judged_beyond size arguments (Some input) h = λ command e judges. none_beyond size (λ p. (TooLong ≡ Violated) ↔ (¬ HasNoViolation p)) input h
 
 -- what is judged is read whole
 judged_whole : (command : Command) (input l : List ℕ) → Judges command → IsReadOf command input l → input ≡ l
@@ -118,22 +118,22 @@ judged_whole (Watch groups) input l judges is = is
 judged_whole (Trace first count) input l judges is = is
 judged_whole command input l judges is = absurd judges
 
-pub judged_within : (words : List (List ℕ)) (command : Command) (left : Option (List ℕ)) (input : List ℕ) (status : Status) → command_of words ≡ Some command → IfSome left (IsReadOf command input)
-    → (Judges command → (p : Program) → as_either.Gives input p → ((status ≡ Violated) ↔ (¬ HasNoViolation p))) → IfSome left (JudgesProgram words status)
-judged_within words command None input status e whole h = tt
-judged_within words command (Some l) input status e whole h =
+pub judged_within : (arguments : List (List ℕ)) (command : Command) (left : Option (List ℕ)) (input : List ℕ) (status : Status) → command_of arguments ≡ Some command → IfSome left (IsReadOf command input)
+    → (Judges command → (p : Program) → as_either.Gives input p → ((status ≡ Violated) ↔ (¬ HasNoViolation p))) → IfSome left (JudgesProgram arguments status)
+judged_within arguments command None input status e whole h = tt
+judged_within arguments command (Some l) input status e whole h =
     λ other f judges.
-    let mine : Judges command = subst Judges (same_command words other command f e) judges in
+    let mine : Judges command = subst Judges (same_command arguments other command f e) judges in
     of_whole (λ p. (status ≡ Violated) ↔ (¬ HasNoViolation p)) l input (judged_whole command input l mine whole) (h mine)
 
 -- What is run: the end of the run tells the status.
 abbrev TellsEnd : List (List ℕ) → Status → List ℕ → Type 0
-TellsEnd words status input =
-    (command : Command) (groups : ℕ) → command_of words ≡ Some command → groups_of command ≡ Some groups → OfProgram (λ p. HasNoViolation p → status ≡ end_status (run_of p groups).end) input
+TellsEnd arguments status input =
+    (command : Command) (groups : ℕ) → command_of arguments ≡ Some command → groups_of command ≡ Some groups → OfProgram (λ p. HasNoViolation p → status ≡ end_status (run_of p groups).end) input
 
-pub ended_beyond : ImageSize → (words : List (List ℕ)) (left : Option (List ℕ)) → IfSome left (λ l. INPUT_LIMIT < length l) → IfSome left (TellsEnd words TooLong)
-ended_beyond size words None h = tt
-ended_beyond size words (Some input) h = λ command groups e runs. none_beyond size (λ p. HasNoViolation p → TooLong ≡ end_status (run_of p groups).end) input h
+pub ended_beyond : ImageSize → (arguments : List (List ℕ)) (left : Option (List ℕ)) → IfSome left (λ l. INPUT_LIMIT < length l) → IfSome left (TellsEnd arguments TooLong)
+ended_beyond size arguments None h = tt
+ended_beyond size arguments (Some input) h = λ command groups e runs. none_beyond size (λ p. HasNoViolation p → TooLong ≡ end_status (run_of p groups).end) input h
 
 -- what is run is read whole
 pub run_whole : (command : Command) (groups : ℕ) (input l : List ℕ) → groups_of command ≡ Some groups → IsReadOf command input l → input ≡ l
@@ -142,55 +142,55 @@ run_whole (Watch n) groups input l runs read = read
 run_whole (Trace first count) groups input l runs read = read
 run_whole command groups input l runs read = cc
 
-pub ended_within : (words : List (List ℕ)) (command : Command) (left : Option (List ℕ)) (input : List ℕ) (status : Status) → command_of words ≡ Some command → IfSome left (IsReadOf command input)
-    → ((groups : ℕ) → groups_of command ≡ Some groups → (p : Program) → as_either.Gives input p → HasNoViolation p → status ≡ end_status (run_of p groups).end) → IfSome left (TellsEnd words status)
-ended_within words command None input status e whole h = tt
-ended_within words command (Some l) input status e whole h =
+pub ended_within : (arguments : List (List ℕ)) (command : Command) (left : Option (List ℕ)) (input : List ℕ) (status : Status) → command_of arguments ≡ Some command → IfSome left (IsReadOf command input)
+    → ((groups : ℕ) → groups_of command ≡ Some groups → (p : Program) → as_either.Gives input p → HasNoViolation p → status ≡ end_status (run_of p groups).end) → IfSome left (TellsEnd arguments status)
+ended_within arguments command None input status e whole h = tt
+ended_within arguments command (Some l) input status e whole h =
     λ other groups f runs.
-    let mine : groups_of command ≡ Some groups = subst (λ k. groups_of k ≡ Some groups) (same_command words other command f e) runs in
+    let mine : groups_of command ≡ Some groups = subst (λ k. groups_of k ≡ Some groups) (same_command arguments other command f e) runs in
     of_whole (λ p. HasNoViolation p → status ≡ end_status (run_of p groups).end) l input (run_whole command groups input l mine whole) (h groups mine)
 
 -- What the watchers of `watch` have seen.
 abbrev WatchesProgram : List (List ℕ) → (old now : List WatchState) → List ℕ → Type 0
-WatchesProgram words old now input =
-    (groups : ℕ) → command_of words ≡ Some (Watch groups) → OfProgram (λ p. HasNoViolation p → now ≡ staying (run_of p groups).events old) input
+WatchesProgram arguments old now input =
+    (groups : ℕ) → command_of arguments ≡ Some (Watch groups) → OfProgram (λ p. HasNoViolation p → now ≡ staying (run_of p groups).events old) input
 
-pub watched_beyond : ImageSize → (words : List (List ℕ)) (left : Option (List ℕ)) (old now : List WatchState) → IfSome left (λ l. INPUT_LIMIT < length l) → IfSome left (WatchesProgram words old now)
-watched_beyond size words None old now h = tt
-watched_beyond size words (Some input) old now h = λ groups e. none_beyond size (λ p. HasNoViolation p → now ≡ staying (run_of p groups).events old) input h
+pub watched_beyond : ImageSize → (arguments : List (List ℕ)) (left : Option (List ℕ)) (old now : List WatchState) → IfSome left (λ l. INPUT_LIMIT < length l) → IfSome left (WatchesProgram arguments old now)
+watched_beyond size arguments None old now h = tt
+watched_beyond size arguments (Some input) old now h = λ groups e. none_beyond size (λ p. HasNoViolation p → now ≡ staying (run_of p groups).events old) input h
 
-pub watched_within : (words : List (List ℕ)) (command : Command) (left : Option (List ℕ)) (old now : List WatchState) (input : List ℕ) → command_of words ≡ Some command → IfSome left (IsReadOf command input)
-    → ((groups : ℕ) → command ≡ Watch groups → HaveWatched groups input old now) → IfSome left (WatchesProgram words old now)
-watched_within words command None old now input e whole h = tt
-watched_within words command (Some l) old now input e whole h =
+pub watched_within : (arguments : List (List ℕ)) (command : Command) (left : Option (List ℕ)) (old now : List WatchState) (input : List ℕ) → command_of arguments ≡ Some command → IfSome left (IsReadOf command input)
+    → ((groups : ℕ) → command ≡ Watch groups → HaveWatched groups input old now) → IfSome left (WatchesProgram arguments old now)
+watched_within arguments command None old now input e whole h = tt
+watched_within arguments command (Some l) old now input e whole h =
     λ groups f.
-    let is = same_command words command (Watch groups) e f in
+    let is = same_command arguments command (Watch groups) e f in
     of_whole (λ p. HasNoViolation p → now ≡ staying (run_of p groups).events old) l input (subst (λ k. IsReadOf k input l) is whole) (h groups is)
 
-pub cut_within : (words : List (List ℕ)) (command : Command) (left : Option (List ℕ)) (old now : List WatchState) (input : List ℕ) → command_of words ≡ Some command → IfSome left (IsReadOf command input)
-    → ((groups : ℕ) → command ≡ Watch groups → HaveWatchedPart groups input old now) → IfSome left (λ l. (groups : ℕ) → command_of words ≡ Some (Watch groups) → HaveWatchedPart groups l old now)
-cut_within words command None old now input e whole h = tt
-cut_within words command (Some l) old now input e whole h =
+pub cut_within : (arguments : List (List ℕ)) (command : Command) (left : Option (List ℕ)) (old now : List WatchState) (input : List ℕ) → command_of arguments ≡ Some command → IfSome left (IsReadOf command input)
+    → ((groups : ℕ) → command ≡ Watch groups → HaveWatchedPart groups input old now) → IfSome left (λ l. (groups : ℕ) → command_of arguments ≡ Some (Watch groups) → HaveWatchedPart groups l old now)
+cut_within arguments command None old now input e whole h = tt
+cut_within arguments command (Some l) old now input e whole h =
     λ groups f.
-    let is = same_command words command (Watch groups) e f in
+    let is = same_command arguments command (Watch groups) e f in
     let read : input ≡ l = subst (λ k. IsReadOf k input l) is whole in
     subst (λ i. HaveWatchedPart groups i old now) read (h groups is)
 
 -- What is told of the program that `groups` reads.
 abbrev pub TellsOfGroups : List (List ℕ) → (ℕ → ℕ → Program → Type 0) → List ℕ → Type 0
-TellsOfGroups words Tells input =
-    (groups number : ℕ) → command_of words ≡ Some (Groups groups number) → OfProgram (Tells groups number) input
+TellsOfGroups arguments Tells input =
+    (groups number : ℕ) → command_of arguments ≡ Some (Groups groups number) → OfProgram (Tells groups number) input
 
-pub groups_beyond : ImageSize → (words : List (List ℕ)) (Tells : List ℕ → ℕ → ℕ → Program → Type 0) (left : Option (List ℕ)) → IfSome left (λ l. INPUT_LIMIT < length l) → IfSome left (λ l. TellsOfGroups words (Tells l) l)
-groups_beyond size words Tells None h = tt
-groups_beyond size words Tells (Some l) h = λ groups number e. none_beyond size (Tells l groups number) l h
+pub groups_beyond : ImageSize → (arguments : List (List ℕ)) (Tells : List ℕ → ℕ → ℕ → Program → Type 0) (left : Option (List ℕ)) → IfSome left (λ l. INPUT_LIMIT < length l) → IfSome left (λ l. TellsOfGroups arguments (Tells l) l)
+groups_beyond size arguments Tells None h = tt
+groups_beyond size arguments Tells (Some l) h = λ groups number e. none_beyond size (Tells l groups number) l h
 
-pub groups_within : (words : List (List ℕ)) (command : Command) (Tells : List ℕ → ℕ → ℕ → Program → Type 0) (left : Option (List ℕ)) (input : List ℕ) → command_of words ≡ Some command → IfSome left (IsReadOf command input)
-    → ((groups number : ℕ) → command ≡ Groups groups number → (p : Program) → as_either.Gives input p → Tells input groups number p) → IfSome left (λ l. TellsOfGroups words (Tells l) l)
-groups_within words command Tells None input e whole h = tt
-groups_within words command Tells (Some l) input e whole h =
+pub groups_within : (arguments : List (List ℕ)) (command : Command) (Tells : List ℕ → ℕ → ℕ → Program → Type 0) (left : Option (List ℕ)) (input : List ℕ) → command_of arguments ≡ Some command → IfSome left (IsReadOf command input)
+    → ((groups number : ℕ) → command ≡ Groups groups number → (p : Program) → as_either.Gives input p → Tells input groups number p) → IfSome left (λ l. TellsOfGroups arguments (Tells l) l)
+groups_within arguments command Tells None input e whole h = tt
+groups_within arguments command Tells (Some l) input e whole h =
     λ groups number f.
-    let is = same_command words command (Groups groups number) e f in
+    let is = same_command arguments command (Groups groups number) e f in
     let read : input ≡ l = subst (λ k. IsReadOf k input l) is whole in
     of_whole (Tells l groups number) l input read (subst (λ i. (p : Program) → as_either.Gives input p → Tells i groups number p) read (h groups number is))
 

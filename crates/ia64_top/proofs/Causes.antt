@@ -16,11 +16,11 @@ use Rattle.group_checker.specs.Reports.{IsVerdict}
 use Rattle.trial_maker.specs.Trials.{trial_program}
 use Rattle.watch_seam.specs.Watchers.{WatchState}
 use Rattle.ia64_top.specs.declared.limits.TheConstants.{INPUT_LIMIT}
-use Rattle.ia64_top.specs.declared.words.Command.{Command}
-use Rattle.ia64_top.specs.declared.words.Command.TheVariants.{Build, Stops, Show, List as Listing, Wrap, Lift, Check, Run, Watch, Trace, Groups, Trial}
+use Rattle.ia64_top.specs.declared.arguments.Command.{Command}
+use Rattle.ia64_top.specs.declared.arguments.Command.TheVariants.{Build, Stops, Show, List as Listing, Wrap, Lift, Check, Run, Watch, Trace, Groups, Trial}
 use Rattle.ia64_top.specs.declared.status.Status.{Status}
 use Rattle.ia64_top.specs.declared.status.Status.TheVariants.{Done, Violated, Refused, NoMemory, Limit, Faulted}
-use Rattle.ia64_top.specs.Words.{command_of, IsTrial}
+use Rattle.ia64_top.specs.Arguments.{command_of, IsTrial}
 use Rattle.ia64_top.specs.Statuses.{TellsOfProgram}
 use Rattle.ia64_top.specs.Inputs.{IsReadOf}
 use Rattle.ia64_top.specs.Texts.{verdict_text}
@@ -99,32 +99,32 @@ of_all : (c : Command) (input l : List ℕ) (status : Status) → IsReadOf c inp
 of_all (Trial seed bundles) input l status is h = h
 of_all c input l status is h = subst (λ i. HasCause (λ p. IsProgramOf c i p) status) is h
 
-pub cause_within : NoFaultWhereSpelled → NoFaultWhereRaw → NoFaultWhereRead → NoFaultWherePlaced → (words : List (List ℕ)) (c : Command) (ws : List WatchState) (left : Option (List ℕ)) (input bytes : List ℕ) (status : Status) → command_of words ≡ Some c → IfSome left (IsReadOf c input) → IsCommandOutput c ws input bytes status
-    → IfSome left (λ l. (d : Command) → command_of words ≡ Some d → HasCause (λ p. IsProgramOf d l p) status)
-cause_within spelled raw read placed words c ws None input bytes status e whole o = tt
-cause_within spelled raw read placed words c ws (Some l) input bytes status e whole o =
-    λ d f. subst (λ k. HasCause (λ p. IsProgramOf k l p) status) (same_command words c d e f) (of_all c input l status whole (cause spelled raw read placed c ws input bytes status o))
+pub cause_within : NoFaultWhereSpelled → NoFaultWhereRaw → NoFaultWhereRead → NoFaultWherePlaced → (arguments : List (List ℕ)) (c : Command) (ws : List WatchState) (left : Option (List ℕ)) (input bytes : List ℕ) (status : Status) → command_of arguments ≡ Some c → IfSome left (IsReadOf c input) → IsCommandOutput c ws input bytes status
+    → IfSome left (λ l. (d : Command) → command_of arguments ≡ Some d → HasCause (λ p. IsProgramOf d l p) status)
+cause_within spelled raw read placed arguments c ws None input bytes status e whole o = tt
+cause_within spelled raw read placed arguments c ws (Some l) input bytes status e whole o =
+    λ d f. subst (λ k. HasCause (λ p. IsProgramOf k l p) status) (same_command arguments c d e f) (of_all c input l status whole (cause spelled raw read placed c ws input bytes status o))
 
-pub refused_within : (words : List (List ℕ)) (left : Option (List ℕ)) (status : Status) → IfSome left (λ l. (d : Command) → command_of words ≡ Some d → HasCause (λ p. IsProgramOf d l p) status)
-    → IfSome left (λ l. (d : Command) → command_of words ≡ Some d → is_too_long d l ≡ false → ((status ≡ Refused) ↔ IsUnreadable d l))
-refused_within words None status h = tt
-refused_within words (Some l) status h = λ d f short. (h d f).refused
+pub refused_within : (arguments : List (List ℕ)) (left : Option (List ℕ)) (status : Status) → IfSome left (λ l. (d : Command) → command_of arguments ≡ Some d → HasCause (λ p. IsProgramOf d l p) status)
+    → IfSome left (λ l. (d : Command) → command_of arguments ≡ Some d → is_too_long d l ≡ false → ((status ≡ Refused) ↔ IsUnreadable d l))
+refused_within arguments None status h = tt
+refused_within arguments (Some l) status h = λ d f short. (h d f).refused
 
-pub served_within : (words : List (List ℕ)) (left : Option (List ℕ)) (status : Status) → IfSome left (λ l. (d : Command) → command_of words ≡ Some d → HasCause (λ p. IsProgramOf d l p) status)
-    → IfSome left (λ l. (d : Command) → command_of words ≡ Some d → is_too_long d l ≡ false → (p : Program) → IsProgramOf d l p → TellsOfProgram status ⊎ (status ≡ NoMemory))
-served_within words None status h = tt
-served_within words (Some l) status h = λ d f short p g. inl ((h d f).served p g)
+pub served_within : (arguments : List (List ℕ)) (left : Option (List ℕ)) (status : Status) → IfSome left (λ l. (d : Command) → command_of arguments ≡ Some d → HasCause (λ p. IsProgramOf d l p) status)
+    → IfSome left (λ l. (d : Command) → command_of arguments ≡ Some d → is_too_long d l ≡ false → (p : Program) → IsProgramOf d l p → TellsOfProgram status ⊎ (status ≡ NoMemory))
+served_within arguments None status h = tt
+served_within arguments (Some l) status h = λ d f short p g. inl ((h d f).served p g)
 
--- Of an input that is too long nothing is told, nor of one whose words are no command.
+-- Of an input that is too long nothing is told, nor of one whose arguments are no command.
 long_enough : (d : Command) (input : List ℕ) → ¬ IsTrial (Some d) → INPUT_LIMIT < length input → is_too_long d input ≡ false → ⊥
 long_enough (Trial seed bundles) input other beyond short = other tt
 long_enough d input other beyond short = let long = rw (lt-ltb INPUT_LIMIT (length input) beyond) at short in cc
 
-pub none_beyond : (P : Command → List ℕ → Type 0) (words : List (List ℕ)) (c : Command) (left : Option (List ℕ)) → command_of words ≡ Some c → ¬ IsTrial (Some c) → IfSome left (λ l. INPUT_LIMIT < length l)
-    → IfSome left (λ l. (d : Command) → command_of words ≡ Some d → is_too_long d l ≡ false → P d l)
-none_beyond P words c None e other beyond = tt
-none_beyond P words c (Some l) e other beyond =
-    λ d f short. absurd (long_enough d l (subst (λ k. ¬ IsTrial (Some k)) (same_command words c d e f) other) beyond short)
+pub none_beyond : (P : Command → List ℕ → Type 0) (arguments : List (List ℕ)) (c : Command) (left : Option (List ℕ)) → command_of arguments ≡ Some c → ¬ IsTrial (Some c) → IfSome left (λ l. INPUT_LIMIT < length l)
+    → IfSome left (λ l. (d : Command) → command_of arguments ≡ Some d → is_too_long d l ≡ false → P d l)
+none_beyond P arguments c None e other beyond = tt
+none_beyond P arguments c (Some l) e other beyond =
+    λ d f short. absurd (long_enough d l (subst (λ k. ¬ IsTrial (Some k)) (same_command arguments c d e f) other) beyond short)
 
 -- A verdict with violations prints clashes alone.
 prints : (p : Program) (bytes : List ℕ) (v : Verdict) → IsVerdict p v → bytes ≡ verdict_text v → Violated ≡ verdict_status v → PrintsClashes p bytes
@@ -150,10 +150,10 @@ of_read : (c : Command) (input l : List ℕ) (p : Program) → IsReadOf c input 
 of_read (Trial seed bundles) input l p is g = g
 of_read c input l p is g = subst (λ i. IsProgramOf c i p) (sym is) g
 
-pub clashes_within : GivesOne as_either → (words : List (List ℕ)) (c : Command) (ws : List WatchState) (left old new : Option (List ℕ)) (input bytes : List ℕ) (status : Status) → command_of words ≡ Some c → IfSome left (IsReadOf c input) → IsCommandOutput c ws input bytes status → Appends old new bytes
-    → status ≡ Violated → IfSome left (λ l. (d : Command) → command_of words ≡ Some d → (p : Program) → IsProgramOf d l p → GivesClashes p old new)
-clashes_within one words c ws None old new input bytes status e whole o appended is = tt
-clashes_within one words c ws (Some l) old new input bytes status e whole o appended is =
+pub clashes_within : GivesOne as_either → (arguments : List (List ℕ)) (c : Command) (ws : List WatchState) (left old new : Option (List ℕ)) (input bytes : List ℕ) (status : Status) → command_of arguments ≡ Some c → IfSome left (IsReadOf c input) → IsCommandOutput c ws input bytes status → Appends old new bytes
+    → status ≡ Violated → IfSome left (λ l. (d : Command) → command_of arguments ≡ Some d → (p : Program) → IsProgramOf d l p → GivesClashes p old new)
+clashes_within one arguments c ws None old new input bytes status e whole o appended is = tt
+clashes_within one arguments c ws (Some l) old new input bytes status e whole o appended is =
     λ d f p g.
-    let mine : IsProgramOf c l p = subst (λ k. IsProgramOf k l p) (same_command words d c f e) g in
+    let mine : IsProgramOf c l p = subst (λ k. IsProgramOf k l p) (same_command arguments d c f e) g in
     (bytes, clashes_of one c ws input bytes status is o p (of_read c input l p whole mine), appended)

@@ -17,11 +17,11 @@ use Rattle.order_laws.specs.OrderLaws.{FreeIsRobust}
 use Rattle.group_engine.specs.Engine.{Engine, begun, after_run}
 use Rattle.watch_seam.specs.Watchers.{WatchState}
 use Rattle.ia64_top.specs.declared.limits.TheConstants.{INPUT_LIMIT, GROUP_LIMIT}
-use Rattle.ia64_top.specs.declared.words.Command.{Command}
-use Rattle.ia64_top.specs.declared.words.Command.TheVariants.{Run, Groups}
+use Rattle.ia64_top.specs.declared.arguments.Command.{Command}
+use Rattle.ia64_top.specs.declared.arguments.Command.TheVariants.{Run, Groups}
 use Rattle.ia64_top.specs.declared.status.Status.{Status}
 use Rattle.ia64_top.specs.declared.status.Status.TheVariants.{Done, TooLong, Limit, Faulted, Refused}
-use Rattle.ia64_top.specs.Words.{command_of, run_words}
+use Rattle.ia64_top.specs.Arguments.{command_of, run_arguments}
 use Rattle.ia64_top.specs.Inputs.{IsReadOf}
 use Rattle.ia64_top.specs.Runs.{run_of, numbered_run_of, end_status, state_after, IsRunOf, IsNumberedRunOf}
 use Rattle.ia64_top.specs.Readings.{InputReading, as_either}
@@ -68,15 +68,15 @@ numbered_run_given one none c ws input bytes status o groups number is =
 
 -- The end of the run tells the status.
 abbrev pub TellsEndAtOnce : List (List ℕ) → Status → List ℕ → Type 0
-TellsEndAtOnce words status = TellsOfGroups words (λ groups number p. status ≡ end_status (numbered_run_of p groups number).end)
+TellsEndAtOnce arguments status = TellsOfGroups arguments (λ groups number p. status ≡ end_status (numbered_run_of p groups number).end)
 
-pub ended_at_once_beyond : ImageSize → (words : List (List ℕ)) (left : Option (List ℕ)) → IfSome left (λ l. INPUT_LIMIT < length l) → IfSome left (TellsEndAtOnce words TooLong)
-ended_at_once_beyond size words left h = groups_beyond size words (λ l groups number p. TooLong ≡ end_status (numbered_run_of p groups number).end) left h
+pub ended_at_once_beyond : ImageSize → (arguments : List (List ℕ)) (left : Option (List ℕ)) → IfSome left (λ l. INPUT_LIMIT < length l) → IfSome left (TellsEndAtOnce arguments TooLong)
+ended_at_once_beyond size arguments left h = groups_beyond size arguments (λ l groups number p. TooLong ≡ end_status (numbered_run_of p groups number).end) left h
 
-pub ended_at_once_within : GivesOne as_either → RefusesNone as_either → (words : List (List ℕ)) (c : Command) (ws : List WatchState) (left : Option (List ℕ)) (input bytes : List ℕ) (status : Status) → command_of words ≡ Some c → IfSome left (IsReadOf c input)
-    → IsCommandOutput c ws input bytes status → IfSome left (TellsEndAtOnce words status)
-ended_at_once_within one none words c ws left input bytes status e whole o =
-    groups_within words c (λ l groups number p. status ≡ end_status (numbered_run_of p groups number).end) left input e whole
+pub ended_at_once_within : GivesOne as_either → RefusesNone as_either → (arguments : List (List ℕ)) (c : Command) (ws : List WatchState) (left : Option (List ℕ)) (input bytes : List ℕ) (status : Status) → command_of arguments ≡ Some c → IfSome left (IsReadOf c input)
+    → IsCommandOutput c ws input bytes status → IfSome left (TellsEndAtOnce arguments status)
+ended_at_once_within one none arguments c ws left input bytes status e whole o =
+    groups_within arguments c (λ l groups number p. status ≡ end_status (numbered_run_of p groups number).end) left input e whole
     (λ groups number is p g. (numbered_run_given one none c ws input bytes status o groups number is p g).ends)
 
 -- A program without violations leaves in the order with a number what it leaves slot by slot.
@@ -96,27 +96,27 @@ run_given law zero parallel groups number p bytes status o free =
       ends = o.ends ∙ ap (λ (r : WholeRun). end_status r.end) same;
     }
 
--- the words of a run are a command
-run_command : (groups : ℕ) → 1 ≤ groups → groups ≤ GROUP_LIMIT → command_of (run_words groups) ≡ Some (Run groups)
+-- the arguments of a run are a command
+run_command : (groups : ℕ) → 1 ≤ groups → groups ≤ GROUP_LIMIT → command_of (run_arguments groups) ≡ Some (Run groups)
 run_command groups some few = rw (number_of_numeral 1 GROUP_LIMIT (decimal groups) groups (omega arith) (some, few, refl)) refl
 
 -- The run in the order with a number gives what `run` gives.
 abbrev pub IsSameAsRun : List (List ℕ) → List WatchState → Option (List ℕ) → Option (List ℕ) → Status → List ℕ → Type 0
-IsSameAsRun words ws old new status input =
-    TellsOfGroups words (λ groups number p. HasNoViolation p → GivesOutput (run_words groups) ws input old new status) input
+IsSameAsRun arguments ws old new status input =
+    TellsOfGroups arguments (λ groups number p. HasNoViolation p → GivesOutput (run_arguments groups) ws input old new status) input
 
-pub same_as_run_beyond : ImageSize → (words : List (List ℕ)) (ws : List WatchState) (left old new : Option (List ℕ)) → IfSome left (λ l. INPUT_LIMIT < length l) → IfSome left (IsSameAsRun words ws old new TooLong)
-same_as_run_beyond size words ws left old new h =
-    groups_beyond size words (λ l groups number p. HasNoViolation p → GivesOutput (run_words groups) ws l old new TooLong) left h
+pub same_as_run_beyond : ImageSize → (arguments : List (List ℕ)) (ws : List WatchState) (left old new : Option (List ℕ)) → IfSome left (λ l. INPUT_LIMIT < length l) → IfSome left (IsSameAsRun arguments ws old new TooLong)
+same_as_run_beyond size arguments ws left old new h =
+    groups_beyond size arguments (λ l groups number p. HasNoViolation p → GivesOutput (run_arguments groups) ws l old new TooLong) left h
 
-pub same_as_run_within : FreeIsRobust → ZeroIsStart → NumberedRunIsParallel → GivesOne as_either → RefusesNone as_either → (words : List (List ℕ)) (c : Command) (ws : List WatchState) (left old new : Option (List ℕ)) (input bytes : List ℕ) (status : Status) → command_of words ≡ Some c → IfSome left (IsReadOf c input)
-    → length input ≤ INPUT_LIMIT → IsCommandOutput c ws input bytes status → Appends old new bytes → IfSome left (IsSameAsRun words ws old new status)
-same_as_run_within law zero parallel one none words c ws left old new input bytes status e whole within o appended =
-    groups_within words c (λ l groups number p. HasNoViolation p → GivesOutput (run_words groups) ws l old new status) left input e whole
+pub same_as_run_within : FreeIsRobust → ZeroIsStart → NumberedRunIsParallel → GivesOne as_either → RefusesNone as_either → (arguments : List (List ℕ)) (c : Command) (ws : List WatchState) (left old new : Option (List ℕ)) (input bytes : List ℕ) (status : Status) → command_of arguments ≡ Some c → IfSome left (IsReadOf c input)
+    → length input ≤ INPUT_LIMIT → IsCommandOutput c ws input bytes status → Appends old new bytes → IfSome left (IsSameAsRun arguments ws old new status)
+same_as_run_within law zero parallel one none arguments c ws left old new input bytes status e whole within o appended =
+    groups_within arguments c (λ l groups number p. HasNoViolation p → GivesOutput (run_arguments groups) ws l old new status) left input e whole
     (λ groups number is p g free.
-    let range = in_range words (Groups groups number) (e ∙ ap Some is) in
+    let range = in_range arguments (Groups groups number) (e ∙ ap Some is) in
     let run = run_given law zero parallel groups number p bytes status (numbered_run_given one none c ws input bytes status o groups number is p g) free in
-    (bytes, output_of (run_words groups) (Run groups) ws input input bytes status (run_command groups range.0 range.1) refl within (run_is state_after groups as_either input p bytes status g run), appended))
+    (bytes, output_of (run_arguments groups) (Run groups) ws input input bytes status (run_command groups range.0 range.1) refl within (run_is state_after groups as_either input p bytes status g run), appended))
 
 -- What the engine prints after a run from the start of a program is what is printed of the run.
 pub record PrintsRun (p : Program) (groups number : ℕ) (text : List ℕ) (end : End) : Type 0 where

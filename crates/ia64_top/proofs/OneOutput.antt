@@ -1,4 +1,4 @@
--- One output is stated for words, watchers and an input.
+-- One output is stated for arguments, watchers and an input.
 use Rattle.std.proofs.Common.{◌≡◌, ℕ, ◌+◌, inl, inr, List, [], ◌∷◌, ◌++◌, Option, None, Some, Bool, true, false, refl, sym, ap, ◌∙◌, subst}
 use Rattle.std.specs.Prelude.{◌+◌, IfSome, MatchOption, MatchBool}
 use Rattle.std.specs.Io.KnownBytes.{Appends}
@@ -15,11 +15,11 @@ use Rattle.asm_build.specs.Listing.{head_listed, IsBundleListing, AreBundleListi
 use Rattle.group_checker.specs.Reports.{OneVerdict}
 use Rattle.trial_maker.specs.Trials.{trial_program}
 use Rattle.watch_seam.specs.Watchers.{WatchState}
-use Rattle.ia64_top.specs.declared.words.Command.{Command}
-use Rattle.ia64_top.specs.declared.words.Command.TheVariants as command
+use Rattle.ia64_top.specs.declared.arguments.Command.{Command}
+use Rattle.ia64_top.specs.declared.arguments.Command.TheVariants as command
 use Rattle.ia64_top.specs.declared.status.Status.{Status}
 use Rattle.ia64_top.specs.declared.status.Status.TheVariants.{Done, Violated, Refused, Words, TooLong}
-use Rattle.ia64_top.specs.Words.{command_of}
+use Rattle.ia64_top.specs.Arguments.{command_of}
 use Rattle.ia64_top.specs.Texts.{refusal_text, text_refusal_text, verdict_text, packed_text}
 use Rattle.ia64_top.specs.Readings.{InputReading, as_image, as_bundles, as_text, as_loose, as_either}
 use Rattle.ia64_top.specs.Judgements.{IsJudgement, verdict_status}
@@ -198,22 +198,22 @@ one_silent : (s : Status) (mine bytes : List ℕ) (status other : Status) → Is
 one_silent s mine bytes status other m o = (o.0 ∙ sym m.0, o.1 ∙ sym m.1)
 
 pub one_output : AreOne → OneOutput
-one_output one words ws input mine bytes status other m o = by_words (command_of words) m o
+one_output one arguments ws input mine bytes status other m o = by_arguments (command_of arguments) m o
   where
     by_length : (c : Command) (long : Bool) → MatchBool long (IsSilent TooLong mine status) (IsCommandOutput c ws input mine status)
         → MatchBool long (IsSilent TooLong bytes other) (IsCommandOutput c ws input bytes other) → (bytes ≡ mine) × (other ≡ status)
     by_length c true m o = one_silent TooLong mine bytes status other m o
     by_length c false m o = one_command_output one c ws input mine bytes status other m o
 
-    by_words : (k : Option Command)
+    by_arguments : (k : Option Command)
         → MatchOption k (IsSilent Words mine status) (λ c. MatchBool (is_too_long c input) (IsSilent TooLong mine status) (IsCommandOutput c ws input mine status))
         → MatchOption k (IsSilent Words bytes other) (λ c. MatchBool (is_too_long c input) (IsSilent TooLong bytes other) (IsCommandOutput c ws input bytes other)) → (bytes ≡ mine) × (other ≡ status)
-    by_words None m o = one_silent Words mine bytes status other m o
-    by_words (Some c) m o = by_length c (is_too_long c input) m o
+    by_arguments None m o = one_silent Words mine bytes status other m o
+    by_arguments (Some c) m o = by_length c (is_too_long c input) m o
 
 -- What was written is the only output.
-pub only_output : OneOutput → (words : List (List ℕ)) (ws : List WatchState) (left old new : Option (List ℕ)) (status : Status) → IfSome left (λ input. GivesOutput words ws input old new status)
-    → IfSome left (λ input. (bytes : List ℕ) (other : Status) → IsOutput words ws input bytes other → (other ≡ status) × Appends old new bytes)
-only_output one words ws None old new status given = tt
-only_output one words ws (Some input) old new status given =
-    λ bytes other o. let same = one words ws input given.0 bytes status other given.1 o in (same.1, subst (Appends old new) (sym same.0) given.2)
+pub only_output : OneOutput → (arguments : List (List ℕ)) (ws : List WatchState) (left old new : Option (List ℕ)) (status : Status) → IfSome left (λ input. GivesOutput arguments ws input old new status)
+    → IfSome left (λ input. (bytes : List ℕ) (other : Status) → IsOutput arguments ws input bytes other → (other ≡ status) × Appends old new bytes)
+only_output one arguments ws None old new status given = tt
+only_output one arguments ws (Some input) old new status given =
+    λ bytes other o. let same = one arguments ws input given.0 bytes status other given.1 o in (same.1, subst (Appends old new) (sym same.0) given.2)

@@ -9,11 +9,11 @@ use Rattle.ia_meaning.specs.OrderIndependence.{IsRobust}
 use Rattle.order_laws.specs.Violations.{HasNoViolation}
 use Rattle.order_laws.specs.OrderLaws.{FreeIsRobust}
 use Rattle.stop_placer.specs.Laws.{OnePlaced}
-use Rattle.ia64_top.specs.declared.words.Command.{Command}
-use Rattle.ia64_top.specs.declared.words.Command.TheVariants.{Stops, Check, Run, Watch, Trace, Trial}
+use Rattle.ia64_top.specs.declared.arguments.Command.{Command}
+use Rattle.ia64_top.specs.declared.arguments.Command.TheVariants.{Stops, Check, Run, Watch, Trace, Trial}
 use Rattle.ia64_top.specs.declared.status.Status.{Status}
 use Rattle.ia64_top.specs.declared.status.Status.TheVariants.{Done, TooLong, Limit, Faulted}
-use Rattle.ia64_top.specs.Words.{command_of, groups_of}
+use Rattle.ia64_top.specs.Arguments.{command_of, groups_of}
 use Rattle.ia64_top.specs.Statuses.{TellsAccepted}
 use Rattle.ia64_top.specs.Runs.{Printing, run_of, end_status, state_after, watch_text, trace_text, IsRunOf, ordered_run_of, IsRunOfEveryOrder}
 use Rattle.ia64_top.specs.Readings.{as_loose, as_either}
@@ -112,40 +112,40 @@ each_order_of law zero one (Trace first count) groups ws input bytes status is t
     subst (λ k. IsRunOfEveryOrder (trace_text first count) p k bytes status) same (each_order law zero one (trace_text first count) (first + count) input bytes status (ran status (Trace first count) t) o p g)
 each_order_of law zero one c groups ws input bytes status is t o p g = cc
 
--- The promise, of words and an input.
+-- The promise, of arguments and an input.
 abbrev pub Promises : List (List ℕ) → Status → List ℕ → Type 0
-Promises words status input =
-    (c : Command) → command_of words ≡ Some c → TellsAccepted status c → (p : Program) → IsProgramOf c input p → IsRobust p
+Promises arguments status input =
+    (c : Command) → command_of arguments ≡ Some c → TellsAccepted status c → (p : Program) → IsProgramOf c input p → IsRobust p
 
 abbrev pub RunsInEachOrder : List (List ℕ) → List WatchState → Option (List ℕ) → Option (List ℕ) → Status → List ℕ → Type 0
-RunsInEachOrder words ws old new status input =
-    (c : Command) (groups : ℕ) → command_of words ≡ Some c → groups_of c ≡ Some groups → TellsAccepted status c → (p : Program) → as_either.Gives input p → GivesRunOfEveryOrder (printing_of c ws) p groups old new status
+RunsInEachOrder arguments ws old new status input =
+    (c : Command) (groups : ℕ) → command_of arguments ≡ Some c → groups_of c ≡ Some groups → TellsAccepted status c → (p : Program) → as_either.Gives input p → GivesRunOfEveryOrder (printing_of c ws) p groups old new status
 
-pub promised : FreeIsRobust → GivesOne as_either → OnePlaced → (words : List (List ℕ)) (c : Command) (ws : List WatchState) (left : Option (List ℕ)) (input bytes : List ℕ) (status : Status) → command_of words ≡ Some c → IfSome left (IsReadOf c input)
-    → IsCommandOutput c ws input bytes status → IfSome left (Promises words status)
-promised law one placed words c ws None input bytes status e whole o = tt
-promised law one placed words c ws (Some l) input bytes status e whole o =
+pub promised : FreeIsRobust → GivesOne as_either → OnePlaced → (arguments : List (List ℕ)) (c : Command) (ws : List WatchState) (left : Option (List ℕ)) (input bytes : List ℕ) (status : Status) → command_of arguments ≡ Some c → IfSome left (IsReadOf c input)
+    → IsCommandOutput c ws input bytes status → IfSome left (Promises arguments status)
+promised law one placed arguments c ws None input bytes status e whole o = tt
+promised law one placed arguments c ws (Some l) input bytes status e whole o =
     λ d f t p g.
-    let is = same_command words d c f e in
+    let is = same_command arguments d c f e in
     robust_program law one placed status c ws l input bytes (subst (TellsAccepted status) is t) whole o p (subst (λ k. IsProgramOf k l p) is g)
 
-pub run_in_each_order : FreeIsRobust → ZeroIsStart → GivesOne as_either → (words : List (List ℕ)) (c : Command) (ws : List WatchState) (left old new : Option (List ℕ)) (input bytes : List ℕ) (status : Status) → command_of words ≡ Some c → IfSome left (IsReadOf c input)
-    → IsCommandOutput c ws input bytes status → Appends old new bytes → IfSome left (RunsInEachOrder words ws old new status)
-run_in_each_order law zero one words c ws None old new input bytes status e whole o appended = tt
-run_in_each_order law zero one words c ws (Some l) old new input bytes status e whole o appended =
+pub run_in_each_order : FreeIsRobust → ZeroIsStart → GivesOne as_either → (arguments : List (List ℕ)) (c : Command) (ws : List WatchState) (left old new : Option (List ℕ)) (input bytes : List ℕ) (status : Status) → command_of arguments ≡ Some c → IfSome left (IsReadOf c input)
+    → IsCommandOutput c ws input bytes status → Appends old new bytes → IfSome left (RunsInEachOrder arguments ws old new status)
+run_in_each_order law zero one arguments c ws None old new input bytes status e whole o appended = tt
+run_in_each_order law zero one arguments c ws (Some l) old new input bytes status e whole o appended =
     λ d groups f runs t p g. (
       bytes,
       appended,
-      let is = same_command words c d e f in
+      let is = same_command arguments c d e f in
           let read : input ≡ l = run_whole d groups input l runs (subst (λ k. IsReadOf k input l) is whole) in
           each_order_of law zero one d groups ws input bytes status runs t (subst (λ k. IsCommandOutput k ws input bytes status) is o) p (subst (λ i. as_either.Gives i p) (sym read) g),
     )
 
 -- an input that is too long tells nothing of its program
-pub promised_beyond : (words : List (List ℕ)) (left : Option (List ℕ)) → IfSome left (Promises words TooLong)
-promised_beyond words None = tt
-promised_beyond words (Some l) = λ c f t p g. absurd t
+pub promised_beyond : (arguments : List (List ℕ)) (left : Option (List ℕ)) → IfSome left (Promises arguments TooLong)
+promised_beyond arguments None = tt
+promised_beyond arguments (Some l) = λ c f t p g. absurd t
 
-pub runs_beyond : (words : List (List ℕ)) (ws : List WatchState) (left old new : Option (List ℕ)) → IfSome left (RunsInEachOrder words ws old new TooLong)
-runs_beyond words ws None old new = tt
-runs_beyond words ws (Some l) old new = λ c groups f runs t p g. absurd t
+pub runs_beyond : (arguments : List (List ℕ)) (ws : List WatchState) (left old new : Option (List ℕ)) → IfSome left (RunsInEachOrder arguments ws old new TooLong)
+runs_beyond arguments ws None old new = tt
+runs_beyond arguments ws (Some l) old new = λ c groups f runs t p g. absurd t

@@ -2,33 +2,33 @@
 use Rattle.std.proofs.Common.{◌≡◌, ℕ, Bool, true, false, List, [], ◌∷◌, Option, Some, None, refl, subst, ◌^◌, ◌-◌}
 use Rattle.std.specs.Prelude.{if◌then◌else◌, codes, bytes_eq, option_map, IfSome}
 use Rattle.ia64_top.specs.declared.limits.TheConstants.{GROUP_LIMIT, TRACE_LIMIT, TRIAL_LIMIT}
-use Rattle.ia64_top.specs.declared.words.Command.{Command}
-use Rattle.ia64_top.specs.declared.words.Command.TheVariants.{Build, Stops, Show, List as Listing, Wrap, Lift, Check, Run, Watch}
+use Rattle.ia64_top.specs.declared.arguments.Command.{Command}
+use Rattle.ia64_top.specs.declared.arguments.Command.TheVariants.{Build, Stops, Show, List as Listing, Wrap, Lift, Check, Run, Watch}
 use Rattle.ia64_top.specs.Numbers.{number_between}
-use Rattle.ia64_top.specs.Words.{trace_command, groups_command, trial_command, command_of, HasNumbersInRange}
+use Rattle.ia64_top.specs.Arguments.{trace_command, groups_command, trial_command, command_of, HasNumbersInRange}
 use Rattle.ia64_top.proofs.Numerals.{IsNumeralOf, numeral_of_number}
 
 -- what a number that was found in a range is
 abbrev IsFound : ℕ → ℕ → List ℕ → Option ℕ → Type 0
-IsFound least most word found = IfSome found (IsNumeralOf least most word)
+IsFound least most argument found = IfSome found (IsNumeralOf least most argument)
 
-found_is : (least most : ℕ) (word : List ℕ) (found : Option ℕ) → number_between least most word ≡ found → IsFound least most word found
-found_is least most word None e = tt
-found_is least most word (Some n) e = numeral_of_number least most word n e
+found_is : (least most : ℕ) (argument : List ℕ) (found : Option ℕ) → number_between least most argument ≡ found → IsFound least most argument found
+found_is least most argument None e = tt
+found_is least most argument (Some n) e = numeral_of_number least most argument n e
 
 abbrev InRange : Option Command → Type 0
 InRange found = IfSome found HasNumbersInRange
 
--- no word alone has a number
-word_alone : (a b c d e f g : Bool) → InRange (if a then Some Build else if b then Some Stops else if c then Some Show else if d then Some Listing else if e then Some Wrap else if f then Some Lift else if g then Some Check else None)
-word_alone true b c d e f g = tt
-word_alone false true c d e f g = tt
-word_alone false false true d e f g = tt
-word_alone false false false true e f g = tt
-word_alone false false false false true f g = tt
-word_alone false false false false false true g = tt
-word_alone false false false false false false true = tt
-word_alone false false false false false false false = tt
+-- no argument alone has a number
+argument_alone : (a b c d e f g : Bool) → InRange (if a then Some Build else if b then Some Stops else if c then Some Show else if d then Some Listing else if e then Some Wrap else if f then Some Lift else if g then Some Check else None)
+argument_alone true b c d e f g = tt
+argument_alone false true c d e f g = tt
+argument_alone false false true d e f g = tt
+argument_alone false false false true e f g = tt
+argument_alone false false false false true f g = tt
+argument_alone false false false false false true g = tt
+argument_alone false false false false false false true = tt
+argument_alone false false false false false false false = tt
 
 run_of : (groups : List ℕ) (found : Option ℕ) → IsFound 1 GROUP_LIMIT groups found → InRange (option_map Run found)
 run_of groups None is = tt
@@ -69,12 +69,12 @@ two_numbers false false true first second =
     trial_of second (number_between 0 (2 ^ 64 - 1) first) (number_between 1 TRIAL_LIMIT second) (found_is 1 TRIAL_LIMIT second _ refl)
 two_numbers false false false first second = tt
 
-words_in_range : (words : List (List ℕ)) → InRange (command_of words)
-words_in_range [] = tt
-words_in_range (word ∷ []) = word_alone (bytes_eq word (codes "build")) (bytes_eq word (codes "stops")) (bytes_eq word (codes "show")) (bytes_eq word (codes "list")) (bytes_eq word (codes "wrap")) (bytes_eq word (codes "lift")) (bytes_eq word (codes "check"))
-words_in_range (word ∷ groups ∷ []) = run_if (bytes_eq word (codes "run")) (bytes_eq word (codes "watch")) groups
-words_in_range (word ∷ first ∷ second ∷ []) = two_numbers (bytes_eq word (codes "trace")) (bytes_eq word (codes "groups")) (bytes_eq word (codes "trial")) first second
-words_in_range (word ∷ first ∷ second ∷ other ∷ words) = tt
+arguments_in_range : (arguments : List (List ℕ)) → InRange (command_of arguments)
+arguments_in_range [] = tt
+arguments_in_range (argument ∷ []) = argument_alone (bytes_eq argument (codes "build")) (bytes_eq argument (codes "stops")) (bytes_eq argument (codes "show")) (bytes_eq argument (codes "list")) (bytes_eq argument (codes "wrap")) (bytes_eq argument (codes "lift")) (bytes_eq argument (codes "check"))
+arguments_in_range (argument ∷ groups ∷ []) = run_if (bytes_eq argument (codes "run")) (bytes_eq argument (codes "watch")) groups
+arguments_in_range (argument ∷ first ∷ second ∷ []) = two_numbers (bytes_eq argument (codes "trace")) (bytes_eq argument (codes "groups")) (bytes_eq argument (codes "trial")) first second
+arguments_in_range (argument ∷ first ∷ second ∷ other ∷ arguments) = tt
 
-pub in_range : (words : List (List ℕ)) (command : Command) → command_of words ≡ Some command → HasNumbersInRange command
-in_range words command is = subst InRange is (words_in_range words)
+pub in_range : (arguments : List (List ℕ)) (command : Command) → command_of arguments ≡ Some command → HasNumbersInRange command
+in_range arguments command is = subst InRange is (arguments_in_range arguments)

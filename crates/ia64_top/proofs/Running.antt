@@ -23,9 +23,9 @@ use Rattle.watch_seam.specs.Watching.{staying}
 use Rattle.ia64_top.specs.Watching.{IsNotRun, HaveWatched}
 use Rattle.ia64_top.specs.Readings.{InputReading, IsRefusal, as_either}
 use Rattle.std.specs.Prelude.{Some}
-use Rattle.ia64_top.specs.declared.words.Command.{Command}
-use Rattle.ia64_top.specs.declared.words.Command.TheVariants as command
-use Rattle.ia64_top.specs.Words.{groups_of, Judges}
+use Rattle.ia64_top.specs.declared.arguments.Command.{Command}
+use Rattle.ia64_top.specs.declared.arguments.Command.TheVariants as command
+use Rattle.ia64_top.specs.Arguments.{groups_of, Judges}
 use Rattle.ia64_top.specs.Output.{IsRunAs, IsCommandOutput}
 use Rattle.ia64_top.proofs.Outputs.{GivesOne, RefusesNone, IsTold, holds_where_told}
 use Rattle.ia64_top.proofs.Judging.{violated_of_judgement, done_where_free, violated_where_not_free}

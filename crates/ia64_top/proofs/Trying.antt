@@ -12,11 +12,11 @@ use Rattle.order_laws.specs.Violations.{HasNoViolation}
 use Rattle.ia_meaning.specs.OrderIndependence.{IsRobust}
 use Rattle.trial_maker.specs.Trials.{trial_program}
 use Rattle.watch_seam.specs.Watchers.{WatchState}
-use Rattle.ia64_top.specs.declared.words.Command.{Command}
-use Rattle.ia64_top.specs.declared.words.Command.TheVariants.{Trial}
+use Rattle.ia64_top.specs.declared.arguments.Command.{Command}
+use Rattle.ia64_top.specs.declared.arguments.Command.TheVariants.{Trial}
 use Rattle.ia64_top.specs.declared.status.Status.{Status}
 use Rattle.ia64_top.specs.declared.status.Status.TheVariants.{Done, Violated}
-use Rattle.ia64_top.specs.Words.{command_of, IsTrial}
+use Rattle.ia64_top.specs.Arguments.{command_of, IsTrial}
 use Rattle.ia64_top.specs.Statuses.{EndsTrial}
 use Rattle.ia64_top.specs.Judgements.{IsJudgement, IsJudgedViolated}
 use Rattle.ia64_top.specs.Runs.{run_of}
@@ -66,29 +66,29 @@ trial_of_progress run seed bundles p m e bytes made program free robust came end
       printed = subst (λ q. bytes ≡ trial_text seed bundles (run_of q bundles).end (length (run_of q bundles).events) (run_of q bundles).state.registers) made text;
     }
 
--- what is told of the words and the answer
-pub tried : (words : List (List ℕ)) (command : Command) (ws : List WatchState) (input bytes : List ℕ) (status : Status) → command_of words ≡ Some command → IsCommandOutput command ws input bytes status
-    → (seed bundles : ℕ) → command_of words ≡ Some (Trial seed bundles) → ((status ≡ Done) ↔ HasNoViolation (trial_program seed bundles)) × ((status ≡ Violated) ↔ (¬ HasNoViolation (trial_program seed bundles)))
-tried words command ws input bytes status e o seed bundles f =
-    let its : IsTrialOutput seed bundles bytes status = subst (λ c. IsCommandOutput c ws input bytes status) (same_command words command (Trial seed bundles) e f) o in
+-- what is told of the arguments and the answer
+pub tried : (arguments : List (List ℕ)) (command : Command) (ws : List WatchState) (input bytes : List ℕ) (status : Status) → command_of arguments ≡ Some command → IsCommandOutput command ws input bytes status
+    → (seed bundles : ℕ) → command_of arguments ≡ Some (Trial seed bundles) → ((status ≡ Done) ↔ HasNoViolation (trial_program seed bundles)) × ((status ≡ Violated) ↔ (¬ HasNoViolation (trial_program seed bundles)))
+tried arguments command ws input bytes status e o seed bundles f =
+    let its : IsTrialOutput seed bundles bytes status = subst (λ c. IsCommandOutput c ws input bytes status) (same_command arguments command (Trial seed bundles) e f) o in
     (done_of_trial seed bundles bytes status its, violated_of_trial seed bundles bytes status its)
 
-pub gives_trial : (words : List (List ℕ)) (command : Command) (ws : List WatchState) (input bytes : List ℕ) (status : Status) (old new : Option (List ℕ)) → command_of words ≡ Some command → IsCommandOutput command ws input bytes status → Appends old new bytes
-    → (seed bundles : ℕ) → command_of words ≡ Some (Trial seed bundles) → GivesTrial seed bundles old new status
-gives_trial words command ws input bytes status old new e o appended seed bundles f = (
+pub gives_trial : (arguments : List (List ℕ)) (command : Command) (ws : List WatchState) (input bytes : List ℕ) (status : Status) (old new : Option (List ℕ)) → command_of arguments ≡ Some command → IsCommandOutput command ws input bytes status → Appends old new bytes
+    → (seed bundles : ℕ) → command_of arguments ≡ Some (Trial seed bundles) → GivesTrial seed bundles old new status
+gives_trial arguments command ws input bytes status old new e o appended seed bundles f = (
   bytes,
-  subst (λ c. IsCommandOutput c ws input bytes status) (same_command words command (Trial seed bundles) e f) o,
+  subst (λ c. IsCommandOutput c ws input bytes status) (same_command arguments command (Trial seed bundles) e f) o,
   appended,
 )
 
-pub gives_trial_part : (words : List (List ℕ)) (command : Command) (ws : List WatchState) (input bytes : List ℕ) (status : Status) (old new : Option (List ℕ)) → command_of words ≡ Some command → IsCommandOutput command ws input bytes status
-    → ((count : ℕ) × (count < length bytes) × Appends old new (take count bytes)) → (seed bundles : ℕ) → command_of words ≡ Some (Trial seed bundles) → GivesTrialPart seed bundles old new
-gives_trial_part words command ws input bytes status old new e o part seed bundles f =
-    (bytes, status, subst (λ c. IsCommandOutput c ws input bytes status) (same_command words command (Trial seed bundles) e f) o, part)
+pub gives_trial_part : (arguments : List (List ℕ)) (command : Command) (ws : List WatchState) (input bytes : List ℕ) (status : Status) (old new : Option (List ℕ)) → command_of arguments ≡ Some command → IsCommandOutput command ws input bytes status
+    → ((count : ℕ) × (count < length bytes) × Appends old new (take count bytes)) → (seed bundles : ℕ) → command_of arguments ≡ Some (Trial seed bundles) → GivesTrialPart seed bundles old new
+gives_trial_part arguments command ws input bytes status old new e o part seed bundles f =
+    (bytes, status, subst (λ c. IsCommandOutput c ws input bytes status) (same_command arguments command (Trial seed bundles) e f) o, part)
 
 -- a command that isn't `trial` tells nothing of one
-pub untried : (words : List (List ℕ)) (command : Command) → command_of words ≡ Some command → ¬ IsTrial (Some command) → (seed bundles : ℕ) → command_of words ≡ Some (Trial seed bundles) → ⊥
-untried words command e other seed bundles f = other (subst (λ c. IsTrial (Some c)) (same_command words (Trial seed bundles) command f e) tt)
+pub untried : (arguments : List (List ℕ)) (command : Command) → command_of arguments ≡ Some command → ¬ IsTrial (Some command) → (seed bundles : ℕ) → command_of arguments ≡ Some (Trial seed bundles) → ⊥
+untried arguments command e other seed bundles f = other (subst (λ c. IsTrial (Some c)) (same_command arguments (Trial seed bundles) command f e) tt)
 
 pub ends_trial : (command : Command) (ws : List WatchState) (input bytes : List ℕ) (status : Status) → IsTrial (Some command) → IsCommandOutput command ws input bytes status → EndsTrial status
 ends_trial (Trial seed bundles) ws input bytes status is o = ends_of_trial seed bundles bytes status o

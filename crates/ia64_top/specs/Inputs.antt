@@ -1,7 +1,7 @@
 -- What a command reads.
 use Rattle.std.specs.Prelude.{◌≡◌, ℕ, List, []}
-use Rattle.ia64_top.specs.declared.words.Command.{Command}
-use Rattle.ia64_top.specs.declared.words.Command.TheVariants as command
+use Rattle.ia64_top.specs.declared.arguments.Command.{Command}
+use Rattle.ia64_top.specs.declared.arguments.Command.TheVariants as command
 
 -- The bytes are what a command reads of all that there are: nothing for `trial`, and else all.
 abbrev pub IsReadOf : Command → List ℕ → List ℕ → Type 0

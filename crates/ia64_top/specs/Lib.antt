@@ -1,5 +1,5 @@
 pub mod Numbers
-pub mod Words
+pub mod Arguments
 pub mod Statuses
 pub mod Texts
 pub mod Judgements

@@ -1,9 +1,9 @@
--- The stated output: what the words and the input give. Each command has a table of its own, a row for each status.
+-- The stated output: what the arguments and the input give. Each command has a table of its own, a row for each status.
 use Rattle.std.specs.Prelude.{◌≡◌, ◌⊎◌, ℕ, ◌+◌, ◌<◌, ◌≤◌, nat_lt, Bool, false, List, [], length, take, Option, MatchOption, MatchBool}
 use Rattle.std.specs.Io.KnownBytes.{Appends}
 use Rattle.ia64_top.specs.declared.limits.TheConstants.{INPUT_LIMIT}
-use Rattle.ia64_top.specs.declared.words.Command.{Command}
-use Rattle.ia64_top.specs.declared.words.Command.TheVariants as command
+use Rattle.ia64_top.specs.declared.arguments.Command.{Command}
+use Rattle.ia64_top.specs.declared.arguments.Command.TheVariants as command
 use Rattle.ia64_top.specs.declared.status.Status.{Status}
 use Rattle.ia64_top.specs.declared.status.Status.TheVariants.{Done, Violated, Words, Refused, TooLong, Limit, Faulted}
 use Rattle.ia_program.specs.Programs.{Program, IsProgram}
@@ -11,7 +11,7 @@ use Rattle.image_form.specs.Images.{IsImage, Written, BeginsAsImage}
 use Rattle.image_form.specs.declared.version.Version.TheVariants.{Two}
 use Rattle.asm_build.specs.CanonicalText.{canonical_text}
 use Rattle.asm_build.specs.Listing.{IsListing}
-use Rattle.ia64_top.specs.Words.{command_of}
+use Rattle.ia64_top.specs.Arguments.{command_of}
 use Rattle.ia64_top.specs.Judgements.{IsJudgement, PrintsClashes}
 use Rattle.trial_maker.specs.Trials.{trial_program}
 use Rattle.watch_seam.specs.Watchers.{WatchState}
@@ -147,22 +147,22 @@ abbrev pub is_too_long : Command → List ℕ → Bool
 is_too_long (command.Trial seed bundles) input = false
 is_too_long command input = nat_lt INPUT_LIMIT (length input)
 
--- The bytes that are written and the status that is answered, for these words, these watchers and this input.
+-- The bytes that are written and the status that is answered, for these arguments, these watchers and this input.
 abbrev pub IsOutput : List (List ℕ) → List WatchState → List ℕ → List ℕ → Status → Type 0
-IsOutput words watchers input bytes status = MatchOption (command_of words) (IsSilent Words bytes status)
+IsOutput arguments watchers input bytes status = MatchOption (command_of arguments) (IsSilent Words bytes status)
     (λ command. MatchBool (is_too_long command input) (IsSilent TooLong bytes status)
     (IsCommandOutput command watchers input bytes status))
 
--- For words, watchers and an input there is at most one output, with one status.
+-- For arguments, watchers and an input there is at most one output, with one status.
 abbrev pub OneOutput : Type 0
 OneOutput =
-    (words : List (List ℕ)) (watchers : List WatchState) (input bytes others : List ℕ) (status other : Status)
-    → IsOutput words watchers input bytes status → IsOutput words watchers input others other → (others ≡ bytes) × (other ≡ status)
+    (arguments : List (List ℕ)) (watchers : List WatchState) (input bytes others : List ℕ) (status other : Status)
+    → IsOutput arguments watchers input bytes status → IsOutput arguments watchers input others other → (others ≡ bytes) × (other ≡ status)
 
 -- The sink got the bytes of the output of this status.
 abbrev pub GivesOutput : List (List ℕ) → List WatchState → List ℕ → Option (List ℕ) → Option (List ℕ) → Status → Type 0
-GivesOutput words watchers input old new status =
-    (bytes : List ℕ) × IsOutput words watchers input bytes status × Appends old new bytes
+GivesOutput arguments watchers input old new status =
+    (bytes : List ℕ) × IsOutput arguments watchers input bytes status × Appends old new bytes
 
 -- The sink got the text of violations of the program.
 abbrev pub GivesClashes : Program → Option (List ℕ) → Option (List ℕ) → Type 0
@@ -181,8 +181,8 @@ GivesTrialPart seed bundles old new =
 
 -- The sink got a proper prefix of the bytes of some output.
 abbrev pub GivesPart : List (List ℕ) → List WatchState → List ℕ → Option (List ℕ) → Option (List ℕ) → Type 0
-GivesPart words watchers input old new =
-    (bytes : List ℕ) × (status : Status) × IsOutput words watchers input bytes status
+GivesPart arguments watchers input old new =
+    (bytes : List ℕ) × (status : Status) × IsOutput arguments watchers input bytes status
     × ((count : ℕ) × (count < length bytes) × Appends old new (take count bytes))
 
 -- The sink got what is printed of the runs of a program, which is that of every order of the writes in their groups.

@@ -1,7 +1,7 @@
 -- How a call of the top call may end.
 use Rattle.std.specs.Prelude.{ℕ}
-use Rattle.ia64_top.specs.declared.words.Command.{Command}
-use Rattle.ia64_top.specs.declared.words.Command.TheVariants as command
+use Rattle.ia64_top.specs.declared.arguments.Command.{Command}
+use Rattle.ia64_top.specs.declared.arguments.Command.TheVariants as command
 use Rattle.ia64_top.specs.declared.status.Status.{Status}
 use Rattle.ia64_top.specs.declared.status.Status.TheVariants.{Done, Violated, Words, Refused, TooLong}
 use Rattle.ia64_top.specs.declared.status.Status.TheVariants.{ReadFault, WriteFault, NoMemory, Limit, Faulted}

@@ -5,7 +5,7 @@ ghost use Rattle.image_form.specs.Images.{IsImage, Written};
 ghost use Rattle.image_form.specs.declared.version.Version.TheVariants.{Two};
 ghost use Rattle.asm_build.specs.Listing.{IsListing};
 ghost use Rattle.ia64_top.specs.declared.limits.TheConstants.{GROUP_LIMIT, INPUT_LIMIT, TRACE_LIMIT, TRIAL_LIMIT};
-ghost use Rattle.ia64_top.specs.Words.{HasNumbersInRange, IsWatch};
+ghost use Rattle.ia64_top.specs.Arguments.{HasNumbersInRange, IsWatch};
 ghost use Rattle.group_checker.specs.declared.report.Verdict.TheVariants.{Violations};
 ghost use Rattle.ia64_top.specs.Judgements.{IsJudgement, IsJudgedViolated, verdict_status};
 ghost use Rattle.ia64_top.specs.Output.{IsCanonical, IsPackedText, IsMadeOutput, IsCheckedAs, IsRunAs, IsNumberedRunAs, IsCommandOutput};
@@ -18,11 +18,11 @@ ghost use Rattle.ia64_top.specs.Trials.{IsTrialOf, IsTrialOutput, trial_text};
 ghost use Rattle.ia64_top.specs.Texts.{refusal_text, text_refusal_text, verdict_text};
 ghost use Rattle.ia64_top.specs.declared.status.Status.{Status};
 
+use crate::arguments::Command;
 use crate::status::Status;
 use crate::text::{packed_text, refusal, text_refusal, trial_text, violations};
 use crate::tracing::trace_accepted;
 use crate::watching::watch_accepted;
-use crate::words::Command;
 use asm_build::{
     TextError, assemble, canonical_texts_are_read_back, disassemble, list_of, no_fault_where_read,
     one_text_program,

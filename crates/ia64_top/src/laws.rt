@@ -3,6 +3,7 @@
 ghost use Rattle.ia64_top.specs.Limits.{AreLimits};
 ghost use Rattle.ia64_top.specs.NamedAddresses.{BundlesAreWhereNamed, BytesAreWhereNamed};
 ghost use Rattle.ia64_top.specs.Output.{OneOutput};
+ghost use Rattle.ia64_top.specs.Numbers.{OneNumeral};
 
 use asm_build::{no_fault_where_read, one_text_fault, one_text_program};
 use group_checker::one_verdict;
@@ -14,7 +15,7 @@ use image_form::{
 use insn_codec::one_spelling;
 use stop_placer::{no_fault_where_placed, one_placed, one_placing_fault};
 
-/// The law that for words, watchers and an input there is at most one output, with one status: no other bytes are stated
+/// The law that for arguments, watchers and an input there is at most one output, with one status: no other bytes are stated
 /// for them, and no other status. It does nothing.
 pub fn one_output()
     ensures { OneOutput }
@@ -38,7 +39,7 @@ pub fn one_output()
 
 /// The number that a text gives `movl` for a name is where the program finds it: it is the address from which
 /// an indirect branch lands on the entry, and that from which the byte of data is loaded.
-pub fn law_names()
+pub fn names_are_addresses()
     ensures bundles { BundlesAreWhereNamed }
     ensures bytes { BytesAreWhereNamed }
 {
@@ -47,6 +48,11 @@ pub fn law_names()
 
 /// The law that the limits of programs, packing, states and calls are the numbers of `docs/use/formats.md`, "Limits". It does
 /// nothing.
-pub fn law_limits()
+pub fn limits_are_stated()
     ensures { AreLimits }
+{}
+
+/// An argument is a number in a range of 64 bits exactly where it is the number's decimal text, so it is at most one number.
+pub fn one_numeral()
+    ensures { OneNumeral }
 {}

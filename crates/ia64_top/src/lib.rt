@@ -2,6 +2,7 @@
 #![tactic(auto)]
 
 mod answer;
+mod arguments;
 mod laws;
 pub mod limits;
 mod status;
@@ -9,9 +10,8 @@ mod text;
 mod top;
 mod tracing;
 mod watching;
-mod words;
 
-pub use laws::{law_limits, law_names, one_output};
+pub use arguments::{Arguments, Command};
+pub use laws::{limits_are_stated, names_are_addresses, one_numeral, one_output};
 pub use status::Status;
 pub use top::ia64;
-pub use words::{Command, Words, one_numeral};

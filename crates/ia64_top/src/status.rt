@@ -10,7 +10,7 @@ pub enum Status {
     Done = 0,
     /// The program has violations, of which the first hundred are printed.
     Violated = 1,
-    /// The words are no command. Nothing was read or written.
+    /// The arguments are no command. Nothing was read or written.
     Words = 2,
     /// The input has no reading. The first fault is printed.
     Refused = 3,

@@ -6,21 +6,21 @@ use Rattle.insn_rows.specs.Arms.{opcode_of}
 use Rattle.insn_rows.specs.Rows.{listed}
 use Rattle.insn_rows.proofs.Laws.{AsRow}
 use Rattle.formats_a.specs.Listed.{rows as rows_a}
-use Rattle.formats_a.specs.Places.{place_of as place_a}
+use Rattle.formats_a.specs.RowIndexes.{row_index_of as row_index_a}
 use Rattle.formats_a.proofs.Words.{row_a}
 use Rattle.formats_i.specs.Listed.{rows as rows_i}
-use Rattle.formats_i.specs.Places.{place_of as place_i}
+use Rattle.formats_i.specs.RowIndexes.{row_index_of as row_index_i}
 use Rattle.formats_i.proofs.Words.{row_i}
 use Rattle.formats_m.specs.Listed.{rows as rows_m}
-use Rattle.formats_m.specs.Places.{place_of as place_m}
+use Rattle.formats_m.specs.RowIndexes.{row_index_of as row_index_m}
 use Rattle.formats_m.proofs.Words.{row_m}
 use Rattle.formats_b.specs.ListedB.{rows as rows_b}
-use Rattle.formats_b.specs.PlacesB.{place_of as place_b}
+use Rattle.formats_b.specs.RowIndexesB.{row_index_of as row_index_b}
 use Rattle.formats_b.proofs.WordsB.{row_b}
-use Rattle.formats_b.specs.PlacesF.{place_of as place_f}
+use Rattle.formats_b.specs.RowIndexesF.{row_index_of as row_index_f}
 use Rattle.formats_b.specs.ListedF.{rows as rows_f}
 use Rattle.formats_b.proofs.WordsF.{row_f}
-use Rattle.formats_b.specs.PlacesX.{place_of as place_x}
+use Rattle.formats_b.specs.RowIndexesX.{row_index_of as row_index_x}
 use Rattle.formats_b.specs.ListedX.{rows as rows_x}
 use Rattle.formats_b.specs.PartsX.{slot_op}
 use Rattle.formats_b.proofs.WordsX.{row_of_x}
@@ -41,27 +41,27 @@ HasNames qp (action.FromMemory size kind r1 r3 u) = IsLoadUpdate r1 r3 u
 HasNames qp (action.Loop kind disp) = IsQualifier kind qp
 HasNames qp f = Unit {0}
 
-names_a : (qp : ℕ) (x : Op) → AsRow rows_a (place_a (opcode_of x)) (record { qp = qp; op = x }) → (qp < 64) × HasNames qp (action_of x)
+names_a : (qp : ℕ) (x : Op) → AsRow rows_a (row_index_a (opcode_of x)) (record { qp = qp; op = x }) → (qp < 64) × HasNames qp (action_of x)
 unfolding rows_a listed
 names_a qp x h = grind arith
 
-names_i : (qp : ℕ) (x : Op) → AsRow rows_i (place_i (opcode_of x)) (record { qp = qp; op = x }) → (qp < 64) × HasNames qp (action_of x)
+names_i : (qp : ℕ) (x : Op) → AsRow rows_i (row_index_i (opcode_of x)) (record { qp = qp; op = x }) → (qp < 64) × HasNames qp (action_of x)
 unfolding rows_i listed
 names_i qp x h = grind arith
 
-names_m : (qp : ℕ) (x : Op) → AsRow rows_m (place_m (opcode_of x)) (record { qp = qp; op = x }) → (qp < 64) × HasNames qp (action_of x)
+names_m : (qp : ℕ) (x : Op) → AsRow rows_m (row_index_m (opcode_of x)) (record { qp = qp; op = x }) → (qp < 64) × HasNames qp (action_of x)
 unfolding rows_m listed
 names_m qp x h = grind arith
 
-names_b : (qp : ℕ) (x : Op) → AsRow rows_b (place_b (opcode_of x)) (record { qp = qp; op = x }) → (qp < 64) × HasNames qp (action_of x)
+names_b : (qp : ℕ) (x : Op) → AsRow rows_b (row_index_b (opcode_of x)) (record { qp = qp; op = x }) → (qp < 64) × HasNames qp (action_of x)
 unfolding rows_b listed
 names_b qp x h = grind arith
 
-names_f : (qp : ℕ) (x : Op) → AsRow rows_f (place_f (opcode_of x)) (record { qp = qp; op = x }) → (qp < 64) × HasNames qp (action_of x)
+names_f : (qp : ℕ) (x : Op) → AsRow rows_f (row_index_f (opcode_of x)) (record { qp = qp; op = x }) → (qp < 64) × HasNames qp (action_of x)
 unfolding rows_f listed
 names_f qp x h = grind arith
 
-names_x : (qp : ℕ) (x : Op) → AsRow rows_x (place_x (opcode_of (slot_op x))) (record { qp = qp; op = slot_op x }) → (qp < 64) × HasNames qp (action_of x)
+names_x : (qp : ℕ) (x : Op) → AsRow rows_x (row_index_x (opcode_of (slot_op x))) (record { qp = qp; op = slot_op x }) → (qp < 64) × HasNames qp (action_of x)
 unfolding rows_x listed
 names_x qp x h = grind arith
 

@@ -14,7 +14,6 @@ mod landings;
 mod laws;
 pub mod limits;
 mod next;
-mod runs;
 mod state;
 mod turn;
 mod write;
@@ -25,11 +24,11 @@ pub use action::{
 pub use ending::end_or;
 pub use landings::target_of;
 pub use laws::{
-    addresses, entry_test, frame_test, law_codes, next_place, numbered_run_is_parallel,
-    relation_test, stop_test, zero_is_start,
+    addresses, entry_test, frame_test, groups_end, next_place, numbered_run_is_parallel,
+    permutations_have_codes, progress_is_run, progress_text_is_run_text, relation_test, stop_test,
+    zero_is_start,
 };
 pub use next::Next;
-pub use runs::{groups_end, progress_is_run, progress_text_is_run_text};
 pub use state::{AlatEntry, Cell, FrameShape, Rrbs, Rse, Spot};
 pub use turn::Turn;
 pub use write::{FrameCause, Write};

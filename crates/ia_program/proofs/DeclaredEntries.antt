@@ -22,8 +22,10 @@ found count entries bundle (Ok i) are search_result =
     let at = searched entries bundle (Ok i) search_result (rise count entries are) in
     (λ yes. (i, at.0, get_or_default entries i bundle 0 at.0 ∙ at.1), λ has. search rules)
 found count entries bundle (Err i) are search_result =
-    let at = searched entries bundle (Err i) search_result (rise count entries are) in
-    (λ yes. absurd (cc), λ has. elim (cases_lt has.0 i) [
-      | inl below ↦ absurd (omega (arith, at.1.0 has.0 below, get_or_default entries has.0 bundle 0 has.1.0, has.1.1))
-      | inr above ↦ absurd (omega (arith, at.1.1 has.0 above has.1.0, get_or_default entries has.0 bundle 0 has.1.0, has.1.1))
-    ])
+    let at = searched entries bundle (Err i) search_result (rise count entries are) in (
+      λ yes. absurd (cc),
+      λ has. elim (cases_lt has.0 i) [
+        | inl below ↦ absurd (omega (arith, at.1.0 has.0 below, get_or_default entries has.0 bundle 0 has.1.0, has.1.1))
+        | inr above ↦ absurd (omega (arith, at.1.1 has.0 above has.1.0, get_or_default entries has.0 bundle 0 has.1.0, has.1.1))
+      ],
+    )

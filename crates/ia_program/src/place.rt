@@ -1,7 +1,7 @@
 //! Places of slots.
 
 ghost use Rattle.std.specs.Prelude.{◌↔◌, IsTrue, Some};
-ghost use Rattle.ia_program.specs.Places.{IsBefore, NumbersRise};
+ghost use Rattle.ia_program.specs.Places.{IsBefore};
 ghost use Rattle.ia_program.specs.Texts.{place_text};
 
 use std::fmt;
@@ -27,12 +27,6 @@ impl Place {
         self < other
     }
 }
-
-/// The law that of two places, with slots 0 to 2, the one before has the lower number. It does
-/// nothing.
-pub fn numbers_rise(first: Place, second: Place)
-    ensures { NumbersRise first second }
-{}
 
 impl fmt::Display for Place {
     ghost output = { λ p. Some (place_text p) };

@@ -17,7 +17,7 @@ use Rattle.ia_insn.specs.Ranges.{IsAccessSize, IsIncrement}
 use Rattle.insn_rows.specs.Codings.{Takes}
 use Rattle.insn_rows.specs.Rows.{operand_width, operands, AllTake, AreOther, IsFrame, Agrees, HasWord}
 use Rattle.insn_rows.specs.Arms.{opcode_of, values_of}
-use Rattle.insn_rows.specs.Codes.{IsListedBy, IsPlaceOf}
+use Rattle.insn_rows.specs.Codes.{IsListedBy, IsRowIndexOf}
 use Rattle.insn_rows.proofs.RowBack.{no_row}
 use Rattle.insn_rows.proofs.Laws.{AsRow, as_row, from_row}
 use Rattle.insn_rows.proofs.Decided.{alike, either, both, three, differ}
@@ -82,10 +82,10 @@ agrees (ch.Frame i j k) xs = frame (at xs i) (at xs j) (at xs k)
 has_word : (r : Row) (xs : List Value) → Dec (HasWord r xs)
 has_word r xs = alike (both (all_take (operands r) xs) (agrees r.format.check xs)) (λ h. record { takes = h.0; agrees = h.1 }) (λ h. (h.takes, h.agrees))
 
--- the row at the place of its opcode has a word for an instruction
+-- the row at the index of its opcode has a word for an instruction
 pub as_row_decided : (rows : List Row) (p : Option ℕ) (i : Insn) → Dec (AsRow rows p i)
 as_row_decided rows None i = no (λ h. h)
 as_row_decided rows (Some n) i = has_word (get_or rows n no_row) (values_of i)
 
-pub listed_by : (rows : List Row) (p : Option ℕ) (i : Insn) → IsPlaceOf rows p (opcode_of i.op) → Dec (IsListedBy rows i)
+pub listed_by : (rows : List Row) (p : Option ℕ) (i : Insn) → IsRowIndexOf rows p (opcode_of i.op) → Dec (IsListedBy rows i)
 listed_by rows p i here = alike (as_row_decided rows p i) (from_row rows p i here) (λ l. as_row rows p i l.0 here l.1)

@@ -8,7 +8,7 @@ pub mod Parts
 pub mod Cover
 pub mod RowWords
 pub mod RowBack
-pub mod Places
+pub mod RowIndexes
 pub mod Indexed
 pub mod Laws
 pub mod Families

@@ -16,7 +16,7 @@ use Rattle.insn_rows.specs.Reading.{read, matches}
 use Rattle.insn_rows.specs.WellMade.{is_well_made, are_all_other, is_table}
 use Rattle.insn_rows.specs.Arms.{opcode_of, values_of}
 use Rattle.insn_rows.specs.ArmsBack.{insn_of}
-use Rattle.insn_rows.specs.Codes.{IsOfRow, HasRow, IsPlaceOf}
+use Rattle.insn_rows.specs.Codes.{IsOfRow, HasRow, IsRowIndexOf}
 use Rattle.insn_rows.proofs.Back.{arms, opcode_back, values_of_insn}
 use Rattle.insn_rows.proofs.RowWords.{well_made, word_below, word_matches, read_word, word_of_read, all_get, one_match}
 
@@ -75,13 +75,13 @@ row_matches r i w h code = let P : ℕ → Type 0 = λ n. matches r n ≡ true i
 pub code_below : (rows : List Row) (i : Insn) (w : ℕ) (d : Row) → is_table rows ≡ true → HasRow rows i w → w < 2 ^ 41
 code_below rows i w d h code =
     let P : ℕ → Type 0 = λ n. n < 2 ^ 41 in
-    subst P (sym (code.row d).sum) (word_below (get_or rows code.place d) (values_of i) (table_made rows code.place d h code.inside) (code.row d).listed)
+    subst P (sym (code.row d).sum) (word_below (get_or rows code.row_index d) (values_of i) (table_made rows code.row_index d h code.inside) (code.row d).listed)
 
 -- The row whose bits a word has is the row of its instruction.
 pub row_found : (rows : List Row) (i : Insn) (w n : ℕ) (d : Row) → is_table rows ≡ true → HasRow rows i w → n < length rows → matches (get_or rows n d) w ≡ true → IsOfRow (get_or rows n d) i w
 row_found rows i w n d h code l m =
-    let made = table_made rows code.place d h code.inside in
-    let same : code.place ≡ n = one_match rows code.place n d d w code.inside l (table_other rows h) (row_matches (get_or rows code.place d) i w made (code.row d)) m in
+    let made = table_made rows code.row_index d h code.inside in
+    let same : code.row_index ≡ n = one_match rows code.row_index n d d w code.inside l (table_other rows h) (row_matches (get_or rows code.row_index d) i w made (code.row d)) m in
     let P : ℕ → Type 0 = λ k. IsOfRow (get_or rows k d) i w in
     subst P same (code.row d)
 
@@ -95,33 +95,33 @@ pub row_of : (rows : List Row) (i : Insn) (w n : ℕ) (d : Row) → n < length r
 row_of rows i w n d l code =
     let P : Row → Type 0 = λ r. IsOfRow r i w in
     record {
-      place = n;
+      row_index = n;
       inside = l;
       row = λ e. subst P (same_default rows n d e l) code;
     }
 
--- The row of an instruction is the one at the place of its opcode.
-pub at_place : (rows : List Row) (i : Insn) (w n : ℕ) (d : Row) → IsPlaceOf rows (Some n) (opcode_of i.op) → HasRow rows i w → IsOfRow (get_or rows n d) i w
-at_place rows i w n d here code =
-    let same : code.place ≡ n = here.2 code.place d code.inside (code.row d).opcode in
+-- The row of an instruction is the one at the index of its opcode.
+pub at_row_index : (rows : List Row) (i : Insn) (w n : ℕ) (d : Row) → IsRowIndexOf rows (Some n) (opcode_of i.op) → HasRow rows i w → IsOfRow (get_or rows n d) i w
+at_row_index rows i w n d here code =
+    let same : code.row_index ≡ n = here.2 code.row_index d code.inside (code.row d).opcode in
     let P : ℕ → Type 0 = λ k. IsOfRow (get_or rows k d) i w in
     subst P same (code.row d)
 
-pub no_place : (rows : List Row) (i : Insn) (w : ℕ) (d : Row) → IsPlaceOf rows None (opcode_of i.op) → HasRow rows i w → ⊥
-no_place rows i w d none code = none code.place d code.inside (code.row d).opcode
+pub no_row_index : (rows : List Row) (i : Insn) (w : ℕ) (d : Row) → IsRowIndexOf rows None (opcode_of i.op) → HasRow rows i w → ⊥
+no_row_index rows i w d none code = none code.row_index d code.inside (code.row d).opcode
 
-pub has_place : (rows : List Row) (p : Option ℕ) (i : Insn) (w : ℕ) → IsPlaceOf rows p (opcode_of i.op) → HasRow rows i w → IsSome p
-has_place rows None i w none code = absurd (no_place rows i w no_row none code)
-has_place rows (Some n) i w here code = refl
+pub has_row_index : (rows : List Row) (p : Option ℕ) (i : Insn) (w : ℕ) → IsRowIndexOf rows p (opcode_of i.op) → HasRow rows i w → IsSome p
+has_row_index rows None i w none code = absurd (no_row_index rows i w no_row none code)
+has_row_index rows (Some n) i w here code = refl
 
-pub has_values : (rows : List Row) (i : Insn) (w n : ℕ) (d : Row) (xs : List Value) → IsPlaceOf rows (Some n) (opcode_of i.op) → HasRow rows i w → xs ≡ values_of i → HasWord (get_or rows n d) xs
+pub has_values : (rows : List Row) (i : Insn) (w n : ℕ) (d : Row) (xs : List Value) → IsRowIndexOf rows (Some n) (opcode_of i.op) → HasRow rows i w → xs ≡ values_of i → HasWord (get_or rows n d) xs
 has_values rows i w n d xs here code same =
     let P : List Value → Type 0 = λ xs. HasWord (get_or rows n d) xs in
-    subst P (sym same) (at_place rows i w n d here code).listed
+    subst P (sym same) (at_row_index rows i w n d here code).listed
 
 -- A table gives a word at most one instruction.
 pub only_insn : (rows : List Row) (i j : Insn) (w : ℕ) (d : Row) → is_table rows ≡ true → HasRow rows i w → HasRow rows j w → i ≡ j
 only_insn rows i j w d h of-i of-j =
-    let made = table_made rows of-j.place d h of-j.inside in
-    let i-row = row_found rows i w of-j.place d h of-i of-j.inside (row_matches (get_or rows of-j.place d) j w made (of-j.row d)) in
-    sym (read_only (get_or rows of-j.place d) i w made i-row) ∙ read_only (get_or rows of-j.place d) j w made (of-j.row d)
+    let made = table_made rows of-j.row_index d h of-j.inside in
+    let i-row = row_found rows i w of-j.row_index d h of-i of-j.inside (row_matches (get_or rows of-j.row_index d) j w made (of-j.row d)) in
+    sym (read_only (get_or rows of-j.row_index d) i w made i-row) ∙ read_only (get_or rows of-j.row_index d) j w made (of-j.row d)

@@ -14,17 +14,17 @@ pub record IsOfRow (r : Row) (insn : Insn) (w : ℕ) : Type 0 where
 
 -- The instruction is one of a row of the table, and the word is its word there.
 pub record HasRow (rows : List Row) (insn : Insn) (w : ℕ) : Type 0 where
-  pub place : ℕ
-  pub inside : place < length rows
-  pub row : (d : Row) → IsOfRow (slice_index_or rows place d) insn w
+  pub row_index : ℕ
+  pub inside : row_index < length rows
+  pub row : (d : Row) → IsOfRow (slice_index_or rows row_index d) insn w
 
 -- Some row of the table lists the instruction.
 abbrev pub IsListedBy : List Row → Insn → Type 0
 IsListedBy rows insn = (w : ℕ) × HasRow rows insn w
 
--- The row at this place is the one of the opcode, or there is none.
-abbrev pub IsPlaceOf : List Row → Option ℕ → Opcode → Type 0
-IsPlaceOf rows None c = (m : ℕ) (d : Row) → m < length rows → (slice_index_or rows m d).opcode ≡ c → ⊥
-IsPlaceOf rows (Some n) c =
+-- The row at this index is the one of the opcode, or there is none.
+abbrev pub IsRowIndexOf : List Row → Option ℕ → Opcode → Type 0
+IsRowIndexOf rows None c = (m : ℕ) (d : Row) → m < length rows → (slice_index_or rows m d).opcode ≡ c → ⊥
+IsRowIndexOf rows (Some n) c =
     (n < length rows) × ((d : Row) → (slice_index_or rows n d).opcode ≡ c)
     × ((m : ℕ) (d : Row) → m < length rows → (slice_index_or rows m d).opcode ≡ c → m ≡ n)

@@ -6,7 +6,7 @@ use Rattle.insn_rows.specs.declared.opcode.Opcode.{Opcode}
 use Rattle.insn_rows.specs.declared.row.Row.{Row}
 use Rattle.insn_rows.specs.Rows.{operands}
 use Rattle.insn_rows.specs.WellMade.{fields, is_table}
-use Rattle.insn_rows.specs.Codes.{IsPlaceOf}
+use Rattle.insn_rows.specs.Codes.{IsRowIndexOf}
 
 -- the fixed bits come to at least this
 abbrev pub reaches : ℕ → Row → Bool
@@ -20,8 +20,8 @@ abbrev pub stays_below : ℕ → Row → Bool
 stays_below k r = nat_lt r.fixed (2 ^ k) && list_all (is_below k) (fields (operands r))
 
 -- The rows are a table, and the row of each opcode stands where it is said to.
-pub record IsFamily (rows : List Row) (place : Opcode → Option ℕ) (least width : ℕ) : Type 0 where
+pub record IsFamily (rows : List Row) (row_index : Opcode → Option ℕ) (least width : ℕ) : Type 0 where
   pub table : IsTrue (is_table rows)
   pub reach : IsTrue (list_all (reaches least) rows)
   pub stay : IsTrue (list_all (stays_below width) rows)
-  pub places : (c : Opcode) → IsPlaceOf rows (place c) c
+  pub row_indexes : (c : Opcode) → IsRowIndexOf rows (row_index c) c

@@ -1,4 +1,4 @@
--- A code whose bits stand at several places of a word.
+-- A code whose bits stand at several positions of a word.
 use Rattle.std.specs.Prelude.{ℕ, ◌+◌, List, [], ◌∷◌}
 use Rattle.bundle_bits.specs.Words.{Part, field, bits}
 use Rattle.insn_rows.specs.declared.bits.BitField.{BitField}

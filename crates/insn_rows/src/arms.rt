@@ -169,107 +169,107 @@ pub fn values_of(insn: &Insn) -> Values
 }
 
 /// The value of an operand, by its number.
-pub fn value_at(values: &Values, place: usize) -> Value
-    ensures { result ≡ at values.now place }
+pub fn value_at(values: &Values, index: usize) -> Value
+    ensures { result ≡ at values.now index }
 {
-    if place < 7 { values[place] } else { NONE }
+    if index < 7 { values[index] } else { NONE }
 }
 
-/// The general register at a place.
-fn gr(values: &Values, place: usize) -> Gr
-    ensures { result ≡ gr_of (at values.now place) }
+/// The general register at an index.
+fn gr(values: &Values, index: usize) -> Gr
+    ensures { result ≡ gr_of (at values.now index) }
 {
-    match value_at(values, place) {
+    match value_at(values, index) {
         Value::Gr(x) => x,
         _ => Gr::default(),
     }
 }
 
-/// The predicate register at a place.
-fn pr(values: &Values, place: usize) -> Pr
-    ensures { result ≡ pr_of (at values.now place) }
+/// The predicate register at an index.
+fn pr(values: &Values, index: usize) -> Pr
+    ensures { result ≡ pr_of (at values.now index) }
 {
-    match value_at(values, place) {
+    match value_at(values, index) {
         Value::Pr(x) => x,
         _ => Pr::default(),
     }
 }
 
-/// The branch register at a place.
-fn br(values: &Values, place: usize) -> Br
-    ensures { result ≡ br_of (at values.now place) }
+/// The branch register at an index.
+fn br(values: &Values, index: usize) -> Br
+    ensures { result ≡ br_of (at values.now index) }
 {
-    match value_at(values, place) {
+    match value_at(values, index) {
         Value::Br(x) => x,
         _ => Br::default(),
     }
 }
 
-/// The choice at a place.
-pub fn flag(values: &Values, place: usize) -> bool
-    ensures { result ≡ flag_of (at values.now place) }
+/// The choice at an index.
+pub fn flag(values: &Values, index: usize) -> bool
+    ensures { result ≡ flag_of (at values.now index) }
 {
-    match value_at(values, place) {
+    match value_at(values, index) {
         Value::Flag(x) => x,
         _ => false,
     }
 }
 
-/// The number at a place.
-pub fn small(values: &Values, place: usize) -> u8
-    ensures { result ≡ small_of (at values.now place) }
+/// The number at an index.
+pub fn small(values: &Values, index: usize) -> u8
+    ensures { result ≡ small_of (at values.now index) }
 {
-    match value_at(values, place) {
+    match value_at(values, index) {
         Value::Small(x) => x,
         _ => 0,
     }
 }
 
-/// The number of up to 64 bits at a place.
-fn wide(values: &Values, place: usize) -> u64
-    ensures { result ≡ wide_of (at values.now place) }
+/// The number of up to 64 bits at an index.
+fn wide(values: &Values, index: usize) -> u64
+    ensures { result ≡ wide_of (at values.now index) }
 {
-    match value_at(values, place) {
+    match value_at(values, index) {
         Value::Wide(x) => x,
         _ => 0,
     }
 }
 
-/// The mask at a place.
-fn mask(values: &Values, place: usize) -> u32
-    ensures { result ≡ mask_of (at values.now place) }
+/// The mask at an index.
+fn mask(values: &Values, index: usize) -> u32
+    ensures { result ≡ mask_of (at values.now index) }
 {
-    match value_at(values, place) {
+    match value_at(values, index) {
         Value::Mask(x) => x,
         _ => 0,
     }
 }
 
-/// The signed number at a place.
-fn signed(values: &Values, place: usize) -> i64
-    ensures { result ≡ signed_of (at values.now place) }
+/// The signed number at an index.
+fn signed(values: &Values, index: usize) -> i64
+    ensures { result ≡ signed_of (at values.now index) }
 {
-    match value_at(values, place) {
+    match value_at(values, index) {
         Value::Signed(x) => x,
         _ => 0,
     }
 }
 
-/// The short signed number at a place.
-fn short(values: &Values, place: usize) -> i16
-    ensures { result ≡ short_of (at values.now place) }
+/// The short signed number at an index.
+fn short(values: &Values, index: usize) -> i16
+    ensures { result ≡ short_of (at values.now index) }
 {
-    match value_at(values, place) {
+    match value_at(values, index) {
         Value::Short(x) => x,
         _ => 0,
     }
 }
 
-/// The displacement at a place.
-fn displacement(values: &Values, place: usize) -> i32
-    ensures { result ≡ displacement_of (at values.now place) }
+/// The displacement at an index.
+fn displacement(values: &Values, index: usize) -> i32
+    ensures { result ≡ displacement_of (at values.now index) }
 {
-    match value_at(values, place) {
+    match value_at(values, index) {
         Value::Displacement(x) => x,
         _ => 0,
     }

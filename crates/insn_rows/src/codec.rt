@@ -13,7 +13,7 @@ ghost use Rattle.insn_rows.specs.Rows.{operand_width, listed, operands, AllTake,
 ghost use Rattle.insn_rows.specs.WellMade.{is_sized, are_apart_fields, AreMade, is_well_made, is_table};
 ghost use Rattle.insn_rows.specs.Indexes.{are_inside, is_index};
 ghost use Rattle.insn_rows.specs.Arms.{opcode_of};
-ghost use Rattle.insn_rows.specs.Codes.{IsOfRow, HasRow, IsListedBy, IsPlaceOf};
+ghost use Rattle.insn_rows.specs.Codes.{IsOfRow, HasRow, IsListedBy, IsRowIndexOf};
 
 use crate::arms::{insn_of, value_at, values_of};
 use crate::bits::Bits;
@@ -210,14 +210,14 @@ fn decode_by(row: &Row, word: u64) -> Option<Insn>
     }
 }
 
-/// Which of the rows at these places has the bits of the word.
-fn find_row(rows: &[Row], places: &[u8], word: u64) -> Option<usize>
-    requires { IsTrue (are_inside rows.now places.now) }
+/// Which of the rows at these indexes has the bits of the word.
+fn find_row(rows: &[Row], row_indexes: &[u8], word: u64) -> Option<usize>
+    requires { IsTrue (are_inside rows.now row_indexes.now) }
     ensures found { IfSome result (λ n. (n < length rows.now) × ((r : Row) → matches (slice_index_or rows.now n r) word ≡ true)) }
-    ensures none { IsNone result → (k : ℕ) (r : Row) → k < length places.now → matches (slice_index_or rows.now (slice_index_or places.now k 0) r) word ≡ false }
+    ensures none { IsNone result → (k : ℕ) (r : Row) → k < length row_indexes.now → matches (slice_index_or rows.now (slice_index_or row_indexes.now k 0) r) word ≡ false }
 {
-    for place in places {
-        let n = usize::from(*place);
+    for row_index in row_indexes {
+        let n = usize::from(*row_index);
         let row = &rows[n];
         if word & row.format.mask == row.fixed {
             return Some(n);
@@ -227,10 +227,10 @@ fn find_row(rows: &[Row], places: &[u8], word: u64) -> Option<usize>
 }
 
 /// The instruction of the rows of a table whose word this is, and None exactly where it is that of none. The index has for
-/// each major opcode, the top four bits of a word, the places of its rows.
+/// each major opcode, the top four bits of a word, the indexes of its rows.
 pub fn decode_with(rows: &[Row], index: &[&[u8]; 16], word: u64) -> Option<Insn>
     requires table { IsTrue (is_table rows.now) }
-    requires index { IsTrue (is_index rows.now (map (λ places. places.now) index.now)) }
+    requires index { IsTrue (is_index rows.now (map (λ row_indexes. row_indexes.now) index.now)) }
     ensures found { IfSome result (λ i. HasRow rows.now i word) }
     ensures only { (i : Insn) → HasRow rows.now i word → result ≡ Some i }
 {
@@ -243,29 +243,29 @@ pub fn decode_with(rows: &[Row], index: &[&[u8]; 16], word: u64) -> Option<Insn>
     }
 }
 
-/// Whether the rows of a table list an instruction, where `place` is that of its opcode's row.
-pub fn lists_with(rows: &[Row], place: Option<usize>, insn: &Insn) -> bool
+/// Whether the rows of a table list an instruction, where `row_index` is that of its opcode's row.
+pub fn lists_with(rows: &[Row], row_index: Option<usize>, insn: &Insn) -> bool
     requires table { IsTrue (is_table rows.now) }
-    requires place { IsPlaceOf rows.now place (opcode_of insn.now.op) }
+    requires row_index { IsRowIndexOf rows.now row_index (opcode_of insn.now.op) }
     ensures { IsTrue result ↔ IsListedBy rows.now insn.now }
 {
-    match place {
+    match row_index {
         Some(n) => has_word(&rows[n], &values_of(insn)),
         None => false,
     }
 }
 
-/// The word of an instruction by the rows of a table, where `place` is that of its opcode's row, and None exactly where
+/// The word of an instruction by the rows of a table, where `row_index` is that of its opcode's row, and None exactly where
 /// no row lists it.
-pub fn encode_with(rows: &[Row], place: Option<usize>, insn: &Insn) -> Option<u64>
+pub fn encode_with(rows: &[Row], row_index: Option<usize>, insn: &Insn) -> Option<u64>
     requires table { IsTrue (is_table rows.now) }
-    requires place { IsPlaceOf rows.now place (opcode_of insn.now.op) }
+    requires row_index { IsRowIndexOf rows.now row_index (opcode_of insn.now.op) }
     ensures listed { IsSome result ↔ IsListedBy rows.now insn.now }
     ensures found { IfSome result (λ w. HasRow rows.now insn.now w) }
     ensures only { (w : ℕ) → HasRow rows.now insn.now w → result ≡ Some w }
     ensures within { IfSome result (λ w. w < 2 ^ 41) }
 {
-    match place {
+    match row_index {
         Some(n) => {
             let values = values_of(insn);
             if has_word(&rows[n], &values) {
@@ -278,14 +278,14 @@ pub fn encode_with(rows: &[Row], place: Option<usize>, insn: &Insn) -> Option<u6
     }
 }
 
-/// The word of an instruction that the rows of a table list, where `place` is that of its opcode's row.
-pub fn word_with(rows: &[Row], place: Option<usize>, insn: &Insn) -> u64
+/// The word of an instruction that the rows of a table list, where `row_index` is that of its opcode's row.
+pub fn word_with(rows: &[Row], row_index: Option<usize>, insn: &Insn) -> u64
     requires table { IsTrue (is_table rows.now) }
-    requires place { IsPlaceOf rows.now place (opcode_of insn.now.op) }
+    requires row_index { IsRowIndexOf rows.now row_index (opcode_of insn.now.op) }
     requires listed { IsListedBy rows.now insn.now }
     ensures code { HasRow rows.now insn.now result }
     ensures within { result < 2 ^ 41 }
 {
-    let n = place.unwrap();
+    let n = row_index.unwrap();
     word_by(&rows[n], &values_of(insn))
 }

@@ -21,8 +21,8 @@ pub trait Family {
     /// The rows.
     ghost rows: { List Row };
 
-    /// Where the row of an opcode stands, and None for one that no instruction of the family has.
-    ghost place_of: { Opcode → Option ℕ };
+    /// The index of the row of an opcode, and None for one that no instruction of the family has.
+    ghost row_index_of: { Opcode → Option ℕ };
 
     /// The least that a word may be.
     ghost least: { ℕ };
@@ -34,17 +34,17 @@ pub trait Family {
     fn rows() -> &'static [Row]
         ensures { result.now ≡ rows };
 
-    /// Places of rows by major opcode: that of each row is among those of its own.
+    /// Indexes of rows by major opcode: that of each row is among those of its own.
     fn by_major() -> &'static [&'static [u8]; 16]
-        ensures { IsTrue (is_index rows (map (λ places. places.now) result.now)) };
+        ensures { IsTrue (is_index rows (map (λ row_indexes. row_indexes.now) result.now)) };
 
-    /// The place of the row of an opcode, and None for one that no instruction of the family has.
-    fn place_of(opcode: Opcode) -> Option<usize>
-        ensures { result ≡ place_of opcode };
+    /// The index of the row of an opcode, and None for one that no instruction of the family has.
+    fn row_index_of(opcode: Opcode) -> Option<usize>
+        ensures { result ≡ row_index_of opcode };
 
-    /// The law that the rows are a table, and stand at the places of their opcodes. It does nothing.
+    /// The law that the rows are a table, and stand at the indexes of their opcodes. It does nothing.
     fn is_family()
-        ensures { IsFamily rows place_of least width };
+        ensures { IsFamily rows row_index_of least width };
 
     /// The instruction of the family whose word this is, and None exactly where it is that of none. Where in its bundle
     /// the word stands is not looked at.
@@ -82,7 +82,7 @@ pub trait Family {
         ensures within { IfSome result (λ w. w < 2 ^ 41) }
     {
         Self::is_family();
-        encode_with(Self::rows(), Self::place_of(opcode_of(&insn.op)), insn)
+        encode_with(Self::rows(), Self::row_index_of(opcode_of(&insn.op)), insn)
     }
 
     /// The word of an instruction of the family whose operands are known to be in their ranges.
@@ -92,14 +92,14 @@ pub trait Family {
         ensures within { result < 2 ^ 41 }
     {
         Self::is_family();
-        word_with(Self::rows(), Self::place_of(opcode_of(&insn.op)), insn)
+        word_with(Self::rows(), Self::row_index_of(opcode_of(&insn.op)), insn)
     }
 
     /// Whether the opcode is one of the family's, whatever the operands are.
     final fn has_opcode(insn: &Insn) -> bool
-        ensures { IsTrue result ↔ IsSome (place_of (opcode_of insn.now.op)) }
+        ensures { IsTrue result ↔ IsSome (row_index_of (opcode_of insn.now.op)) }
     {
-        Self::place_of(opcode_of(&insn.op)).is_some()
+        Self::row_index_of(opcode_of(&insn.op)).is_some()
     }
 
     /// Whether the instruction is one of the family whose operands are in their ranges: whether it has a word.
@@ -107,7 +107,7 @@ pub trait Family {
         ensures { IsTrue result ↔ IsListedBy rows insn.now }
     {
         Self::is_family();
-        lists_with(Self::rows(), Self::place_of(opcode_of(&insn.op)), insn)
+        lists_with(Self::rows(), Self::row_index_of(opcode_of(&insn.op)), insn)
     }
 
     /// The law that a word is that of at most one instruction of the family. It does nothing.

@@ -1,5 +1,5 @@
 //! The lowest bits of the fields of opcodes, by the manual's names (volume 3, chapter 4, instruction formats). A name that
-//! stands at a second place too has there the first format that has it.
+//! stands in a second format too has there the first format that has it.
 
 /// The major opcode.
 pub const MAJOR: u32 = 37;

@@ -1,7 +1,7 @@
 //! The operands of the formats, by the manual's names of their fields (volume 3, chapter 4, instruction formats): the
 //! operand with the bits of its code.
 //!
-//! A name that stands at a second place too has there the first format that has it, as in [`DISPLACEMENT`].
+//! A name that stands in a second format too has there the first format that has it, as in [`DISPLACEMENT`].
 
 use crate::bits::{BitField, Bits};
 use crate::row::{Coding, Operand};

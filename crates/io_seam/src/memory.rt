@@ -126,7 +126,7 @@ impl Source for MemSource {
 
         // What it counts.
         ensures calls { self.new.calls ≡ counted self.old.calls }
-        ensures quiet { OnOk result (self.new.faults ≡ self.old.faults) }
+        ensures unchanged_faults { OnOk result (self.new.faults ≡ self.old.faults) }
         ensures fault { OnErr result (self.new.faults ≡ counted self.old.faults) }
         ensures never_falls { self.old.faults ≤ self.new.faults }
         ensures bounded { self.new.faults < 2 ^ 64 }
@@ -246,7 +246,7 @@ impl Sink for MemSink {
 
         // What it counts.
         ensures calls { self.new.calls ≡ counted self.old.calls }
-        ensures quiet { OnOk result (self.new.faults ≡ self.old.faults) }
+        ensures unchanged_faults { OnOk result (self.new.faults ≡ self.old.faults) }
         ensures fault { OnErr result (self.new.faults ≡ counted self.old.faults) }
         ensures never_falls { self.old.faults ≤ self.new.faults }
         ensures bounded { self.new.faults < 2 ^ 64 }

@@ -30,7 +30,7 @@ pub trait Sink {
         ensures told { IsSome (given self.old) ↔ IsSome (given self.new) }
 
         // How often it failed.
-        ensures quiet { OnOk result (faults self.new ≡ faults self.old) }
+        ensures unchanged_faults { OnOk result (faults self.new ≡ faults self.old) }
         ensures fault { OnErr result (Rose (faults self.old) (faults self.new)) }
         ensures never_falls { faults self.old ≤ faults self.new }
         ensures bounded { faults self.new < 2 ^ 64 };

@@ -36,7 +36,7 @@ pub trait Source {
         ensures told { IsSome (left self.old) ↔ IsSome (left self.new) }
 
         // How often it failed.
-        ensures quiet { OnOk result (faults self.new ≡ faults self.old) }
+        ensures unchanged_faults { OnOk result (faults self.new ≡ faults self.old) }
         ensures fault { OnErr result (Rose (faults self.old) (faults self.new)) }
         ensures never_falls { faults self.old ≤ faults self.new }
         ensures bounded { faults self.new < 2 ^ 64 };

@@ -47,7 +47,7 @@ impl<R: Read> Source for StdSource<R> {
     /// `Failed` where the reader returns any other error.
     fn take(&mut self, piece: &mut [u8]) -> Result<usize, Failed>
         ensures within { IfOk result (λ count. count ≤ length piece.new) }
-        ensures quiet { OnOk result (self.new ≡ self.old) }
+        ensures unchanged_faults { OnOk result (self.new ≡ self.old) }
         ensures fault { OnErr result (self.new ≡ counted self.old) }
         ensures never_falls { self.old ≤ self.new }
         ensures bounded { self.new < 2 ^ 64 }
@@ -119,7 +119,7 @@ impl<W: Write> Sink for StdSink<W> {
     fn give(&mut self, piece: &[u8]) -> Result<usize, Failed>
         ensures within { IfOk result (λ count. count ≤ length piece.now) }
         ensures some { IfOk result (λ count. 0 < length piece.now → 0 < count) }
-        ensures quiet { OnOk result (self.new ≡ self.old) }
+        ensures unchanged_faults { OnOk result (self.new ≡ self.old) }
         ensures fault { OnErr result (self.new ≡ counted self.old) }
         ensures never_falls { self.old ≤ self.new }
         ensures bounded { self.new < 2 ^ 64 }

@@ -65,8 +65,8 @@ pub fn read_all<S: Source>(
     ensures told { IsSome (S.left source.old) ↔ IsSome (S.left source.new) }
 
     // How often the source failed.
-    ensures quiet { OnOk result (S.faults source.new ≡ S.faults source.old) }
-    ensures quiet_refusal { IfErr result (λ error.
+    ensures unchanged_faults { OnOk result (S.faults source.new ≡ S.faults source.old) }
+    ensures unchanged_at_refusal { IfErr result (λ error.
         error ≢ ReadError.ReadFault → S.faults source.new ≡ S.faults source.old) }
     ensures never_falls { S.faults source.old ≤ S.faults source.new }
 {
@@ -104,7 +104,7 @@ pub fn write_all<K: Sink>(sink: &mut K, bytes: &[u8]) -> Result<(), WriteError>
     ensures told { IsSome (K.given sink.old) ↔ IsSome (K.given sink.new) }
 
     // How often the sink failed.
-    ensures quiet { OnOk result (K.faults sink.new ≡ K.faults sink.old) }
+    ensures unchanged_faults { OnOk result (K.faults sink.new ≡ K.faults sink.old) }
     ensures fault { OnErr result (Rose (K.faults sink.old) (K.faults sink.new)) }
     ensures never_falls { K.faults sink.old ≤ K.faults sink.new }
 {

@@ -12,10 +12,10 @@ use Rattle.insn_rows.specs.Arms.{opcode_of}
 use Rattle.insn_rows.specs.Rows.{listed}
 use Rattle.insn_rows.proofs.Laws.{AsRow}
 use Rattle.formats_i.specs.Listed.{rows as rows_i}
-use Rattle.formats_i.specs.Places.{place_of as place_i}
+use Rattle.formats_i.specs.RowIndexes.{row_index_of as row_index_i}
 use Rattle.formats_i.proofs.Words.{of_row_i}
 use Rattle.formats_m.specs.Listed.{rows as rows_m}
-use Rattle.formats_m.specs.Places.{place_of as place_m}
+use Rattle.formats_m.specs.RowIndexes.{row_index_of as row_index_m}
 use Rattle.formats_m.proofs.Words.{of_row_m}
 use Rattle.ia_program.specs.Listed.{IsListed}
 use Rattle.ia_program.proofs.OperandRanges.{ranges_of_listed}
@@ -26,19 +26,19 @@ use Rattle.loose_items.specs.Units.{bare_unit}
 use Rattle.loose_text.specs.LooseParts.{insn_of, IsNarrow}
 
 -- An operation of unit I with a narrow number has a row, and so has a check of unit M.
-break_row : (qp imm : ℕ) → qp < 64 → imm < 2 ^ 21 → AsRow rows_i (place_i (opcode_of (op.Break unit.I imm))) (record { qp = qp; op = op.Break unit.I imm })
+break_row : (qp imm : ℕ) → qp < 64 → imm < 2 ^ 21 → AsRow rows_i (row_index_i (opcode_of (op.Break unit.I imm))) (record { qp = qp; op = op.Break unit.I imm })
 unfolding rows_i listed
 break_row qp imm small narrow = grind arith
 
-nop_row : (qp imm : ℕ) → qp < 64 → imm < 2 ^ 21 → AsRow rows_i (place_i (opcode_of (op.Nop unit.I imm))) (record { qp = qp; op = op.Nop unit.I imm })
+nop_row : (qp imm : ℕ) → qp < 64 → imm < 2 ^ 21 → AsRow rows_i (row_index_i (opcode_of (op.Nop unit.I imm))) (record { qp = qp; op = op.Nop unit.I imm })
 unfolding rows_i listed
 nop_row qp imm small narrow = grind arith
 
-hint_row : (qp imm : ℕ) → qp < 64 → imm < 2 ^ 21 → AsRow rows_i (place_i (opcode_of (op.Hint unit.I imm))) (record { qp = qp; op = op.Hint unit.I imm })
+hint_row : (qp imm : ℕ) → qp < 64 → imm < 2 ^ 21 → AsRow rows_i (row_index_i (opcode_of (op.Hint unit.I imm))) (record { qp = qp; op = op.Hint unit.I imm })
 unfolding rows_i listed
 hint_row qp imm small narrow = grind arith
 
-check_row : (qp r2 : ℕ) (disp : ℤ) → qp < 64 → r2 < 128 → FitsSigned 21 disp → AsRow rows_m (place_m (opcode_of (op.ChkS unit.M r2 disp))) (record { qp = qp; op = op.ChkS unit.M r2 disp })
+check_row : (qp r2 : ℕ) (disp : ℤ) → qp < 64 → r2 < 128 → FitsSigned 21 disp → AsRow rows_m (row_index_m (opcode_of (op.ChkS unit.M r2 disp))) (record { qp = qp; op = op.ChkS unit.M r2 disp })
 unfolding rows_m listed
 check_row qp r2 disp small register near = grind arith
 

@@ -19,7 +19,7 @@ use Rattle.asm_build.specs.declared.reason.TextError.{TextError}
 use Rattle.asm_build.specs.declared.text_parts.RelationLine.{RelationLine}
 use Rattle.asm_build.specs.declared.text_parts.Section.{Section}
 use Rattle.asm_build.specs.declared.text_parts.Section.TheVariants as section
-use Rattle.asm_build.specs.TextParts.{TextParts, Labels, place_in, numbers_bytes}
+use Rattle.asm_build.specs.TextParts.{TextParts, Labels, address_in, numbers_bytes}
 use Rattle.asm_build.specs.TextReading.{ComesToBy, AllSayBy, text_lines}
 use Rattle.asm_build.proofs.LabelValues.{kept_among}
 use Rattle.asm_build.proofs.Membership.{all_both}
@@ -86,7 +86,7 @@ abbrev labels_with : LooseParts → List ℕ → Address → Labels
 labels_with s name a = insert_entry (slice_cmp nat_cmp) s.declared.labels name a
 
 -- what a label names that stands here
-here_known : (part : Section) (s t : LooseParts) → length s.declared.bytes ≤ DATA_LIMIT → (IsTrue (is_text part) → IsMarked t (length s.items)) → MayBeNamed t (place_in part (address.Bundle (length s.items)) s.declared.bytes)
+here_known : (part : Section) (s t : LooseParts) → length s.declared.bytes ≤ DATA_LIMIT → (IsTrue (is_text part) → IsMarked t (length s.items)) → MayBeNamed t (address_in part (address.Bundle (length s.items)) s.declared.bytes)
 here_known section.Text s t few marked = marked refl
 here_known section.Data s t few marked = few
 
@@ -106,14 +106,14 @@ kept_relations s more declared h =
     all_map (λ (l : RelationLine). IsMarked s l.bundle) (λ (l : RelationLine). IsMarked (with_declared s more declared) l.bundle) s.declared.relations (λ l m. kept_marks s more declared l.bundle m) h.relations
 
 -- a label more
-label_sound : (s : LooseParts) (part : Section) (name : List ℕ) (declared : TextParts) → IsSound s → declared.labels ≡ labels_with s name (place_in part (address.Bundle (length s.items)) s.declared.bytes)
+label_sound : (s : LooseParts) (part : Section) (name : List ℕ) (declared : TextParts) → IsSound s → declared.labels ≡ labels_with s name (address_in part (address.Bundle (length s.items)) s.declared.bytes)
     → declared.relations ≡ s.declared.relations → declared.bytes ≡ s.declared.bytes → IsSound (with_declared s (is_text part) declared)
 label_sound s part name declared h labels relations bytes =
     let t = with_declared s (is_text part) declared in
-    let known : MayBeNamed t (place_in part (address.Bundle (length s.items)) s.declared.bytes) = here_known part s t h.bytes (λ e. rw e (marked_next s.items)) in
+    let known : MayBeNamed t (address_in part (address.Bundle (length s.items)) s.declared.bytes) = here_known part s t h.bytes (λ e. rw e (marked_next s.items)) in
     record {
       listed = h.listed;
-      labels = rw labels (kept_among (MayBeNamed t) s.declared.labels name (place_in part (address.Bundle (length s.items)) s.declared.bytes) (kept_labels s (is_text part) declared h) known);
+      labels = rw labels (kept_among (MayBeNamed t) s.declared.labels name (address_in part (address.Bundle (length s.items)) s.declared.bytes) (kept_labels s (is_text part) declared h) known);
       relations = rw relations (kept_relations s (is_text part) declared h);
       bytes = rw bytes h.bytes;
     }

@@ -122,7 +122,7 @@ impl LooseParts {
         ensures err { IfErr result (IsValueError self.old n (line.Label name)) }
     {
         let next = Address::Bundle { n: self.next() };
-        let address = self.declared.place(next);
+        let address = self.declared.address_before(next);
         self.declared.label_of(n, name, address)?;
         self.fresh = self.declared.is_in_text() || self.fresh;
         Ok(())

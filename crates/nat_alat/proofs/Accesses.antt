@@ -1,23 +1,23 @@
--- The places of accesses without a fault.
+-- The offsets of accesses without a fault.
 use Rattle.std.proofs.Common.{◌≡◌, ℕ, ◌+◌, ◌-◌, ◌*◌, ◌%◌, ◌^◌, ◌<◌, ◌≤◌, ◌⊎◌, inl, inr, List, [], ◌++◌, length, take, drop, get_or, None, sym, ap, ◌∙◌, arith}
 use Rattle.std.proofs.lemmas.List.{append-nil, drop_all, take_all}
 use Rattle.ia_program.specs.Addresses.{data_base}
 use Rattle.ia_meaning.specs.Loads.{access_fault, loaded, stored, bytes_at, with_bytes}
 use Rattle.ia_meaning.proofs.DataAccesses.{is_access, length-with_bytes, other_byte}
 
--- the place of an address
-place_of : (address at : ℕ) → address ≡ data_base + at → address - data_base ≡ at
-place_of address at e = omega arith
+-- the offset of an address
+offset_of : (address at : ℕ) → address ≡ data_base + at → address - data_base ≡ at
+offset_of address at e = omega arith
 
--- what is read at the place of an address is what is loaded
+-- what is read at the offset of an address is what is loaded
 pub loaded_there : (address at size : ℕ) (bytes : List ℕ) → address ≡ data_base + at → bytes_at bytes at size ≡ loaded bytes address size
 unfolding loaded
-loaded_there address at size bytes e = ap (λ k. bytes_at bytes k size) (sym (place_of address at e))
+loaded_there address at size bytes e = ap (λ k. bytes_at bytes k size) (sym (offset_of address at e))
 
--- what is written at the place of an address is what is stored
+-- what is written at the offset of an address is what is stored
 pub stored_there : (address at size x : ℕ) (bytes : List ℕ) → address ≡ data_base + at → with_bytes bytes at size x ≡ stored bytes address size x
 unfolding stored
-stored_there address at size x bytes e = ap (λ k. with_bytes bytes k size x) (sym (place_of address at e))
+stored_there address at size x bytes e = ap (λ k. with_bytes bytes k size x) (sym (offset_of address at e))
 
 -- the same where the memory shows its bytes as a slice
 pub stored_whole : (address at size x len : ℕ) (bytes old shown new : List ℕ) → address ≡ data_base + at → old ≡ bytes → shown ≡ old
@@ -36,10 +36,10 @@ stored_whole address at size x len bytes old shown new e is same count written =
 -- the bytes that a store doesn't touch stay
 pub others_stay : (bytes : List ℕ) (address size x : ℕ) → access_fault bytes address size ≡ None
     → (length (stored bytes address size x) ≡ length bytes)
-    × ((place : ℕ) → (data_base + place < address) ⊎ (address + size ≤ data_base + place) → get_or (stored bytes address size x) place 0 ≡ get_or bytes place 0)
+    × ((offset : ℕ) → (data_base + offset < address) ⊎ (address + size ≤ data_base + offset) → get_or (stored bytes address size x) offset 0 ≡ get_or bytes offset 0)
 unfolding stored
 others_stay bytes address size x h =
     let access = is_access bytes address size h in (
       length-with_bytes size (address - data_base) x bytes,
-      λ place apart. other_byte size (address - data_base) x place bytes (elim apart [ inl l ↦ inl (omega arith) | inr r ↦ inr (omega arith) ]),
+      λ offset apart. other_byte size (address - data_base) x offset bytes (elim apart [ inl l ↦ inl (omega arith) | inr r ↦ inr (omega arith) ]),
     )

@@ -40,7 +40,7 @@ low_bits (suc n) at x bytes =
     let high : x % 2 ^ (8 * suc n) / 256 ≡ x / 256 % 2 ^ (8 * n) = omega arith in
     rw (low, high) (low_bits n (suc at) (x / 256) (set bytes at (x % 256)))
 
--- the low bytes of a number, written at the front of what follows a place
+-- the low bytes of a number, written at the front of what follows an offset
 pub written_there : (n at x y : ℕ) (bytes new : List ℕ) → at + n ≤ length bytes → y ≡ x % 2 ^ (8 * n)
     → new ≡ bytes_low_first 0 n y ++ drop n (take (length bytes - at) (drop at bytes))
     → put_mid at (length bytes - at) bytes new ≡ with_bytes bytes at n x

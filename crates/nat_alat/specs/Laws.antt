@@ -17,8 +17,8 @@ abbrev pub OthersStay : Type 0
 OthersStay =
     (bytes : List ℕ) (address size value : ℕ) → access_fault bytes address size ≡ None
     → (length (stored bytes address size value) ≡ length bytes)
-    × ((place : ℕ) → (data_base + place < address) ⊎ (address + size ≤ data_base + place)
-    → get_or (stored bytes address size value) place 0 ≡ get_or bytes place 0)
+    × ((offset : ℕ) → (data_base + offset < address) ⊎ (address + size ≤ data_base + offset)
+    → get_or (stored bytes address size value) offset 0 ≡ get_or bytes offset 0)
 
 -- An entry that was entered is hit, and no more than its limit are there.
 abbrev pub EnteredIsHit : Type 0

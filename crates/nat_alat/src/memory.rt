@@ -56,8 +56,8 @@ fn access_fault(bytes: &[u8], address: u64, size: u8) -> Option<MemFault>
     }
 }
 
-/// The place among data bytes of an access that has no fault.
-fn place_of(bytes: &[u8], address: u64, size: u8) -> usize
+/// The offset among data bytes of an access that has no fault.
+fn offset_of(bytes: &[u8], address: u64, size: u8) -> usize
     requires { access_fault bytes.now address size ≡ None }
     ensures there { address ≡ data_base + result }
     ensures within { result + size ≤ length bytes.now }
@@ -129,8 +129,8 @@ impl DataMem {
         if let Some(fault) = self.fault(address, size) {
             return Err(fault);
         }
-        let place = place_of(&self.bytes, address, size);
-        Ok(number_at(&self.bytes, place, size))
+        let offset = offset_of(&self.bytes, address, size);
+        Ok(number_at(&self.bytes, offset, size))
     }
 
     /// Stores the low bytes of a number, as [`DataMem::store`] does, where that is known to have no fault.
@@ -140,8 +140,8 @@ impl DataMem {
         requires fault { access_fault self.old address size ≡ None }
         ensures { self.new ≡ stored self.old address size value }
     {
-        let place = place_of(&self.bytes, address, size);
-        put_number(&mut self.bytes, place, size, value);
+        let offset = offset_of(&self.bytes, address, size);
+        put_number(&mut self.bytes, offset, size, value);
     }
 
     /// Stores the low bytes of a number, 1, 2, 4 or 8, from an address on, the lowest first (volume 3,

@@ -12,7 +12,7 @@ ghost use Rattle.order_laws.specs.OrderExamples.{TwoOrders, TwoMoves, FirstAlloc
 /// What a run has to do with walks, along each sequential run from a start state. The slots since the start, or since an indirect
 /// branch was last taken, are a walk to the state's place. What the walk's entry declares is known where the walk begins. The
 /// predicates of no pair that is known on the walk are both 1. The group of the walk is that of the run.
-pub fn law_walk()
+pub fn runs_follow_walks()
     ensures known { KnownOnRuns }
     ensures steps { StepsKnown }
     ensures group { WalksGroup }
@@ -28,7 +28,7 @@ pub fn law_walk()
 ///
 /// In each group of a program without violations the writes so far, in every order, leave the state that the slots leave one by
 /// one, and the next slot does the same from its view and from that state.
-pub fn law_view()
+pub fn slots_see_the_start()
     ensures others { OthersSeeTheStart }
     ensures start { AllSeeTheStart }
     ensures agree { ViewsAgree }
@@ -36,7 +36,7 @@ pub fn law_view()
 
 /// Writes that fit together leave the same in every order. A group of a program without violations leaves in every order what its
 /// slots leave one by one, and so does each run.
-pub fn law_orders()
+pub fn orders_leave_the_same()
     ensures registers { OrdersLeaveTheSame }
     ensures frames { OrdersChangeFramesTheSame }
     ensures group { GroupIsOrdered }
@@ -49,7 +49,7 @@ pub fn law_orders()
 /// What a slot other than an `alloc` gives a general register is there after its group, in every order of the group's writes,
 /// unless it is a cell past the end of the frame then. That holds in each group of a program without violations: from each state
 /// to which a walk leads whose facts are true there, and so in the next group of each run from a start state.
-pub fn law_targets()
+pub fn targets_are_kept()
     ensures slots { SlotsLead }
     ensures group { TargetsStand }
     ensures next { NextTargetsStand }
@@ -58,8 +58,8 @@ pub fn law_targets()
 /// The law of groups whose only accesses to memory are fetch-and-adds of one size under p0 to one address. Each finds there what
 /// was there before the group, with the increments of the earlier ones. The group leaves there the sum with all of them, in every
 /// order of its writes. Sums are modulo 2 to the power of their bits. What such a slot gives its target is there after the group,
-/// as what each slot gives a general register is ([`law_targets`]). A group of two is an example.
-pub fn law_fetch_adds()
+/// as what each slot gives a general register is ([`targets_are_kept`]). A group of two is an example.
+pub fn fetch_adds_are_summed()
     ensures values { FetchAddsFindSums }
     ensures memory { FetchAddsAreSummed }
     ensures targets { FetchAddTargetsStand }
@@ -73,7 +73,7 @@ pub fn law_fetch_adds()
 /// slots would do that saw no more than the group's start. Why `alloc` has to be first: else two orders leave two
 /// values. And a program that isn't order independent: an order of its second group tells, from a state other than
 /// the zero state, from which the same order leaves the same.
-pub fn law_two_orders()
+pub fn orders_may_differ()
     ensures orders { TwoOrders }
     ensures moves { TwoMoves }
     ensures first_alloc { FirstAlloc }

@@ -3,11 +3,14 @@
 //! instruction dependencies).
 //!
 //! Nothing here runs: the crate has the type of a violation, the definitions of what violates on a walk, and the laws that
-//! lead from a program without violations to its order independence ([`law_orders`]).
+//! lead from a program without violations to its order independence ([`orders_leave_the_same`]).
 #![tactic(auto)]
 
 mod laws;
 mod violation;
 
-pub use laws::{law_fetch_adds, law_orders, law_targets, law_two_orders, law_view, law_walk};
+pub use laws::{
+    fetch_adds_are_summed, orders_leave_the_same, orders_may_differ, runs_follow_walks,
+    slots_see_the_start, targets_are_kept,
+};
 pub use violation::Violation;

@@ -15,7 +15,8 @@ use std::marker::Model;
 
 /// A set of pairs of predicates that are known not to be both 1 (volume 1, chapter 3, instruction
 /// dependencies). The order of a pair says nothing, and a pair (x, x) stands for (x, p0): since p0 is 1, it
-/// says that x is 0. The functions here keep that ([`law_unordered`](crate::law_unordered)). A set is 512 bytes, and none of them
+/// says that x is 0. The functions here keep that ([`pairs_are_unordered`](crate::pairs_are_unordered)).
+/// A set is 512 bytes, and none of them
 /// takes other memory.
 #[derive(Clone, Copy)]
 pub struct Facts {

@@ -12,7 +12,7 @@ use state_laws::steps_keep_states;
 /// The order of a pair says nothing, and (x, x) stands for (x, p0): so it is of the empty set, and so it stays in
 /// a meet, with one pair more, and after an instruction.
 #[tactic(auto, using(crate::proofs::Unordered::none_unordered, crate::proofs::Unordered::common_unordered, crate::proofs::Unordered::plus_unordered, crate::proofs::Unordered::after_unordered))]
-pub fn law_unordered()
+pub fn pairs_are_unordered()
     ensures empty { IsUnordered no_pairs }
     ensures meet { (f g : Pairs) → IsUnordered f → IsUnordered g → IsUnordered (common f g) }
     ensures plus { (f : Pairs) (x y : ℕ) → IsUnordered f → IsUnordered (with_pair f x y) }
@@ -26,7 +26,7 @@ pub fn law_unordered()
 /// Along the edge, what an instruction leaves of a set of pairs is true: where the two predicates of no
 /// pair of the set were both 1 before, those of no pair that is left are both 1 afterwards (volume 1,
 /// chapter 3, instruction sequencing and predication).
-pub fn law_facts()
+pub fn facts_stay_true()
     ensures along { GoesAlong }
     ensures facts { KeepsFacts }
 {

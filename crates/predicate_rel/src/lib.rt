@@ -18,5 +18,5 @@ mod rows;
 pub use bits::has_bit;
 pub use edge::Edge;
 pub use facts::Facts;
-pub use laws::{law_facts, law_unordered};
+pub use laws::{facts_stay_true, pairs_are_unordered};
 pub use rows::keeps_pairs;

@@ -5,10 +5,6 @@
 //! targets or its operands exchanged, a shift by a number as a field, a move as an addition.
 #![tactic(auto)]
 
-ghost use Rattle.pseudo_laws.specs.Laws.{PseudoOperations};
+mod laws;
 
-/// The law that a line of a pseudo-operation makes the instruction that the manual has for it (volume 3, chapter 2). It does
-/// nothing.
-pub fn pseudo_operations_are_others()
-    ensures { PseudoOperations }
-{}
+pub use laws::pseudo_operations_are_others;

@@ -5,10 +5,6 @@
 //! both sides: none takes too much, and none is missing or takes too little.
 #![tactic(auto)]
 
-ghost use Rattle.range_laws.specs.Laws.{ListedIsInRange};
+mod laws;
 
-/// The law that an instruction of registers that there are is listed exactly where its operands are in their ranges, and
-/// its qualifying predicate is one that the operation may have (volume 3, chapter 4). It does nothing.
-pub fn listed_iff_in_range()
-    ensures { ListedIsInRange }
-{}
+pub use laws::listed_iff_in_range;

@@ -9,7 +9,7 @@ ghost use Rattle.resource_sets.specs.Regularity.{AccessesAreRegular, GuardsAreRe
 
 /// An instruction does the same from registers that agree on its accesses: on what those whose guard is 1 read, and on the frame
 /// where one of these accesses the frame.
-pub fn law_reads()
+pub fn effects_depend_on_accesses()
     ensures { DependsOnAccesses }
 {}
 
@@ -17,7 +17,7 @@ pub fn law_reads()
 /// names, under a guard that is 1. A cell that is written lies inside the frame. No two writes of a listed instruction go to one
 /// location, and no two resources stand at one. A bit of UNAT is written by an executed spill alone. An `alloc` that writes at
 /// all writes its frame first, in the sizes and bases of a frame.
-pub fn law_writes()
+pub fn writes_are_accesses()
     ensures covered { WritesAreAccesses }
     ensures inside { CellsAreInside }
     ensures apart { WritesAreApart }

@@ -20,6 +20,8 @@ pub use access::{ACCESS_LIMIT, Access, Kind, Resource};
 pub use access_sets::{AccessSet, NAMED_LIMIT, Parts};
 pub use clashes::{Rule, clash, clash_of};
 pub use insn_accesses::{accesses, accesses_of};
-pub use laws::{accesses_are_regular, accesses_clash, law_reads, law_writes};
+pub use laws::{
+    accesses_are_regular, accesses_clash, effects_depend_on_accesses, writes_are_accesses,
+};
 pub use masking::{Masks, masks_of, may_clash, may_clash_with};
 pub use sets::{RESOURCE_COUNT, ResourceSet};

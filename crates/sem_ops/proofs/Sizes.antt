@@ -8,7 +8,7 @@ use Rattle.insn_rows.specs.Arms.{opcode_of}
 use Rattle.insn_rows.specs.Rows.{listed}
 use Rattle.insn_rows.proofs.Laws.{AsRow}
 use Rattle.formats_m.specs.Listed.{rows, IsListedM}
-use Rattle.formats_m.specs.Places.{place_of}
+use Rattle.formats_m.specs.RowIndexes.{row_index_of}
 use Rattle.formats_m.proofs.Words.{row_m}
 
 abbrev pub HasSize : Op → Type 0
@@ -16,7 +16,7 @@ HasSize (Xchg size hint r1 r3 r2) = IsAccessSize size
 HasSize (FetchAdd size release hint r1 r3 inc) = IsAccessSize size
 HasSize op = Unit {0}
 
-sized : (qp : ℕ) (x : Op) → AsRow rows (place_of (opcode_of x)) (record { qp = qp; op = x }) → HasSize x
+sized : (qp : ℕ) (x : Op) → AsRow rows (row_index_of (opcode_of x)) (record { qp = qp; op = x }) → HasSize x
 unfolding rows listed
 sized qp x h = grind arith
 

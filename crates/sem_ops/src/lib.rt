@@ -10,14 +10,15 @@
 
 ghost use Rattle.std.specs.Prelude.{◌≡◌, ℕ, ◌<◌, ◌^◌, ◌↔◌, IsTrue, IfSome, Some};
 ghost use Rattle.ia_insn.specs.declared.insn.Insn.{Insn};
-ghost use Rattle.insn_rows.specs.Laws.{OneInstruction};
 ghost use Rattle.sem_ops.specs.Semaphores.{IsSemaphore, CodeOfSemaphore};
 
+mod laws;
 mod values;
 
 use formats_m::FamilyM;
 use ia_insn::{Insn, Op};
 use insn_rows::Family;
+pub use laws::one_instruction;
 pub use values::{exchanged, new_value};
 
 /// Whether this is an exchange or a fetch-and-add.
@@ -66,8 +67,3 @@ pub fn encode_sem(insn: &Insn) -> Option<u64>
         None
     }
 }
-
-/// The law that a word is that of at most one exchange or fetch-and-add. It does nothing.
-pub fn one_instruction()
-    ensures { OneInstruction CodeOfSemaphore }
-{}

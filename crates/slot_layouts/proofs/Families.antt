@@ -6,22 +6,22 @@ use Rattle.std.proofs.lemmas.Bool.Decides.{nat_tests}
 use Rattle.insn_rows.specs.Arms.{opcode_of}
 use Rattle.insn_rows.proofs.Laws.{AsRow}
 use Rattle.formats_a.specs.Listed.{rows as rows_a, IsListedA}
-use Rattle.formats_a.specs.Places.{place_of as place_a}
+use Rattle.formats_a.specs.RowIndexes.{row_index_of as row_index_a}
 use Rattle.formats_a.proofs.Words.{row_a}
 use Rattle.formats_i.specs.Listed.{rows as rows_i, IsListedI}
-use Rattle.formats_i.specs.Places.{place_of as place_i}
+use Rattle.formats_i.specs.RowIndexes.{row_index_of as row_index_i}
 use Rattle.formats_i.proofs.Words.{row_i}
 use Rattle.formats_m.specs.Listed.{rows as rows_m, IsListedM}
-use Rattle.formats_m.specs.Places.{place_of as place_m}
+use Rattle.formats_m.specs.RowIndexes.{row_index_of as row_index_m}
 use Rattle.formats_m.proofs.Words.{row_m}
 use Rattle.formats_b.specs.ListedB.{rows as rows_b, IsListedB}
-use Rattle.formats_b.specs.PlacesB.{place_of as place_b}
+use Rattle.formats_b.specs.RowIndexesB.{row_index_of as row_index_b}
 use Rattle.formats_b.proofs.WordsB.{row_b}
 use Rattle.formats_b.specs.ListedF.{rows as rows_f, IsListedF}
-use Rattle.formats_b.specs.PlacesF.{place_of as place_f}
+use Rattle.formats_b.specs.RowIndexesF.{row_index_of as row_index_f}
 use Rattle.formats_b.proofs.WordsF.{row_f}
 use Rattle.formats_b.specs.ListedX.{rows as rows_x, IsListedX}
-use Rattle.formats_b.specs.PlacesX.{place_of as place_x}
+use Rattle.formats_b.specs.RowIndexesX.{row_index_of as row_index_x}
 use Rattle.formats_b.specs.PartsX.{slot_op}
 use Rattle.formats_b.proofs.WordsX.{row_of_x}
 use Rattle.ia_insn.specs.declared.insn.Insn.{Insn}
@@ -34,23 +34,23 @@ use Rattle.slot_layouts.specs.declared.classes.SlotClass.TheVariants.{A, I, M, F
 use Rattle.slot_layouts.specs.Classes.{class_of, has_place}
 
 -- the instructions of each family have its class
-is_a : (qp : ℕ) (x : Op) → AsRow rows_a (place_a (opcode_of x)) (record { qp = qp; op = x }) → class_of x ≡ A
+is_a : (qp : ℕ) (x : Op) → AsRow rows_a (row_index_a (opcode_of x)) (record { qp = qp; op = x }) → class_of x ≡ A
 is_a qp x h = grind arith
 
-is_i : (qp : ℕ) (x : Op) → AsRow rows_i (place_i (opcode_of x)) (record { qp = qp; op = x }) → class_of x ≡ I
+is_i : (qp : ℕ) (x : Op) → AsRow rows_i (row_index_i (opcode_of x)) (record { qp = qp; op = x }) → class_of x ≡ I
 is_i qp x h = grind arith
 
-is_m : (qp : ℕ) (x : Op) → AsRow rows_m (place_m (opcode_of x)) (record { qp = qp; op = x }) → class_of x ≡ M
+is_m : (qp : ℕ) (x : Op) → AsRow rows_m (row_index_m (opcode_of x)) (record { qp = qp; op = x }) → class_of x ≡ M
 is_m qp x h = grind arith
 
-is_f : (qp : ℕ) (x : Op) → AsRow rows_f (place_f (opcode_of x)) (record { qp = qp; op = x }) → class_of x ≡ F
+is_f : (qp : ℕ) (x : Op) → AsRow rows_f (row_index_f (opcode_of x)) (record { qp = qp; op = x }) → class_of x ≡ F
 is_f qp x h = grind arith
 
-is_x : (qp : ℕ) (x : Op) → AsRow rows_x (place_x (opcode_of (slot_op x))) (record { qp = qp; op = slot_op x }) → class_of x ≡ X
+is_x : (qp : ℕ) (x : Op) → AsRow rows_x (row_index_x (opcode_of (slot_op x))) (record { qp = qp; op = slot_op x }) → class_of x ≡ X
 is_x qp x h = grind arith
 
 -- those of the B family stand in the slots of theirs
-branch_place : (qp : ℕ) (x : Op) (u : ExecutionUnit) (slot : ℕ) → AsRow rows_b (place_b (opcode_of x)) (record { qp = qp; op = x }) → IsTrue (has_place (class_of x) u slot) ↔ ((u ≡ units.B) × IsBranchSlot x slot)
+branch_place : (qp : ℕ) (x : Op) (u : ExecutionUnit) (slot : ℕ) → AsRow rows_b (row_index_b (opcode_of x)) (record { qp = qp; op = x }) → IsTrue (has_place (class_of x) u slot) ↔ ((u ≡ units.B) × IsBranchSlot x slot)
 branch_place qp x u slot h = grind (arith, nat_tests)
 
 -- the place of a class is one of its family

@@ -20,7 +20,7 @@ fn watch(
 ) -> Result<(Status, Vec<u8>), Fail>
     requires { AwaitGroups (map (λ b. state b) watchers.old.items) }
 {
-    let mut words = Words::new(alloc);
+    let mut words = Arguments::new(alloc);
     words.push(b"watch")?;
     words.push(number)?;
     let bytes = Vec::from_slice(alloc, text.as_bytes())?;

@@ -91,7 +91,7 @@ fn status_of(
 
 /// The words of a command.
 fn words_of(alloc: Global, command: &str) -> Option<Words> {
-    let mut words = Words::new(alloc);
+    let mut words = Arguments::new(alloc);
     for word in command.split_whitespace() {
         words.push(word.as_bytes()).ok()?;
     }

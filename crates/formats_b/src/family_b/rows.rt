@@ -28,7 +28,7 @@ pub static ROWS: [Row; 14] = [
     row!(Opcode::Hint(Unit::B), I18; MAJOR = 2, X6 = 1),
 ];
 
-/// The places of the rows of each major opcode, in the order in which they are tried.
+/// The indexes of the rows of each major opcode, in the order in which they are tried.
 pub static BY_MAJOR: [&[u8]; 16] = [
     &[7, 8, 10, 11],
     &[9],

@@ -13,7 +13,7 @@ pub static ROWS: [Row; 3] = [
     row!(Opcode::Nop(Unit::X), I18; MAJOR = 0, X3 = 0, X6 = 1, Y = 0),
 ];
 
-/// The places of the rows of each major opcode, in the order in which they are tried.
+/// The indexes of the rows of each major opcode, in the order in which they are tried.
 pub static BY_MAJOR: [&[u8]; 16] = [
     &[0, 2],
     &[],

@@ -1,6 +1,6 @@
 use Rattle.std.proofs.Common.{◌≡◌, ◌++◌, [], length, arith}
 use Rattle.asm_forms.specs.Rows.{rows_to_b, rows_c_to_i, rows_l_to_n, rows_o_to_r, rows_from_s, first_row}
-use Rattle.asm_forms.proofs.Places.{as_many, picked}
+use Rattle.asm_forms.proofs.RowIndexes.{as_many, picked}
 use Rattle.asm_forms.proofs.rows.row_at.Goals as goal
 
 pub returns-then-at-here : goal.returns-then-at-here

@@ -10,7 +10,7 @@ invariant-loop-count g l =
       within : vec_len l.bytes ≤ l.limit;
       so_far : Consumes (left l.fn.source) (left l.source) l.bytes.items;
       told : IsSome (left l.fn.source) ↔ IsSome (left l.source);
-      quiet : g.S.Source.faults l.source ≡ g.S.Source.faults l.fn.source;
+      unchanged_faults : g.S.Source.faults l.source ≡ g.S.Source.faults l.fn.source;
     }
 
 abbrev pub decreases-loop-count : goal.decreases-loop-count

@@ -11,5 +11,5 @@ loop-given-preserved g c =
       within = search rules;
       so_far = Appends-next (given c.args.sink.now) (given c.loop-given.sink) (given c.give.new.self) c.args.bytes.now c.loop-given.given c.in-Ok.count (search rules) before.so_far now.appended;
       told = (λ h. now.told.0 (before.told.0 h), λ h. before.told.1 (now.told.1 h));
-      quiet = now.quiet ∙ before.quiet;
+      unchanged_faults = now.unchanged_faults ∙ before.unchanged_faults;
     }

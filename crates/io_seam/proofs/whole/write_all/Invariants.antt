@@ -10,7 +10,7 @@ invariant-loop-given g l =
       within : l.given ≤ length l.bytes;
       so_far : Appends (given l.fn.sink) (given l.sink) (take l.given l.bytes);
       told : IsSome (given l.fn.sink) ↔ IsSome (given l.sink);
-      quiet : g.K.Sink.faults l.sink ≡ g.K.Sink.faults l.fn.sink;
+      unchanged_faults : g.K.Sink.faults l.sink ≡ g.K.Sink.faults l.fn.sink;
     }
 
 abbrev pub decreases-loop-given : goal.decreases-loop-given

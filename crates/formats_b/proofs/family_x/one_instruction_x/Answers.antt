@@ -1,5 +1,0 @@
-use Rattle.formats_b.proofs.WordsX.{one_insn}
-use Rattle.formats_b.proofs.family_x.one_instruction_x.Goals as goal
-
-pub returns : goal.returns
-returns c = one_insn

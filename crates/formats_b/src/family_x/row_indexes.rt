@@ -1,0 +1,19 @@
+//! Where the row of an opcode stands.
+
+ghost use Rattle.std.specs.Prelude.{◌≡◌};
+ghost use Rattle.formats_b.specs.RowIndexesX.{row_index_of};
+
+use ia_insn::Unit;
+use insn_rows::Opcode;
+
+/// The index of the row of an opcode, and None for one that no long instruction has.
+pub(crate) fn row_index_of(opcode: Opcode) -> Option<usize>
+    ensures { result ≡ row_index_of opcode }
+{
+    Some(match opcode {
+        Opcode::Break(Unit::X) => 0,
+        Opcode::Movl => 1,
+        Opcode::Nop(Unit::X) => 2,
+        _ => return None,
+    })
+}

@@ -1,5 +1,0 @@
-use Rattle.group_checker.proofs.Uniqueness.{same_verdict}
-use Rattle.group_checker.proofs.checker.one_verdict.Goals as goal
-
-pub returns : goal.returns
-returns c = same_verdict

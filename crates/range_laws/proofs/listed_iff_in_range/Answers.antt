@@ -1,5 +1,0 @@
-use Rattle.range_laws.proofs.InRange.{in_range}
-use Rattle.range_laws.proofs.listed_iff_in_range.Goals as goal
-
-pub returns : goal.returns
-returns c = in_range
