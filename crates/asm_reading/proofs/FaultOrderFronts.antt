@@ -137,7 +137,7 @@ relation_within : (before xs : List Token) → agreed_relation before xs ≤ len
 relation_within before [] = omega arith
 relation_within before (x ∷ xs) = more_at_most (may_follow before x) _ _ (relation_within (before ++ x ∷ []) xs)
 
--- all of them
+-- How many tokens are right in a front: of numbers, of predicates and commas, and of the items of forms.
 right_front : (z : Operands) (forms : List Form) (n : ℕ) (xs : List Token) → right_count z forms (take n xs) ≡ min n (right_count z forms xs)
 right_front (Numbers z) forms n xs = data_front (data_field z) 0 n xs
 right_front Predicates forms n xs = relation_front [] n xs

@@ -56,7 +56,7 @@ pub label_later : (line : List ℕ) (is : List FormItem) (ws rest : List Lexeme)
 label_later line is [] rest k d there some other e = absurd (omega (arith, some))
 label_later line is (w ∷ ws) rest k d there some other e = rw (e, add-one, drop-cons is k d there, other) refl
 
--- those after the first are parts of the line too
+-- The lexemes after the first are parts of the line too.
 pub parts_later : (line : List ℕ) (ws rest : List Lexeme) → AreParts line ws → rest ≡ drop 1 ws → AreParts line rest
 parts_later line [] rest all e = rw e (λ k d there. absurd (omega (arith, there)))
 parts_later line (w ∷ ws) rest all e = rw e (λ k d there. all (suc k) d (omega (arith, there)))

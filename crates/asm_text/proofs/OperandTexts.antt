@@ -150,7 +150,7 @@ one_reads target hex t.OpenBracket l p = refl
 one_reads target hex t.CloseBracket l p = refl
 one_reads target hex x l p = absurd p
 
--- its bytes are plain
+-- The bytes of an operand's text are plain.
 one_plain : (target : ℕ) (hex : Bool) (x : Token) → target < 2 ^ 34 → IsPrinted x → has_only_plain (token_text target hex x) ≡ true
 one_plain target hex (t.Gr n) l p = decimal_is_plain n (omega arith)
 one_plain target hex (t.Pr n) l p = decimal_is_plain n (omega arith)

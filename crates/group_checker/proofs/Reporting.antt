@@ -135,11 +135,11 @@ list_append P Q R xs ys p q r before a b = record {
   only = λ v c. elim (Contains-append_cases xs ys v c) [ inl d ↦ p v (a.only v d) | inr d ↦ q v (b.only v d) ];
 }
 
--- the same list, told by a property that says the same
+-- A list of violations is one by a property that says the same.
 list_like : (P Q : Violation → Type 0) (xs : List Violation) → ((v : Violation) → P v → Q v) → ((v : Violation) → Q v → P v) → IsListOf P xs → IsListOf Q xs
 list_like P Q xs to from a = record { rises = a.rises; has = λ v q. a.has v (from v q); only = λ v c. to v (a.only v c) }
 
--- the same report, told of other violations
+-- A report is one of other violations that are the same.
 retold : (p : Program) (r : Report) (P Q : Violation → Type 0) (bound more : ℕ) → bound ≤ more → ((v : Violation) → Violates p v → P v → Q v) → ((v : Violation) → Violates p v → Q v → P v) → HasReported p r P bound → HasReported p r Q more
 retold p r P Q bound more l to from u = record {
   all = u.all;

@@ -110,7 +110,7 @@ apart p sort next a b h x y c d =
     let (n, _, f) = from_numbered next b 0 y (from_filter p (numbered next b 0) y d).0 in
     subst (λ (q : Resource). resource_cmp q y ≡ Less) e (subst (λ (r : Resource). resource_cmp (sort m) r ≡ Less) f (h m n))
 
--- those that have no number come last
+-- Resources that have no number come last.
 last : (p : Resource → Bool) (sort : ℕ → Resource) (a : ℕ) → ((m : ℕ) → Each (λ q. resource_cmp (sort m) q ≡ Less) others) → (x y : Resource) → Contains (filter p (numbered sort a 0)) x → Contains (filter p others) y → resource_cmp x y ≡ Less
 last p sort a h x y c d =
     let (m, _, e) = from_numbered sort a 0 x (from_filter p (numbered sort a 0) x c).0 in

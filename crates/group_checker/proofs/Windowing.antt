@@ -68,7 +68,7 @@ came g has_stop j next w i is follows there c =
 pub unreached_window : (g : Graph) (has_stop : Place → Bool) (j next : Place) → IsPlaceIn g j → next_in g j ≡ Some next → NoWalkIn g j → IsWindow g has_stop [] next
 unreached_window g has_stop j next is follows none = empty_window g has_stop next (λ w there i c. let b = came g has_stop j next w i is follows there c in none b.before b.there)
 
--- the same where control does not fall from the place within a group
+-- Where control doesn't fall from a place within a group, the next place has an empty window.
 pub parted_window : (g : Graph) (has_stop : Place → Bool) (j next : Place) → IsPlaceIn g j → next_in g j ≡ Some next → (IsEdgeIn g j Falls next → has_stop j ≡ true) → IsWindow g has_stop [] next
 parted_window g has_stop j next is follows stops = empty_window g has_stop next (λ w there i c.
     let b = came g has_stop j next w i is follows there c in true≢false (sym (stops b.edge) ∙ b.unstopped))

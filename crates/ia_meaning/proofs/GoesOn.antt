@@ -89,7 +89,7 @@ settled_as Good next m way o h = grind arith
 pub settled_on : (Good : ℕ → Type 0) (next : Option Place) (m : Memory) (o : Outcome) → IsGoodWay Good o → IsGoodWay Good (settled next m o.next o)
 settled_on Good next m o h = settled_as Good next m o.next o h
 
--- it falls through, to a next place
+-- A slot falls through to a next place.
 pub record FallsTo (next : Option Place) (o : Outcome) : Type 0 where
   pub falls : o.next ≡ Falls
   pub place : Place

@@ -21,7 +21,7 @@ use Rattle.ia_meaning.specs.ParallelGroups.{outcome_from}
 use Rattle.ia_meaning.proofs.GoesOn.{IsGoodNext, IsGoodWay, IsGoodTarget, effect_on, settled_on, falls_to, effect_leaves}
 use Rattle.ia_meaning.proofs.Follows.{arrival_small, target_small, next_is, not_stopped}
 
--- it is a bundle of the program
+-- The number is that of a bundle of the program.
 abbrev pub IsBundleOf : Program → ℕ → Type 0
 IsBundleOf p bundle = bundle < length p.bundles
 

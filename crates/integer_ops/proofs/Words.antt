@@ -53,7 +53,7 @@ pair_of count a b h fit =
 field_ones : (pos width : ℕ) → (2 ^ width - 1) * 2 ^ pos ≡ 2 ^ (width + pos) - 2 ^ pos
 field_ones pos width = mul_comm (2 ^ width - 1) (2 ^ pos) ∙ mul-sub (2 ^ pos) (2 ^ width) 1 ∙ (rw (pow-add 2 width pos) (omega arith))
 
--- they are within a word
+-- The ones of a field at its position are within a word.
 ones_below : (pos width : ℕ) → pos + width ≤ 64 → (2 ^ width - 1) * 2 ^ pos < 2 ^ 64
 ones_below pos width h =
     let some = pow_pos width in

@@ -175,7 +175,7 @@ further : (a b : ℕ) (p : Program) (t : Trace) → trace_further (a + b) p t �
 further zero b p t = ap (λ n. trace_further n p t) (let e : 0 + b ≡ b = omega arith in e)
 further (suc a) b p t = ap (λ n. trace_further n p t) (let e : suc a + b ≡ suc (a + b) = omega arith in e) ∙ further a b p (trace_on p t)
 
--- it comes to a state with this end
+-- A trace comes to a state with this end.
 record ComesTo (p : Program) (t : Trace) (s : State) (e : Option End) : Type 0 where
   count : ℕ
   state : (trace_further count p t).state ≡ s

@@ -86,7 +86,7 @@ narrowed_more old new past earlier rows h agree within = narrowed_common old new
     by_case x y n (inl t) = t ∙ (rw (t, sym (agree.same x y n) ∙ within.each x y t) refl)
     by_case x y n (inr f) = f ∙ sym (and_left (pairs_of old x y) (past x y) f)
 
--- It has no more than it had, and all that both have.
+-- A narrowed set has no more than it had, and all that both have.
 pub narrowed_no_more : (old new : Table) (past : Pairs) (is_in : ℕ → Bool) → IsWholly (pairs_of old) past is_in (pairs_of new) → IsWithin (pairs_of new) (pairs_of old)
 narrowed_no_more old new past is_in h = record { each = λ x y t. by_range x y t (cases_Bool (in_range x y)) }
   where

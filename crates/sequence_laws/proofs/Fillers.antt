@@ -22,7 +22,7 @@ use Rattle.flow_facts.specs.Walks.{Walk, begins, goes_on, end_of, IsWalkIn, fact
 use Rattle.order_laws.specs.Violations.{clears}
 use Rattle.sequence_laws.specs.Spreads.{IsFiller}
 
--- It accesses nothing.
+-- A `nop` accesses nothing.
 pub filler_accesses : (i : Insn) → IsFiller i → accesses i ≡ []
 unfolding rows
 filler_accesses i (unit, is) = rw is refl
@@ -47,7 +47,7 @@ filler_no_clear i (unit, is) = rw is refl
 pub record IsBounded (f : Pairs) : Type 0 where
   pub each : (x y : ℕ) → f x y ≡ true → in_range x y ≡ true
 
--- It keeps all pairs of predicates.
+-- A `nop` keeps all pairs of predicates.
 pub filler_keeps : (i : Insn) (f : Pairs) (e : Edge) → IsFiller i → IsBounded f → pairs_after f i e ≡ f
 unfolding pairs_after rule_of
 filler_keeps i f e (unit, is) bounded = rw is (fun_ext (λ x. fun_ext (λ y. both x y (in_range x y) (f x y) (bounded.each x y))))

@@ -30,7 +30,7 @@ pub record IsSlotOf (bundles : List Bundle) (place : Place) (slot : Slot) : Type
   pub here : insn_at bundles place ≡ Some insn
   pub is : slot_of bundles place insn ≡ slot
 
--- Its numbers are in their ranges.
+-- The numbers of an instruction at a place are in their ranges.
 pub record IsInRange (place : Place) (insn : Insn) : Type 0 where
   pub bundle : place.bundle < 2 ^ 31
   pub ranges : HasActionRanges (insn_action insn)

@@ -20,7 +20,7 @@ pub record IsClosed (b : Bundle) : Type 0 where
   pub stop : IsStopAfter b.template b.slots 2
   pub free : (slot : ℕ) → IfSome (slot_insn b.slots slot) (λ i. displacement i.op ≡ None)
 
--- each of them is closed
+-- Each of the bundles is closed.
 abbrev pub AreClosed : List Bundle → Type 0
 AreClosed bundles = (n : ℕ) → IfSome (slice_get bundles n) IsClosed
 
